@@ -1,0 +1,793 @@
+use super::*;
+use std::alloc::Global;
+use std::test::Fail;
+
+/// A type without arrays.
+#[derive(Clone, Copy)]
+enum Base {
+    Bool,
+    Int(u8),
+    Pointer,
+    Struct(u32),
+}
+
+/// A field as gcc laid it.
+#[derive(Clone, Copy)]
+struct Sample {
+    base: Base,
+    /// The numbers of items of its arrays, the outer one first.
+    dimensions: &'static [u64],
+    offset: u32,
+}
+
+/// A struct as gcc laid it.
+#[derive(Clone, Copy)]
+struct SampleStruct {
+    size: u32,
+    alignment: u32,
+    fields: &'static [Sample],
+}
+
+/// What `sizeof`, `_Alignof` and `offsetof` of gcc 12.2 gave on x86-64 Linux. A struct holds structs that
+/// stand before it here.
+const SAMPLES: [SampleStruct; 30] = [
+    SampleStruct {
+        size: 12,
+        alignment: 4,
+        fields: &[
+            Sample {
+                base: Base::Int(1),
+                dimensions: &[],
+                offset: 0,
+            },
+            Sample {
+                base: Base::Int(4),
+                dimensions: &[],
+                offset: 4,
+            },
+            Sample {
+                base: Base::Int(2),
+                dimensions: &[],
+                offset: 8,
+            },
+        ],
+    },
+    SampleStruct {
+        size: 0,
+        alignment: 1,
+        fields: &[],
+    },
+    SampleStruct {
+        size: 1,
+        alignment: 1,
+        fields: &[Sample {
+            base: Base::Int(1),
+            dimensions: &[],
+            offset: 0,
+        }],
+    },
+    SampleStruct {
+        size: 16,
+        alignment: 8,
+        fields: &[
+            Sample {
+                base: Base::Pointer,
+                dimensions: &[],
+                offset: 0,
+            },
+            Sample {
+                base: Base::Int(1),
+                dimensions: &[],
+                offset: 8,
+            },
+        ],
+    },
+    SampleStruct {
+        size: 16,
+        alignment: 8,
+        fields: &[
+            Sample {
+                base: Base::Int(1),
+                dimensions: &[],
+                offset: 0,
+            },
+            Sample {
+                base: Base::Struct(1),
+                dimensions: &[],
+                offset: 1,
+            },
+            Sample {
+                base: Base::Int(8),
+                dimensions: &[],
+                offset: 8,
+            },
+        ],
+    },
+    SampleStruct {
+        size: 36,
+        alignment: 4,
+        fields: &[
+            Sample {
+                base: Base::Int(2),
+                dimensions: &[3, 5],
+                offset: 0,
+            },
+            Sample {
+                base: Base::Int(4),
+                dimensions: &[],
+                offset: 32,
+            },
+        ],
+    },
+    SampleStruct {
+        size: 16,
+        alignment: 8,
+        fields: &[
+            Sample {
+                base: Base::Bool,
+                dimensions: &[],
+                offset: 0,
+            },
+            Sample {
+                base: Base::Int(8),
+                dimensions: &[0],
+                offset: 8,
+            },
+            Sample {
+                base: Base::Int(1),
+                dimensions: &[],
+                offset: 8,
+            },
+        ],
+    },
+    SampleStruct {
+        size: 48,
+        alignment: 8,
+        fields: &[
+            Sample {
+                base: Base::Struct(0),
+                dimensions: &[],
+                offset: 0,
+            },
+            Sample {
+                base: Base::Int(1),
+                dimensions: &[],
+                offset: 12,
+            },
+            Sample {
+                base: Base::Struct(3),
+                dimensions: &[2],
+                offset: 16,
+            },
+        ],
+    },
+    SampleStruct {
+        size: 1,
+        alignment: 1,
+        fields: &[
+            Sample {
+                base: Base::Struct(1),
+                dimensions: &[3],
+                offset: 0,
+            },
+            Sample {
+                base: Base::Struct(1),
+                dimensions: &[],
+                offset: 0,
+            },
+            Sample {
+                base: Base::Int(1),
+                dimensions: &[],
+                offset: 0,
+            },
+        ],
+    },
+    SampleStruct {
+        size: 32,
+        alignment: 8,
+        fields: &[
+            Sample {
+                base: Base::Int(1),
+                dimensions: &[],
+                offset: 0,
+            },
+            Sample {
+                base: Base::Int(1),
+                dimensions: &[],
+                offset: 1,
+            },
+            Sample {
+                base: Base::Int(8),
+                dimensions: &[],
+                offset: 8,
+            },
+            Sample {
+                base: Base::Int(8),
+                dimensions: &[],
+                offset: 16,
+            },
+            Sample {
+                base: Base::Int(1),
+                dimensions: &[],
+                offset: 24,
+            },
+        ],
+    },
+    SampleStruct {
+        size: 56,
+        alignment: 8,
+        fields: &[
+            Sample {
+                base: Base::Pointer,
+                dimensions: &[],
+                offset: 0,
+            },
+            Sample {
+                base: Base::Pointer,
+                dimensions: &[5],
+                offset: 8,
+            },
+            Sample {
+                base: Base::Int(1),
+                dimensions: &[],
+                offset: 48,
+            },
+            Sample {
+                base: Base::Int(1),
+                dimensions: &[],
+                offset: 49,
+            },
+            Sample {
+                base: Base::Int(1),
+                dimensions: &[],
+                offset: 50,
+            },
+            Sample {
+                base: Base::Bool,
+                dimensions: &[],
+                offset: 51,
+            },
+        ],
+    },
+    SampleStruct {
+        size: 64,
+        alignment: 8,
+        fields: &[
+            Sample {
+                base: Base::Int(1),
+                dimensions: &[],
+                offset: 0,
+            },
+            Sample {
+                base: Base::Int(8),
+                dimensions: &[],
+                offset: 8,
+            },
+            Sample {
+                base: Base::Pointer,
+                dimensions: &[],
+                offset: 16,
+            },
+            Sample {
+                base: Base::Int(8),
+                dimensions: &[],
+                offset: 24,
+            },
+            Sample {
+                base: Base::Struct(9),
+                dimensions: &[],
+                offset: 32,
+            },
+        ],
+    },
+    SampleStruct {
+        size: 8,
+        alignment: 8,
+        fields: &[Sample {
+            base: Base::Pointer,
+            dimensions: &[],
+            offset: 0,
+        }],
+    },
+    SampleStruct {
+        size: 80,
+        alignment: 8,
+        fields: &[
+            Sample {
+                base: Base::Struct(6),
+                dimensions: &[],
+                offset: 0,
+            },
+            Sample {
+                base: Base::Struct(7),
+                dimensions: &[],
+                offset: 16,
+            },
+            Sample {
+                base: Base::Pointer,
+                dimensions: &[],
+                offset: 64,
+            },
+            Sample {
+                base: Base::Bool,
+                dimensions: &[],
+                offset: 72,
+            },
+        ],
+    },
+    SampleStruct {
+        size: 32,
+        alignment: 8,
+        fields: &[
+            Sample {
+                base: Base::Int(1),
+                dimensions: &[],
+                offset: 0,
+            },
+            Sample {
+                base: Base::Struct(3),
+                dimensions: &[],
+                offset: 8,
+            },
+            Sample {
+                base: Base::Int(2),
+                dimensions: &[],
+                offset: 24,
+            },
+        ],
+    },
+    SampleStruct {
+        size: 20,
+        alignment: 4,
+        fields: &[
+            Sample {
+                base: Base::Bool,
+                dimensions: &[],
+                offset: 0,
+            },
+            Sample {
+                base: Base::Int(4),
+                dimensions: &[],
+                offset: 4,
+            },
+            Sample {
+                base: Base::Int(1),
+                dimensions: &[],
+                offset: 8,
+            },
+            Sample {
+                base: Base::Int(4),
+                dimensions: &[],
+                offset: 12,
+            },
+            Sample {
+                base: Base::Int(2),
+                dimensions: &[],
+                offset: 16,
+            },
+        ],
+    },
+    SampleStruct {
+        size: 64,
+        alignment: 8,
+        fields: &[
+            Sample {
+                base: Base::Int(1),
+                dimensions: &[3],
+                offset: 0,
+            },
+            Sample {
+                base: Base::Struct(10),
+                dimensions: &[],
+                offset: 8,
+            },
+        ],
+    },
+    SampleStruct {
+        size: 40,
+        alignment: 8,
+        fields: &[
+            Sample {
+                base: Base::Struct(15),
+                dimensions: &[],
+                offset: 0,
+            },
+            Sample {
+                base: Base::Pointer,
+                dimensions: &[],
+                offset: 24,
+            },
+            Sample {
+                base: Base::Bool,
+                dimensions: &[],
+                offset: 32,
+            },
+        ],
+    },
+    SampleStruct {
+        size: 3,
+        alignment: 1,
+        fields: &[Sample {
+            base: Base::Struct(2),
+            dimensions: &[3],
+            offset: 0,
+        }],
+    },
+    SampleStruct {
+        size: 32,
+        alignment: 8,
+        fields: &[Sample {
+            base: Base::Struct(9),
+            dimensions: &[],
+            offset: 0,
+        }],
+    },
+    SampleStruct {
+        size: 72,
+        alignment: 8,
+        fields: &[
+            Sample {
+                base: Base::Pointer,
+                dimensions: &[],
+                offset: 0,
+            },
+            Sample {
+                base: Base::Struct(14),
+                dimensions: &[],
+                offset: 8,
+            },
+            Sample {
+                base: Base::Int(4),
+                dimensions: &[],
+                offset: 40,
+            },
+            Sample {
+                base: Base::Int(4),
+                dimensions: &[2],
+                offset: 44,
+            },
+            Sample {
+                base: Base::Int(8),
+                dimensions: &[],
+                offset: 56,
+            },
+            Sample {
+                base: Base::Int(1),
+                dimensions: &[],
+                offset: 64,
+            },
+        ],
+    },
+    SampleStruct {
+        size: 24,
+        alignment: 8,
+        fields: &[
+            Sample {
+                base: Base::Struct(4),
+                dimensions: &[],
+                offset: 0,
+            },
+            Sample {
+                base: Base::Struct(12),
+                dimensions: &[],
+                offset: 16,
+            },
+        ],
+    },
+    SampleStruct {
+        size: 408,
+        alignment: 8,
+        fields: &[
+            Sample {
+                base: Base::Int(4),
+                dimensions: &[3],
+                offset: 0,
+            },
+            Sample {
+                base: Base::Int(2),
+                dimensions: &[],
+                offset: 12,
+            },
+            Sample {
+                base: Base::Struct(11),
+                dimensions: &[3, 2],
+                offset: 16,
+            },
+            Sample {
+                base: Base::Struct(12),
+                dimensions: &[],
+                offset: 400,
+            },
+        ],
+    },
+    SampleStruct {
+        size: 2,
+        alignment: 1,
+        fields: &[
+            Sample {
+                base: Base::Int(1),
+                dimensions: &[],
+                offset: 0,
+            },
+            Sample {
+                base: Base::Int(1),
+                dimensions: &[],
+                offset: 1,
+            },
+        ],
+    },
+    SampleStruct {
+        size: 1,
+        alignment: 1,
+        fields: &[Sample {
+            base: Base::Bool,
+            dimensions: &[],
+            offset: 0,
+        }],
+    },
+    SampleStruct {
+        size: 32,
+        alignment: 8,
+        fields: &[
+            Sample {
+                base: Base::Int(2),
+                dimensions: &[],
+                offset: 0,
+            },
+            Sample {
+                base: Base::Int(4),
+                dimensions: &[],
+                offset: 4,
+            },
+            Sample {
+                base: Base::Bool,
+                dimensions: &[],
+                offset: 8,
+            },
+            Sample {
+                base: Base::Pointer,
+                dimensions: &[],
+                offset: 16,
+            },
+            Sample {
+                base: Base::Int(1),
+                dimensions: &[],
+                offset: 24,
+            },
+        ],
+    },
+    SampleStruct {
+        size: 48,
+        alignment: 8,
+        fields: &[
+            Sample {
+                base: Base::Struct(23),
+                dimensions: &[5],
+                offset: 0,
+            },
+            Sample {
+                base: Base::Int(8),
+                dimensions: &[],
+                offset: 16,
+            },
+            Sample {
+                base: Base::Int(4),
+                dimensions: &[],
+                offset: 24,
+            },
+            Sample {
+                base: Base::Int(4),
+                dimensions: &[],
+                offset: 28,
+            },
+            Sample {
+                base: Base::Pointer,
+                dimensions: &[],
+                offset: 32,
+            },
+            Sample {
+                base: Base::Int(1),
+                dimensions: &[],
+                offset: 40,
+            },
+        ],
+    },
+    SampleStruct {
+        size: 2,
+        alignment: 1,
+        fields: &[
+            Sample {
+                base: Base::Int(1),
+                dimensions: &[],
+                offset: 0,
+            },
+            Sample {
+                base: Base::Int(1),
+                dimensions: &[],
+                offset: 1,
+            },
+        ],
+    },
+    SampleStruct {
+        size: 1,
+        alignment: 1,
+        fields: &[Sample {
+            base: Base::Int(1),
+            dimensions: &[],
+            offset: 0,
+        }],
+    },
+    SampleStruct {
+        size: 40,
+        alignment: 8,
+        fields: &[
+            Sample {
+                base: Base::Int(2),
+                dimensions: &[],
+                offset: 0,
+            },
+            Sample {
+                base: Base::Pointer,
+                dimensions: &[],
+                offset: 8,
+            },
+            Sample {
+                base: Base::Int(1),
+                dimensions: &[],
+                offset: 16,
+            },
+            Sample {
+                base: Base::Pointer,
+                dimensions: &[],
+                offset: 24,
+            },
+            Sample {
+                base: Base::Int(2),
+                dimensions: &[],
+                offset: 32,
+            },
+        ],
+    },
+];
+
+/// The names of fields, in order.
+const NAMES: [u8; 8] = *b"abcdefgh";
+
+fn type_of(alloc: Global, base: Base, dimensions: &[u64]) -> Result<CType, NoMemory> {
+    let mut ctype = match base {
+        Base::Bool => CType::Bool,
+        Base::Int(bytes) => CType::Int {
+            bytes,
+            signed: true,
+        },
+        Base::Pointer => CType::Pointer(Boxed::new(alloc, CType::Void)?),
+        Base::Struct(number) => CType::Struct(number),
+    };
+    for count in dimensions.iter().rev() {
+        ctype = CType::Array(Boxed::new(alloc, ctype)?, *count);
+    }
+    Ok(ctype)
+}
+
+fn struct_of(alloc: Global, samples: &[Sample]) -> Result<StructDef, NoMemory> {
+    let mut fields = List::new(alloc);
+    for (sample, letter) in samples.iter().zip(NAMES.iter()) {
+        let ctype = type_of(alloc, sample.base, sample.dimensions)?;
+        let name = Text::from_slice(alloc, &[*letter])?;
+        fields.push(Field { name, ctype })?;
+    }
+    Ok(StructDef {
+        name: Text::new(alloc),
+        complete: true,
+        fields,
+    })
+}
+
+/// The name of the field with that index.
+fn name_at(index: u32) -> u8 {
+    NAMES.get(index as usize).copied().unwrap_or(b'z')
+}
+
+/// The field of that name, where the struct's size is told.
+fn field_in(number: u32, name: &[u8], structs: &Structs) -> Option<FieldAt> {
+    match size(&CType::Struct(number), structs, Abi::Lp64) {
+        Extent::Bytes(_) => field_at(number, name, structs, Abi::Lp64),
+        _ => None,
+    }
+}
+
+#[test]
+fn layouts_are_those_of_gcc(rt: HostRuntime) -> Result<(), Fail> {
+    let mut structs = List::new(rt.alloc());
+    for sample in SAMPLES.iter() {
+        structs.push(struct_of(rt.alloc(), sample.fields)?)?;
+    }
+    for (number, sample) in (0u32..30).zip(SAMPLES.iter()) {
+        let ctype = CType::Struct(number);
+        assert_eq!(rt;
+            size(&ctype, &structs, Abi::Lp64),
+            Extent::Bytes(sample.size)
+        );
+        assert_eq!(rt; align(&ctype, &structs, Abi::Lp64), Some(sample.alignment));
+        for (index, field) in (0u32..8).zip(sample.fields.iter()) {
+            let letter = name_at(index);
+            let want = Some(FieldAt {
+                offset: field.offset,
+                index,
+            });
+            assert_eq!(rt; field_in(number, &[letter], &structs), want);
+        }
+        assert_eq!(rt; field_in(number, b"z", &structs), None);
+    }
+    Ok(())
+}
+
+#[test]
+fn sizes_of_arrays(rt: HostRuntime) -> Result<(), Fail> {
+    let mut structs = List::new(rt.alloc());
+    structs.push(struct_of(rt.alloc(), &[])?)?;
+    let cases: [(Base, &[u64], Extent); 8] = [
+        (Base::Int(1), &[65_536], Extent::Bytes(65_536)),
+        (Base::Int(1), &[65_537], Extent::TooLarge),
+        (Base::Int(2), &[8, 4_096], Extent::Bytes(65_536)),
+        (Base::Int(8), &[1 << 32, 1 << 32], Extent::TooLarge),
+        (Base::Int(8), &[1 << 63, 0, 1 << 63], Extent::Bytes(0)),
+        (Base::Struct(0), &[1 << 63], Extent::Bytes(0)),
+        (Base::Int(1), &[1 << 63], Extent::TooLarge),
+        (Base::Struct(1), &[0], Extent::Incomplete),
+    ];
+    for (base, dimensions, want) in cases.iter() {
+        let ctype = type_of(rt.alloc(), *base, dimensions)?;
+        assert_eq!(rt; size(&ctype, &structs, Abi::Lp64), *want);
+    }
+    Ok(())
+}
+
+#[test]
+fn what_holds_an_incomplete_type_is_incomplete(rt: HostRuntime) -> Result<(), Fail> {
+    let mut structs = List::new(rt.alloc());
+    structs.push(StructDef {
+        name: Text::new(rt.alloc()),
+        complete: false,
+        fields: List::new(rt.alloc()),
+    })?;
+    let field = Sample {
+        base: Base::Struct(0),
+        dimensions: &[2],
+        offset: 0,
+    };
+    structs.push(struct_of(rt.alloc(), &[field])?)?;
+    for ctype in [CType::Void, CType::Struct(0), CType::Struct(1)] {
+        assert_eq!(rt; size(&ctype, &structs, Abi::Lp64), Extent::Incomplete);
+        assert_eq!(rt; align(&ctype, &structs, Abi::Lp64), None);
+    }
+    let pointer = CType::Pointer(Boxed::new(rt.alloc(), CType::Struct(0))?);
+    assert_eq!(rt; size(&pointer, &structs, Abi::Lp64), Extent::Bytes(8));
+    Ok(())
+}
+
+#[test]
+fn sixteen_levels_of_doubling_take_no_time(rt: HostRuntime) -> Result<(), Fail> {
+    let mut structs = List::new(rt.alloc());
+    structs.push(struct_of(
+        rt.alloc(),
+        &[Sample {
+            base: Base::Int(1),
+            dimensions: &[],
+            offset: 0,
+        }],
+    )?)?;
+    for below in 0u32..16 {
+        let twin = Sample {
+            base: Base::Struct(below),
+            dimensions: &[],
+            offset: 0,
+        };
+        structs.push(struct_of(rt.alloc(), &[twin, twin])?)?;
+    }
+    assert_eq!(rt;
+        size(&CType::Struct(16), &structs, Abi::Lp64),
+        Extent::Bytes(65_536)
+    );
+    Ok(())
+}

@@ -1,0 +1,36 @@
+//! The types that every other crate speaks with: lists, texts and boxes that contracts see as plain data, the one
+//! error of a call that takes memory, places of tokens, and the types of C with their layout.
+//!
+//! It knows no tokens, no memory blocks and no reports.
+#![tactic(auto)]
+
+mod abi;
+mod boxed;
+mod ctype;
+mod layout;
+mod list;
+mod measure;
+mod no_memory;
+mod offset;
+mod place;
+mod row;
+mod rules;
+mod structs;
+mod text;
+
+pub use abi::Abi;
+pub use boxed::Boxed;
+pub use ctype::CType;
+pub use list::List;
+pub use measure::{Extent, align, size};
+pub use no_memory::NoMemory;
+pub use offset::{FieldAt, field_at};
+pub use place::Place;
+pub use rules::layout_rules;
+pub use structs::{Field, StructDef, Structs};
+pub use text::Text;
+
+#[cfg(test)]
+mod layout_tests;
+#[cfg(test)]
+mod tests;
