@@ -1,0 +1,9 @@
+pub mod Blocks
+pub mod Sets
+pub mod Chains
+pub mod Written
+pub mod Loads
+pub mod Examples
+pub mod Releases
+pub mod Ranges
+pub mod Pointers

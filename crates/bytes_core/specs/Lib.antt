@@ -1,0 +1,10 @@
+pub mod Fault
+pub mod Value
+pub mod Placement
+pub mod Access
+pub mod Copying
+pub mod Release
+pub mod Loss
+pub mod Valid
+pub mod Laws
+pub mod Examples
