@@ -1,0 +1,6 @@
+pub mod Files
+pub mod MemoryFiles
+pub mod MemorySink
+pub mod Reading
+pub mod Sink
+pub mod Steady
