@@ -1,0 +1,17 @@
+-- Lines in a row.
+use Rattle.std.proofs.Common.{◌≡◌, ℕ, List, [], ◌∷◌, ◌++◌, codes, refl, ap, sym, ◌∙◌, append_assoc}
+use Rattle.report.specs.Report.{lines_text}
+
+lines_text-append : (lines more : List (List ℕ)) → lines_text (lines ++ more) ≡ lines_text lines ++ lines_text more
+lines_text-append [] more = refl
+lines_text-append (line ∷ rest) more =
+    ap (λ (text : List ℕ). line ++ (codes "\n" ++ text)) (lines_text-append rest more)
+    ∙ sym (append_assoc line (codes "\n" ++ lines_text rest) (lines_text more))
+
+-- the line that ends the warnings
+pub lines_text_last : (lines : List (List ℕ)) (file : List ℕ) →
+    lines_text (lines ++ (file ++ codes ": warned") ∷ []) ≡ (lines_text lines ++ file) ++ codes ": warned\n"
+lines_text_last lines file =
+    lines_text-append lines ((file ++ codes ": warned") ∷ [])
+    ∙ (ap (λ (text : List ℕ). lines_text lines ++ text) (append_assoc file (codes ": warned") (codes "\n"))
+    ∙ sym (append_assoc (lines_text lines) file (codes ": warned\n")))

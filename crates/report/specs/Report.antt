@@ -1,0 +1,68 @@
+-- The report, line by line, and the exit status.
+use Rattle.std.specs.Prelude.{◌≡◌, ℕ, ◌<◌, Bool, true, false, List, [], ◌∷◌, ◌++◌, map, length, codes, slice_get, Option, None, Some, unwrap_or, if◌then◌else◌}
+use Rattle.std.specs.List.{All}
+use Rattle.std.specs.Fmt.{decimal}
+use Rattle.cbase.specs.declared.place.Place.{Place}
+use Rattle.report.specs.declared.warning.Warning.{Warning}
+use Rattle.report.specs.declared.answer.Answer.{Answer}
+use Rattle.report.specs.declared.answer.Answer.TheVariants.{Safe, Warned, NotYet, TooLong, Usage, ReadFault, OutOfMemory}
+use Rattle.report.specs.declared.answer.Shown.{Shown}
+use Rattle.report.specs.Kind.{IsKind, kind_text}
+
+-- `file:line:column`, with the name of the place's file
+abbrev pub place_text : List (List ℕ) → Place → List ℕ
+place_text names place =
+    unwrap_or (slice_get names place.file) [] ++ (codes ":" ++ (decimal place.line ++ (codes ":" ++ decimal place.column)))
+
+abbrev pub severity : Bool → List ℕ
+severity error = if error then codes "error" else codes "warning"
+
+-- `TEXT [k]`
+abbrev pub kind_phrase : ℕ → List ℕ
+kind_phrase kind = kind_text kind ++ (codes " [" ++ (decimal kind ++ codes "]"))
+
+-- `file:line:column: error: TEXT [k]`
+abbrev pub warning_line : List (List ℕ) → Warning → List ℕ
+warning_line names warning =
+    place_text names warning.place ++ (codes ": " ++ (severity warning.error ++ (codes ": " ++ kind_phrase warning.kind)))
+
+-- the lines of an answer about a file
+abbrev pub answer_lines : List ℕ → List (List ℕ) → Answer → List (List ℕ)
+answer_lines file names Safe = (file ++ codes ": safe") ∷ []
+answer_lines file names (Warned warnings) = map (warning_line names) warnings ++ (file ++ codes ": warned") ∷ []
+answer_lines file names NotYet = (file ++ codes ": not read: not yet") ∷ []
+answer_lines file names (TooLong taken) = (file ++ codes ": not read: over 4194304 bytes") ∷ []
+answer_lines file names Usage = codes "usage: predator [--budget N] [--int-limit K] FILE" ∷ []
+answer_lines file names ReadFault = []
+answer_lines file names OutOfMemory = []
+
+-- the lines in a row, each with a newline at its end
+abbrev pub lines_text : List (List ℕ) → List ℕ
+lines_text [] = []
+lines_text (line ∷ rest) = line ++ (codes "\n" ++ lines_text rest)
+
+abbrev pub report_bytes : Shown → List ℕ
+report_bytes shown = lines_text (answer_lines shown.file shown.names shown.answer)
+
+-- what a warning must be for its line to be printed: its file has a name, and its kind is one
+pub record IsPrintable (names : List (List ℕ)) (warning : Warning) : Type 0 where
+  pub named : warning.place.file < length names
+  pub is_kind : IsKind warning.kind
+
+abbrev pub HasPrintable : List (List ℕ) → Answer → Type 0
+HasPrintable names Safe = Unit {0}
+HasPrintable names (Warned warnings) = All (IsPrintable names) warnings
+HasPrintable names NotYet = Unit {0}
+HasPrintable names (TooLong taken) = Unit {0}
+HasPrintable names Usage = Unit {0}
+HasPrintable names ReadFault = Unit {0}
+HasPrintable names OutOfMemory = Unit {0}
+
+abbrev pub status_of : Answer → ℕ
+status_of Safe = 0
+status_of (Warned warnings) = 1
+status_of NotYet = 3
+status_of (TooLong taken) = 3
+status_of Usage = 4
+status_of ReadFault = 5
+status_of OutOfMemory = 7

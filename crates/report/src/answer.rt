@@ -1,0 +1,33 @@
+use crate::limits::Limits;
+use crate::warning::Warning;
+use cbase::{List, Text};
+
+/// What the program answers.
+#[derive(Drop)]
+pub enum Answer {
+    /// No run meets a fault.
+    Safe,
+    /// Some run meets each of these faults, one for each token and kind, ordered by token number, then kind.
+    Warned { warnings: List<Warning> },
+    /// The file holds no text of the form that is read today.
+    NotYet,
+    /// The file has more bytes than are read: so many were taken.
+    TooLong { taken: u32 },
+    /// The words are not of the form that the usage line tells.
+    Usage,
+    /// The file could not be read.
+    ReadFault,
+    /// More memory was wanted than there is.
+    OutOfMemory,
+}
+
+/// An answer with the file that it is about, the names that places refer to, and the limits.
+///
+/// With `Usage` and `OutOfMemory` the name is empty and the limits are the default ones.
+#[derive(Drop)]
+pub struct Shown {
+    pub file: Text,
+    pub names: List<Text>,
+    pub limits: Limits,
+    pub answer: Answer,
+}

@@ -1,0 +1,18 @@
+ghost use Rattle.std.specs.Prelude.{◌≡◌};
+ghost use Rattle.report.specs.Report.{status_of};
+
+use crate::answer::Answer;
+
+/// The exit status of an answer that was written whole. It takes no memory.
+pub fn status(answer: &Answer) -> u8
+    ensures { result ≡ status_of answer.now }
+{
+    match answer {
+        Answer::Safe => 0,
+        Answer::Warned { .. } => 1,
+        Answer::NotYet | Answer::TooLong { .. } => 3,
+        Answer::Usage => 4,
+        Answer::ReadFault => 5,
+        Answer::OutOfMemory => 7,
+    }
+}

@@ -1,0 +1,84 @@
+ghost use Rattle.std.specs.Prelude.{◌≡◌, ◌∷◌, [], ◌++◌, IfOk, OnOk, map, codes};
+ghost use Rattle.std.specs.List.{All};
+ghost use Rattle.report.specs.Report.{HasPrintable, IsPrintable, lines_text, report_bytes, warning_line};
+
+use crate::answer::{Answer, Shown};
+use crate::lines::push_warning;
+use crate::warning::Warning;
+use cbase::{NoMemory, Text};
+use std::alloc::Global;
+
+/// The report of an answer: its lines, each with a newline at its end.
+///
+/// Each warning's file must have a name among those shown, and its kind must be one of the eight.
+#[tactic(auto, using(std::proofs::Common::append_assoc))]
+pub fn report_text(alloc: Global, shown: &Shown) -> Result<Text, NoMemory>
+    requires { HasPrintable shown.now.names shown.now.answer }
+    ensures { IfOk result (λ text. text ≡ report_bytes shown.now) }
+{
+    match &shown.answer {
+        Answer::Safe => file_line(alloc, &shown.file, b": safe\n"),
+        Answer::Warned { warnings } => warned_text(
+            alloc,
+            &shown.file,
+            shown.names.as_slice(),
+            warnings.as_slice(),
+        ),
+        Answer::NotYet => file_line(alloc, &shown.file, b": not read: not yet\n"),
+        Answer::TooLong { .. } => {
+            file_line(alloc, &shown.file, b": not read: over 4194304 bytes\n")
+        }
+        Answer::Usage => {
+            Text::from_slice(
+                alloc,
+                b"usage: predator [--budget N] [--int-limit K] FILE\n",
+            )
+        }
+        Answer::ReadFault | Answer::OutOfMemory => Ok(Text::new(alloc)),
+    }
+}
+
+/// A line that begins with the file, given the rest with its newline.
+fn file_line(alloc: Global, file: &Text, rest: &[u8]) -> Result<Text, NoMemory>
+    ensures { IfOk result (λ text. text ≡ file.now ++ rest.now) }
+{
+    let mut text = Text::from_slice(alloc, file.as_slice())?;
+    text.extend(rest)?;
+    Ok(text)
+}
+
+/// The lines of the warnings, and the one that ends them.
+#[tactic(auto, using(crate::proofs::LineRows::lines_text_last))]
+fn warned_text(
+    alloc: Global,
+    file: &Text,
+    names: &[Text],
+    warnings: &[Warning],
+) -> Result<Text, NoMemory>
+    requires { All (IsPrintable names.now) warnings.now }
+    ensures { IfOk result (λ text. text
+        ≡ lines_text (map (warning_line names.now) warnings.now ++ (file.now ++ codes ": warned") ∷ [])) }
+{
+    let mut text = Text::new(alloc);
+    push_warnings(alloc, &mut text, names, warnings)?;
+    text.extend(file.as_slice())?;
+    text.extend(b": warned\n")?;
+    Ok(text)
+}
+
+/// Appends a line for each warning.
+fn push_warnings(
+    alloc: Global,
+    text: &mut Text,
+    names: &[Text],
+    warnings: &[Warning],
+) -> Result<(), NoMemory>
+    requires { All (IsPrintable names.now) warnings.now }
+    ensures { OnOk result (text.new ≡ text.old ++ lines_text (map (warning_line names.now) warnings.now)) }
+{
+    for warning in warnings {
+        push_warning(alloc, text, names, warning)?;
+        text.extend(b"\n")?;
+    }
+    Ok(())
+}
