@@ -1,0 +1,3 @@
+pub mod Numbers
+pub mod CommandLine
+pub mod Parser

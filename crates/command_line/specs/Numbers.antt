@@ -1,0 +1,33 @@
+-- The numbers that a word may give.
+use Rattle.std.specs.Prelude.{◌+◌, ◌*◌, ◌-◌, ◌&&◌, ℕ, Bool, List, [], ◌∷◌, Option, Some, None}
+use Rattle.std.specs.Prelude.{length, if◌then◌else◌, nat_le}
+use Rattle.std.specs.List.{list_all}
+
+-- `0` (48) to `9` (57)
+abbrev pub is_digit : ℕ → Bool
+is_digit byte = nat_le 48 byte && nat_le byte 57
+
+-- the value of `before`, and then of the digits behind it
+abbrev pub decimal_after : ℕ → List ℕ → ℕ
+decimal_after before [] = before
+decimal_after before (digit ∷ rest) = decimal_after (before * 10 + (digit - 48)) rest
+
+abbrev pub decimal : List ℕ → ℕ
+decimal digits = decimal_after 0 digits
+
+-- one to six decimal digits, and nothing else; leading zeros are allowed
+abbrev pub is_numeral : List ℕ → Bool
+is_numeral word = nat_le 1 (length word) && (nat_le (length word) 6 && list_all is_digit word)
+
+-- a numeral with a value from `least` to `most`
+abbrev pub is_numeral_in : ℕ → ℕ → List ℕ → Bool
+is_numeral_in least most word =
+    is_numeral word && (nat_le least (decimal word) && nat_le (decimal word) most)
+
+abbrev pub number_in : ℕ → ℕ → List ℕ → Option ℕ
+number_in least most word = if is_numeral_in least most word then Some (decimal word) else None
+
+-- the number that an option was given, and `default` where the option was not given
+abbrev pub number_or : ℕ → ℕ → ℕ → Option (List ℕ) → Option ℕ
+number_or default least most None = Some default
+number_or default least most (Some word) = number_in least most word

@@ -1,0 +1,61 @@
+ghost use Rattle.std.specs.Prelude.{◌≡◌, ◌≤◌, length, true, option_copied};
+ghost use Rattle.std.specs.List.{list_all};
+ghost use Rattle.command_line.specs.Numbers.{is_digit, number_in, number_or, decimal};
+
+/// Whether each byte is a decimal digit.
+fn are_digits(bytes: &[u8]) -> bool
+    ensures { result ≡ list_all is_digit bytes.now }
+{
+    for byte in bytes {
+        if *byte < b'0' || *byte > b'9' {
+            return false;
+        }
+    }
+    true
+}
+
+/// The value of at most six decimal digits.
+fn value_of(digits: &[u8]) -> u32
+    requires all { list_all is_digit digits.now ≡ true }
+    requires few { length digits.now ≤ 6 }
+    ensures { result ≡ decimal digits.now }
+{
+    let mut value: u32 = 0;
+    for digit in digits {
+        value = value * 10 + u32::from(*digit - b'0');
+    }
+    value
+}
+
+/// The number that the word spells in one to six decimal digits, if it lies from `least` to `most`.
+fn number_in(least: u32, most: u32, word: &[u8]) -> Option<u32>
+    ensures { result ≡ number_in least most word.now }
+{
+    if word.is_empty() {
+        return None;
+    }
+    if word.len() > 6 {
+        return None;
+    }
+    if !are_digits(word) {
+        return None;
+    }
+    let value = value_of(word);
+    if value < least {
+        return None;
+    }
+    if value > most {
+        return None;
+    }
+    Some(value)
+}
+
+/// The number that an option's word spells, and `default` where the option was not given.
+pub fn number_or(default: u32, least: u32, most: u32, word: Option<&str>) -> Option<u32>
+    ensures { result ≡ number_or default least most (option_copied word.entry) }
+{
+    match word {
+        None => Some(default),
+        Some(word) => number_in(least, most, word.as_bytes()),
+    }
+}
