@@ -1,0 +1,10 @@
+use Rattle.std.proofs.Common.{◌≡◌, ◌++◌, length}
+use Rattle.predator.specs.ReadLines.{lines_tokens}
+use Rattle.predator.proofs.read_lines.read_body.Given as goal
+
+-- the lines so far and the tokens that are left make up the tokens
+abbrev pub invariant-loop-line : goal.invariant-loop-line
+invariant-loop-line l = lines_tokens l.lines ++ l.rest ≡ l.tokens
+
+abbrev pub decreases-loop-line : goal.decreases-loop-line
+decreases-loop-line l = length l.rest

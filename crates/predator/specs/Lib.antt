@@ -1,0 +1,14 @@
+pub mod Tokens
+pub mod Class
+pub mod Spelling
+pub mod Front
+pub mod FirstForm
+pub mod FrontLine
+pub mod ReadLines
+pub mod Scope
+pub mod Machine
+pub mod Search
+pub mod Kinds
+pub mod Words
+pub mod Report
+pub mod Verdict

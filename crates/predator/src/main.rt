@@ -1,0 +1,73 @@
+//! `predator FILE`: reads a C program and says whether a run of it can misuse memory.
+#![tactic(auto)]
+
+ghost use Rattle.std.specs.Prelude.{◌≡◌, drop};
+
+mod answer;
+mod byte;
+mod decide;
+mod front;
+mod judge;
+mod kinds;
+mod line;
+mod locals;
+mod losses;
+mod read_line;
+mod read_lines;
+mod read_text;
+mod read_tokens;
+mod report;
+mod scope;
+mod search;
+mod situation;
+mod spelling;
+#[cfg(test)]
+mod tests;
+mod token;
+mod top;
+mod words;
+
+use crate::answer::Answer;
+use crate::report::status;
+use crate::top::predator;
+use outside::{OsFiles, OsSink};
+use std::io::ErrorKind;
+use std::process::ExitCode;
+use std::{env, io};
+
+fn main(rt: HostRuntime) -> ExitCode {
+    ExitCode::from(run(&rt))
+}
+
+/// Runs the program on its words, and says its exit status. Words that are not UTF-8 name no file.
+fn run(rt: &HostRuntime) -> u8 {
+    let mut files = OsFiles::new(rt);
+    let mut out = OsSink::new(io::writer(rt));
+    match arguments(rt) {
+        Ok(arguments) => {
+            let words = words_of(arguments.as_slice());
+            predator(rt.alloc(), words, &mut files, &mut out).status
+        }
+        Err(ErrorKind::OutOfMemory) => status(&Answer::OutOfMemory),
+        Err(_) => predator(rt.alloc(), &[], &mut files, &mut out).status,
+    }
+}
+
+/// The program's name and the words behind it.
+fn arguments(rt: &HostRuntime) -> Result<Vec<String>, ErrorKind> {
+    let arguments = env::args(rt).map_err(|error| error.kind())?;
+    match arguments.collect(rt.alloc()) {
+        Ok(arguments) => Ok(arguments),
+        Err(_) => Err(ErrorKind::OutOfMemory),
+    }
+}
+
+/// The words behind the program's name.
+fn words_of(arguments: &[String]) -> &[String]
+    ensures { result.now ≡ drop 1 arguments.now }
+{
+    match arguments {
+        [] => arguments,
+        [_, words @ ..] => words,
+    }
+}

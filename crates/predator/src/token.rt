@@ -1,0 +1,34 @@
+/// A token of the first form: one of its keywords and marks, a one-letter name or a size.
+#[derive(Clone, Copy, Debug, PartialEq, Eq)]
+pub enum Token {
+    /// `int`
+    Int,
+    /// `main`
+    Main,
+    /// `void`
+    Void,
+    /// `return`
+    Return,
+    /// `malloc`
+    Malloc,
+    /// `free`
+    Free,
+    /// A lower-case letter, by its code.
+    Name(u8),
+    /// Decimal digits without a leading zero, by their value, at most 65,536.
+    Number(u32),
+    /// `(`
+    LeftParenthesis,
+    /// `)`
+    RightParenthesis,
+    /// `{`
+    LeftBrace,
+    /// `}`
+    RightBrace,
+    /// `*`
+    Star,
+    /// `=`
+    Equals,
+    /// `;`
+    Semicolon,
+}
