@@ -1,0 +1,6 @@
+int main(void) {
+  void *p = malloc(64);
+  p = malloc(128);
+  free(p);
+  return 0;
+}
