@@ -7,7 +7,7 @@ use Rattle.cbase.specs.declared.ctype.CType.{CType}
 use Rattle.cbase.specs.declared.ctype.CType.TheVariants.{Void, Bool, Int, Pointer, Struct, Array}
 use Rattle.cbase.specs.declared.layout.Layout.{Layout}
 use Rattle.cbase.specs.declared.row.Row.{Row}
-use Rattle.cbase.specs.declared.row.Part.TheVariants.{Unsized, Scalar, Struct as StructPart}
+use Rattle.cbase.specs.declared.row.RowPart.TheVariants.{Unsized, Scalar, Struct as StructPart}
 use Rattle.cbase.specs.Layout.{type_layout, repeated, scalar, is_integer_size, pointer_bytes}
 use Rattle.cbase.specs.Kept.{capped, part_layout, row_layout, one, integer_row, array_row}
 use Rattle.cbase.proofs.Capped.{capped-repeated, capped-repeated_count}

@@ -2,8 +2,8 @@
 use Rattle.std.specs.Prelude.{ℕ, ◌*◌, ◌<◌, ◌≤◌, min, Option, Some, None, option_map, if◌then◌else◌}
 use Rattle.cbase.specs.declared.layout.Layout.{Layout}
 use Rattle.cbase.specs.declared.row.Row.{Row}
-use Rattle.cbase.specs.declared.row.Part.{Part}
-use Rattle.cbase.specs.declared.row.Part.TheVariants.{Unsized, Scalar, Struct}
+use Rattle.cbase.specs.declared.row.RowPart.{RowPart}
+use Rattle.cbase.specs.declared.row.RowPart.TheVariants.{Unsized, Scalar, Struct}
 use Rattle.cbase.specs.Layout.{scalar, repeated, is_integer_size}
 
 -- a layout as it is kept: 65,537 stands for every larger size as well
@@ -14,7 +14,7 @@ capped layout = record { size = min layout.size 65537; alignment = layout.alignm
 abbrev pub IsSmall : Layout → Type 0
 IsSmall layout = (layout.size ≤ 65537) × (0 < layout.alignment) × (layout.alignment ≤ 8)
 
-abbrev pub part_layout : (ℕ → Option Layout) → Part → Option Layout
+abbrev pub part_layout : (ℕ → Option Layout) → RowPart → Option Layout
 part_layout of_struct Unsized = None
 part_layout of_struct (Scalar bytes) = Some (scalar bytes)
 part_layout of_struct (Struct number) = of_struct number
@@ -23,7 +23,7 @@ part_layout of_struct (Struct number) = of_struct number
 abbrev pub row_layout : (ℕ → Option Layout) → Row → Option Layout
 row_layout of_struct row = option_map (λ part. capped (repeated row.count part)) (part_layout of_struct row.part)
 
-abbrev pub one : Part → Row
+abbrev pub one : RowPart → Row
 one part = record { count = 1; part = part }
 
 abbrev pub integer_row : ℕ → Row
@@ -32,7 +32,7 @@ integer_row bytes = if is_integer_size bytes then one (Scalar bytes) else one Un
 abbrev pub array_row : Row → ℕ → Row
 array_row item count = record { count = min (count * item.count) 65537; part = item.part }
 
-abbrev pub IsSmallPart : Part → Type 0
+abbrev pub IsSmallPart : RowPart → Type 0
 IsSmallPart Unsized = Unit {0}
 IsSmallPart (Scalar bytes) = (0 < bytes) × (bytes ≤ 8)
 IsSmallPart (Struct number) = Unit {0}

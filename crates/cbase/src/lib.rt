@@ -1,5 +1,5 @@
 //! The types that every other crate speaks with: lists, texts and boxes that contracts see as plain data, the one
-//! error of a call that takes memory, places of tokens, and the types of C with their layout.
+//! error of a call that takes memory, places of tokens, the types of C with their layout, and the syntax trees of C.
 //!
 //! It knows no tokens, no memory blocks and no reports.
 #![tactic(auto)]
@@ -17,6 +17,7 @@ mod row;
 mod rules;
 mod structs;
 mod text;
+mod tree;
 
 pub use abi::Abi;
 pub use boxed::Boxed;
@@ -29,6 +30,11 @@ pub use place::Place;
 pub use rules::layout_rules;
 pub use structs::{Field, StructDef, Structs};
 pub use text::Text;
+pub use tree::{
+    BasicType, BinaryOp, Decl, Declared, Enumerator, Expr, ExprForm, FieldDecl, FieldName, Init,
+    InitPart, Item, Param, Part, Program, Rank, StaticObject, Stmt, StmtForm, Storage, TypeName,
+    TypeSpec, TypedProgram, UnaryOp,
+};
 
 #[cfg(test)]
 mod layout_tests;

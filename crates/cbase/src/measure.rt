@@ -6,7 +6,7 @@ ghost use Rattle.cbase.specs.Kept.{capped, IsSmall};
 use crate::abi::Abi;
 use crate::ctype::CType;
 use crate::layout::Layout;
-use crate::row::{Part, row_of};
+use crate::row::{RowPart, row_of};
 use crate::structs::{Field, StructDef, Structs};
 
 /// How much room the values of a type take.
@@ -73,9 +73,9 @@ pub(crate) fn type_layout(
 {
     let row = row_of(ctype, abi);
     let part = match row.part {
-        Part::Unsized => return None,
-        Part::Scalar(bytes) => Layout::scalar(bytes),
-        Part::Struct(number) => struct_layout(number, structs, abi, depth)?,
+        RowPart::Unsized => return None,
+        RowPart::Scalar(bytes) => Layout::scalar(bytes),
+        RowPart::Struct(number) => struct_layout(number, structs, abi, depth)?,
     };
     Some(part.repeated(row.count))
 }

@@ -9,7 +9,7 @@ use crate::ctype::CType;
 
 /// What a type is made of once its arrays are taken off.
 #[derive(Clone, Copy, Debug, PartialEq, Eq)]
-pub(crate) enum Part {
+pub(crate) enum RowPart {
     /// `void`, or an integer of a size that there is none of.
     Unsized,
     /// A number or a pointer of so many bytes.
@@ -24,7 +24,7 @@ pub(crate) struct Row {
     /// How many parts there are; 65,537 stands for every larger number as well.
     pub(crate) count: u32,
     /// What each of them is.
-    pub(crate) part: Part,
+    pub(crate) part: RowPart,
 }
 
 /// What every number of parts above 65,536 is kept as.
@@ -46,11 +46,11 @@ fn integer_row(bytes: u8) -> Row
     match bytes {
         1 | 2 | 4 | 8 => Row {
             count: 1,
-            part: Part::Scalar(bytes),
+            part: RowPart::Scalar(bytes),
         },
         _ => Row {
             count: 1,
-            part: Part::Unsized,
+            part: RowPart::Unsized,
         },
     }
 }
@@ -74,20 +74,20 @@ pub(crate) fn row_of(ctype: &CType, abi: Abi) -> Row
     match ctype {
         CType::Void => Row {
             count: 1,
-            part: Part::Unsized,
+            part: RowPart::Unsized,
         },
         CType::Bool => Row {
             count: 1,
-            part: Part::Scalar(1),
+            part: RowPart::Scalar(1),
         },
         CType::Int { bytes, .. } => integer_row(*bytes),
         CType::Pointer(_) => Row {
             count: 1,
-            part: Part::Scalar(pointer_bytes(abi)),
+            part: RowPart::Scalar(pointer_bytes(abi)),
         },
         CType::Struct(number) => Row {
             count: 1,
-            part: Part::Struct(*number),
+            part: RowPart::Struct(*number),
         },
         CType::Array(item, count) => array_row(row_of(item.get(), abi), *count),
     }
