@@ -1,0 +1,122 @@
+-- A set of words in the order in which they first stand, and the numbers of the words that were put in.
+use Rattle.std.proofs.Common.{◌≡◌, ℕ, ◌+◌, ◌<◌, ◌≤◌, Bool, true, false, cond, List, [], ◌∷◌, ◌++◌, Some, length, map, get_or, refl, sym, ap, ◌∙◌, subst, arith, nat_eq, inl, inr}
+use Rattle.std.proofs.lemmas.Bool.{cases_lt, false≢true}
+use denote.Ref.{Bor}
+use Rattle.std.specs.List.{All, IsDistinct, slice_get, list_any}
+use Rattle.std.specs.Cmp.Lexicographic.{pointwise, bytes_decides}
+use Rattle.std.proofs.lemmas.List.Elements.{All-head, All-tail, All-weaker, All-push, All-nil}
+use Rattle.std.proofs.lemmas.List.{map-append, length-map, get_or_append_left, get_or-map, length-append}
+use Rattle.std.proofs.lemmas.Option.{get_or_from_slice_get}
+use Rattle.std.proofs.lemmas.Map.Keys.{apart_from_distinct}
+use Rattle.indexmap.specs.IndexSet.{insert_key}
+use Rattle.ctokens.specs.Numbering.{name_at, IsNumbering}
+
+-- how the set compares words
+abbrev pub is_same : Bor (List ℕ) → Bor (List ℕ) → Bool
+is_same x y = pointwise nat_eq x.now y.now
+
+abbrev pub texts : List (Bor (List ℕ)) → List (List ℕ)
+texts keys = map (λ (key : Bor (List ℕ)). key.now) keys
+
+pub record Numbered (keys : List (Bor (List ℕ))) (words : List (List ℕ)) (numbers : List ℕ) : Type 0 where
+  pub below : All (λ number. number < length keys) numbers
+  pub named : map (name_at (texts keys)) numbers ≡ words
+  pub distinct : IsDistinct is_same keys
+  pub few : length keys ≤ length words
+
+kept : (keys : List (Bor (List ℕ))) (key : Bor (List ℕ)) (b : Bool) (n : ℕ) → n < length keys
+    → name_at (texts (cond b keys (keys ++ key ∷ []))) n ≡ name_at (texts keys) n
+kept keys key true n h = refl
+kept keys key false n h =
+    let inside : n < length (texts keys) = subst (λ (m : ℕ). n < m) (sym (length-map keys (λ (k : Bor (List ℕ)). k.now))) h in
+    ap (λ xs. name_at xs n) (map-append (λ (k : Bor (List ℕ)). k.now) keys (key ∷ [])) ∙ get_or_append_left (texts keys) (key.now ∷ []) [] n inside
+
+grown : (keys : List (Bor (List ℕ))) (key : Bor (List ℕ)) (b : Bool) → length keys ≤ length (cond b keys (keys ++ key ∷ []))
+grown keys key true = omega arith
+grown keys key false = rw length-append (omega arith)
+
+grown_by_one : (keys : List (Bor (List ℕ))) (key : Bor (List ℕ)) (b : Bool) → length (cond b keys (keys ++ key ∷ [])) ≤ length keys + 1
+grown_by_one keys key true = omega arith
+grown_by_one keys key false = rw length-append (omega arith)
+
+renamed : (names others : List (List ℕ)) (most : ℕ) (numbers : List ℕ) → ((n : ℕ) → n < most → name_at others n ≡ name_at names n)
+    → All (λ n. n < most) numbers → map (name_at others) numbers ≡ map (name_at names) numbers
+renamed names others most [] same below = refl
+renamed names others most (n ∷ numbers) same below =
+    let first = same n (All-head (λ n. n < most) n numbers below) in
+    let rest = renamed names others most numbers same (All-tail (λ n. n < most) n numbers below) in
+    ap (λ xs. name_at others n ∷ xs) rest ∙ ap (λ x. x ∷ map (name_at names) numbers) first
+
+pub numbered_more : (keys after : List (Bor (List ℕ))) (words : List (List ℕ)) (numbers : List ℕ) (key : Bor (List ℕ)) (number : ℕ)
+    → Numbered keys words numbers → after ≡ insert_key is_same keys key → number < length after
+    → (stored : Bor (List ℕ)) × (slice_get after number ≡ Some stored) × (is_same key stored ≡ true) → IsDistinct is_same after
+    → Numbered after (words ++ key.now ∷ []) (numbers ++ number ∷ [])
+numbered_more keys after words numbers key number known is_after inside (stored, found, same) distinct =
+    let b : Bool = list_any (is_same key) keys in
+    let others : (n : ℕ) → n < length keys → name_at (texts after) n ≡ name_at (texts keys) n =
+    λ n h. ap (λ xs. name_at (texts xs) n) is_after ∙ kept keys key b n h in
+    let longer : length keys ≤ length after = subst (λ xs. length keys ≤ length xs) (sym is_after) (grown keys key b) in
+    let by_one : length after ≤ length keys + 1 = subst (λ xs. length xs ≤ length keys + 1) (sym is_after) (grown_by_one keys key b) in
+    let earlier : All (λ n. n < length after) numbers =
+    All-weaker (λ n. n < length keys) (λ n. n < length after) (λ n h. omega arith) numbers known.below in
+    let here : name_at (texts after) number ≡ key.now =
+    get_or-map (λ (k : Bor (List ℕ)). k.now) after number stored [] inside
+    ∙ (ap (λ (k : Bor (List ℕ)). k.now) (get_or_from_slice_get after number stored stored found)
+    ∙ sym ((bytes_decides key.now stored.now).0 same)) in
+    record {
+      below = All-push (λ n. n < length after) numbers number earlier inside;
+      named = map-append (name_at (texts after)) numbers (number ∷ [])
+          ∙ (ap (λ xs. xs ++ name_at (texts after) number ∷ []) (renamed (texts keys) (texts after) (length keys) numbers others known.below ∙ known.named)
+          ∙ ap (λ x. words ++ x ∷ []) here);
+      distinct = distinct;
+      few = rw length-append (let few = known.few in omega arith);
+    }
+
+abbrev nobody : Bor (List ℕ)
+nobody = record { ref_ptr = (0, 0); now = [] }
+
+name_now : (keys : List (Bor (List ℕ))) (i : ℕ) → i < length keys → name_at (texts keys) i ≡ (get_or keys i nobody).now
+name_now keys i h = get_or-map (λ (k : Bor (List ℕ)). k.now) keys i nobody [] h
+
+apart : (keys : List (Bor (List ℕ))) (i j : ℕ) → IsDistinct is_same keys → i < j → j < length keys
+    → name_at (texts keys) i ≡ name_at (texts keys) j → ⊥
+apart keys i j distinct less inside same =
+    let before : i < length keys = omega arith in
+    let equal : (get_or keys i nobody).now ≡ (get_or keys j nobody).now = sym (name_now keys i before) ∙ (same ∙ name_now keys j inside) in
+    let yes : is_same (get_or keys i nobody) (get_or keys j nobody) ≡ true = (bytes_decides (get_or keys i nobody).now (get_or keys j nobody).now).1 equal in
+    let no : is_same (get_or keys i nobody) (get_or keys j nobody) ≡ false = apart_from_distinct is_same keys i j nobody distinct less inside in
+    false≢true (sym no ∙ yes)
+
+one_place : (keys : List (Bor (List ℕ))) (i j : ℕ) → IsDistinct is_same keys → i < length keys → j < length keys
+    → name_at (texts keys) i ≡ name_at (texts keys) j → i ≡ j
+one_place keys i j distinct hi hj same =
+    elim (cases_lt i j) as (λ _. i ≡ j) [
+      | inl less ↦ absurd (apart keys i j distinct less hj same)
+      | inr more ↦ elim (cases_lt j i) as (λ _. i ≡ j) [
+        | inl less ↦ absurd (apart keys j i distinct less hi (sym same))
+        | inr other ↦ omega arith
+      ]
+    ]
+
+pub numbering_of : (keys : List (Bor (List ℕ))) (words : List (List ℕ)) (numbers : List ℕ) (count : ℕ) → Numbered keys words numbers
+    → count ≡ length keys → IsNumbering words numbers count
+numbering_of keys words numbers count known is_count = record {
+  names = texts keys;
+  counted = length-map keys (λ (k : Bor (List ℕ)). k.now) ∙ sym is_count;
+  below = subst (λ (m : ℕ). All (λ number. number < m) numbers) (sym is_count) known.below;
+  named = known.named;
+  apart = λ i j hi hj same. one_place keys i j known.distinct (omega arith) (omega arith) same;
+  few = let few = known.few in omega arith;
+}
+
+pub same_numbered : (keys : List (Bor (List ℕ))) (words others : List (List ℕ)) (numbers more : List ℕ) → Numbered keys words numbers
+    → words ≡ others → more ≡ numbers → Numbered keys others more
+same_numbered keys words others numbers more known same now =
+    subst (λ ns. Numbered keys others ns) (sym now) (subst (λ ws. Numbered keys ws numbers) same known)
+
+first_numbered : Numbered [] [] []
+unfolding IsDistinct
+first_numbered = record { below = All-nil (λ n. n < 0); named = refl; distinct = tt; few = omega arith }
+
+pub numbered_none : (keys : List (Bor (List ℕ))) → keys ≡ [] → Numbered keys [] []
+numbered_none keys is_none = subst (λ ks. Numbered ks [] []) (sym is_none) first_numbered

@@ -1,0 +1,7 @@
+use Rattle.std.proofs.Common.{map, take}
+use Rattle.ctokens.specs.Symbol.{token_word}
+use Rattle.ctokens.proofs.Numbered.{Numbered}
+use Rattle.ctokens.proofs.numbering.number_words.Given as goal
+
+abbrev pub invariant-loop-token : goal.invariant-loop-token
+invariant-loop-token l = Numbered l.names.keys (map (token_word l.text) (take l.token-index l.list)) l.numbers.items

@@ -1,0 +1,36 @@
+-- The tokens that are passed over before items and grammar look at a text.
+use Rattle.std.specs.Prelude.{ℕ, ◌+◌, ◌-◌, ◌<◌, ◌≤◌, Bool, true, false, ◌&&◌, if◌then◌else◌, List, [], ◌∷◌, map, length, zero, suc}
+use Rattle.std.specs.List.{All}
+use Rattle.ctokens.specs.declared.token.Token.{Token}
+use Rattle.ctokens.specs.declared.token.Tokens.{Tokens}
+use Rattle.ctokens.specs.declared.symbol.Symbol.{Symbol}
+use Rattle.ctokens.specs.declared.symbol.Symbol.TheVariants.{PassedOver}
+use Rattle.ctokens.specs.Symbol.{symbols, is_opening, is_closing, is_attribute, is_passed_over}
+
+-- each token has a first byte, and ends in the text; and there are so few that their numbers fit
+pub record LieInText (t : Tokens) : Type 0 where
+  pub ranges : All (λ (token : Token). (token.from < token.to) × (token.to ≤ length t.text)) t.list
+  pub few : length t.list ≤ 4194304
+
+-- how many brackets, of the three kinds together, are open after a token where so many were open before it; a
+-- closing bracket where none is open leaves none
+abbrev pub depth_after : ℕ → Symbol → ℕ
+depth_after depth symbol = if is_opening symbol then depth + 1 else (if is_closing symbol then depth - 1 else depth)
+
+-- The symbols of the tokens with `PassedOver` for each that is passed over: the words that are passed over alone,
+-- and an attribute's word with the bracketed part directly behind it, up to the bracket that closes it or else to
+-- the end of the text. `behind` says whether an attribute's word stands directly before, `unclosed` how many brackets
+-- of its part are open.
+abbrev pub read_from : Bool → ℕ → List Symbol → List Symbol
+read_from behind unclosed [] = []
+read_from behind zero (symbol ∷ rest) =
+    if behind && is_opening symbol then PassedOver ∷ read_from false 1 rest
+    else (if is_attribute symbol then PassedOver ∷ read_from true 0 rest else symbol ∷ read_from false 0 rest)
+read_from behind (suc unclosed) (symbol ∷ rest) = PassedOver ∷ read_from false (depth_after (suc unclosed) symbol) rest
+
+abbrev pub read_symbols : List Symbol → List Symbol
+read_symbols symbols = read_from false 0 symbols
+
+-- for each token of a text, whether it is passed over
+abbrev pub passed_tokens : Tokens → List Bool
+passed_tokens t = map is_passed_over (read_symbols (symbols t))

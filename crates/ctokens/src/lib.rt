@@ -1,0 +1,43 @@
+//! What tokens a preprocessed C text has and where they stand, which items they make up, and which items main
+//! needs.
+//!
+//! It knows bytes, places and brackets, and no grammar.
+#![tactic(auto)]
+
+mod byte;
+mod closing;
+mod directive;
+mod entry;
+mod item_span;
+mod item_spans;
+mod known_names;
+mod length;
+mod mark;
+mod marker;
+mod need;
+mod need_search;
+mod numbering;
+mod offered;
+mod one_list;
+mod passed;
+mod piece;
+mod piece_at;
+mod progress;
+mod symbol;
+mod symbol_of;
+mod symbols;
+mod token;
+mod token_list;
+
+pub use item_span::{Deep, ItemSpan};
+pub use item_spans::{items, one_item_list};
+pub use need::needed;
+pub use one_list::one_token_list;
+pub use passed::passed_over;
+pub use token::{Lexical, Token, TokenKind, Tokens};
+pub use token_list::{tokens, tokens_of_bytes};
+
+#[cfg(test)]
+mod item_tests;
+#[cfg(test)]
+mod tests;

@@ -1,0 +1,142 @@
+ghost use Rattle.std.specs.Prelude.{◌≡◌, ◌≤◌, Ok, length, map, IfOk};
+ghost use Rattle.std.specs.List.{All, list_any};
+ghost use Rattle.ctokens.specs.Entry.{IsTextRow, entries_of, is_main_entry};
+ghost use Rattle.ctokens.specs.Items.{IsInside, IsItems};
+ghost use Rattle.ctokens.specs.Need.{IsNeed, kept, item_row, item_rows, lexemes};
+ghost use Rattle.ctokens.specs.NeedSearch.{need_of};
+ghost use Rattle.ctokens.specs.Passed.{LieInText};
+
+use crate::entry::{Entry, entry_of};
+use crate::item_span::ItemSpan;
+use crate::need_search::found;
+use crate::numbering::number_words;
+use crate::passed::read_symbols;
+use crate::symbol::{Lexeme, Symbol};
+use crate::symbols::symbols;
+use crate::token::Tokens;
+use cbase::{List, NoMemory};
+use std::alloc::Global;
+
+/// The tokens with the numbers of their words.
+fn lexemes(alloc: Global, symbols: &[Symbol], words: &[u32]) -> Result<Vec<Lexeme<u32>>, NoMemory>
+    requires { length symbols.now ≡ length words.now }
+    ensures value { IfOk result (λ row. row.items ≡ lexemes symbols.now words.now) }
+    ensures len { IfOk result (λ row. length row.items ≡ length symbols.now) }
+{
+    let mut row = Vec::with_capacity(alloc, symbols.len())?;
+    for i in 0..symbols.len() {
+        row.push(Lexeme {
+            symbol: symbols[i],
+            word: words[i],
+        })?;
+    }
+    Ok(row)
+}
+
+/// The tokens of a span that are not passed over.
+fn item_row(
+    alloc: Global,
+    row: &[Lexeme<u32>],
+    span: ItemSpan,
+) -> Result<Vec<Lexeme<u32>>, NoMemory>
+    requires { IsInside (length row.now) span }
+    ensures value { IfOk result (λ rest. rest.items ≡ item_row row.now span) }
+    ensures len { IfOk result (λ rest. length rest.items ≤ length row.now) }
+{
+    kept(alloc, &row[span.first as usize..span.after as usize])
+}
+
+/// The tokens that are not passed over.
+fn kept(alloc: Global, row: &[Lexeme<u32>]) -> Result<Vec<Lexeme<u32>>, NoMemory>
+    ensures value { IfOk result (λ rest. rest.items ≡ kept row.now) }
+    ensures len { IfOk result (λ rest. length rest.items ≤ length row.now) }
+{
+    let mut kept = Vec::new(alloc);
+    for token in row {
+        if !token.symbol.is_passed_over() {
+            kept.push(*token)?;
+        }
+    }
+    Ok(kept)
+}
+
+/// What counts of each item for need.
+fn entries(alloc: Global, row: &[Lexeme<u32>], items: &[ItemSpan]) -> Result<Vec<Entry>, NoMemory>
+    requires few { length row.now ≤ 4194304 }
+    requires inside { All (IsInside (length row.now)) items.now }
+    ensures value { IfOk result (λ entries. entries.items ≡ entries_of row.now items.now) }
+    ensures len { IfOk result (λ entries. length entries.items ≡ length items.now) }
+{
+    let mut entries = Vec::with_capacity(alloc, items.len())?;
+    for span in items {
+        let tokens = item_row(alloc, row, *span)?;
+        entries.push(entry_of(alloc, tokens.as_slice())?)?;
+    }
+    Ok(entries)
+}
+
+/// Whether an item defines main.
+fn defines_main(entries: &[Entry]) -> bool
+    ensures { result ≡ list_any is_main_entry entries.now }
+{
+    for entry in entries {
+        if entry.main {
+            return true;
+        }
+    }
+    false
+}
+
+/// The tokens of a text, with `PassedOver` for each that is passed over, and numbers for their words.
+#[derive(Drop)]
+struct TextRow {
+    tokens: Vec<Lexeme<u32>>,
+    /// How many words there are that differ; each number is below it.
+    count: u32,
+}
+
+/// The tokens of a text with numbers for their words.
+fn text_row(alloc: Global, t: &Tokens) -> Result<TextRow, NoMemory>
+    requires { LieInText t.now }
+    ensures value { IfOk result (λ row. IsTextRow t.now row.tokens.items row.count) }
+    ensures len { IfOk result (λ row. length row.tokens.items ≡ length t.now.list) }
+{
+    let symbols = symbols(alloc, t)?;
+    let read = read_symbols(alloc, symbols.as_slice())?;
+    let numbering = number_words(alloc, t)?;
+    Ok(TextRow {
+        tokens: lexemes(alloc, read.as_slice(), numbering.numbers.as_slice())?,
+        count: numbering.count,
+    })
+}
+
+/// The numbers of the items that are found, or `None` where no item defines main.
+fn need_of(alloc: Global, entries: &[Entry], count: u32) -> Result<Option<List<u32>>, NoMemory>
+    requires { length entries.now ≤ 4194304 }
+    ensures { IfOk result (λ answer. answer ≡ need_of entries.now count) }
+{
+    if !defines_main(entries) {
+        return Ok(None);
+    }
+    Ok(Some(found(alloc, entries, count)?))
+}
+
+/// The numbers of the items that main needs, in order of the text; `None` exactly where no item defines main.
+///
+/// An item is needed that defines main, and one that offers a name which a needed item contains as a word not
+/// directly after `.` or `->`. An item without a body that offers only names of built-in functions is passed over.
+/// The work grows with the text alone: each word is hashed once, and each item and each name is followed once.
+#[tactic(auto, using(crate::proofs::ItemsInside::items_few, crate::proofs::ItemsInside::items_inside, crate::proofs::NeedExact::need_exact))]
+pub fn needed(
+    alloc: Global,
+    t: &Tokens,
+    items: &List<ItemSpan>,
+) -> Result<Option<List<u32>>, NoMemory>
+    requires text { LieInText t.now }
+    requires spans { IsItems t.now (Ok items.now) }
+    ensures { IfOk result (λ answer. IsNeed (item_rows t.now items.now) answer) }
+{
+    let row = text_row(alloc, t)?;
+    let entries = entries(alloc, row.tokens.as_slice(), items.as_slice())?;
+    need_of(alloc, entries.as_slice(), row.count)
+}

@@ -1,0 +1,69 @@
+ghost use Rattle.std.specs.Prelude.{◌≡◌, ◌≤◌, IfOk, length, map};
+ghost use Rattle.ctokens.specs.Passed.{LieInText, depth_after, passed_tokens, read_from, read_symbols};
+ghost use Rattle.ctokens.specs.Symbol.{is_passed_over};
+
+use crate::symbol::Symbol;
+use crate::symbols::symbols;
+use crate::token::Tokens;
+use cbase::{List, NoMemory};
+use std::alloc::Global;
+
+/// How many brackets are open after a token where `depth` were open before it.
+pub(crate) fn depth_after(depth: u32, symbol: Symbol) -> u32
+    requires { depth ≤ 4194304 }
+    ensures { result ≡ depth_after depth symbol }
+{
+    if symbol.is_opening() {
+        return depth + 1;
+    }
+    if symbol.is_closing() {
+        return depth.saturating_sub(1);
+    }
+    depth
+}
+
+/// The symbols with `PassedOver` for each token that is passed over.
+#[tactic(auto, using(crate::proofs::PassedSteps::read_inside))]
+pub(crate) fn read_symbols(alloc: Global, symbols: &[Symbol]) -> Result<Vec<Symbol>, NoMemory>
+    requires { length symbols.now ≤ 4194304 }
+    ensures value { IfOk result (λ read. read.items ≡ read_symbols symbols.now) }
+    ensures len { IfOk result (λ read. length read.items ≡ length symbols.now) }
+{
+    let mut read = Vec::with_capacity(alloc, symbols.len())?;
+    let mut behind = false;
+    let mut unclosed: u32 = 0;
+    for symbol in symbols {
+        if unclosed > 0 {
+            read.push(Symbol::PassedOver)?;
+            behind = false;
+            unclosed = depth_after(unclosed, *symbol);
+            continue;
+        }
+        if behind && symbol.is_opening() {
+            read.push(Symbol::PassedOver)?;
+            behind = false;
+            unclosed = 1;
+            continue;
+        }
+        behind = symbol.is_attribute();
+        read.push(if behind { Symbol::PassedOver } else { *symbol })?;
+    }
+    Ok(read)
+}
+
+/// For each token of the text, whether it is passed over: qualifiers and the like, and attributes with their
+/// bracketed part.
+#[tactic(auto, using(crate::proofs::ItemsInside::length_passed))]
+pub fn passed_over(alloc: Global, t: &Tokens) -> Result<List<bool>, NoMemory>
+    requires { LieInText t.now }
+    ensures value { IfOk result (λ passed. passed ≡ passed_tokens t.now) }
+    ensures len { IfOk result (λ passed. length passed ≡ length t.now.list) }
+{
+    let symbols = symbols(alloc, t)?;
+    let read = read_symbols(alloc, symbols.as_slice())?;
+    let mut passed = Vec::with_capacity(alloc, read.len())?;
+    for symbol in &read {
+        passed.push(symbol.is_passed_over())?;
+    }
+    Ok(List::from_vec(passed))
+}
