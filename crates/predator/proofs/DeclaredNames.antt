@@ -28,17 +28,17 @@ more-same names others name same other = ap (λ b. nat_eq other name || b) (same
 -- the order of the names that are declared does not matter
 pub is_scoped-same : (names others : List ℕ) (lines : List Line) → HoldSame names others → is_scoped names lines ≡ is_scoped others lines
 is_scoped-same names others [] same = refl
-is_scoped-same names others (Declare name source ∷ lines) same =
+is_scoped-same names others (Declare name source end ∷ lines) same =
     let among = same name in
     let initialiser = initialiser-same names others source same in
     let rest = is_scoped-same (name ∷ names) (name ∷ others) lines (more-same names others name same) in
     cc
-is_scoped-same names others (Assign name source ∷ lines) same =
+is_scoped-same names others (Assign name source end ∷ lines) same =
     let among = same name in
     let declared = source-same names others source same in
     let rest = is_scoped-same names others lines same in
     cc
-is_scoped-same names others (Free name ∷ lines) same =
+is_scoped-same names others (Free name at end ∷ lines) same =
     let among = same name in
     let rest = is_scoped-same names others lines same in
     cc
@@ -70,12 +70,12 @@ keep_names names rest = ap (λ declared. is_scoped declared rest) (sym (append-n
 -- one line in scope leaves the rest, with what it declares
 pub is_scoped-line : (names : List ℕ) (line : Line) (rest : List Line) → is_line_scoped names line ≡ true
     → is_scoped names (line ∷ rest) ≡ is_scoped (names ++ declared_by line) rest
-is_scoped-line names (Declare name source) rest h =
+is_scoped-line names (Declare name source end) rest h =
     and-true (not (is_among name names)) (is_initialiser_declared names source) (is_scoped (name ∷ names) rest) h
     ∙ is_scoped-same (name ∷ names) (names ++ name ∷ []) rest (behind-same names name)
-is_scoped-line names (Assign name source) rest h =
+is_scoped-line names (Assign name source end) rest h =
     and-true (is_among name names) (is_source_declared names source) (is_scoped names rest) h ∙ keep_names names rest
-is_scoped-line names (Free name) rest h = first-true (is_among name names) (is_scoped names rest) h ∙ keep_names names rest
+is_scoped-line names (Free name at end) rest h = first-true (is_among name names) (is_scoped names rest) h ∙ keep_names names rest
 
 -- a loop over the lines goes one line on
 pub is_scoped-step : (names known more : List ℕ) (lines : List Line) (i : ℕ) (d : Line) (answer : Bool) → i < length lines → known ≡ names

@@ -1,16 +1,16 @@
 -- The start: main's locals are made, each with a number of its own.
-use Rattle.std.proofs.Common.{◌≡◌, ℕ, zero, suc, ◌+◌, ◌≤◌, ◌<◌, ◌%◌, ◌/◌, Bool, true, false, ◌&&◌, List, [], ◌∷◌, ◌++◌, map, length, nat_eq, nat_lt, if◌then◌else◌, refl, sym, ap, subst, ◌∙◌, append_assoc, arith, length-append}
+use Rattle.std.proofs.Common.{◌≡◌, ℕ, suc, ◌+◌, ◌≤◌, ◌<◌, ◌%◌, ◌/◌, Bool, true, false, ◌&&◌, List, [], ◌∷◌, ◌++◌, map, length, nat_eq, nat_lt, if◌then◌else◌, refl, sym, ap, subst, append_assoc, arith, length-append}
 use Rattle.std.proofs.lemmas.Bool.{eq-eqb, eqb-true, lt-ltb}
 use Rattle.std.specs.List.{list_all}
 use Rattle.std.specs.Int.{w64, to_le_bytes, from_le_bytes}
-use Rattle.bytes_core.specs.declared.word.Word.{Word}
-use Rattle.bytes_core.specs.declared.word.Word.TheVariants.{Plain, To}
+use Rattle.bytes_core.specs.declared.word.Word.TheVariants.{Plain}
 use Rattle.bytes_core.specs.declared.block.BlockKind.TheVariants as storage
 use Rattle.bytes_core.specs.declared.block.Block.{Block}
 use Rattle.bytes_core.specs.Placement.{can_be_placed}
 use Rattle.predator.specs.declared.situation.Local.{Local}
+use Rattle.predator.specs.declared.fault.Fault.{Fault}
 use Rattle.bytes_core.specs.Placement.{is_new_block, new_block}
-use Rattle.predator.specs.Machine.{Choice, NoBlock, Place, Input, Task, Enter, Variable, State, Outcome, Went, Ended, RunFaults, step}
+use Rattle.predator.specs.Machine.{Choice, NoBlock, Place, Input, Task, Enter, Variable, State, Went, Ended, RunFaults, step}
 use Rattle.predator.specs.Search.{unwritten_from}
 use Rattle.predator.proofs.Runs.{RunFaults-next, RunFaults-before, RunFaults-waits, RunFaults-ended}
 use Rattle.predator.proofs.Stands.{IsWord, AreWords, HoldsWord, LocalsStand, Stands, variables_from, state_at, guessed}
@@ -85,19 +85,19 @@ step-entered : (tasks : List Task) (names : List ℕ) (memory : List Block) (nam
 unfolding entered_state
 step-entered tasks names memory name base contents choices fits is = ap (λ (b : Bool). if b then Went (entered_state tasks names memory name base contents) choices else Ended) is
 
-module _ (kind : ℕ) (tasks : List Task) (later : List Local → List Bool → Bool) (finds : (guesses : ℕ → ℕ) → AreWords guesses → Finds kind tasks later guesses) where
+module _ (fault : Fault) (tasks : List Task) (later : List Local → List Bool → Bool) (finds : (guesses : ℕ → ℕ) → AreWords guesses → Finds fault tasks later guesses) where
   -- the search finds what a run meets behind the making of these locals, whatever was made before
   abbrev EnteringFinds : List ℕ → Type 0
   EnteringFinds names =
       (entered : List ℕ) (guesses : ℕ → ℕ) (memory : List Block) (choices : List Choice) → AreWords guesses → Stands guesses (unwritten_from 0 entered) [] memory →
-      RunFaults (state_at (map Enter names ++ tasks) [] (unwritten_from 0 entered) memory) choices kind → later (unwritten_from 0 (entered ++ names)) [] ≡ true
+      RunFaults (state_at (map Enter names ++ tasks) [] (unwritten_from 0 entered) memory) choices fault → later (unwritten_from 0 (entered ++ names)) [] ≡ true
 
   -- with the choice of a place, if it is one
   placed-finds : (name : ℕ) (names : List ℕ) → EnteringFinds names → (entered : List ℕ) (guesses : ℕ → ℕ) (memory : List Block) (base : ℕ) (contents : List ℕ) (choices : List Choice) (fits : Bool) → is_new_block memory storage.Local 8 base contents ≡ fits →
       AreWords guesses → Stands guesses (unwritten_from 0 entered) [] memory →
-      RunFaults (state_at (Enter name ∷ (map Enter names ++ tasks)) [] (unwritten_from 0 entered) memory) (Place base contents ∷ choices) kind → later (unwritten_from 0 (entered ++ name ∷ names)) [] ≡ true
+      RunFaults (state_at (Enter name ∷ (map Enter names ++ tasks)) [] (unwritten_from 0 entered) memory) (Place base contents ∷ choices) fault → later (unwritten_from 0 (entered ++ name ∷ names)) [] ≡ true
   placed-finds name names on entered guesses memory base contents choices false is words stands faults =
-      absurd (RunFaults-ended (state_at (Enter name ∷ (map Enter names ++ tasks)) [] (unwritten_from 0 entered) memory) (Place base contents ∷ choices) kind
+      absurd (RunFaults-ended (state_at (Enter name ∷ (map Enter names ++ tasks)) [] (unwritten_from 0 entered) memory) (Place base contents ∷ choices) fault
       (step-entered (map Enter names ++ tasks) entered memory name base contents choices false is) faults)
   placed-finds name names on entered guesses memory base contents choices true is words stands faults =
       let rest : List Task = map Enter names ++ tasks in
@@ -112,11 +112,11 @@ module _ (kind : ℕ) (tasks : List Task) (later : List Local → List Bool → 
       let learned_there : learned (length entered) ≡ number = ap (λ (b : Bool). if b then number else guesses (length entered)) (eq-eqb (length entered) (length entered) refl) in
       let stands_grown : Stands learned (unwritten_from 0 (entered ++ name ∷ [])) [] grown
       = Stands-entered learned entered memory name base contents eight learned_there (Stands-guessed_later guesses number entered memory stands) in
-      let after : RunFaults (entered_state rest entered memory name base contents) choices kind
-      = RunFaults-next (state_at (Enter name ∷ rest) [] (unwritten_from 0 entered) memory) (entered_state rest entered memory name base contents) (Place base contents ∷ choices) choices kind
+      let after : RunFaults (entered_state rest entered memory name base contents) choices fault
+      = RunFaults-next (state_at (Enter name ∷ rest) [] (unwritten_from 0 entered) memory) (entered_state rest entered memory name base contents) (Place base contents ∷ choices) choices fault
       (step-entered rest entered memory name base contents choices true is) faults in
-      let renamed : RunFaults (state_at rest [] (unwritten_from 0 (entered ++ name ∷ [])) grown) choices kind
-      = subst (λ (s : State). RunFaults s choices kind) (entered_state-is guesses rest entered memory name base contents stands) after in
+      let renamed : RunFaults (state_at rest [] (unwritten_from 0 (entered ++ name ∷ [])) grown) choices fault
+      = subst (λ (s : State). RunFaults s choices fault) (entered_state-is guesses rest entered memory name base contents stands) after in
       subst (λ (ns : List ℕ). later (unwritten_from 0 ns) [] ≡ true) (append_assoc entered (name ∷ []) names)
       (on (entered ++ name ∷ []) learned grown choices (AreWords-guessed guesses (length entered) number (IsWord-read contents eight bytes.0) words) stands_grown renamed)
 
@@ -125,11 +125,11 @@ module _ (kind : ℕ) (tasks : List Task) (later : List Local → List Bool → 
   entering-finds [] entered guesses memory choices words stands faults =
       subst (λ (ns : List ℕ). later (unwritten_from 0 ns) [] ≡ true) (sym (append-none entered)) (finds guesses words (unwritten_from 0 entered) [] memory choices stands faults)
   entering-finds (name ∷ names) entered guesses memory [] words stands faults =
-      absurd (RunFaults-waits (state_at (Enter name ∷ (map Enter names ++ tasks)) [] (unwritten_from 0 entered) memory) [] kind refl faults)
+      absurd (RunFaults-waits (state_at (Enter name ∷ (map Enter names ++ tasks)) [] (unwritten_from 0 entered) memory) [] fault refl faults)
   entering-finds (name ∷ names) entered guesses memory (NoBlock ∷ choices) words stands faults =
-      absurd (RunFaults-ended (state_at (Enter name ∷ (map Enter names ++ tasks)) [] (unwritten_from 0 entered) memory) (NoBlock ∷ choices) kind refl faults)
+      absurd (RunFaults-ended (state_at (Enter name ∷ (map Enter names ++ tasks)) [] (unwritten_from 0 entered) memory) (NoBlock ∷ choices) fault refl faults)
   entering-finds (name ∷ names) entered guesses memory (Input number ∷ choices) words stands faults =
-      absurd (RunFaults-ended (state_at (Enter name ∷ (map Enter names ++ tasks)) [] (unwritten_from 0 entered) memory) (Input number ∷ choices) kind refl faults)
+      absurd (RunFaults-ended (state_at (Enter name ∷ (map Enter names ++ tasks)) [] (unwritten_from 0 entered) memory) (Input number ∷ choices) fault refl faults)
   entering-finds (name ∷ names) entered guesses memory (Place base contents ∷ choices) words stands faults =
       placed-finds name names (entering-finds names) entered guesses memory base contents choices (is_new_block memory storage.Local 8 base contents) refl words stands faults
 
@@ -146,12 +146,12 @@ bytes_of_number number =
     (both (low_byte (number / 4294967296)) (both (low_byte (number / 1099511627776)) (both (low_byte (number / 281474976710656)) (both (low_byte (number / 72057594037927936)) refl)))))))
 
 -- each local can be made with the number that is guessed for it
-module _ (kind : ℕ) (tasks : List Task) (count : ℕ) (guesses : ℕ → ℕ) (words : AreWords guesses) where
-  pub entering-leads : (names entered : List ℕ) (memory : List Block) → Stands guesses (unwritten_from 0 entered) [] memory → IsRoomy memory → length memory + (length names + count) ≤ 16384 →
-      ((grown : List Block) → Stands guesses (unwritten_from 0 (entered ++ names)) [] grown → IsRoomy grown → length grown + count ≤ 16384 → SomeFaults (state_at tasks [] (unwritten_from 0 (entered ++ names)) grown) kind) →
-      SomeFaults (state_at (map Enter names ++ tasks) [] (unwritten_from 0 entered) memory) kind
+module _ (fault : Fault) (tasks : List Task) (count : ℕ) (guesses : ℕ → ℕ) (words : AreWords guesses) where
+  pub entering-leads : (names entered : List ℕ) (memory : List Block) → Stands guesses (unwritten_from 0 entered) [] memory → IsRoomy memory → length memory + (length names + count) ≤ 8388608 →
+      ((grown : List Block) → Stands guesses (unwritten_from 0 (entered ++ names)) [] grown → IsRoomy grown → length grown + count ≤ 8388608 → SomeFaults (state_at tasks [] (unwritten_from 0 (entered ++ names)) grown) fault) →
+      SomeFaults (state_at (map Enter names ++ tasks) [] (unwritten_from 0 entered) memory) fault
   entering-leads [] entered memory stands roomy room faults =
-      subst (λ (ns : List ℕ). SomeFaults (state_at tasks [] (unwritten_from 0 ns) memory) kind) (append-none entered)
+      subst (λ (ns : List ℕ). SomeFaults (state_at tasks [] (unwritten_from 0 ns) memory) fault) (append-none entered)
       (faults memory (subst (λ (ns : List ℕ). Stands guesses (unwritten_from 0 ns) [] memory) (sym (append-none entered)) stands) roomy (omega arith))
   entering-leads (name ∷ names) entered memory stands roomy room faults =
       let rest : List Task = map Enter names ++ tasks in
@@ -163,13 +163,13 @@ module _ (kind : ℕ) (tasks : List Task) (count : ℕ) (guesses : ℕ → ℕ) 
       let stands_grown : Stands guesses (unwritten_from 0 (entered ++ name ∷ [])) [] grown
       = Stands-entered guesses entered memory name base contents refl (sym (words (length entered))) stands in
       let fits : is_new_block memory storage.Local 8 base contents ≡ true = is_new_block-fresh memory storage.Local 8 contents roomy (omega arith) (omega arith) refl (bytes_of_number number) in
-      let inner : SomeFaults (state_at rest [] (unwritten_from 0 (entered ++ name ∷ [])) grown) kind
+      let inner : SomeFaults (state_at rest [] (unwritten_from 0 (entered ++ name ∷ [])) grown) fault
       = entering-leads names (entered ++ name ∷ []) grown stands_grown (IsRoomy-placed memory storage.Local contents (omega arith) roomy) (omega arith)
-      (subst (λ (ns : List ℕ). (grown : List Block) → Stands guesses (unwritten_from 0 ns) [] grown → IsRoomy grown → length grown + count ≤ 16384 → SomeFaults (state_at tasks [] (unwritten_from 0 ns) grown) kind)
+      (subst (λ (ns : List ℕ). (grown : List Block) → Stands guesses (unwritten_from 0 ns) [] grown → IsRoomy grown → length grown + count ≤ 8388608 → SomeFaults (state_at tasks [] (unwritten_from 0 ns) grown) fault)
       (sym (append_assoc entered (name ∷ []) names)) faults) in
-      let renamed : SomeFaults (entered_state rest entered memory name base contents) kind
-      = subst (λ (s : State). SomeFaults s kind) (sym (entered_state-is guesses rest entered memory name base contents stands)) inner in (
+      let renamed : SomeFaults (entered_state rest entered memory name base contents) fault
+      = subst (λ (s : State). SomeFaults s fault) (sym (entered_state-is guesses rest entered memory name base contents stands)) inner in (
         Place base contents ∷ renamed.0,
-        RunFaults-before (state_at (Enter name ∷ rest) [] (unwritten_from 0 entered) memory) (entered_state rest entered memory name base contents) (Place base contents ∷ renamed.0) renamed.0 kind
+        RunFaults-before (state_at (Enter name ∷ rest) [] (unwritten_from 0 entered) memory) (entered_state rest entered memory name base contents) (Place base contents ∷ renamed.0) renamed.0 fault
             (step-entered rest entered memory name base contents renamed.0 true fits) renamed.1,
       )

@@ -1,6 +1,6 @@
 -- There is always an address for a new block: all blocks end below a bound that grows with their number.
-use Rattle.std.proofs.Common.{◌≡◌, ℕ, zero, suc, ◌+◌, ◌*◌, ◌%◌, ◌^◌, lit≤, ◌≤◌, ◌<◌, max, Bool, true, false, ◌||◌, ◌&&◌, not, List, [], ◌∷◌, ◌++◌, map, length, pos, Option, None, Some, nat_eq, nat_le, nat_lt, if◌then◌else◌, refl, sym, ap, subst, ◌∙◌, slice_get, slice_set, take, drop, arith}
-use Rattle.std.proofs.lemmas.Bool.{eq-eqb, eqb-true, le-leb, leb-true}
+use Rattle.std.proofs.Common.{◌≡◌, ℕ, zero, suc, ◌+◌, ◌*◌, ◌%◌, ◌^◌, lit≤, ◌≤◌, max, Bool, true, false, ◌||◌, ◌&&◌, not, List, [], ◌∷◌, ◌++◌, map, length, pos, Option, None, Some, nat_eq, nat_le, nat_lt, if◌then◌else◌, refl, sym, ap, subst, ◌∙◌, slice_get, slice_set, take, arith}
+use Rattle.std.proofs.lemmas.Bool.{eq-eqb, le-leb, leb-true}
 use Rattle.std.proofs.Math.Bool.{or-true}
 use Rattle.std.proofs.lemmas.List.{length-set, length-append, length-map, length-drop}
 use Rattle.std.specs.List.{list_all}
@@ -13,7 +13,7 @@ use Rattle.bytes_core.specs.declared.block.Block.{Block}
 use Rattle.bytes_core.specs.Fault.{access_outside_object, access_to_dead_object}
 use Rattle.bytes_core.specs.Value.{word_bytes}
 use Rattle.bytes_core.specs.Placement.{extent, is_placed, are_compatible, can_be_placed}
-use Rattle.bytes_core.specs.Access.{access_fault, block_fault, is_within, overwritten, with_bytes, stored}
+use Rattle.bytes_core.specs.Access.{access_fault, block_fault, overwritten, with_bytes, stored}
 use Rattle.bytes_core.specs.Release.{freed, without}
 use Rattle.bytes_core.specs.Placement.{is_new_block, new_block}
 
@@ -69,7 +69,7 @@ extent-new_block kind base contents small =
     max-le 16 (length (map Num contents)) 65536 (lit≤ tt) (subst (λ (n : ℕ). n ≤ 65536) (sym (length-map contents Num)) small)
 
 -- a fresh base with contents of the size is a choice for a new block
-pub is_new_block-fresh : (memory : List Block) (kind : BlockKind) (size : ℕ) (contents : List ℕ) → IsRoomy memory → length memory ≤ 16384 → size ≤ 65536 →
+pub is_new_block-fresh : (memory : List Block) (kind : BlockKind) (size : ℕ) (contents : List ℕ) → IsRoomy memory → length memory ≤ 8388608 → size ≤ 65536 →
     length contents ≡ size → list_all (λ byte. nat_lt byte 256) contents ≡ true → is_new_block memory kind size (fresh (length memory)) contents ≡ true
 is_new_block-fresh memory kind size contents roomy few small sized bytes =
     let block : Block = new_block kind (fresh (length memory)) contents in

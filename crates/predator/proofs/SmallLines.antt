@@ -1,15 +1,21 @@
--- The lines of a text of few bytes are few, and their sizes are in range.
-use Rattle.std.proofs.Common.{◌≡◌, ℕ, ◌≤◌, Bool, true, false, ◌&&◌, List, [], ◌∷◌, ◌++◌, length, refl, sym, ap, arith, None, Some, IsTrue, length-append, subst}
+-- The lines of a row of few tokens are few, and their sizes are in range.
+use Rattle.std.proofs.Common.{◌≡◌, ℕ, ◌+◌, ◌≤◌, map, Bool, true, false, ◌&&◌, List, [], ◌∷◌, ◌++◌, length, refl, sym, ap, arith, None, Some, IsTrue, length-append, subst}
 use Rattle.std.proofs.lemmas.Bool.{le-leb}
+use Rattle.std.proofs.lemmas.List.{length-map}
 use Rattle.std.specs.List.{list_all}
+use Rattle.predator.specs.declared.token.PlacedToken.{PlacedToken}
 use Rattle.predator.specs.declared.token.Token.{Token}
 use Rattle.predator.specs.declared.token.Token.TheVariants as token
 use Rattle.predator.specs.declared.token.Token.TheVariants.{Int, Main, Void, Return, Malloc, Name, Number, LeftParenthesis, RightParenthesis, LeftBrace, RightBrace, Star, Equals, Semicolon}
 use Rattle.predator.specs.declared.line.Source.TheVariants.{Null, Local, Allocation}
 use Rattle.predator.specs.declared.line.Line.{Line}
 use Rattle.predator.specs.declared.line.Line.TheVariants.{Declare, Assign, Free}
-use Rattle.predator.specs.FirstForm.{line_tokens, body_tokens, program_tokens, is_small_line, IsSmall}
-use Rattle.predator.specs.Tokens.{IsTokens}
+use Rattle.predator.specs.declared.line.Program.{Program}
+use Rattle.predator.specs.FirstForm.{line_tokens, body_tokens, program_tokens, is_small_line, IsProgram, IsSmall}
+use Rattle.ctokens.specs.declared.token.Token.{Token as Lexeme}
+use Rattle.ctokens.specs.Symbol.{bytes_of}
+use Rattle.predator.specs.Row.{AreSpelled}
+use Rattle.predator.specs.Tokens.{IsSpelling}
 
 -- a number is at most 65,536
 abbrev pub IsSmallToken : Token → Type 0
@@ -33,35 +39,41 @@ abbrev pub AreSmallTokens : List Token → Type 0
 AreSmallTokens [] = Unit {0}
 AreSmallTokens (token ∷ tokens) = IsSmallToken token × AreSmallTokens tokens
 
--- the tokens of a text are small
-pub small_tokens : (tokens : List Token) (text : List ℕ) → IsTokens tokens text → AreSmallTokens tokens
-small_tokens [] text is = tt
-small_tokens (Number value ∷ tokens) text (blanks, bytes, rest, is, blank, spelling, ends, more) = (spelling.in_range, small_tokens tokens rest more)
-small_tokens (Int ∷ tokens) text (blanks, bytes, rest, is, blank, spelling, ends, more) = (tt, small_tokens tokens rest more)
-small_tokens (Main ∷ tokens) text (blanks, bytes, rest, is, blank, spelling, ends, more) = (tt, small_tokens tokens rest more)
-small_tokens (Void ∷ tokens) text (blanks, bytes, rest, is, blank, spelling, ends, more) = (tt, small_tokens tokens rest more)
-small_tokens (Return ∷ tokens) text (blanks, bytes, rest, is, blank, spelling, ends, more) = (tt, small_tokens tokens rest more)
-small_tokens (Malloc ∷ tokens) text (blanks, bytes, rest, is, blank, spelling, ends, more) = (tt, small_tokens tokens rest more)
-small_tokens (token.Free ∷ tokens) text (blanks, bytes, rest, is, blank, spelling, ends, more) = (tt, small_tokens tokens rest more)
-small_tokens (Name letter ∷ tokens) text (blanks, bytes, rest, is, blank, spelling, ends, more) = (tt, small_tokens tokens rest more)
-small_tokens (LeftParenthesis ∷ tokens) text (blanks, bytes, rest, is, blank, spelling, ends, more) = (tt, small_tokens tokens rest more)
-small_tokens (RightParenthesis ∷ tokens) text (blanks, bytes, rest, is, blank, spelling, ends, more) = (tt, small_tokens tokens rest more)
-small_tokens (LeftBrace ∷ tokens) text (blanks, bytes, rest, is, blank, spelling, ends, more) = (tt, small_tokens tokens rest more)
-small_tokens (RightBrace ∷ tokens) text (blanks, bytes, rest, is, blank, spelling, ends, more) = (tt, small_tokens tokens rest more)
-small_tokens (Star ∷ tokens) text (blanks, bytes, rest, is, blank, spelling, ends, more) = (tt, small_tokens tokens rest more)
-small_tokens (Equals ∷ tokens) text (blanks, bytes, rest, is, blank, spelling, ends, more) = (tt, small_tokens tokens rest more)
-small_tokens (Semicolon ∷ tokens) text (blanks, bytes, rest, is, blank, spelling, ends, more) = (tt, small_tokens tokens rest more)
+-- what spells a token spells a small one
+small_token : (token : Token) (bytes : List ℕ) → IsSpelling token bytes → IsSmallToken token
+small_token (Number value) bytes spelling = spelling.in_range
+small_token Int bytes spelling = tt
+small_token Main bytes spelling = tt
+small_token Void bytes spelling = tt
+small_token Return bytes spelling = tt
+small_token Malloc bytes spelling = tt
+small_token token.Free bytes spelling = tt
+small_token (Name letter) bytes spelling = tt
+small_token LeftParenthesis bytes spelling = tt
+small_token RightParenthesis bytes spelling = tt
+small_token LeftBrace bytes spelling = tt
+small_token RightBrace bytes spelling = tt
+small_token Star bytes spelling = tt
+small_token Equals bytes spelling = tt
+small_token Semicolon bytes spelling = tt
+
+-- the tokens of a row that is spelled are small
+small_tokens : (text : List ℕ) (tokens : List Lexeme) (row : List PlacedToken) → AreSpelled text tokens row → AreSmallTokens (map (λ placed. placed.token) row)
+small_tokens text [] [] are = tt
+small_tokens text [] (first ∷ row) are = absurd are
+small_tokens text (token ∷ tokens) [] are = absurd are
+small_tokens text (token ∷ tokens) (first ∷ row) (spelled, placed, rest) = (small_token first.token (bytes_of text token) spelled, small_tokens text tokens row rest)
 
 -- small tokens in front are a small line's
 small_line : (line : Line) (rest : List Token) → AreSmallTokens (line_tokens line ++ rest) → IsTrue (is_small_line line) × AreSmallTokens rest
-small_line (Declare name None) rest small = (refl, small.1.1.1.1)
-small_line (Declare name (Some Null)) rest small = (refl, small.1.1.1.1.1.1)
-small_line (Declare name (Some (Local other))) rest small = (refl, small.1.1.1.1.1.1)
-small_line (Declare name (Some (Allocation size))) rest small = (le-leb size 65536 small.1.1.1.1.1.1.0, small.1.1.1.1.1.1.1.1.1)
-small_line (Assign name Null) rest small = (refl, small.1.1.1.1)
-small_line (Assign name (Local other)) rest small = (refl, small.1.1.1.1)
-small_line (Assign name (Allocation size)) rest small = (le-leb size 65536 small.1.1.1.1.0, small.1.1.1.1.1.1.1)
-small_line (Free name) rest small = (refl, small.1.1.1.1.1)
+small_line (Declare name None end) rest small = (refl, small.1.1.1.1)
+small_line (Declare name (Some Null) end) rest small = (refl, small.1.1.1.1.1.1)
+small_line (Declare name (Some (Local other)) end) rest small = (refl, small.1.1.1.1.1.1)
+small_line (Declare name (Some (Allocation size)) end) rest small = (le-leb size 65536 small.1.1.1.1.1.1.0, small.1.1.1.1.1.1.1.1.1)
+small_line (Assign name Null end) rest small = (refl, small.1.1.1.1)
+small_line (Assign name (Local other) end) rest small = (refl, small.1.1.1.1)
+small_line (Assign name (Allocation size) end) rest small = (le-leb size 65536 small.1.1.1.1.0, small.1.1.1.1.1.1.1)
+small_line (Free name at end) rest small = (refl, small.1.1.1.1.1)
 
 both : (a b : Bool) → IsTrue a → IsTrue b → IsTrue (a && b)
 both true true h k = refl
@@ -77,20 +89,22 @@ small_lines (line ∷ lines) small =
 -- each line has a token at least
 length_lines : (lines : List Line) → length lines ≤ length (body_tokens lines)
 length_lines [] = omega arith
-length_lines (Declare name source ∷ lines) =
-    omega (arith, length_lines lines, length-append (line_tokens (Declare name source)) (body_tokens lines))
-length_lines (Assign name source ∷ lines) =
-    omega (arith, length_lines lines, length-append (line_tokens (Assign name source)) (body_tokens lines))
-length_lines (Free name ∷ lines) = omega (arith, length_lines lines, length-append (line_tokens (Free name)) (body_tokens lines))
+length_lines (Declare name source end ∷ lines) =
+    omega (arith, length_lines lines, length-append (line_tokens (Declare name source end)) (body_tokens lines))
+length_lines (Assign name source end ∷ lines) =
+    omega (arith, length_lines lines, length-append (line_tokens (Assign name source end)) (body_tokens lines))
+length_lines (Free name at end ∷ lines) = omega (arith, length_lines lines, length-append (line_tokens (Free name at end)) (body_tokens lines))
 
--- the lines of a short text are small
-pub small_text : (tokens : List Token) (text : List ℕ) (lines : List Line) → IsTokens tokens text → length tokens ≤ length text → length text ≤ 4096
-    → program_tokens lines ≡ tokens → IsSmall lines
-small_text tokens text lines is few short spelled =
+-- the lines of a row that is spelled are small
+pub small_row : (text : List ℕ) (lexemes : List Lexeme) (placed : List PlacedToken) (program : Program) → AreSpelled text lexemes placed → length placed ≤ 4194304
+    → IsProgram (map (λ p. p.token) placed) program → IsSmall program.lines
+small_row text lexemes placed program are short spells =
+    let tokens : List Token = map (λ p. p.token) placed in
     let P : List Token → Type 0 = λ ts. AreSmallTokens ts in
-    let small : AreSmallTokens (program_tokens lines) = subst P (sym spelled) (small_tokens tokens text is) in
-    let long : length (program_tokens lines) ≡ length tokens = ap length spelled in
+    let small : AreSmallTokens (program_tokens program.lines) = subst P (sym spells.spelled) (small_tokens text lexemes placed are) in
+    let long : length (program_tokens program.lines) ≡ length tokens = ap length spells.spelled in
+    let same : length tokens ≡ length placed = length-map placed (λ (p : PlacedToken). p.token) in
     record {
-      few_lines = omega (arith, length_lines lines);
-      small_sizes = small_lines lines small.1.1.1.1.1.1;
+      few_lines = omega (arith, length_lines program.lines);
+      small_sizes = small_lines program.lines small.1.1.1.1.1.1;
     }

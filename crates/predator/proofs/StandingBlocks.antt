@@ -1,5 +1,5 @@
 -- Allocating, freeing and losing the blocks of a memory that stands.
-use Rattle.std.proofs.Common.{◌≡◌, ℕ, zero, suc, ◌+◌, Bool, true, false, List, [], ◌∷◌, ◌++◌, map, length, pos, Option, None, Some, if◌then◌else◌, ◌<◌, refl, ap, subst, ◌∙◌, arith, length-append, append_assoc, slice_get, slice_set}
+use Rattle.std.proofs.Common.{◌≡◌, ℕ, zero, suc, ◌+◌, Bool, true, false, List, [], ◌∷◌, ◌++◌, map, length, pos, Option, None, Some, if◌then◌else◌, refl, ap, subst, ◌∙◌, arith, length-append, append_assoc, slice_get, slice_set}
 use Rattle.std.specs.List.{list_any}
 use Rattle.bytes_core.specs.declared.byte.Byte.TheVariants.{Num}
 use Rattle.bytes_core.specs.declared.word.Word.TheVariants.{To}
@@ -11,7 +11,7 @@ use Rattle.bytes_core.specs.Loss.{holds_pointer_to, reached_within, is_lost}
 use Rattle.predator.specs.declared.situation.Local.{Local}
 use Rattle.bytes_core.specs.Placement.{new_block}
 use Rattle.predator.specs.Machine.{without_locals}
-use Rattle.predator.specs.Search.{is_block, loses}
+use Rattle.predator.specs.Search.{loses}
 use Rattle.predator.proofs.Stands.{Stands, LocalsStand, BlocksStand, IsAllocated, variables_from}
 use Rattle.predator.proofs.Reached.{places, reached_within-held, reached_within-no_root}
 use Rattle.predator.proofs.Lost.{AreOutsideHeap-LocalsStand, AreOutsideHeap-without_locals, some_block-Stands, loses_from-no_local, without_locals-append}

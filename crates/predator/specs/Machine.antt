@@ -3,13 +3,10 @@
 -- A state is a list of things to do, the operands of the unfinished full expression, the locals of main and
 -- the memory. A step takes the first thing off the list. Some steps take a choice: which base and contents a
 -- new block gets, and whether an allocation fails. A choice that breaks the placement of blocks, or has
--- another form than the one asked for, ends the run.
-use Rattle.std.specs.Prelude.{◌≡◌, ℕ, zero, suc, Bool, true, ◌&&◌, List, [], ◌∷◌, ◌++◌, map, length, nat_eq, nat_lt, pos, Option, None, Some, if◌then◌else◌}
-use Rattle.std.specs.List.{list_all}
-use Rattle.bytes_core.specs.declared.byte.Byte.TheVariants.{Num}
+-- another form than the one asked for, ends the run. A fault ends it too, at the number of a token.
+use Rattle.std.specs.Prelude.{◌≡◌, ℕ, zero, suc, true, List, [], ◌∷◌, ◌++◌, map, length, nat_eq, pos, Option, None, Some, if◌then◌else◌}
 use Rattle.bytes_core.specs.declared.word.Word.{Word}
 use Rattle.bytes_core.specs.declared.word.Word.TheVariants.{Plain, To}
-use Rattle.bytes_core.specs.declared.block.BlockKind.{BlockKind}
 use Rattle.bytes_core.specs.declared.block.BlockKind.TheVariants as storage
 use Rattle.bytes_core.specs.declared.block.Block.{Block}
 use Rattle.bytes_core.specs.Fault.{memory_lost}
@@ -22,6 +19,8 @@ use Rattle.predator.specs.declared.line.Source.{Source}
 use Rattle.predator.specs.declared.line.Source.TheVariants.{Null, Local, Allocation}
 use Rattle.predator.specs.declared.line.Line.{Line}
 use Rattle.predator.specs.declared.line.Line.TheVariants.{Declare, Assign, Free}
+use Rattle.predator.specs.declared.line.Program.{Program}
+use Rattle.predator.specs.declared.fault.Fault.{Fault}
 
 pub data Choice : Type 0 where
   -- an allocation answers null
@@ -31,6 +30,9 @@ pub data Choice : Type 0 where
   -- an input
   Input : (number : ℕ) → Choice
 
+-- What is to be done next. What can meet a fault says at which token: a free at the word `free`, a loss at the
+-- semicolon of its full expression or at main's `return`. A load or a store of a local meets none, since locals
+-- live until main returns and have eight bytes; one would be met at the semicolon.
 pub data Task : Type 0 where
   -- a local is made, as the block of main is entered
   Enter : (name : ℕ) → Task
@@ -38,15 +40,15 @@ pub data Task : Type 0 where
   -- the address of a local
   AddressOf : (name : ℕ) → Task
   -- the value of the lvalue whose address was computed
-  LoadPointer : Task
+  LoadPointer : (end : ℕ) → Task
   Constant : (number : ℕ) → Task
   -- malloc of so many bytes
   Allocate : (size : ℕ) → Task
   -- the value computed last is stored at the address computed before it
-  StorePointer : Task
-  Release : Task
-  EndFullExpression : Task
-  ReturnFromMain : Task
+  StorePointer : (end : ℕ) → Task
+  Release : (at : ℕ) → Task
+  EndFullExpression : (end : ℕ) → Task
+  ReturnFromMain : (at : ℕ) → Task
 
 pub record Variable : Type 0 where
   pub name : ℕ
@@ -63,7 +65,7 @@ pub data Outcome : Type 0 where
   -- a choice is asked for, and there is none left
   Waits : Outcome
   Ended : Outcome
-  Fault : (kind : ℕ) → Outcome
+  Faulted : (fault : Fault) → Outcome
 
 -- the block of the first local of this name
 abbrev pub block_of : List Variable → ℕ → Option ℕ
@@ -94,23 +96,27 @@ entered name state (Place base contents ∷ choices) =
     else Ended
 
 -- what computes a value
-abbrev pub source_tasks : Source → List Task
-source_tasks Null = Constant 0 ∷ []
-source_tasks (Local name) = AddressOf name ∷ LoadPointer ∷ []
-source_tasks (Allocation size) = Allocate size ∷ []
+abbrev pub source_tasks : Source → ℕ → List Task
+source_tasks Null end = Constant 0 ∷ []
+source_tasks (Local name) end = AddressOf name ∷ LoadPointer end ∷ []
+source_tasks (Allocation size) end = Allocate size ∷ []
 
 -- what stores a value in a local, which is a full expression (C11 6.8p4)
-abbrev pub store_tasks : ℕ → Source → List Task
-store_tasks name source = AddressOf name ∷ (source_tasks source ++ StorePointer ∷ EndFullExpression ∷ [])
+abbrev pub store_tasks : ℕ → Source → ℕ → List Task
+store_tasks name source end = AddressOf name ∷ (source_tasks source end ++ StorePointer end ∷ EndFullExpression end ∷ [])
 
-abbrev pub declare_tasks : ℕ → Option Source → List Task
-declare_tasks name None = []
-declare_tasks name (Some source) = store_tasks name source
+abbrev pub declare_tasks : ℕ → Option Source → ℕ → List Task
+declare_tasks name None end = []
+declare_tasks name (Some source) end = store_tasks name source end
+
+-- what frees the value of a local (C11 7.22.3.3), which is a full expression
+abbrev pub free_tasks : ℕ → ℕ → ℕ → List Task
+free_tasks name at end = AddressOf name ∷ LoadPointer end ∷ Release at ∷ EndFullExpression end ∷ []
 
 abbrev pub line_tasks : Line → List Task
-line_tasks (Declare name source) = declare_tasks name source
-line_tasks (Assign name source) = store_tasks name source
-line_tasks (Free name) = AddressOf name ∷ LoadPointer ∷ Release ∷ EndFullExpression ∷ []
+line_tasks (Declare name source end) = declare_tasks name source end
+line_tasks (Assign name source end) = store_tasks name source end
+line_tasks (Free name at end) = free_tasks name at end
 
 abbrev pub with_operand : State → Word → State
 with_operand state word = record state { operands = word ∷ state.operands }
@@ -119,16 +125,20 @@ abbrev pub addressed : Option ℕ → State → List Choice → Outcome
 addressed None state choices = Ended
 addressed (Some block) state choices = Went (with_operand state (To block (pos 0))) choices
 
--- goes on, or meets a fault
-abbrev pub unless_fault : Option ℕ → State → List Choice → Outcome
-unless_fault None state choices = Went state choices
-unless_fault (Some kind) state choices = Fault kind
+-- the fault of a kind at a token
+abbrev pub fault_of : ℕ → ℕ → Fault
+fault_of at kind = record { at = at; kind = kind }
+
+-- goes on, or meets a fault at the token
+abbrev pub unless_fault : Option ℕ → ℕ → State → List Choice → Outcome
+unless_fault None at state choices = Went state choices
+unless_fault (Some kind) at state choices = Faulted (fault_of at kind)
 
 -- one load of eight bytes at a pointer type
-abbrev pub load_step : List Word → State → List Choice → Outcome
-load_step [] state choices = Ended
-load_step (at ∷ operands) state choices =
-    unless_fault (access_fault state.memory at 8) (record state { operands = loaded state.memory at 8 true ∷ operands }) choices
+abbrev pub load_step : ℕ → List Word → State → List Choice → Outcome
+load_step end [] state choices = Ended
+load_step end (at ∷ operands) state choices =
+    unless_fault (access_fault state.memory at 8) end (record state { operands = loaded state.memory at 8 true ∷ operands }) choices
 
 -- malloc answers null or a new block (C11 7.22.3.4)
 abbrev pub allocate_step : ℕ → State → List Choice → Outcome
@@ -144,20 +154,21 @@ allocate_step size state (Place base contents ∷ choices) =
     else Ended
 
 -- one store of eight bytes; its value is the value of the assignment (C11 6.5.16p3)
-abbrev pub store_step : List Word → State → List Choice → Outcome
-store_step [] state choices = Ended
-store_step (word ∷ []) state choices = Ended
-store_step (word ∷ (at ∷ operands)) state choices =
-    unless_fault (access_fault state.memory at 8) (record state { operands = word ∷ operands; memory = stored state.memory at 8 word }) choices
+abbrev pub store_step : ℕ → List Word → State → List Choice → Outcome
+store_step end [] state choices = Ended
+store_step end (word ∷ []) state choices = Ended
+store_step end (word ∷ (at ∷ operands)) state choices =
+    unless_fault (access_fault state.memory at 8) end (record state { operands = word ∷ operands; memory = stored state.memory at 8 word }) choices
 
-abbrev pub release_step : List Word → State → List Choice → Outcome
-release_step [] state choices = Ended
-release_step (word ∷ operands) state choices =
-    unless_fault (free_fault state.memory word) (record state { operands = operands; memory = freed state.memory word }) choices
+-- one free
+abbrev pub release_step : ℕ → List Word → State → List Choice → Outcome
+release_step at [] state choices = Ended
+release_step at (word ∷ operands) state choices =
+    unless_fault (free_fault state.memory word) at (record state { operands = operands; memory = freed state.memory word }) choices
 
 -- loss is looked for
-abbrev pub unless_lost : State → List Choice → Outcome
-unless_lost state choices = if is_lost state.memory (roots state) then Fault memory_lost else Went state choices
+abbrev pub unless_lost : ℕ → State → List Choice → Outcome
+unless_lost end state choices = if is_lost state.memory (roots state) then Faulted (fault_of end memory_lost) else Went state choices
 
 -- the memory after all blocks of these locals have died at once
 abbrev pub without_locals : List Block → List Variable → List Block
@@ -165,8 +176,8 @@ without_locals memory [] = memory
 without_locals memory (variable ∷ rest) = without_locals (without memory variable.block (slice_get memory variable.block)) rest
 
 -- main has returned, and loss is looked for
-abbrev pub returned : State → Outcome
-returned state = if is_lost state.memory (roots state) then Fault memory_lost else Ended
+abbrev pub returned : ℕ → State → Outcome
+returned at state = if is_lost state.memory (roots state) then Faulted (fault_of at memory_lost) else Ended
 
 -- one step: the first thing to do is taken off the list
 abbrev pub step_on : List Task → State → List Choice → Outcome
@@ -174,14 +185,14 @@ step_on [] state choices = Ended
 step_on (Enter name ∷ rest) state choices = entered name (record state { tasks = rest }) choices
 step_on (Execute line ∷ rest) state choices = Went (record state { tasks = line_tasks line ++ rest }) choices
 step_on (AddressOf name ∷ rest) state choices = addressed (block_of state.locals name) (record state { tasks = rest }) choices
-step_on (LoadPointer ∷ rest) state choices = load_step state.operands (record state { tasks = rest }) choices
+step_on (LoadPointer end ∷ rest) state choices = load_step end state.operands (record state { tasks = rest }) choices
 step_on (Constant number ∷ rest) state choices = Went (with_operand (record state { tasks = rest }) (Plain number)) choices
 step_on (Allocate size ∷ rest) state choices = allocate_step size (record state { tasks = rest }) choices
-step_on (StorePointer ∷ rest) state choices = store_step state.operands (record state { tasks = rest }) choices
-step_on (Release ∷ rest) state choices = release_step state.operands (record state { tasks = rest }) choices
-step_on (EndFullExpression ∷ rest) state choices = unless_lost (record state { tasks = rest; operands = [] }) choices
-step_on (ReturnFromMain ∷ rest) state choices =
-    returned (record state { tasks = []; locals = []; memory = without_locals state.memory state.locals })
+step_on (StorePointer end ∷ rest) state choices = store_step end state.operands (record state { tasks = rest }) choices
+step_on (Release at ∷ rest) state choices = release_step at state.operands (record state { tasks = rest }) choices
+step_on (EndFullExpression end ∷ rest) state choices = unless_lost end (record state { tasks = rest; operands = [] }) choices
+step_on (ReturnFromMain at ∷ rest) state choices =
+    returned at (record state { tasks = []; locals = []; memory = without_locals state.memory state.locals })
 
 abbrev pub step : State → List Choice → Outcome
 step state choices = step_on state.tasks state choices
@@ -189,14 +200,14 @@ step state choices = step_on state.tasks state choices
 -- the names that the lines declare, in order
 abbrev pub declared_names : List Line → List ℕ
 declared_names [] = []
-declared_names (Declare name source ∷ rest) = name ∷ declared_names rest
-declared_names (Assign name source ∷ rest) = declared_names rest
-declared_names (Free name ∷ rest) = declared_names rest
+declared_names (Declare name source end ∷ rest) = name ∷ declared_names rest
+declared_names (Assign name source end ∷ rest) = declared_names rest
+declared_names (Free name at end ∷ rest) = declared_names rest
 
 -- the start: the locals are made, the lines are executed, and main returns 0
-abbrev pub start : List Line → State
-start lines = record {
-  tasks = map Enter (declared_names lines) ++ (map Execute lines ++ Constant 0 ∷ ReturnFromMain ∷ []);
+abbrev pub start : Program → State
+start program = record {
+  tasks = map Enter (declared_names program.lines) ++ (map Execute program.lines ++ Constant 0 ∷ ReturnFromMain program.return_at ∷ []);
   operands = [];
   locals = [];
   memory = [];
@@ -207,17 +218,17 @@ abbrev pub go_on : (State → List Choice → Outcome) → Outcome → Outcome
 go_on later (Went state choices) = later state choices
 go_on later Waits = Waits
 go_on later Ended = Ended
-go_on later (Fault kind) = Fault kind
+go_on later (Faulted fault) = Faulted fault
 
 -- what stands after at most so many steps, with the choices taken in order
 abbrev pub run : ℕ → State → List Choice → Outcome
 run zero state choices = Went state choices
 run (suc steps) state choices = go_on (run steps) (step state choices)
 
--- some run from here on meets a fault of this kind: with these choices, or with some
-abbrev pub RunFaults : State → List Choice → ℕ → Type 0
-RunFaults state choices kind = (steps : ℕ) × (run steps state choices ≡ Fault kind)
+-- some run from here on meets this fault: with these choices, or with some
+abbrev pub RunFaults : State → List Choice → Fault → Type 0
+RunFaults state choices fault = (steps : ℕ) × (run steps state choices ≡ Faulted fault)
 
--- some run of the program meets a fault of this kind
-abbrev pub Reaches : List Line → ℕ → Type 0
-Reaches lines kind = (choices : List Choice) × RunFaults (start lines) choices kind
+-- some run of the program meets this fault
+abbrev pub Reaches : Program → Fault → Type 0
+Reaches program fault = (choices : List Choice) × RunFaults (start program) choices fault

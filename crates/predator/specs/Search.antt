@@ -1,5 +1,5 @@
--- The search over all runs: what is known of the locals and of the allocated blocks at a line, and which kinds
--- of faults some run from there on meets.
+-- The search over all runs: what is known of the locals and of the allocated blocks at a line, and which
+-- faults some run from there on meets.
 --
 -- Only an allocation parts the search in two. A number that a local held at first stays unknown until it is
 -- freed: where it is not 0 that is an invalid free, and where the run goes on it was 0.
@@ -13,6 +13,7 @@ use Rattle.predator.specs.declared.line.Line.TheVariants.{Declare, Assign, Free}
 use Rattle.predator.specs.declared.situation.Value.{Value}
 use Rattle.predator.specs.declared.situation.Value.TheVariants.{Null, Unwritten, Block}
 use Rattle.predator.specs.declared.situation.Local.{Local}
+use Rattle.predator.specs.declared.fault.Fault.{Fault}
 
 -- what the first local of this name holds
 abbrev pub value_of : List Local → ℕ → Option Value
@@ -48,51 +49,58 @@ loses_from number locals (live ∷ rest) = (live && not (list_any (λ local. is_
 abbrev pub loses : List Local → List Bool → Bool
 loses locals blocks = loses_from 0 locals blocks
 
+-- whether a fault is the one of this kind at this token
+abbrev pub is_fault : Fault → ℕ → ℕ → Bool
+is_fault fault at kind = nat_eq fault.at at && nat_eq fault.kind kind
+
 -- at the end of a full expression: a loss ends the run
-abbrev pub unless_loses : ℕ → List Local → List Bool → Bool → Bool
-unless_loses kind locals blocks rest = if loses locals blocks then nat_eq kind memory_lost else rest
+abbrev pub unless_loses : Fault → ℕ → List Local → List Bool → Bool → Bool
+unless_loses fault end locals blocks rest = if loses locals blocks then is_fault fault end memory_lost else rest
 
 -- behind the store or the free of a full expression; `later` is the search over the lines that follow
-abbrev pub can_fault_with : ℕ → (List Local → List Bool → Bool) → List Local → List Bool → Bool
-can_fault_with kind later locals blocks = unless_loses kind locals blocks (later locals blocks)
+abbrev pub can_fault_with : Fault → ℕ → (List Local → List Bool → Bool) → List Local → List Bool → Bool
+can_fault_with fault end later locals blocks = unless_loses fault end locals blocks (later locals blocks)
 
-abbrev pub can_fault_copying : ℕ → (List Local → List Bool → Bool) → ℕ → Option Value → List Local → List Bool → Bool
-can_fault_copying kind later name None locals blocks = false
-can_fault_copying kind later name (Some value) locals blocks = can_fault_with kind later (assigned locals name value) blocks
+abbrev pub can_fault_copying : Fault → ℕ → (List Local → List Bool → Bool) → ℕ → Option Value → List Local → List Bool → Bool
+can_fault_copying fault end later name None locals blocks = false
+can_fault_copying fault end later name (Some value) locals blocks = can_fault_with fault end later (assigned locals name value) blocks
 
-abbrev pub can_fault_storing : ℕ → (List Local → List Bool → Bool) → ℕ → Source → List Local → List Bool → Bool
-can_fault_storing kind later name source.Null locals blocks = can_fault_with kind later (assigned locals name Null) blocks
-can_fault_storing kind later name (source.Local other) locals blocks = can_fault_copying kind later name (value_of locals other) locals blocks
-can_fault_storing kind later name (source.Allocation size) locals blocks =
-    can_fault_with kind later (assigned locals name Null) blocks
-    || can_fault_with kind later (assigned locals name (Block (length blocks))) (blocks ++ true ∷ [])
+abbrev pub can_fault_storing : Fault → ℕ → (List Local → List Bool → Bool) → ℕ → Source → List Local → List Bool → Bool
+can_fault_storing fault end later name source.Null locals blocks = can_fault_with fault end later (assigned locals name Null) blocks
+can_fault_storing fault end later name (source.Local other) locals blocks = can_fault_copying fault end later name (value_of locals other) locals blocks
+can_fault_storing fault end later name (source.Allocation size) locals blocks =
+    can_fault_with fault end later (assigned locals name Null) blocks
+    || can_fault_with fault end later (assigned locals name (Block (length blocks))) (blocks ++ true ∷ [])
 
 -- a store into a declared local; a run with another name goes no further
-abbrev pub can_fault_into : ℕ → (List Local → List Bool → Bool) → Option Value → ℕ → Source → List Local → List Bool → Bool
-can_fault_into kind later None name source locals blocks = false
-can_fault_into kind later (Some old) name source locals blocks = can_fault_storing kind later name source locals blocks
+abbrev pub can_fault_into : Fault → ℕ → (List Local → List Bool → Bool) → Option Value → ℕ → Source → List Local → List Bool → Bool
+can_fault_into fault end later None name source locals blocks = false
+can_fault_into fault end later (Some old) name source locals blocks = can_fault_storing fault end later name source locals blocks
 
 -- a free of a block that is live, or that is dead already; a number that names no block is no heap block
-abbrev pub can_fault_block : ℕ → (List Local → List Bool → Bool) → ℕ → Option Bool → List Local → List Bool → Bool
-can_fault_block kind later number None locals blocks = nat_eq kind invalid_free
-can_fault_block kind later number (Some true) locals blocks = can_fault_with kind later locals (slice_set blocks number false)
-can_fault_block kind later number (Some false) locals blocks = nat_eq kind double_free
+abbrev pub can_fault_block : Fault → ℕ → ℕ → (List Local → List Bool → Bool) → ℕ → Option Bool → List Local → List Bool → Bool
+can_fault_block fault at end later number None locals blocks = is_fault fault at invalid_free
+can_fault_block fault at end later number (Some true) locals blocks = can_fault_with fault end later locals (slice_set blocks number false)
+can_fault_block fault at end later number (Some false) locals blocks = is_fault fault at double_free
 
-abbrev pub can_fault_freeing : ℕ → (List Local → List Bool → Bool) → Option Value → List Local → List Bool → Bool
-can_fault_freeing kind later None locals blocks = false
-can_fault_freeing kind later (Some Null) locals blocks = can_fault_with kind later locals blocks
-can_fault_freeing kind later (Some (Unwritten place)) locals blocks =
-    nat_eq kind invalid_free || can_fault_with kind later (nulled place locals) blocks
-can_fault_freeing kind later (Some (Block number)) locals blocks =
-    can_fault_block kind later number (slice_get blocks number) locals blocks
+abbrev pub can_fault_freeing : Fault → ℕ → ℕ → (List Local → List Bool → Bool) → Option Value → List Local → List Bool → Bool
+can_fault_freeing fault at end later None locals blocks = false
+can_fault_freeing fault at end later (Some Null) locals blocks = can_fault_with fault end later locals blocks
+can_fault_freeing fault at end later (Some (Unwritten place)) locals blocks =
+    is_fault fault at invalid_free || can_fault_with fault end later (nulled place locals) blocks
+can_fault_freeing fault at end later (Some (Block number)) locals blocks =
+    can_fault_block fault at end later number (slice_get blocks number) locals blocks
 
--- whether some run of the lines from here on, and of the return behind them, meets a fault of the kind
-abbrev pub can_fault : ℕ → List Line → List Local → List Bool → Bool
-can_fault kind [] locals blocks = list_any (λ live. live) blocks && nat_eq kind memory_lost
-can_fault kind (Declare name None ∷ rest) locals blocks = can_fault kind rest locals blocks
-can_fault kind (Declare name (Some source) ∷ rest) locals blocks = can_fault_into kind (can_fault kind rest) (value_of locals name) name source locals blocks
-can_fault kind (Assign name source ∷ rest) locals blocks = can_fault_into kind (can_fault kind rest) (value_of locals name) name source locals blocks
-can_fault kind (Free name ∷ rest) locals blocks = can_fault_freeing kind (can_fault kind rest) (value_of locals name) locals blocks
+-- whether some run of the lines from here on, and of the return behind them, meets the fault
+abbrev pub can_fault : Fault → List Line → ℕ → List Local → List Bool → Bool
+can_fault fault [] return_at locals blocks = list_any (λ live. live) blocks && is_fault fault return_at memory_lost
+can_fault fault (Declare name None end ∷ rest) return_at locals blocks = can_fault fault rest return_at locals blocks
+can_fault fault (Declare name (Some source) end ∷ rest) return_at locals blocks =
+    can_fault_into fault end (can_fault fault rest return_at) (value_of locals name) name source locals blocks
+can_fault fault (Assign name source end ∷ rest) return_at locals blocks =
+    can_fault_into fault end (can_fault fault rest return_at) (value_of locals name) name source locals blocks
+can_fault fault (Free name at end ∷ rest) return_at locals blocks =
+    can_fault_freeing fault at end (can_fault fault rest return_at) (value_of locals name) locals blocks
 
 -- the locals as main's block is entered: each holds the number it was made with
 abbrev pub unwritten_from : ℕ → List ℕ → List Local

@@ -1,7 +1,10 @@
--- What a row of bytes spells, as a function: one token or none.
+-- What rows of bytes spell, as a function: one token of the first form or none.
 use Rattle.std.specs.Prelude.{ℕ, ◌+◌, ◌-◌, ◌*◌, ◌&&◌, if◌then◌else◌, List, [], ◌∷◌, Option, None, Some, nat_eq, nat_le, option_map, codes}
 use Rattle.std.specs.Str.{bytes_eq}
 use Rattle.predator.specs.Tokens.{is_lower, is_digit, has_no_leading_zero}
+use Rattle.ctokens.specs.declared.token.Token.{Token as Lexeme}
+use Rattle.ctokens.specs.Symbol.{bytes_of}
+use Rattle.predator.specs.declared.token.PlacedToken.{PlacedToken}
 use Rattle.predator.specs.declared.token.Token.{Token}
 use Rattle.predator.specs.declared.token.Token.TheVariants.{Int, Main, Void, Return, Malloc, Free, Name, Number, LeftParenthesis, RightParenthesis, LeftBrace, RightBrace, Star, Equals, Semicolon}
 
@@ -55,3 +58,17 @@ token_of (byte ∷ (next ∷ rest)) =
     if is_digit byte
     then option_map (λ value. Number value) (size_of (byte ∷ (next ∷ rest)))
     else keyword_of (byte ∷ (next ∷ rest))
+
+-- the token of the first form that the bytes of a token spell, at its place
+abbrev pub placed_of : List ℕ → Lexeme → Option PlacedToken
+placed_of text token = option_map (λ spelled. record { token = spelled; place = token.place }) (token_of (bytes_of text token))
+
+abbrev pub with_first : Option PlacedToken → Option (List PlacedToken) → Option (List PlacedToken)
+with_first None row = None
+with_first (Some first) None = None
+with_first (Some first) (Some row) = Some (first ∷ row)
+
+-- those of tokens in a row, if each has one
+abbrev pub row_of : List ℕ → List Lexeme → Option (List PlacedToken)
+row_of text [] = Some []
+row_of text (token ∷ tokens) = with_first (placed_of text token) (row_of text tokens)

@@ -1,76 +1,207 @@
 -- What an answer says of a text: the theorem that the program carries.
-use Rattle.std.specs.Prelude.{◌≡◌, ℕ, ◌<◌, ◌↔◌, ◌⊎◌, Bool, IsTrue, Option, Some, List, [], ◌∷◌, ◌++◌, length, unwrap_or}
-use Rattle.std.specs.List.{Contains}
-use Rattle.std.specs.List.Sorted.{IsStrictlyIncreasing}
-use Rattle.predator.specs.declared.answer.Answer.{Answer}
-use Rattle.predator.specs.declared.answer.Answer.TheVariants.{Safe, Faults, NotYet, Usage, ReadFault, OutOfMemory}
-use Rattle.predator.specs.declared.line.Line.{Line}
-use Rattle.predator.specs.FirstForm.{IsText}
+use Rattle.std.specs.Prelude.{◌≡◌, ℕ, ◌+◌, ◌<◌, ◌≤◌, ◌↔◌, Bool, true, IsTrue, Option, None, Some, Ok, Err, List, [], ◌∷◌, ◌++◌, length, map, slice_get, option_map, unwrap_or}
+use Rattle.cbase.specs.declared.place.Place.{Place}
+use Rattle.command_line.specs.declared.command.Command.{Command}
+use Rattle.ctokens.specs.declared.token.Tokens.{Tokens}
+use Rattle.ctokens.specs.declared.token.Lexical.{Lexical}
+use Rattle.ctokens.specs.declared.item_span.ItemSpan.{ItemSpan}
+use Rattle.ctokens.specs.TokenList.{AreTokens, IsLexical}
+use Rattle.ctokens.specs.Items.{IsItems}
+use Rattle.ctokens.specs.Need.{IsNeed, item_rows}
+use Rattle.report.specs.declared.answer.Why.{Why}
+use Rattle.report.specs.declared.answer.Why.TheVariants as why
+use Rattle.report.specs.declared.answer.Answer.{Answer}
+use Rattle.report.specs.declared.answer.Answer.TheVariants.{Safe, Warned, NotRead, NotYet, TooLong, Usage, ReadFault, OutOfMemory}
+use Rattle.report.specs.declared.limits.Limits.{Limits}
+use Rattle.report.specs.declared.warning.Warning.{Warning}
+use Rattle.predator.specs.declared.fault.Fault.{Fault}
+use Rattle.predator.specs.declared.line.Program.{Program}
+use Rattle.predator.specs.declared.token.PlacedToken.{PlacedToken}
+use Rattle.predator.specs.FirstForm.{IsFormed}
 use Rattle.predator.specs.Machine.{Reaches}
+use Rattle.predator.specs.Faults.{AreFaults}
 
--- no run of the lines, with any choices and however long, meets a fault
-abbrev pub IsSound : List Line → Type 0
-IsSound lines = (kind : ℕ) → Reaches lines kind → ⊥
+-- no run of the program, with any choices and however long, meets a fault
+abbrev pub IsSound : Program → Type 0
+IsSound program = (fault : Fault) → Reaches program fault → ⊥
 
--- exactly the kinds of faults that some run of the lines meets, ascending
-pub record AreKinds (lines : List Line) (kinds : List ℕ) : Type 0 where
-  pub ascending : IsStrictlyIncreasing kinds
-  pub reached : (kind : ℕ) → Contains kinds kind ↔ Reaches lines kind
+-- the place at which a file begins
+abbrev pub first_place : Place
+first_place = record { file = 0; line = 1; column = 1; at = 0 }
 
--- what an answer says of the bytes that were read
-abbrev pub Judges : List ℕ → Answer → Type 0
-Judges bytes Safe = (lines : List Line) × IsText bytes lines × IsSound lines
-Judges bytes (Faults kinds) = (lines : List Line) × IsText bytes lines × AreKinds lines kinds × (0 < length kinds)
-Judges bytes NotYet = (lines : List Line) → IsText bytes lines → ⊥
-Judges bytes Usage = Unit {0}
-Judges bytes ReadFault = Unit {0}
-Judges bytes OutOfMemory = Unit {0}
+-- the place of that token of the row; where there is no such token, that at which a file begins
+abbrev pub place_of : List PlacedToken → ℕ → Place
+place_of row number = unwrap_or (option_map (λ placed. placed.place) (slice_get row number)) first_place
 
--- the answer of a text in which some run meets faults of these kinds, and of no others
-abbrev pub verdict_of : List ℕ → Answer
+-- the warning of a fault: some run is known that meets it
+abbrev pub warning_of : List PlacedToken → Fault → Warning
+warning_of row fault = record { place = place_of row fault.at; kind = fault.kind; error = true }
+
+-- the warnings of a program that this row spells: one for each fault that some run of it meets, in the order of
+-- the faults
+pub record AreWarnings (row : List PlacedToken) (program : Program) (warnings : List Warning) : Type 0 where
+  pub faults : List Fault
+  pub are_faults : AreFaults program faults
+  pub are_warnings : warnings ≡ map (warning_of row) faults
+
+-- how many bytes of a file are read at most, the one aside that shows that it is longer
+abbrev pub most_bytes : ℕ
+most_bytes = 4194304
+
+-- the bytes of this file have these tokens and these items, and main needs the items with these numbers
+pub record IsRead (file bytes : List ℕ) (t : Tokens) (items : List ItemSpan) (numbers : List ℕ) : Type 0 where
+  pub are_tokens : AreTokens file bytes t
+  pub are_items : IsItems t (Ok items)
+  pub are_needed : IsNeed (item_rows t items) (Some numbers)
+
+-- the item of the one number that there is
+abbrev pub only_item : List ItemSpan → List ℕ → Option ItemSpan
+only_item items [] = None
+only_item items (number ∷ []) = slice_get items number
+only_item items (number ∷ (next ∷ rest)) = None
+
+-- main needs one item alone, which is of the first form, with this row of tokens and this program
+pub record IsFirstForm (t : Tokens) (items : List ItemSpan) (numbers : List ℕ) (row : List PlacedToken) (program : Program) : Type 0 where
+  pub span : ItemSpan
+  pub alone : only_item items numbers ≡ Some span
+  pub formed : IsFormed t span row program
+
+-- at the first place where the bytes have no token
+abbrev pub HasNoToken : List ℕ → List ℕ → Place → Type 0
+HasNoToken file bytes place = (lexical : Lexical) × IsLexical file bytes lexical × (lexical.place ≡ place)
+
+-- at the first bracket that opens at depth 257
+abbrev pub IsTooDeep : List ℕ → List ℕ → Place → Type 0
+IsTooDeep file bytes place = (t : Tokens) × AreTokens file bytes t × IsItems t (Err (record { place = place }))
+
+-- there are items, and none defines main
+abbrev pub HasNoMain : List ℕ → List ℕ → Type 0
+HasNoMain file bytes = (t : Tokens) × (items : List ItemSpan) × AreTokens file bytes t × IsItems t (Ok items) × IsNeed (item_rows t items) None
+
+-- main needs more than one item, or one that is not of the first form
+abbrev pub HasOtherForm : List ℕ → List ℕ → Type 0
+HasOtherForm file bytes =
+    (t : Tokens) × (items : List ItemSpan) × (numbers : List ℕ) × IsRead file bytes t items numbers
+    × ((row : List PlacedToken) (program : Program) → IsFirstForm t items numbers row program → ⊥)
+
+-- the bytes hold a main of the first form, and these are its warnings
+abbrev pub HasWarnings : List ℕ → List ℕ → List Warning → Type 0
+HasWarnings file bytes warnings =
+    (t : Tokens) × (items : List ItemSpan) × (numbers : List ℕ) × IsRead file bytes t items numbers
+    × ((row : List PlacedToken) × (program : Program) × IsFirstForm t items numbers row program × AreWarnings row program warnings)
+
+-- the bytes hold a main of the first form that no run of which meets a fault
+abbrev pub HasSoundMain : List ℕ → List ℕ → Type 0
+HasSoundMain file bytes =
+    (t : Tokens) × (items : List ItemSpan) × (numbers : List ℕ) × IsRead file bytes t items numbers
+    × ((row : List PlacedToken) × (program : Program) × IsFirstForm t items numbers row program × IsSound program)
+
+-- what an answer says of the bytes of the file with this name
+abbrev pub Judges : List ℕ → List ℕ → Answer → Type 0
+Judges file bytes Safe = (length bytes ≤ most_bytes) × HasSoundMain file bytes
+Judges file bytes (Warned warnings) = (length bytes ≤ most_bytes) × HasWarnings file bytes warnings × (0 < length warnings)
+Judges file bytes (NotRead (why.Lexical place)) = (length bytes ≤ most_bytes) × HasNoToken file bytes place
+Judges file bytes (NotRead (why.Deep place)) = (length bytes ≤ most_bytes) × IsTooDeep file bytes place
+Judges file bytes (NotRead why.NoMain) = (length bytes ≤ most_bytes) × HasNoMain file bytes
+Judges file bytes NotYet = (length bytes ≤ most_bytes) × HasOtherForm file bytes
+Judges file bytes (TooLong taken) = (taken ≡ most_bytes + 1) × (taken ≤ length bytes)
+Judges file bytes Usage = Unit {0}
+Judges file bytes ReadFault = Unit {0}
+Judges file bytes OutOfMemory = Unit {0}
+
+-- the answer of a text with these warnings
+abbrev pub verdict_of : List Warning → Answer
 verdict_of [] = Safe
-verdict_of (kind ∷ rest) = Faults (kind ∷ rest)
+verdict_of (warning ∷ rest) = Warned (warning ∷ rest)
 
--- the answer says something of a text
+-- the answer says something of a file
 abbrev pub IsVerdict : Answer → Type 0
 IsVerdict Safe = Unit {0}
-IsVerdict (Faults kinds) = Unit {0}
+IsVerdict (Warned warnings) = Unit {0}
+IsVerdict (NotRead why) = Unit {0}
 IsVerdict NotYet = Unit {0}
+IsVerdict (TooLong taken) = Unit {0}
 IsVerdict Usage = ⊥
 IsVerdict ReadFault = ⊥
 IsVerdict OutOfMemory = ⊥
 
--- each answer is given exactly where what it says of these bytes is true
-pub record IsExact (bytes : List ℕ) (answer : Answer) : Type 0 where
-  pub safe : (answer ≡ Safe) ↔ Judges bytes Safe
-  pub faults : (kinds : List ℕ) → (answer ≡ Faults kinds) ↔ Judges bytes (Faults kinds)
-  pub not_yet : (answer ≡ NotYet) ↔ Judges bytes NotYet
+-- of all answers that say something of a file, this one alone is true of the bytes
+pub record IsExact (file bytes : List ℕ) (answer : Answer) : Type 0 where
+  pub only : (other : Answer) → IsVerdict other → (answer ≡ other) ↔ Judges file bytes other
 
--- the file that is shown with an answer, where the words give `word`
-abbrev pub file_shown : Option (List ℕ) → Answer → List ℕ
-file_shown word Safe = unwrap_or word []
-file_shown word (Faults kinds) = unwrap_or word []
-file_shown word NotYet = unwrap_or word []
-file_shown word Usage = []
-file_shown word ReadFault = unwrap_or word []
-file_shown word OutOfMemory = []
+-- the names of the files of the text, to which places refer by number
+abbrev pub AreTextNames : List ℕ → List ℕ → List (List ℕ) → Type 0
+AreTextNames file bytes names = (t : Tokens) × AreTokens file bytes t × (names ≡ t.names)
+
+-- the names that are shown with an answer: those of the whole text, or those up to the first place without a
+-- token; none where no text is read to its end
+abbrev pub AreNames : List ℕ → List ℕ → Answer → List (List ℕ) → Type 0
+AreNames file bytes Safe names = AreTextNames file bytes names
+AreNames file bytes (Warned warnings) names = AreTextNames file bytes names
+AreNames file bytes (NotRead (why.Lexical place)) names = (lexical : Lexical) × IsLexical file bytes lexical × (names ≡ lexical.names)
+AreNames file bytes (NotRead (why.Deep place)) names = AreTextNames file bytes names
+AreNames file bytes (NotRead why.NoMain) names = AreTextNames file bytes names
+AreNames file bytes NotYet names = AreTextNames file bytes names
+AreNames file bytes (TooLong taken) names = names ≡ []
+AreNames file bytes Usage names = names ≡ []
+AreNames file bytes ReadFault names = names ≡ []
+AreNames file bytes OutOfMemory names = names ≡ []
 
 -- the bytes are a whole file: its content, read to its end, where `left` is left of it
 abbrev pub IsWhole : Option (List ℕ) → List ℕ → List ℕ → Type 0
 IsWhole content left bytes = (content ≡ Some bytes) × (left ≡ [])
 
--- the bytes are the first 4,097 of a file's content, where `left` is left of it
-abbrev pub IsFront : Option (List ℕ) → List ℕ → List ℕ → Type 0
-IsFront content left bytes = (length bytes ≡ 4097) × (content ≡ Some (bytes ++ left))
+-- so many bytes of a file were taken, and no more: `left` is left of its content
+abbrev pub IsTaken : Option (List ℕ) → List ℕ → ℕ → Type 0
+IsTaken content left taken = (bytes : List ℕ) × (length bytes ≡ taken) × (content ≡ Some (bytes ++ left))
 
--- What an answer says of a file with this content, where `left` is left of it. A verdict is true of some
--- bytes. Where `tells` says that the content is told, these are the file's: with `Safe` and `Faults` the whole
--- file, read to its end, and with `NotYet` the whole file or its first 4,097 bytes.
-abbrev pub IsAnswered : Bool → Option (List ℕ) → List ℕ → Answer → Type 0
-IsAnswered tells content left Safe = (bytes : List ℕ) × (IsTrue tells → IsWhole content left bytes) × Judges bytes Safe
-IsAnswered tells content left (Faults kinds) = (bytes : List ℕ) × (IsTrue tells → IsWhole content left bytes) × Judges bytes (Faults kinds)
-IsAnswered tells content left NotYet =
-    (bytes : List ℕ) × (IsTrue tells → IsWhole content left bytes ⊎ IsFront content left bytes) × Judges bytes NotYet
-IsAnswered tells content left Usage = Unit {0}
-IsAnswered tells content left ReadFault = Unit {0}
-IsAnswered tells content left OutOfMemory = Unit {0}
+-- an answer with names is true of a whole file. Where `tells` says that its content is told, that is the content.
+abbrev pub IsJudged : Bool → Option (List ℕ) → List ℕ → List ℕ → List (List ℕ) → Answer → Type 0
+IsJudged tells content left file names answer =
+    (bytes : List ℕ) × (IsTrue tells → IsWhole content left bytes) × Judges file bytes answer × AreNames file bytes answer names
+
+-- What an answer with names says of a file with this content, where `left` is left of it: of the whole file, read to
+-- its end, or, with `TooLong`, of its first 4,194,305 bytes.
+abbrev pub IsAnswered : Bool → Option (List ℕ) → List ℕ → List ℕ → List (List ℕ) → Answer → Type 0
+IsAnswered tells content left file names Safe = IsJudged tells content left file names Safe
+IsAnswered tells content left file names (Warned warnings) = IsJudged tells content left file names (Warned warnings)
+IsAnswered tells content left file names (NotRead why) = IsJudged tells content left file names (NotRead why)
+IsAnswered tells content left file names NotYet = IsJudged tells content left file names NotYet
+IsAnswered tells content left file names (TooLong taken) = (taken ≡ most_bytes + 1) × (IsTrue tells → IsTaken content left taken) × (names ≡ [])
+IsAnswered tells content left file names Usage = names ≡ []
+IsAnswered tells content left file names ReadFault = names ≡ []
+IsAnswered tells content left file names OutOfMemory = names ≡ []
+
+-- ---- what is shown with an answer
+
+-- FILE, where the words ask for a command
+abbrev pub file_in : Option Command → List ℕ
+file_in None = []
+file_in (Some command) = command.file
+
+-- the limits of the words, and the default ones where they ask for no command
+abbrev pub limits_in : Option Command → Limits
+limits_in None = record { budget = 10000; int_limit = 10 }
+limits_in (Some command) = record { budget = command.budget; int_limit = command.int_limit }
+
+-- FILE; with `Usage` and `OutOfMemory` nothing
+abbrev pub file_shown : List ℕ → Answer → List ℕ
+file_shown file Safe = file
+file_shown file (Warned warnings) = file
+file_shown file (NotRead why) = file
+file_shown file NotYet = file
+file_shown file (TooLong taken) = file
+file_shown file Usage = []
+file_shown file ReadFault = file
+file_shown file OutOfMemory = []
+
+-- the limits of the words; with `Usage` and `OutOfMemory` the default ones
+abbrev pub limits_shown : Limits → Answer → Limits
+limits_shown limits Safe = limits
+limits_shown limits (Warned warnings) = limits
+limits_shown limits (NotRead why) = limits
+limits_shown limits NotYet = limits
+limits_shown limits (TooLong taken) = limits
+limits_shown limits Usage = limits_in None
+limits_shown limits ReadFault = limits
+limits_shown limits OutOfMemory = limits_in None

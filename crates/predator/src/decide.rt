@@ -1,20 +1,27 @@
-ghost use Rattle.std.specs.Prelude.{IfOk};
+ghost use Rattle.std.specs.Prelude.{ℕ, ◌≤◌, IfOk};
+ghost use Rattle.std.specs.List.{All};
+ghost use Rattle.predator.specs.declared.fault.Fault.{Fault};
 ghost use Rattle.predator.specs.FirstForm.{IsSmall};
-ghost use Rattle.predator.specs.Verdict.{AreKinds};
+ghost use Rattle.predator.specs.Faults.{AreFaults};
 
-use crate::line::Line;
-use crate::search::kinds_of_faults;
+use crate::fault::Fault;
+use crate::found::listed;
+use crate::line::Program;
+use crate::search::faults_of;
 use cbase::{List, NoMemory};
 use std::alloc::Global;
 
-/// The kinds of faults that some run of the lines meets, ascending: those and no others.
+/// The faults that some run of the program meets, in the order of their tokens and kinds: those and no others,
+/// each once.
 ///
 /// A run is one of the C machine, with any choices of the allocator and any first contents of the locals,
 /// however long.
-pub fn decide(alloc: Global, lines: &[Line]) -> Result<List<u8>, NoMemory>
-    requires { IsSmall lines.now }
-    ensures { IfOk result (AreKinds lines.now) }
+pub fn decide(alloc: Global, program: &Program) -> Result<List<Fault>, NoMemory>
+    requires { IsSmall program.now.lines }
+    ensures exact { IfOk result (AreFaults program.now) }
+    ensures kinds { IfOk result (All (λ fault. (5 ≤ fault.kind) × (fault.kind ≤ 7))) }
 {
-    let kinds = kinds_of_faults(alloc, lines)?;
-    Ok(kinds)
+    let found = faults_of(alloc, program)?;
+    let faults = listed(alloc, found)?;
+    Ok(faults)
 }

@@ -1,31 +1,176 @@
-ghost use Rattle.std.specs.Prelude.{◌≡◌, IfOk};
-ghost use Rattle.predator.specs.Verdict.{IsExact, IsVerdict, Judges, verdict_of};
+ghost use Rattle.std.specs.Prelude.{◌≡◌, ◌≤◌, Ok, Some, length, IfOk};
+ghost use Rattle.std.specs.List.{All};
+ghost use Rattle.ctokens.specs.Items.{IsInside, IsItems};
+ghost use Rattle.ctokens.specs.Need.{IsNeed, item_rows};
+ghost use Rattle.ctokens.specs.Passed.{LieInText};
+ghost use Rattle.ctokens.specs.TokenList.{HasNamedFiles};
+ghost use Rattle.report.specs.Report.{HasPrintable};
+ghost use Rattle.predator.specs.FirstForm.{IsSmall};
+ghost use Rattle.predator.specs.Told.{IsTold};
+ghost use Rattle.predator.specs.Verdict.{AreNames, AreWarnings, IsExact, IsVerdict, Judges, only_item, verdict_of};
 
-use crate::answer::Answer;
 use crate::decide::decide;
-use crate::read_text::read_text;
-use cbase::{List, NoMemory};
+use crate::read_item::{ReadItem, read_item};
+use crate::warnings::warnings_of;
+use cbase::{List, NoMemory, Text};
+use ctokens::{
+    Deep, ItemSpan, Lexical, Tokens, items, needed, one_item_list, one_token_list, tokens_of_bytes,
+};
+use report::{Answer, Warning, Why};
 use std::alloc::Global;
 
-/// The answer to a text: `Safe` or `Faults` where it is of the first form, and else `NotYet`.
-#[tactic(auto, using(crate::proofs::Exactness::lines_judged, crate::proofs::Exactness::lines_exact, crate::proofs::Exactness::no_lines_exact))]
-pub fn judge(alloc: Global, text: &[u8]) -> Result<Answer, NoMemory>
-    ensures judged { IfOk result (Judges text.now) }
-    ensures verdict { IfOk result IsVerdict }
-    ensures exact { IfOk result (IsExact text.now) }
+/// An answer with the names of the files to which its places refer.
+#[derive(Drop)]
+pub struct Judged {
+    pub answer: Answer,
+    pub names: List<Text>,
+}
+
+/// The answer to the bytes of a whole file, given the name of the file.
+///
+/// `NotRead` where there is a place without a token, a bracket at depth 257 or no main, the first of these;
+/// `Safe` or `Warned` where main needs one item alone, which is of the first form; and else `NotYet`.
+#[tactic(auto, using(crate::proofs::OneVerdict::exact_verdict))]
+pub fn judge(alloc: Global, file: &[u8], text: &[u8]) -> Result<Judged, NoMemory>
+    requires { length text.now ≤ 4194304 }
+    ensures judged { IfOk result (λ judged. Judges file.now text.now judged.answer) }
+    ensures names { IfOk result (λ judged. AreNames file.now text.now judged.answer judged.names) }
+    ensures printable { IfOk result (λ judged. HasPrintable judged.names judged.answer) }
+    ensures verdict { IfOk result (λ judged. IsVerdict judged.answer) }
+    ensures exact { IfOk result (λ judged. IsExact file.now text.now judged.answer) }
 {
-    match read_text(alloc, text)? {
-        None => Ok(Answer::NotYet),
-        Some(lines) => Ok(verdict_of(decide(alloc, lines.as_slice())?)),
+    one_token_list();
+    one_item_list();
+    let judged = answer_of_text(alloc, file, text)?;
+    Ok(judged)
+}
+
+/// The answer to the bytes of a whole file, as one that is true of them.
+fn answer_of_text(alloc: Global, file: &[u8], text: &[u8]) -> Result<Judged, NoMemory>
+    requires { length text.now ≤ 4194304 }
+    ensures judged { IfOk result (λ judged. Judges file.now text.now judged.answer) }
+    ensures names { IfOk result (λ judged. AreNames file.now text.now judged.answer judged.names) }
+    ensures printable { IfOk result (λ judged. HasPrintable judged.names judged.answer) }
+    ensures verdict { IfOk result (λ judged. IsVerdict judged.answer) }
+{
+    match tokens_of_bytes(alloc, text, file)? {
+        Err(lexical) => Ok(without_token(lexical)),
+        Ok(t) => with_tokens(alloc, t),
     }
 }
 
-/// `Safe` where no run meets a fault, and else `Faults` with the kinds.
-fn verdict_of(kinds: List<u8>) -> Answer
-    ensures { result ≡ verdict_of kinds }
+/// The answer where no token begins at a place.
+fn without_token(lexical: Lexical) -> Judged
+    ensures answer { result.answer ≡ Answer.NotRead (Why.Lexical lexical.place) }
+    ensures names { result.names ≡ lexical.names }
 {
-    if kinds.is_empty() {
+    let Lexical { place, names } = lexical;
+    Judged {
+        answer: Answer::NotRead {
+            why: Why::Lexical { place },
+        },
+        names,
+    }
+}
+
+/// The answer to a text with these tokens.
+fn with_tokens(alloc: Global, t: Tokens) -> Result<Judged, NoMemory>
+    requires text { LieInText t }
+    requires named { HasNamedFiles t }
+    ensures told { IfOk result (λ judged. IsTold t judged.answer) }
+    ensures names { IfOk result (λ judged. judged.names ≡ t.names) }
+{
+    let answer = answer_of_tokens(alloc, &t)?;
+    let Tokens {
+        text: _,
+        list: _,
+        names,
+        packs: _,
+    } = t;
+    Ok(Judged { answer, names })
+}
+
+/// The answer to a text with these tokens.
+#[tactic(auto, using(crate::proofs::Told::deep_told))]
+fn answer_of_tokens(alloc: Global, t: &Tokens) -> Result<Answer, NoMemory>
+    requires text { LieInText t.now }
+    requires named { HasNamedFiles t.now }
+    ensures { IfOk result (IsTold t.now) }
+{
+    match items(alloc, t)? {
+        Err(Deep { place }) => Ok(Answer::NotRead {
+            why: Why::Deep { place },
+        }),
+        Ok(items) => answer_of_items(alloc, t, &items),
+    }
+}
+
+/// The answer to a text with these items.
+#[tactic(auto, using(crate::proofs::Told::no_main_told))]
+fn answer_of_items(alloc: Global, t: &Tokens, items: &List<ItemSpan>) -> Result<Answer, NoMemory>
+    requires text { LieInText t.now }
+    requires named { HasNamedFiles t.now }
+    requires spans { IsItems t.now (Ok items.now) }
+    requires inside { All (IsInside (length t.now.list)) items.now }
+    ensures { IfOk result (IsTold t.now) }
+{
+    match needed(alloc, t, items)? {
+        None => Ok(Answer::NotRead { why: Why::NoMain }),
+        Some(numbers) => answer_of_needed(alloc, t, items.as_slice(), numbers.as_slice()),
+    }
+}
+
+/// The answer to a text where main needs the items with these numbers.
+#[tactic(auto, using(crate::proofs::Told::no_item_told, crate::proofs::Told::no_form_told, crate::proofs::Told::form_told))]
+fn answer_of_needed(
+    alloc: Global,
+    t: &Tokens,
+    items: &[ItemSpan],
+    numbers: &[u32],
+) -> Result<Answer, NoMemory>
+    requires text { LieInText t.now }
+    requires named { HasNamedFiles t.now }
+    requires spans { IsItems t.now (Ok items.now) }
+    requires inside { All (IsInside (length t.now.list)) items.now }
+    requires needed { IsNeed (item_rows t.now items.now) (Some numbers.now) }
+    ensures { IfOk result (IsTold t.now) }
+{
+    let Some(span) = only_item(items, numbers) else {
+        return Ok(Answer::NotYet);
+    };
+    let Some(read) = read_item(alloc, t, span)? else {
+        return Ok(Answer::NotYet);
+    };
+    Ok(verdict_of(warnings_in(alloc, &read)?))
+}
+
+/// The item of the one number that there is.
+fn only_item(items: &[ItemSpan], numbers: &[u32]) -> Option<ItemSpan>
+    ensures { result ≡ only_item items.now numbers.now }
+{
+    match numbers {
+        [number] => items.get(*number as usize).copied(),
+        _ => None,
+    }
+}
+
+/// The warnings of an item that was read.
+#[tactic(auto, using(crate::proofs::FaultPlaces::warnings_have_kinds))]
+fn warnings_in(alloc: Global, read: &ReadItem) -> Result<List<Warning>, NoMemory>
+    requires { IsSmall read.now.program.lines }
+    ensures warnings { IfOk result (AreWarnings read.now.row read.now.program) }
+    ensures kinds { IfOk result (All (λ warning. (5 ≤ warning.kind) × (warning.kind ≤ 7))) }
+{
+    let faults = decide(alloc, &read.program)?;
+    warnings_of(alloc, read.row.as_slice(), faults.as_slice())
+}
+
+/// `Safe` where there is no warning, and else `Warned`.
+fn verdict_of(warnings: List<Warning>) -> Answer
+    ensures { result ≡ verdict_of warnings }
+{
+    if warnings.is_empty() {
         return Answer::Safe;
     }
-    Answer::Faults { kinds }
+    Answer::Warned { warnings }
 }

@@ -1,3 +1,5 @@
+use cbase::List;
+
 /// What stands on the right of a declaration or an assignment.
 #[derive(Clone, Copy, Debug, PartialEq, Eq)]
 pub enum Source {
@@ -10,12 +12,35 @@ pub enum Source {
 }
 
 /// A line of main's body, its `return` aside. A local is named by a lower-case letter.
+///
+/// `end` is the number of the line's `;` in the row of tokens that is read, `at` that of the word `free`: the
+/// places at which a run can meet a fault.
 #[derive(Clone, Copy, Debug, PartialEq, Eq)]
 pub enum Line {
     /// `void *NAME;` or `void *NAME = SOURCE;`
-    Declare { name: u8, source: Option<Source> },
+    Declare {
+        name: u8,
+        source: Option<Source>,
+        end: u32,
+    },
     /// `NAME = SOURCE;`
-    Assign { name: u8, source: Source },
+    Assign {
+        name: u8,
+        source: Source,
+        end: u32,
+    },
     /// `free(NAME);`
-    Free { name: u8 },
+    Free {
+        name: u8,
+        at: u32,
+        end: u32,
+    },
+}
+
+/// A program of the first form: the lines of main's body, and the number of `return` behind them in the row of
+/// tokens that is read.
+#[derive(Drop)]
+pub struct Program {
+    pub lines: List<Line>,
+    pub return_at: u32,
 }

@@ -1,22 +1,22 @@
-//! `predator FILE`: reads a C program and says whether a run of it can misuse memory.
+//! `predator [--budget N] [--int-limit K] FILE`: reads a C program and says whether a run of it can misuse memory.
 #![tactic(auto)]
 
 ghost use Rattle.std.specs.Prelude.{◌≡◌, drop};
 
-mod answer;
 mod byte;
 mod decide;
-mod front;
+mod fault;
+mod found;
 mod judge;
 mod kinds;
+mod later;
 mod line;
 mod locals;
 mod losses;
+mod read_item;
 mod read_line;
 mod read_lines;
-mod read_text;
-mod read_tokens;
-mod report;
+mod row;
 mod scope;
 mod search;
 mod situation;
@@ -25,12 +25,11 @@ mod spelling;
 mod tests;
 mod token;
 mod top;
-mod words;
+mod warnings;
 
-use crate::answer::Answer;
-use crate::report::status;
 use crate::top::predator;
 use outside::{OsFiles, OsSink};
+use report::{Answer, status};
 use std::io::ErrorKind;
 use std::process::ExitCode;
 use std::{env, io};
@@ -39,7 +38,8 @@ fn main(rt: HostRuntime) -> ExitCode {
     ExitCode::from(run(&rt))
 }
 
-/// Runs the program on its words, and says its exit status. Words that are not UTF-8 name no file.
+/// Runs the program on its words, and says its exit status. Words that are not UTF-8 end in the
+/// usage line.
 fn run(rt: &HostRuntime) -> u8 {
     let mut files = OsFiles::new(rt);
     let mut out = OsSink::new(io::writer(rt));

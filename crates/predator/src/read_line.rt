@@ -1,12 +1,14 @@
-ghost use Rattle.std.specs.Prelude.{◌≡◌, option_map};
+ghost use Rattle.std.specs.Prelude.{◌≡◌, ◌+◌, ◌<◌, ◌^◌, length, option_map};
 ghost use Rattle.predator.specs.FrontLine.{front_source, declaring, assigning, front_line, behind_head, is_end};
 
 use crate::line::{Line, Source};
 use crate::token::Token;
 
-/// The line at the front of the tokens, and the tokens behind it.
-pub fn read_line(tokens: &[Token]) -> Option<(Line, &[Token])>
-    ensures { option_map (λ read. (read.0, read.1.now)) result ≡ front_line tokens.now }
+/// The line at the front of the tokens, and the tokens behind it. `first` is the place of the first
+/// one in the row.
+pub fn read_line(first: u32, tokens: &[Token]) -> Option<(Line, &[Token])>
+    requires { first + length tokens.now < 2 ^ 32 }
+    ensures { option_map (λ read. (read.0, read.1.now)) result ≡ front_line first tokens.now }
 {
     match tokens {
         [
@@ -19,6 +21,7 @@ pub fn read_line(tokens: &[Token]) -> Option<(Line, &[Token])>
             Line::Declare {
                 name: *name,
                 source: None,
+                end: first + 3,
             },
             rest,
         )),
@@ -28,8 +31,8 @@ pub fn read_line(tokens: &[Token]) -> Option<(Line, &[Token])>
             Token::Name(name),
             Token::Equals,
             rest @ ..,
-        ] => read_initialiser(*name, rest),
-        [Token::Name(name), Token::Equals, rest @ ..] => read_assigned(*name, rest),
+        ] => read_initialiser(*name, first + 4, rest),
+        [Token::Name(name), Token::Equals, rest @ ..] => read_assigned(*name, first + 2, rest),
         [
             Token::Free,
             Token::LeftParenthesis,
@@ -37,38 +40,51 @@ pub fn read_line(tokens: &[Token]) -> Option<(Line, &[Token])>
             Token::RightParenthesis,
             Token::Semicolon,
             rest @ ..,
-        ] => { Some((Line::Free { name: *name }, rest)) }
+        ] => Some((
+            Line::Free {
+                name: *name,
+                at: first,
+                end: first + 4,
+            },
+            rest,
+        )),
         _ => None,
     }
 }
 
-fn read_initialiser(name: u8, tokens: &[Token]) -> Option<(Line, &[Token])>
-    ensures { option_map (λ read. (read.0, read.1.now)) result ≡ option_map (declaring name) (front_source tokens.now) }
+fn read_initialiser(name: u8, first: u32, tokens: &[Token]) -> Option<(Line, &[Token])>
+    requires { first + length tokens.now < 2 ^ 32 }
+    ensures { option_map (λ read. (read.0, read.1.now)) result ≡ option_map (declaring name) (front_source first tokens.now) }
 {
-    let (source, rest) = read_source(tokens)?;
+    let (source, end, rest) = read_source(first, tokens)?;
     Some((
         Line::Declare {
             name,
             source: Some(source),
+            end,
         },
         rest,
     ))
 }
 
-fn read_assigned(name: u8, tokens: &[Token]) -> Option<(Line, &[Token])>
-    ensures { option_map (λ read. (read.0, read.1.now)) result ≡ option_map (assigning name) (front_source tokens.now) }
+fn read_assigned(name: u8, first: u32, tokens: &[Token]) -> Option<(Line, &[Token])>
+    requires { first + length tokens.now < 2 ^ 32 }
+    ensures { option_map (λ read. (read.0, read.1.now)) result ≡ option_map (assigning name) (front_source first tokens.now) }
 {
-    let (source, rest) = read_source(tokens)?;
-    Some((Line::Assign { name, source }, rest))
+    let (source, end, rest) = read_source(first, tokens)?;
+    Some((Line::Assign { name, source, end }, rest))
 }
 
-/// The source at the front of the tokens with its semicolon, and the tokens behind it.
-fn read_source(tokens: &[Token]) -> Option<(Source, &[Token])>
-    ensures { option_map (λ read. (read.0, read.1.now)) result ≡ front_source tokens.now }
+/// The source at the front of the tokens, the number of its semicolon, and the tokens behind that.
+fn read_source(first: u32, tokens: &[Token]) -> Option<(Source, u32, &[Token])>
+    requires { first + length tokens.now < 2 ^ 32 }
+    ensures { option_map (λ read. (read.0, read.1, read.2.now)) result ≡ front_source first tokens.now }
 {
     match tokens {
-        [Token::Number(0), Token::Semicolon, rest @ ..] => Some((Source::Null, rest)),
-        [Token::Name(name), Token::Semicolon, rest @ ..] => Some((Source::Local(*name), rest)),
+        [Token::Number(0), Token::Semicolon, rest @ ..] => Some((Source::Null, first + 1, rest)),
+        [Token::Name(name), Token::Semicolon, rest @ ..] => {
+            Some((Source::Local(*name), first + 1, rest))
+        }
         [
             Token::Malloc,
             Token::LeftParenthesis,
@@ -76,7 +92,7 @@ fn read_source(tokens: &[Token]) -> Option<(Source, &[Token])>
             Token::RightParenthesis,
             Token::Semicolon,
             rest @ ..,
-        ] => { Some((Source::Allocation(*size), rest)) }
+        ] => Some((Source::Allocation(*size), first + 4, rest)),
         _ => None,
     }
 }

@@ -36,11 +36,11 @@ fn is_line_in_scope(names: &[u8], line: &Line) -> bool
     ensures { result ≡ is_line_scoped names.now line.now }
 {
     match line {
-        Line::Declare { name, source } => !is_declared(names, *name)
+        Line::Declare { name, source, .. } => !is_declared(names, *name)
             && is_initialiser_in_scope(names, *source),
-        Line::Assign { name, source } => is_declared(names, *name)
+        Line::Assign { name, source, .. } => is_declared(names, *name)
             && is_source_in_scope(names, *source),
-        Line::Free { name } => is_declared(names, *name),
+        Line::Free { name, .. } => is_declared(names, *name),
     }
 }
 

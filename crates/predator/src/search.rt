@@ -1,264 +1,367 @@
-ghost use Rattle.std.specs.Prelude.{◌≡◌, ◌≤◌, ◌<◌, ◌+◌, ◌^◌, ◌↔◌, ℕ, [], length, slice_get, IfOk, IsTrue};
-ghost use Rattle.std.specs.List.{Contains};
-ghost use Rattle.std.specs.List.Sorted.{IsStrictlyIncreasing};
+ghost use Rattle.std.specs.Prelude.{◌≡◌, ◌||◌, ◌&&◌, ◌<◌, ◌≤◌, ◌+◌, ◌^◌, ℕ, Bool, false, [], ◌∷◌, length, drop, slice_get, OnOk, IfOk};
+ghost use Rattle.std.specs.Prelude.{List as Items};
+ghost use Rattle.predator.specs.declared.fault.Fault.{Fault};
+ghost use Rattle.predator.specs.declared.situation.Local.{Local};
 ghost use Rattle.predator.specs.FirstForm.{IsSmall};
 ghost use Rattle.predator.specs.Machine.{declared_names};
-ghost use Rattle.predator.specs.Kinds.{has};
-ghost use Rattle.predator.specs.Search.{can_fault, can_fault_with, can_fault_copying, can_fault_into, can_fault_storing, can_fault_freeing, can_fault_block, assigned, unwritten_from};
+ghost use Rattle.predator.specs.Found.{has};
+ghost use Rattle.predator.specs.Search.{can_fault, can_fault_with, can_fault_copying, can_fault_into, can_fault_storing, can_fault_freeing, can_fault_block, is_fault, assigned, unwritten_from};
 
-use crate::kinds::Kinds;
-use crate::line::{Line, Source};
+use crate::fault::Fault;
+use crate::found::add;
+use crate::kinds::{DOUBLE_FREE, INVALID_FREE, MEMORY_LOST};
+use crate::later::Later;
+use crate::line::{Line, Program, Source};
 use crate::locals::{assign, set_null, unwritten_locals, value_of};
 use crate::losses::loses;
 use crate::situation::{Local, Value};
-use cbase::{List, NoMemory};
+use cbase::NoMemory;
 use std::alloc::Global;
+use std::collections::BTreeSet;
 
-/// The kinds that the search over all runs finds, ascending.
-pub fn kinds_of_faults(alloc: Global, lines: &[Line]) -> Result<List<u8>, NoMemory>
-    requires { IsSmall lines.now }
-    ensures ascending { IfOk result (λ kinds. IsStrictlyIncreasing kinds) }
-    ensures found { IfOk result (λ kinds. (kind : ℕ) →
-        Contains kinds kind
-        ↔ IsTrue (can_fault kind lines.now (unwritten_from 0 (declared_names lines.now)) [])) }
+/// The faults that the search over all runs of a program finds.
+pub fn faults_of(alloc: Global, program: &Program) -> Result<BTreeSet<Fault>, NoMemory>
+    requires { IsSmall program.now.lines }
+    ensures { IfOk result (λ found. (fault : Fault) →
+        has found.keys fault
+        ≡ can_fault fault program.now.lines program.now.return_at (unwritten_from 0 (declared_names program.now.lines)) []) }
 {
+    let lines = program.lines.as_slice();
     let locals = unwritten_locals(alloc, lines)?;
-    let kinds = search(alloc, lines, locals, Vec::new(alloc))?;
-    kinds.listed(alloc)
+    let mut found = BTreeSet::new(alloc);
+    search(
+        alloc,
+        lines,
+        program.return_at,
+        locals,
+        Vec::new(alloc),
+        &mut found,
+    )?;
+    Ok(found)
 }
 
-/// The kinds of faults that some run of the lines from here on, and of the return behind them, meets.
+/// Finds the faults that some run of the lines from here on, and of the return behind them, meets.
 ///
-/// `blocks` says of each block that was allocated whether it lives.
+/// `blocks` says of each block that was allocated whether it lives. The lines are passed one by one; what follows
+/// an allocation that fails is searched apart.
 #[cycle(search)]
 pub fn search(
     alloc: Global,
     lines: &[Line],
-    locals: Vec<Local>,
-    blocks: Vec<bool>,
-) -> Result<Kinds, NoMemory>
+    return_at: u32,
+    mut locals: Vec<Local>,
+    mut blocks: Vec<bool>,
+    found: &mut BTreeSet<Fault>,
+) -> Result<(), NoMemory>
     requires { length lines.now + length blocks.items < 2 ^ 32 }
-    ensures { IfOk result (λ kinds. (kind : ℕ) →
-        has kinds kind ≡ can_fault kind lines.now locals.items blocks.items) }
+    ensures { OnOk result ((fault : Fault) →
+        has found.new.keys fault
+        ≡ (has found.old.keys fault || can_fault fault lines.now return_at locals.items blocks.items)) }
 {
-    match lines {
-        [] => Ok(at_return(&blocks)),
-        [line, rest @ ..] => match *line {
-            Line::Declare {
-                name: _,
-                source: None,
-            } => search(alloc, rest, locals, blocks),
-            Line::Declare {
-                name,
-                source: Some(source),
-            } => {
-                let old = value_of(&locals, name);
-                after_assignment(alloc, rest, old, name, source, locals, blocks)
-            }
-            Line::Assign { name, source } => {
-                let old = value_of(&locals, name);
-                after_assignment(alloc, rest, old, name, source, locals, blocks)
-            }
-            Line::Free { name } => after_free(alloc, rest, value_of(&locals, name), locals, blocks),
-        },
+    for (number, line) in lines.iter().enumerate() {
+        let behind = lines_behind(lines, number);
+        if !after_line(
+            alloc,
+            *line,
+            behind,
+            return_at,
+            &mut locals,
+            &mut blocks,
+            found,
+        )? {
+            return Ok(());
+        }
     }
+    at_return(return_at, &blocks, found)?;
+    Ok(())
 }
 
-/// The kinds of faults at main's return, where a live block is lost.
-fn at_return(blocks: &[bool]) -> Kinds
-    ensures { (kind : ℕ) → has result kind ≡ can_fault kind [] [] blocks.now }
+/// The lines behind the one with this number.
+fn lines_behind(lines: &[Line], number: usize) -> &[Line]
+    requires { number < length lines.now }
+    ensures { result.now ≡ drop (number + 1) lines.now }
+{
+    let (_, behind) = lines.split_at(number + 1);
+    behind
+}
+
+/// Finds the fault at main's return, where a live block is lost.
+fn at_return(return_at: u32, blocks: &[bool], found: &mut BTreeSet<Fault>) -> Result<(), NoMemory>
+    ensures { OnOk result ((fault : Fault) →
+        has found.new.keys fault
+        ≡ (has found.old.keys fault || can_fault fault [] return_at [] blocks.now)) }
 {
     if blocks.contains(&true) {
-        Kinds::only_memory_lost()
-    } else {
-        Kinds::none()
+        return add(found, return_at, MEMORY_LOST);
+    }
+    Ok(())
+}
+
+/// Finds the faults that the line can meet, and says whether a run goes on to the lines behind it. What
+/// follows an allocation that fails is searched here; where the run goes on, the allocation gave a block.
+#[cycle(search)]
+fn after_line(
+    alloc: Global,
+    line: Line,
+    behind: &[Line],
+    return_at: u32,
+    locals: &mut [Local],
+    blocks: &mut Vec<bool>,
+    found: &mut BTreeSet<Fault>,
+) -> Result<bool, NoMemory>
+    requires { length behind.now + length blocks.old.items + 1 < 2 ^ 32 }
+    ensures blocks { OnOk result (length blocks.new.items ≤ length blocks.old.items + 1) }
+    ensures found { IfOk result (λ goes. (fault : Fault) →
+        (has found.new.keys fault || (goes && can_fault fault behind.now return_at locals.new blocks.new.items))
+        ≡ (has found.old.keys fault || can_fault fault (line ∷ behind.now) return_at locals.old blocks.old.items)) }
+{
+    match line {
+        Line::Declare {
+            name: _,
+            source: None,
+            end: _,
+        } => Ok(true),
+        Line::Declare {
+            name,
+            source: Some(source),
+            end,
+        } => {
+            let later = Later {
+                end,
+                lines: behind,
+                return_at,
+            };
+            let old = value_of(locals, name);
+            after_assignment(alloc, later, old, name, source, locals, blocks, found)
+        }
+        Line::Assign { name, source, end } => {
+            let later = Later {
+                end,
+                lines: behind,
+                return_at,
+            };
+            let old = value_of(locals, name);
+            after_assignment(alloc, later, old, name, source, locals, blocks, found)
+        }
+        Line::Free { name, at, end } => {
+            let value = value_of(locals, name);
+            after_free(at, end, value, locals, blocks, found)
+        }
     }
 }
 
-/// The kinds of faults once a source is stored in the local `name`, which held `old` if it is declared, and
-/// `lines` follow.
+/// Finds the faults once a source is stored in the local `name`, which held `old` if it is declared, and says
+/// whether a run goes on.
 #[cycle(search)]
 fn after_assignment(
     alloc: Global,
-    lines: &[Line],
+    later: Later,
     old: Option<Value>,
     name: u8,
     source: Source,
-    locals: Vec<Local>,
-    blocks: Vec<bool>,
-) -> Result<Kinds, NoMemory>
-    requires { length lines.now + length blocks.items + 1 < 2 ^ 32 }
-    ensures { IfOk result (λ kinds. (kind : ℕ) →
-        has kinds kind ≡ can_fault_into kind (can_fault kind lines.now) old name source
-        locals.items blocks.items) }
+    locals: &mut [Local],
+    blocks: &mut Vec<bool>,
+    found: &mut BTreeSet<Fault>,
+) -> Result<bool, NoMemory>
+    requires { length later.lines.now + length blocks.old.items + 1 < 2 ^ 32 }
+    ensures blocks { OnOk result (length blocks.new.items ≤ length blocks.old.items + 1) }
+    ensures found { IfOk result (λ goes. (fault : Fault) →
+        (has found.new.keys fault || (goes && can_fault fault later.entry.lines.now later.entry.return_at locals.new blocks.new.items))
+        ≡ (has found.old.keys fault
+        || can_fault_into fault later.entry.end (can_fault fault later.entry.lines.now later.entry.return_at) old name source
+        locals.old blocks.old.items)) }
 {
     match old {
-        None => Ok(Kinds::none()),
-        Some(_) => after_store(alloc, lines, name, source, locals, blocks),
+        None => Ok(false),
+        Some(_) => after_store(alloc, later, name, source, locals, blocks, found),
     }
 }
 
-/// The kinds of faults once a source is stored in the local `name`, and `lines` follow.
+/// Finds the faults once a source is stored in the local `name`, and says whether a run goes on.
 #[cycle(search)]
 fn after_store(
     alloc: Global,
-    lines: &[Line],
+    later: Later,
     name: u8,
     source: Source,
-    mut locals: Vec<Local>,
-    blocks: Vec<bool>,
-) -> Result<Kinds, NoMemory>
-    requires { length lines.now + length blocks.items + 1 < 2 ^ 32 }
-    ensures { IfOk result (λ kinds. (kind : ℕ) →
-        has kinds kind ≡ can_fault_storing kind (can_fault kind lines.now) name source
-        locals.items blocks.items) }
+    locals: &mut [Local],
+    blocks: &mut Vec<bool>,
+    found: &mut BTreeSet<Fault>,
+) -> Result<bool, NoMemory>
+    requires { length later.lines.now + length blocks.old.items + 1 < 2 ^ 32 }
+    ensures blocks { OnOk result (length blocks.new.items ≤ length blocks.old.items + 1) }
+    ensures found { IfOk result (λ goes. (fault : Fault) →
+        (has found.new.keys fault || (goes && can_fault fault later.entry.lines.now later.entry.return_at locals.new blocks.new.items))
+        ≡ (has found.old.keys fault
+        || can_fault_storing fault later.entry.end (can_fault fault later.entry.lines.now later.entry.return_at) name source
+        locals.old blocks.old.items)) }
 {
     match source {
         Source::Null => {
-            assign(&mut locals, name, Value::Null);
-            after_expression(alloc, lines, locals, blocks)
+            assign(locals, name, Value::Null);
+            at_end(later.end, locals, blocks, found)
         }
         Source::Local(other) => {
-            let value = value_of(&locals, other);
-            after_copy(alloc, lines, name, value, locals, blocks)
+            let value = value_of(locals, other);
+            after_copy(later.end, name, value, locals, blocks, found)
         }
-        Source::Allocation(_) => after_allocation(alloc, lines, name, locals, blocks),
+        Source::Allocation(_) => after_allocation(alloc, later, name, locals, blocks, found),
     }
 }
 
-/// The kinds of faults once what a local held, if there was one, is stored in the local `name`.
-#[cycle(search)]
+/// Finds the faults once what a local held, if there was one, is stored in the local `name`, and says whether a
+/// run goes on.
 fn after_copy(
-    alloc: Global,
-    lines: &[Line],
+    end: u32,
     name: u8,
     value: Option<Value>,
-    mut locals: Vec<Local>,
-    blocks: Vec<bool>,
-) -> Result<Kinds, NoMemory>
-    requires { length lines.now + length blocks.items < 2 ^ 32 }
-    ensures { IfOk result (λ kinds. (kind : ℕ) →
-        has kinds kind ≡ can_fault_copying kind (can_fault kind lines.now) name value
-        locals.items blocks.items) }
+    locals: &mut [Local],
+    blocks: &[bool],
+    found: &mut BTreeSet<Fault>,
+) -> Result<bool, NoMemory>
+    ensures { IfOk result (λ goes. (fault : Fault) → (later : Items Local → Items Bool → Bool) →
+        (has found.new.keys fault || (goes && later locals.new blocks.now))
+        ≡ (has found.old.keys fault || can_fault_copying fault end later name value locals.old blocks.now)) }
 {
     match value {
-        None => Ok(Kinds::none()),
+        None => Ok(false),
         Some(value) => {
-            assign(&mut locals, name, value);
-            after_expression(alloc, lines, locals, blocks)
+            assign(locals, name, value);
+            at_end(end, locals, blocks, found)
         }
     }
 }
 
-/// The kinds of faults once the local `name` got what an allocation answers: the null pointer, or a new block.
+/// Finds the faults once the local `name` got what an allocation answers: the null pointer, or a new block. A
+/// run that goes on has the block.
 #[cycle(search)]
 fn after_allocation(
     alloc: Global,
-    lines: &[Line],
+    later: Later,
     name: u8,
-    mut locals: Vec<Local>,
-    mut blocks: Vec<bool>,
-) -> Result<Kinds, NoMemory>
-    requires { length lines.now + length blocks.items + 1 < 2 ^ 32 }
+    locals: &mut [Local],
+    blocks: &mut Vec<bool>,
+    found: &mut BTreeSet<Fault>,
+) -> Result<bool, NoMemory>
+    requires { length later.lines.now + length blocks.old.items + 1 < 2 ^ 32 }
+    ensures blocks { OnOk result (length blocks.new.items ≤ length blocks.old.items + 1) }
     // The size tells nothing.
-    ensures { IfOk result (λ kinds. (kind : ℕ) →
-        has kinds kind ≡ can_fault_storing kind (can_fault kind lines.now) name
-        (Source.Allocation 0) locals.items blocks.items) }
+    ensures found { IfOk result (λ goes. (fault : Fault) →
+        (has found.new.keys fault || (goes && can_fault fault later.entry.lines.now later.entry.return_at locals.new blocks.new.items))
+        ≡ (has found.old.keys fault
+        || can_fault_storing fault later.entry.end (can_fault fault later.entry.lines.now later.entry.return_at) name
+        (Source.Allocation 0) locals.old blocks.old.items)) }
 {
-    let refused = after_refusal(alloc, lines, name, &locals, &blocks)?;
+    after_refusal(alloc, later, name, locals, blocks, found)?;
     let number = blocks.len() as u32;
-    assign(&mut locals, name, Value::Block(number));
+    assign(locals, name, Value::Block(number));
     blocks.push(true)?;
-    let allocated = after_expression(alloc, lines, locals, blocks)?;
-    Ok(refused.united(allocated))
+    at_end(later.end, locals, blocks, found)
 }
 
-/// The kinds of faults once an allocation for the local `name` answered the null pointer.
+/// Finds the faults once an allocation for the local `name` answered the null pointer.
 #[cycle(search)]
 fn after_refusal(
     alloc: Global,
-    lines: &[Line],
+    later: Later,
     name: u8,
     locals: &[Local],
     blocks: &[bool],
-) -> Result<Kinds, NoMemory>
-    requires { length lines.now + length blocks.now < 2 ^ 32 }
-    ensures { IfOk result (λ kinds. (kind : ℕ) →
-        has kinds kind ≡ can_fault_with kind (can_fault kind lines.now)
-        (assigned locals.now name Value.Null) blocks.now) }
+    found: &mut BTreeSet<Fault>,
+) -> Result<(), NoMemory>
+    requires { length later.lines.now + length blocks.now < 2 ^ 32 }
+    ensures { OnOk result ((fault : Fault) →
+        has found.new.keys fault
+        ≡ (has found.old.keys fault
+        || can_fault_with fault later.entry.end (can_fault fault later.entry.lines.now later.entry.return_at)
+        (assigned locals.now name Value.Null) blocks.now)) }
 {
     let mut locals = Vec::from_slice(alloc, locals)?;
     assign(&mut locals, name, Value::Null);
-    after_expression(alloc, lines, locals, Vec::from_slice(alloc, blocks)?)
+    if !at_end(later.end, &locals, blocks, found)? {
+        return Ok(());
+    }
+    let blocks = Vec::from_slice(alloc, blocks)?;
+    search(alloc, later.lines, later.return_at, locals, blocks, found)
 }
 
-/// The kinds of faults once a value, if a local held one, is freed, and `lines` follow.
-#[cycle(search)]
+/// Finds the faults once a value, if a local held one, is freed at the token `at`, and says whether a run goes
+/// on.
 fn after_free(
-    alloc: Global,
-    lines: &[Line],
+    at: u32,
+    end: u32,
     value: Option<Value>,
-    mut locals: Vec<Local>,
-    blocks: Vec<bool>,
-) -> Result<Kinds, NoMemory>
-    requires { length lines.now + length blocks.items < 2 ^ 32 }
-    ensures { IfOk result (λ kinds. (kind : ℕ) →
-        has kinds kind ≡ can_fault_freeing kind (can_fault kind lines.now) value
-        locals.items blocks.items) }
+    locals: &mut [Local],
+    blocks: &mut Vec<bool>,
+    found: &mut BTreeSet<Fault>,
+) -> Result<bool, NoMemory>
+    ensures blocks { length blocks.new.items ≡ length blocks.old.items }
+    ensures found { IfOk result (λ goes. (fault : Fault) → (later : Items Local → Items Bool → Bool) →
+        (has found.new.keys fault || (goes && later locals.new blocks.new.items))
+        ≡ (has found.old.keys fault || can_fault_freeing fault at end later value locals.old blocks.old.items)) }
 {
     match value {
-        None => Ok(Kinds::none()),
-        Some(Value::Null) => after_expression(alloc, lines, locals, blocks),
+        None => Ok(false),
+        Some(Value::Null) => at_end(end, locals, blocks, found),
         Some(Value::Unwritten(place)) => {
-            set_null(&mut locals, place);
-            let later = after_expression(alloc, lines, locals, blocks)?;
-            Ok(Kinds::only_invalid_free().united(later))
+            add(found, at, INVALID_FREE)?;
+            set_null(locals, place);
+            at_end(end, locals, blocks, found)
         }
-        Some(Value::Block(number)) => after_block_free(alloc, lines, number, locals, blocks),
+        Some(Value::Block(number)) => after_block_free(at, end, number, locals, blocks, found),
     }
 }
 
-/// The kinds of faults once the block `number` is freed, and `lines` follow.
-#[cycle(search)]
+/// Finds the faults once the block `number` is freed at the token `at`, and says whether a run goes on.
 fn after_block_free(
-    alloc: Global,
-    lines: &[Line],
+    at: u32,
+    end: u32,
     number: u32,
-    locals: Vec<Local>,
-    mut blocks: Vec<bool>,
-) -> Result<Kinds, NoMemory>
-    requires { length lines.now + length blocks.items < 2 ^ 32 }
-    ensures { IfOk result (λ kinds. (kind : ℕ) →
-        has kinds kind ≡ can_fault_block kind (can_fault kind lines.now) number
-        (slice_get blocks.items number) locals.items blocks.items) }
+    locals: &[Local],
+    blocks: &mut Vec<bool>,
+    found: &mut BTreeSet<Fault>,
+) -> Result<bool, NoMemory>
+    ensures blocks { length blocks.new.items ≡ length blocks.old.items }
+    ensures found { IfOk result (λ goes. (fault : Fault) → (later : Items Local → Items Bool → Bool) →
+        (has found.new.keys fault || (goes && later locals.now blocks.new.items))
+        ≡ (has found.old.keys fault
+        || can_fault_block fault at end later number (slice_get blocks.old.items number) locals.now blocks.old.items)) }
 {
     match blocks.get(number as usize).copied() {
-        None => Ok(Kinds::only_invalid_free()),
-        Some(false) => Ok(Kinds::only_double_free()),
+        None => ended(found, at, INVALID_FREE),
+        Some(false) => ended(found, at, DOUBLE_FREE),
         Some(true) => {
             blocks[number as usize] = false;
-            after_expression(alloc, lines, locals, blocks)
+            at_end(end, locals, blocks, found)
         }
     }
 }
 
-/// The kinds of faults at the end of a full expression, where a block may be lost, and `lines` follow.
-#[cycle(search)]
-fn after_expression(
-    alloc: Global,
-    lines: &[Line],
-    locals: Vec<Local>,
-    blocks: Vec<bool>,
-) -> Result<Kinds, NoMemory>
-    requires { length lines.now + length blocks.items < 2 ^ 32 }
-    ensures { IfOk result (λ kinds. (kind : ℕ) →
-        has kinds kind ≡ can_fault_with kind (can_fault kind lines.now)
-        locals.items blocks.items) }
+/// Finds the fault at the end of a full expression, where a block may be lost, and says whether a run goes on.
+fn at_end(
+    end: u32,
+    locals: &[Local],
+    blocks: &[bool],
+    found: &mut BTreeSet<Fault>,
+) -> Result<bool, NoMemory>
+    ensures { IfOk result (λ goes. (fault : Fault) → (later : Items Local → Items Bool → Bool) →
+        (has found.new.keys fault || (goes && later locals.now blocks.now))
+        ≡ (has found.old.keys fault || can_fault_with fault end later locals.now blocks.now)) }
 {
-    if loses(&locals, &blocks) {
-        return Ok(Kinds::only_memory_lost());
+    if loses(locals, blocks) {
+        return ended(found, end, MEMORY_LOST);
     }
-    search(alloc, lines, locals, blocks)
+    Ok(true)
+}
+
+/// Adds a fault that each run meets, so that none goes on.
+fn ended(found: &mut BTreeSet<Fault>, at: u32, kind: u8) -> Result<bool, NoMemory>
+    ensures goes { IfOk result (λ goes. goes ≡ false) }
+    ensures found { OnOk result ((fault : Fault) →
+        has found.new.keys fault ≡ (has found.old.keys fault || is_fault fault at kind)) }
+{
+    add(found, at, kind)?;
+    Ok(false)
 }
 
 #[cfg(test)]

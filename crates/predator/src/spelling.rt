@@ -1,8 +1,7 @@
 ghost use Rattle.std.specs.Prelude.{◌≡◌, ◌≤◌};
-ghost use Rattle.predator.specs.Tokens.{continues};
 ghost use Rattle.predator.specs.Spelling.{keyword_of, mark_of, single_of, size_after, size_of, token_of};
 
-use crate::byte::{is_digit, is_lower, is_number_byte, is_word_byte};
+use crate::byte::{is_digit, is_lower};
 use crate::token::Token;
 
 /// The token that the bytes spell, all of them together.
@@ -114,26 +113,4 @@ fn size_after(before: u32, digits: &[u8]) -> Option<u32>
         return None;
     }
     size_after(value, rest)
-}
-
-/// Whether a byte behind the token would make a longer one.
-pub fn goes_on(token: Token, byte: u8) -> bool
-    ensures { result ≡ continues token byte }
-{
-    match token {
-        Token::Number(_) => is_number_byte(byte) || byte == b'.',
-        Token::LeftParenthesis
-        | Token::RightParenthesis
-        | Token::LeftBrace
-        | Token::RightBrace
-        | Token::Semicolon => false,
-        Token::Star | Token::Equals => byte == b'=',
-        Token::Int
-        | Token::Main
-        | Token::Void
-        | Token::Return
-        | Token::Malloc
-        | Token::Free
-        | Token::Name(_) => is_word_byte(byte),
-    }
 }

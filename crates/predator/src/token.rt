@@ -1,3 +1,5 @@
+use cbase::Place;
+
 /// A token of the first form: one of its keywords and marks, a one-letter name or a size.
 #[derive(Clone, Copy, Debug, PartialEq, Eq)]
 pub enum Token {
@@ -31,4 +33,11 @@ pub enum Token {
     Equals,
     /// `;`
     Semicolon,
+}
+
+/// A token with the place at which it stands, whose `at` is its number in the text.
+#[derive(Clone, Copy, Debug, PartialEq, Eq)]
+pub struct PlacedToken {
+    pub token: Token,
+    pub place: Place,
 }

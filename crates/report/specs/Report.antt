@@ -1,11 +1,13 @@
 -- The report, line by line, and the exit status.
-use Rattle.std.specs.Prelude.{◌≡◌, ℕ, ◌<◌, Bool, true, false, List, [], ◌∷◌, ◌++◌, map, length, codes, slice_get, Option, None, Some, unwrap_or, if◌then◌else◌}
+use Rattle.std.specs.Prelude.{ℕ, ◌<◌, Bool, List, [], ◌∷◌, ◌++◌, map, length, codes, slice_get, unwrap_or, if◌then◌else◌}
 use Rattle.std.specs.List.{All}
 use Rattle.std.specs.Fmt.{decimal}
 use Rattle.cbase.specs.declared.place.Place.{Place}
 use Rattle.report.specs.declared.warning.Warning.{Warning}
 use Rattle.report.specs.declared.answer.Answer.{Answer}
-use Rattle.report.specs.declared.answer.Answer.TheVariants.{Safe, Warned, NotYet, TooLong, Usage, ReadFault, OutOfMemory}
+use Rattle.report.specs.declared.answer.Why.{Why}
+use Rattle.report.specs.declared.answer.Why.TheVariants.{Lexical, Deep, NoMain}
+use Rattle.report.specs.declared.answer.Answer.TheVariants.{Safe, Warned, NotRead, NotYet, TooLong, Usage, ReadFault, OutOfMemory}
 use Rattle.report.specs.declared.answer.Shown.{Shown}
 use Rattle.report.specs.Kind.{IsKind, kind_text}
 
@@ -26,10 +28,17 @@ abbrev pub warning_line : List (List ℕ) → Warning → List ℕ
 warning_line names warning =
     place_text names warning.place ++ (codes ": " ++ (severity warning.error ++ (codes ": " ++ kind_phrase warning.kind)))
 
+-- why a file is not read
+abbrev pub why_line : List ℕ → List (List ℕ) → Why → List ℕ
+why_line file names (Lexical place) = file ++ (codes ": not read: no token at " ++ place_text names place)
+why_line file names (Deep place) = file ++ (codes ": not read: too deep at " ++ place_text names place)
+why_line file names NoMain = file ++ codes ": not read: no main"
+
 -- the lines of an answer about a file
 abbrev pub answer_lines : List ℕ → List (List ℕ) → Answer → List (List ℕ)
 answer_lines file names Safe = (file ++ codes ": safe") ∷ []
 answer_lines file names (Warned warnings) = map (warning_line names) warnings ++ (file ++ codes ": warned") ∷ []
+answer_lines file names (NotRead why) = why_line file names why ∷ []
 answer_lines file names NotYet = (file ++ codes ": not read: not yet") ∷ []
 answer_lines file names (TooLong taken) = (file ++ codes ": not read: over 4194304 bytes") ∷ []
 answer_lines file names Usage = codes "usage: predator [--budget N] [--int-limit K] FILE" ∷ []
@@ -49,9 +58,17 @@ pub record IsPrintable (names : List (List ℕ)) (warning : Warning) : Type 0 wh
   pub named : warning.place.file < length names
   pub is_kind : IsKind warning.kind
 
+-- the file of the place that is told has a name
+abbrev pub HasPlace : List (List ℕ) → Why → Type 0
+HasPlace names (Lexical place) = place.file < length names
+HasPlace names (Deep place) = place.file < length names
+HasPlace names NoMain = Unit {0}
+
+-- each place that is printed has a name for its file, and each kind is one
 abbrev pub HasPrintable : List (List ℕ) → Answer → Type 0
 HasPrintable names Safe = Unit {0}
 HasPrintable names (Warned warnings) = All (IsPrintable names) warnings
+HasPrintable names (NotRead why) = HasPlace names why
 HasPrintable names NotYet = Unit {0}
 HasPrintable names (TooLong taken) = Unit {0}
 HasPrintable names Usage = Unit {0}
@@ -61,6 +78,7 @@ HasPrintable names OutOfMemory = Unit {0}
 abbrev pub status_of : Answer → ℕ
 status_of Safe = 0
 status_of (Warned warnings) = 1
+status_of (NotRead why) = 3
 status_of NotYet = 3
 status_of (TooLong taken) = 3
 status_of Usage = 4

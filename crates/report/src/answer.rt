@@ -1,6 +1,17 @@
 use crate::limits::Limits;
 use crate::warning::Warning;
-use cbase::{List, Text};
+use cbase::{List, Place, Text};
+
+/// Why a text is not read.
+#[derive(Clone, Copy, Debug, PartialEq, Eq)]
+pub enum Why {
+    /// No token begins at the place.
+    Lexical { place: Place },
+    /// A bracket opens at depth 257 at the place.
+    Deep { place: Place },
+    /// No item defines main.
+    NoMain,
+}
 
 /// What the program answers.
 #[derive(Drop)]
@@ -9,7 +20,9 @@ pub enum Answer {
     Safe,
     /// Some run meets each of these faults, one for each token and kind, ordered by token number, then kind.
     Warned { warnings: List<Warning> },
-    /// The file holds no text of the form that is read today.
+    /// The file holds no program that can be read.
+    NotRead { why: Why },
+    /// The one item that main needs is not of the form that is read today, or main needs more than one.
     NotYet,
     /// The file has more bytes than are read: so many were taken.
     TooLong { taken: u32 },

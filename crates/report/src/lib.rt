@@ -11,7 +11,7 @@ mod lines;
 mod text;
 mod warning;
 
-pub use answer::{Answer, Shown};
+pub use answer::{Answer, Shown, Why};
 pub use exit_status::status;
 pub use limits::Limits;
 pub use text::report_text;

@@ -26,7 +26,12 @@ fn name_of(names: &[Text], place: Place) -> &Text
 
 /// Appends `file:line:column`.
 #[tactic(auto, using(std::proofs::Common::append_assoc))]
-fn push_place(alloc: Global, text: &mut Text, names: &[Text], place: &Place) -> Result<(), NoMemory>
+pub fn push_place(
+    alloc: Global,
+    text: &mut Text,
+    names: &[Text],
+    place: &Place,
+) -> Result<(), NoMemory>
     requires { place.now.file < length names.now }
     ensures { OnOk result (text.new ≡ text.old ++ place_text names.now place.now) }
 {

@@ -33,6 +33,10 @@ fn each_answer_has_its_text_and_status(rt: HostRuntime) -> Result<(), Fail> {
         b"t.c: not read: not yet\n".as_slice()
     );
     assert_eq!(rt;
+        printed(alloc, Answer::NotRead { why: Why::NoMain })?.as_slice(),
+        b"t.c: not read: no main\n".as_slice()
+    );
+    assert_eq!(rt;
         printed(alloc, Answer::TooLong { taken: 4_194_305 })?.as_slice(),
         b"t.c: not read: over 4194304 bytes\n".as_slice()
     );
@@ -52,10 +56,35 @@ fn each_answer_has_its_text_and_status(rt: HostRuntime) -> Result<(), Fail> {
         }),
         1
     );
+    assert_eq!(rt; status(&Answer::NotRead { why: Why::NoMain }), 3);
     assert_eq!(rt; status(&Answer::NotYet), 3);
     assert_eq!(rt; status(&Answer::Usage), 4);
     assert_eq!(rt; status(&Answer::ReadFault), 5);
     assert_eq!(rt; status(&Answer::OutOfMemory), 7);
+    Ok(())
+}
+
+#[test]
+fn a_text_that_is_not_read_has_its_place(rt: HostRuntime) -> Result<(), Fail> {
+    let alloc = rt.alloc();
+    let mut names = Vec::new(alloc);
+    names.push(Text::from_slice(alloc, b"t.c")?)?;
+    names.push(Text::from_slice(alloc, b"a.h")?)?;
+    let place = Place {
+        file: 1,
+        line: 7,
+        column: 280,
+        at: 20,
+    };
+    let file = Text::from_slice(alloc, b"t.c")?;
+    assert_eq!(rt;
+        text::why_text(alloc, &file, names.as_slice(), Why::Lexical { place })?.as_slice(),
+        b"t.c: not read: no token at a.h:7:280\n".as_slice()
+    );
+    assert_eq!(rt;
+        text::why_text(alloc, &file, names.as_slice(), Why::Deep { place })?.as_slice(),
+        b"t.c: not read: too deep at a.h:7:280\n".as_slice()
+    );
     Ok(())
 }
 

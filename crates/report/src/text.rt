@@ -1,16 +1,17 @@
-ghost use Rattle.std.specs.Prelude.{◌≡◌, ◌∷◌, [], ◌++◌, IfOk, OnOk, map, codes};
+ghost use Rattle.std.specs.Prelude.{◌≡◌, ◌∷◌, [], ◌++◌, ◌<◌, IfOk, OnOk, length, map, codes};
 ghost use Rattle.std.specs.List.{All};
-ghost use Rattle.report.specs.Report.{HasPrintable, IsPrintable, lines_text, report_bytes, warning_line};
+ghost use Rattle.report.specs.Report.{HasPlace, HasPrintable, IsPrintable, lines_text, place_text, report_bytes, warning_line, why_line};
 
-use crate::answer::{Answer, Shown};
-use crate::lines::push_warning;
+use crate::answer::{Answer, Shown, Why};
+use crate::lines::{push_place, push_warning};
 use crate::warning::Warning;
-use cbase::{NoMemory, Text};
+use cbase::{NoMemory, Place, Text};
 use std::alloc::Global;
 
 /// The report of an answer: its lines, each with a newline at its end.
 ///
-/// Each warning's file must have a name among those shown, and its kind must be one of the eight.
+/// The file of each place that is printed must have a name among those shown, and a warning's kind must be one
+/// of the eight.
 #[tactic(auto, using(std::proofs::Common::append_assoc))]
 pub fn report_text(alloc: Global, shown: &Shown) -> Result<Text, NoMemory>
     requires { HasPrintable shown.now.names shown.now.answer }
@@ -24,6 +25,7 @@ pub fn report_text(alloc: Global, shown: &Shown) -> Result<Text, NoMemory>
             shown.names.as_slice(),
             warnings.as_slice(),
         ),
+        Answer::NotRead { why } => why_text(alloc, &shown.file, shown.names.as_slice(), *why),
         Answer::NotYet => file_line(alloc, &shown.file, b": not read: not yet\n"),
         Answer::TooLong { .. } => {
             file_line(alloc, &shown.file, b": not read: over 4194304 bytes\n")
@@ -44,6 +46,40 @@ fn file_line(alloc: Global, file: &Text, rest: &[u8]) -> Result<Text, NoMemory>
 {
     let mut text = Text::from_slice(alloc, file.as_slice())?;
     text.extend(rest)?;
+    Ok(text)
+}
+
+/// The line that tells why a text is not read, with its newline.
+pub fn why_text(alloc: Global, file: &Text, names: &[Text], why: Why) -> Result<Text, NoMemory>
+    requires { HasPlace names.now why }
+    ensures { IfOk result (λ text. text ≡ lines_text (why_line file.now names.now why ∷ [])) }
+{
+    match why {
+        Why::Lexical { place } => {
+            line_at(alloc, file, b": not read: no token at ", names, place)
+        }
+        Why::Deep { place } => line_at(alloc, file, b": not read: too deep at ", names, place),
+        Why::NoMain => file_line(alloc, file, b": not read: no main\n"),
+    }
+}
+
+/// A line that begins with the file and ends with a place, given what stands between the two.
+#[tactic(auto, using(std::proofs::Common::append_assoc))]
+fn line_at(
+    alloc: Global,
+    file: &Text,
+    between: &[u8],
+    names: &[Text],
+    place: Place,
+) -> Result<Text, NoMemory>
+    requires { place.file < length names.now }
+    ensures { IfOk result (λ text. text
+        ≡ lines_text ((file.now ++ (between.now ++ place_text names.now place)) ∷ [])) }
+{
+    let mut text = Text::from_slice(alloc, file.as_slice())?;
+    text.extend(between)?;
+    push_place(alloc, &mut text, names, &place)?;
+    text.extend(b"\n")?;
     Ok(text)
 }
 

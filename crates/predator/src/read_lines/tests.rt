@@ -1,5 +1,5 @@
 use super::*;
-use crate::line::Source;
+use crate::line::{Line, Source};
 use Token::{
     Equals, LeftParenthesis, Malloc, Name, Number, RightParenthesis, Semicolon, Star, Void,
 };
@@ -42,7 +42,8 @@ fn allocating(alloc: Global, times: u32) -> Result<Vec<Token>, NoMemory> {
 }
 
 fn is_read(alloc: Global, body: &[Token], end: &[Token]) -> Result<bool, NoMemory> {
-    Ok(read_lines(alloc, program(alloc, body, end)?.as_slice())?.is_some())
+    let tokens = program(alloc, body, end)?;
+    Ok(tokens.len() <= 4096 && read_lines(alloc, tokens.as_slice())?.is_some())
 }
 
 #[test]
@@ -82,15 +83,22 @@ fn rows_of_tokens_are_read_as_lines_or_refused(rt: HostRuntime) -> Result<(), Fa
                 Line::Declare {
                     name: b'a',
                     source: Some(Source::Null),
+                    end: 11,
                 },
                 Line::Declare {
                     name: b'b',
                     source: Some(Source::Local(b'a')),
+                    end: 17,
                 },
-                Line::Free { name: b'b' },
+                Line::Free {
+                    name: b'b',
+                    at: 18,
+                    end: 22,
+                },
                 Line::Assign {
                     name: b'b',
                     source: Source::Allocation(16),
+                    end: 29,
                 },
             ]),
         ),
@@ -100,6 +108,7 @@ fn rows_of_tokens_are_read_as_lines_or_refused(rt: HostRuntime) -> Result<(), Fa
             Some(&[Line::Declare {
                 name: b'a',
                 source: None,
+                end: 9,
             }]),
         ),
         // a number that is not 0
@@ -133,8 +142,12 @@ fn rows_of_tokens_are_read_as_lines_or_refused(rt: HostRuntime) -> Result<(), Fa
     ];
     for (body, want) in rows {
         let tokens = program(alloc, body, END.as_slice())?;
-        let lines = read_lines(alloc, tokens.as_slice())?;
-        assert_eq!(rt; lines.as_ref().map(|lines| lines.as_slice()), want);
+        assert!(rt; tokens.len() <= 4096);
+        let program = read_lines(alloc, tokens.as_slice())?;
+        assert_eq!(rt;
+            program.as_ref().map(|program| program.lines.as_slice()),
+            want
+        );
     }
     assert!(rt; is_read(alloc, allocating(alloc, 8)?.as_slice(), END.as_slice())?);
     assert!(rt; !is_read(alloc, allocating(alloc, 9)?.as_slice(), END.as_slice())?);

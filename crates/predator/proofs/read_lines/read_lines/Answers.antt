@@ -1,20 +1,20 @@
 use Rattle.std.proofs.Common.{◌≡◌, sym, ◌∙◌, ap, [], false, arith, ◌<◌}
-use Rattle.predator.specs.FirstForm.{program_tokens, is_scoped, allocations}
+use Rattle.predator.specs.FirstForm.{IsProgram, is_scoped, allocations}
 use Rattle.predator.proofs.ReadLines.{only_unscoped, only_large}
 use Rattle.predator.proofs.read_lines.read_lines.Goals as goal
 
 pub returns-then-not-branch-clause-none : goal.returns-then-not-branch-clause-none
 returns-then-not-branch-clause-none c =
-    λ others spelled scoped few.
-    let is : program_tokens c.in-Some.lines ≡ c.args.tokens.now = rw c.in-Some.is at c.in_ok-lines.ensures.spelled in
-    let unscoped : is_scoped [] c.in-Some.lines ≡ false = ap (is_scoped []) (sym c.as_slice.ensures) ∙ sym c.in_ok-has_scope.ensures ∙ c.if-not-branch.true in
-    only_unscoped c.in-Some.lines others _ is spelled unscoped scoped
+    λ other spells scoped few.
+    let is : IsProgram c.args.tokens.now c.in-Some.program = rw c.in-Some.is at c.in_ok-program.ensures.program in
+    let unscoped : is_scoped [] c.in-Some.program.lines ≡ false = ap (is_scoped []) (sym c.as_slice.ensures) ∙ sym c.in_ok-has_scope.ensures ∙ c.if-not-branch.true in
+    only_unscoped c.in-Some.program other _ is spells unscoped scoped
 
 pub returns-then-count_allocations-gt-MOST_ALLOCATIONS-clause-none :
     goal.returns-then-count_allocations-gt-MOST_ALLOCATIONS-clause-none
 returns-then-count_allocations-gt-MOST_ALLOCATIONS-clause-none c =
-    λ others spelled scoped few.
-    let is : program_tokens c.in-Some.lines ≡ c.args.tokens.now = rw c.in-Some.is at c.in_ok-lines.ensures.spelled in
-    let counts : allocations c.in-Some.lines ≡ c.count_allocations.result = ap allocations (sym c.as_slice-2.ensures) ∙ sym c.count_allocations.ensures in
-    let large : 8 < allocations c.in-Some.lines = omega arith in
-    only_large c.in-Some.lines others _ is spelled large few
+    λ other spells scoped few.
+    let is : IsProgram c.args.tokens.now c.in-Some.program = rw c.in-Some.is at c.in_ok-program.ensures.program in
+    let counts : allocations c.in-Some.program.lines ≡ c.count_allocations.result = ap allocations (sym c.as_slice-2.ensures) ∙ sym c.count_allocations.ensures in
+    let large : 8 < allocations c.in-Some.program.lines = omega arith in
+    only_large c.in-Some.program other _ is spells large few

@@ -1,30 +1,32 @@
--- The lines are passed one by one; within a line the store or the free comes before the end of its expression.
-use Rattle.std.proofs.Common.{◌+◌, ◌*◌, length}
+-- The lines are passed one by one; within a line the store comes before what follows a refused allocation.
+use Rattle.std.proofs.Common.{◌≡◌, ◌||◌, ◌+◌, ◌*◌, ◌≤◌, length, drop}
+use Rattle.predator.specs.declared.fault.Fault.{Fault}
+use Rattle.predator.specs.Found.{has}
+use Rattle.predator.specs.Search.{can_fault}
 use Rattle.predator.proofs.search.+search.Given as goal
+
+abbrev pub invariant-search-loop-number : goal.invariant-search-loop-number
+invariant-search-loop-number l = record {
+  few : length l.blocks.items ≤ l.number + length l.fn.blocks.items;
+  found : (fault : Fault) →
+      (has l.found.keys fault || can_fault fault (drop l.number l.lines) l.return_at l.locals.items l.blocks.items)
+      ≡ (has l.fn.found.keys fault || can_fault fault l.lines l.return_at l.fn.locals.items l.fn.blocks.items);
+}
 
 abbrev pub decreases-search : goal.decreases-search
 decreases-search l = 6 * length l.lines.now
 
-abbrev pub decreases-after_expression : goal.decreases-after_expression
-decreases-after_expression l = 6 * length l.lines.now + 1
-
-abbrev pub decreases-after_copy : goal.decreases-after_copy
-decreases-after_copy l = 6 * length l.lines.now + 2
-
-abbrev pub decreases-after_refusal : goal.decreases-after_refusal
-decreases-after_refusal l = 6 * length l.lines.now + 2
-
-abbrev pub decreases-after_allocation : goal.decreases-after_allocation
-decreases-after_allocation l = 6 * length l.lines.now + 3
-
-abbrev pub decreases-after_block_free : goal.decreases-after_block_free
-decreases-after_block_free l = 6 * length l.lines.now + 2
-
-abbrev pub decreases-after_free : goal.decreases-after_free
-decreases-after_free l = 6 * length l.lines.now + 3
-
-abbrev pub decreases-after_store : goal.decreases-after_store
-decreases-after_store l = 6 * length l.lines.now + 4
+abbrev pub decreases-after_line : goal.decreases-after_line
+decreases-after_line l = 6 * length l.behind.now + 5
 
 abbrev pub decreases-after_assignment : goal.decreases-after_assignment
-decreases-after_assignment l = 6 * length l.lines.now + 5
+decreases-after_assignment l = 6 * length l.later.lines.now + 4
+
+abbrev pub decreases-after_store : goal.decreases-after_store
+decreases-after_store l = 6 * length l.later.lines.now + 3
+
+abbrev pub decreases-after_allocation : goal.decreases-after_allocation
+decreases-after_allocation l = 6 * length l.later.lines.now + 2
+
+abbrev pub decreases-after_refusal : goal.decreases-after_refusal
+decreases-after_refusal l = 6 * length l.later.lines.now + 1

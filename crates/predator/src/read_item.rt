@@ -1,0 +1,69 @@
+ghost use Rattle.std.specs.Prelude.{◌≡◌, ◌<◌, ◌≤◌, ℕ, [], length, map, IfOk, IfSome, IfNone, IsTrue};
+ghost use Rattle.std.specs.Prelude.{List as Items};
+ghost use Rattle.std.specs.List.{All};
+ghost use Rattle.ctokens.specs.Items.{IsInside};
+ghost use Rattle.ctokens.specs.Passed.{LieInText};
+ghost use Rattle.predator.specs.declared.line.Program.{Program};
+ghost use Rattle.predator.specs.declared.token.PlacedToken.{PlacedToken};
+ghost use Rattle.predator.specs.FirstForm.{IsFormed, IsProgram, IsSmall, allocations, is_scoped};
+ghost use Rattle.predator.specs.Row.{AreSpelled, item_tokens};
+
+use crate::line::Program;
+use crate::read_lines::read_lines;
+use crate::row::row_of_item;
+use crate::token::{PlacedToken, Token};
+use cbase::{List, NoMemory};
+use ctokens::{ItemSpan, Tokens};
+use std::alloc::Global;
+
+/// An item that was read: its row of tokens, with their places, and its program.
+#[derive(Drop)]
+pub struct ReadItem {
+    pub row: List<PlacedToken>,
+    pub program: Program,
+}
+
+/// The row and the program of an item of the first form, or `None` where the item is of another form.
+#[tactic(auto, using(crate::proofs::Spellings::small_item, crate::proofs::Spellings::no_row, crate::proofs::Spellings::no_program))]
+pub fn read_item(alloc: Global, t: &Tokens, span: ItemSpan) -> Result<Option<ReadItem>, NoMemory>
+    requires text { LieInText t.now }
+    requires inside { IsInside (length t.now.list) span }
+    ensures formed { IfOk result (λ o. IfSome o (λ read. IsFormed t.now span read.row read.program)) }
+    ensures small { IfOk result (λ o. IfSome o (λ read. IsSmall read.program.lines)) }
+    ensures none { IfOk result (λ o. IfNone o ((row : Items PlacedToken) (program : Program)
+        → IsFormed t.now span row program → ⊥)) }
+{
+    let Some(row) = row_of_item(alloc, t, span)? else {
+        return Ok(None);
+    };
+    let Some(program) = read_placed(alloc, row.as_slice())? else {
+        return Ok(None);
+    };
+    Ok(Some(ReadItem { row, program }))
+}
+
+/// The program that these tokens spell, wherever they stand, or `None` where they spell no program of the
+/// first form.
+fn read_placed(alloc: Global, placed: &[PlacedToken]) -> Result<Option<Program>, NoMemory>
+    requires { length placed.now ≤ 4194304 }
+    ensures program { IfOk result (λ o. IfSome o (IsProgram (map (λ placed. placed.token) placed.now))) }
+    ensures scoped { IfOk result (λ o. IfSome o (λ program. IsTrue (is_scoped [] program.lines))) }
+    ensures few_allocations { IfOk result (λ o. IfSome o (λ program. allocations program.lines ≤ 8)) }
+    ensures none { IfOk result (λ o. IfNone o ((program : Program)
+        → IsProgram (map (λ placed. placed.token) placed.now) program
+        → IsTrue (is_scoped [] program.lines) → allocations program.lines ≤ 8 → ⊥)) }
+{
+    let tokens = plain_tokens(alloc, placed)?;
+    read_lines(alloc, tokens.as_slice())
+}
+
+/// The tokens without their places.
+fn plain_tokens(alloc: Global, placed: &[PlacedToken]) -> Result<List<Token>, NoMemory>
+    ensures { IfOk result (λ tokens. tokens ≡ map (λ placed. placed.token) placed.now) }
+{
+    let mut tokens = List::new(alloc);
+    for token in placed {
+        tokens.push(token.token)?;
+    }
+    Ok(tokens)
+}
