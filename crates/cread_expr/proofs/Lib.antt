@@ -1,0 +1,7 @@
+pub mod Contexts
+pub mod Firsts
+pub mod Integers
+pub mod Labels
+pub mod Scopes
+pub mod Truth
+pub mod Worked

@@ -1,0 +1,16 @@
+pub mod Brackets
+pub mod ConstantParts
+pub mod Constants
+pub mod Contexts
+pub mod Firsts
+pub mod Grammar
+pub mod CodeTables
+pub mod Labels
+pub mod Operators
+pub mod Phrases
+pub mod Readings
+pub mod Rows
+pub mod Scope
+pub mod Terminals
+pub mod Trees
+pub mod TypeWords

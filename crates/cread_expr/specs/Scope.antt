@@ -1,0 +1,57 @@
+-- Which names are declared, as far as the grammar asks (C11 6.2.1, 6.7.8): for each scope that a place lies in, the
+-- outermost first, the names that it declares before that place, each once, and of each whether it is a typedef's.
+use Rattle.std.specs.Prelude.{ℕ, Bool, false, if◌then◌else◌, List, [], ◌∷◌, ◌++◌, Option, None, Some}
+use Rattle.std.specs.Str.{bytes_eq}
+
+-- the names of one scope, each with whether it is a typedef's
+abbrev pub Names : Type 0
+Names = List (List ℕ × Bool)
+
+-- what a scope says of a name
+abbrev pub found_in : List ℕ → Names → Option Bool
+found_in name [] = None
+found_in name (entry ∷ others) = if bytes_eq name entry.0 then Some entry.1 else found_in name others
+
+-- the first of two answers, or the second where the first is none
+abbrev pub first_answer : Option Bool → Option Bool → Option Bool
+first_answer None other = other
+first_answer (Some answer) other = Some answer
+
+-- what the innermost scope that has a name says of it
+abbrev pub found : List ℕ → List Names → Option Bool
+found name [] = None
+found name (outer ∷ inner) = first_answer (found name inner) (found_in name outer)
+
+abbrev pub says_typedef : Option Bool → Bool
+says_typedef None = false
+says_typedef (Some typedef) = typedef
+
+-- whether the innermost scope that has a name declares it as a typedef
+abbrev pub is_typedef_name : List Names → List ℕ → Bool
+is_typedef_name scopes name = says_typedef (found name scopes)
+
+-- the names of a scope with one more; a name that it had already is now what it was declared as last
+abbrev pub declared_in : List ℕ → Bool → Names → Names
+declared_in name typedef [] = (name, typedef) ∷ []
+declared_in name typedef (entry ∷ others) =
+    if bytes_eq name entry.0 then (entry.0, typedef) ∷ others else entry ∷ declared_in name typedef others
+
+-- a name is declared in the innermost scope
+abbrev pub declared : List ℕ → Bool → List Names → List Names
+declared name typedef [] = []
+declared name typedef (names ∷ []) = declared_in name typedef names ∷ []
+declared name typedef (outer ∷ (next ∷ inner)) = outer ∷ declared name typedef (next ∷ inner)
+
+-- the file's scope, before its first declaration
+abbrev pub file_scope : List Names
+file_scope = [] ∷ []
+
+-- inside one more scope
+abbrev pub entered : List Names → List Names
+entered scopes = scopes ++ [] ∷ []
+
+-- outside the innermost scope
+abbrev pub left : List Names → List Names
+left [] = []
+left (innermost ∷ []) = []
+left (outer ∷ (next ∷ inner)) = outer ∷ left (next ∷ inner)

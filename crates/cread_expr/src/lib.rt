@@ -1,0 +1,22 @@
+//! Which expressions, types, declarations, statements and blocks the tokens of a text spell, and their trees.
+//!
+//! It knows the grammar and which names are typedefs, and no types of expressions.
+#![tactic(auto)]
+
+mod basic;
+mod constants;
+mod laws;
+mod names;
+mod operators;
+mod rows;
+mod scope;
+
+pub use laws::{
+    declared_names_are_found, first_tokens, labels_are_told_apart, numbers_go_up, scopes_are_kept,
+    types_are_told_apart,
+};
+pub use rows::{rows_of_expressions, rows_of_statements, rows_of_texts};
+pub use scope::Scope;
+
+#[cfg(test)]
+mod tests;
