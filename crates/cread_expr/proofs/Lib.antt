@@ -1,7 +1,10 @@
 pub mod Contexts
 pub mod Firsts
 pub mod Integers
+pub mod Keywords
 pub mod Labels
 pub mod Scopes
+pub mod StarRows
 pub mod Truth
+pub mod Unpassed
 pub mod Worked

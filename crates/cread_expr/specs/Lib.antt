@@ -5,6 +5,7 @@ pub mod Contexts
 pub mod Firsts
 pub mod Grammar
 pub mod CodeTables
+pub mod Keywords
 pub mod Labels
 pub mod Operators
 pub mod Phrases

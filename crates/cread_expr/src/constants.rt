@@ -1,10 +1,11 @@
-ghost use Rattle.std.specs.Prelude.{◌≡◌, ◌≤◌, ◌↔◌, ◌||◌, nat_eq, IsTrue, length, map};
+ghost use Rattle.std.specs.Prelude.{◌≡◌, ◌≤◌, ◌↔◌, ◌||◌, nat_eq, IsTrue, length};
 ghost use Rattle.std.specs.List.{list_any, list_all};
 ghost use Rattle.std.specs.Str.{bytes_eq};
 ghost use Rattle.ctokens.specs.Bytes.{is_digit, is_octal_digit, is_hexadecimal_digit};
 ghost use Rattle.cread_expr.specs.Constants.{IsInteger, is_hexadecimal, is_unsuffixed, suffixes};
 ghost use Rattle.cread_expr.specs.ConstantParts.{is_before_suffix, digits_length, is_integer};
-ghost use Rattle.cread_expr.specs.CodeTables.{text_read};
+
+use crate::texts::is_one_of;
 
 /// The suffixes of integer constants, with the empty one.
 const SUFFIXES: [&'static str; 23] = [
@@ -49,18 +50,6 @@ fn is_suffix(bytes: &[u8]) -> bool
     ensures { result ≡ list_any (bytes_eq bytes.now) suffixes }
 {
     is_one_of(SUFFIXES.as_slice(), bytes)
-}
-
-/// Whether bytes are one of the texts.
-fn is_one_of(texts: &[&str], bytes: &[u8]) -> bool
-    ensures { result ≡ list_any (bytes_eq bytes.now) (map text_read texts.now) }
-{
-    for text in texts {
-        if bytes == text.as_bytes() {
-            return true;
-        }
-    }
-    false
 }
 
 /// Whether bytes are an integer constant without its suffix.

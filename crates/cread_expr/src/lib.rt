@@ -10,6 +10,11 @@ mod names;
 mod operators;
 mod rows;
 mod scope;
+mod stars;
+mod terminal;
+mod terminals;
+mod texts;
+mod words;
 
 pub use laws::{
     declared_names_are_found, first_tokens, labels_are_told_apart, numbers_go_up, scopes_are_kept,

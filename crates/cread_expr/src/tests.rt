@@ -1,11 +1,79 @@
+ghost use Rattle.std.specs.Prelude.{◌≤◌, length, IfOk};
+ghost use Rattle.ctokens.specs.Passed.{LieInText};
+
 use super::Scope;
 use crate::basic::basic_type;
 use crate::constants::is_integer;
 use crate::operators::{
     assignment_operator, binary_operator, count_operator, member_operator, unary_operator,
 };
-use cbase::{BasicType, BinaryOp, Rank, UnaryOp};
+use crate::stars::stars;
+use crate::terminals::terminals;
+use cbase::{BasicType, BinaryOp, List, NoMemory, Place, Rank, Text, UnaryOp};
+use ctokens::{Token, TokenKind, Tokens};
+use std::alloc::Global;
 use std::test::Fail;
+
+/// The kind of a token, by its first byte.
+fn kind_of(first: u8) -> TokenKind {
+    match first {
+        b'a'..=b'z' | b'A'..=b'Z' | b'_' => TokenKind::Word,
+        b'0'..=b'9' => TokenKind::Number,
+        _ => TokenKind::Mark,
+    }
+}
+
+/// The tokens of a line in which a space stands between two tokens.
+fn cut(alloc: Global, line: &[u8]) -> Result<Tokens, NoMemory>
+    requires { length line.now ≤ 4000000 }
+    ensures { IfOk result (λ t. LieInText t) }
+{
+    let mut list = Vec::new(alloc);
+    let mut from: usize = 0;
+    for to in 0..line.len() + 1 {
+        if to < line.len() && line[to] != b' ' {
+            continue;
+        }
+        if from < to {
+            let place = Place {
+                file: 0,
+                line: 1,
+                column: from as u32 + 1,
+                at: list.len() as u32,
+            };
+            list.push(Token {
+                kind: kind_of(line[from]),
+                from: from as u32,
+                to: to as u32,
+                place,
+            })?;
+        }
+        from = to + 1;
+    }
+    Ok(Tokens {
+        text: Text::from_slice(alloc, line)?,
+        list: List::from_vec(list),
+        names: List::new(alloc),
+        packs: List::new(alloc),
+    })
+}
+
+#[test]
+fn tokens_of_a_text(rt: HostRuntime) -> Result<(), Fail> {
+    let alloc = rt.alloc();
+    let mut scope = Scope::new(alloc)?;
+    scope.declare(alloc, b"t", true)?;
+    let t = cut(alloc, b"const __signed__ t * * _Float32 x")?;
+    let row = terminals(alloc, &t)?;
+    assert!(rt; row.len() == 6);
+    if let [signed, name, behind @ ..] = row.as_slice() {
+        assert!(rt; signed.is_word(b"signed") && signed.is_any_word() && !signed.is_name());
+        assert!(rt; name.is_typedef(&scope) && name.kind() == TokenKind::Word);
+        assert!(rt; name.bytes() == b"t".as_slice() && name.place().at == 2);
+        assert!(rt; stars(behind) == 2);
+    }
+    Ok(())
+}
 
 #[test]
 fn names_in_scopes(rt: HostRuntime) -> Result<(), Fail> {
