@@ -1,10 +1,12 @@
 pub mod Contexts
 pub mod Firsts
+pub mod FrontReadings
 pub mod Integers
 pub mod Keywords
 pub mod Labels
 pub mod Scopes
 pub mod StarRows
+pub mod TokenReadings
 pub mod Truth
 pub mod Unpassed
 pub mod Worked

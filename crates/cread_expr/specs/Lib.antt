@@ -3,6 +3,7 @@ pub mod ConstantParts
 pub mod Constants
 pub mod Contexts
 pub mod Firsts
+pub mod FrontReadings
 pub mod Grammar
 pub mod CodeTables
 pub mod Keywords
@@ -13,5 +14,6 @@ pub mod Readings
 pub mod Rows
 pub mod Scope
 pub mod Terminals
+pub mod TokenReadings
 pub mod Trees
 pub mod TypeWords

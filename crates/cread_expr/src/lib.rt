@@ -5,12 +5,15 @@
 
 mod basic;
 mod constants;
+mod label;
 mod laws;
+mod name;
 mod names;
 mod operators;
 mod rows;
 mod scope;
 mod stars;
+mod tag;
 mod terminal;
 mod terminals;
 mod texts;

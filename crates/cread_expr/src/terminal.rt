@@ -1,10 +1,13 @@
-ghost use Rattle.std.specs.Prelude.{◌≡◌, ◌<◌, ◌≤◌, length};
+ghost use Rattle.std.specs.Prelude.{◌≡◌, ◌↔◌, ◌<◌, ◌≤◌, Some, length};
+ghost use Rattle.cbase.specs.declared.tree.decl.Storage.{Storage};
 ghost use Rattle.ctokens.specs.Symbol.{read_as};
+ghost use Rattle.cread_expr.specs.TokenReadings.{storage_of};
+ghost use Rattle.cread_expr.specs.TypeWords.{IsStorage};
 ghost use Rattle.cread_expr.specs.Terminals.{bytes_read, is_any_word, is_mark, is_name, is_typedef, is_word, terminal_of};
 
 use crate::scope::Scope;
 use crate::words::{is_identifier, is_left_out};
-use cbase::Place;
+use cbase::{Place, Storage};
 use ctokens::{Token, TokenKind};
 use std::marker::Model;
 
@@ -75,6 +78,30 @@ impl<'a> Terminal<'a> {
         ensures { result ≡ is_typedef scope.now self.now }
     {
         self.is_name() && scope.is_typedef(self.bytes)
+    }
+
+    /// The storage class that it names, where it is the word of one (C11 6.7.1).
+    #[tactic(auto, using(crate::proofs::TokenReadings::storage_exact))]
+    pub(crate) fn storage(&self) -> Option<Storage>
+        ensures { (storage : Storage) → (result ≡ Some storage) ↔ IsStorage storage self.now }
+    {
+        self.storage_word()
+    }
+
+    /// The storage class of one of the three words.
+    fn storage_word(&self) -> Option<Storage>
+        ensures { result ≡ storage_of self.now }
+    {
+        if self.is_word(b"typedef") {
+            return Some(Storage::Typedef);
+        }
+        if self.is_word(b"extern") {
+            return Some(Storage::Extern);
+        }
+        if self.is_word(b"static") {
+            return Some(Storage::Static);
+        }
+        None
     }
 
     /// Whether it is the mark with these bytes.
