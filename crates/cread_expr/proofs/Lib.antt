@@ -1,3 +1,4 @@
+pub mod BasicRows
 pub mod Contexts
 pub mod Firsts
 pub mod FrontReadings

@@ -4,6 +4,7 @@
 #![tactic(auto)]
 
 mod basic;
+mod basic_words;
 mod constants;
 mod label;
 mod laws;

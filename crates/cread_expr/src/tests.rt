@@ -3,13 +3,17 @@ ghost use Rattle.ctokens.specs.Passed.{LieInText};
 
 use super::Scope;
 use crate::basic::basic_type;
+use crate::basic_words::basic_words;
 use crate::constants::is_integer;
+use crate::label::begins_with_label;
+use crate::name::name;
 use crate::operators::{
     assignment_operator, binary_operator, count_operator, member_operator, unary_operator,
 };
 use crate::stars::stars;
+use crate::tag::tag;
 use crate::terminals::terminals;
-use cbase::{BasicType, BinaryOp, List, NoMemory, Place, Rank, Text, UnaryOp};
+use cbase::{BasicType, BinaryOp, List, NoMemory, Place, Rank, Storage, Text, UnaryOp};
 use ctokens::{Token, TokenKind, Tokens};
 use std::alloc::Global;
 use std::test::Fail;
@@ -56,6 +60,36 @@ fn cut(alloc: Global, line: &[u8]) -> Result<Tokens, NoMemory>
         names: List::new(alloc),
         packs: List::new(alloc),
     })
+}
+
+#[test]
+fn fronts_of_rows(rt: HostRuntime) -> Result<(), Fail> {
+    let alloc = rt.alloc();
+    let mut scope = Scope::new(alloc)?;
+    scope.declare(alloc, b"t", true)?;
+    let t = cut(alloc, b"x : struct s long unsigned int static")?;
+    let row = terminals(alloc, &t)?;
+    if let [_, _, behind @ ..] = row.as_slice() {
+        assert!(rt; begins_with_label(&scope, row.as_slice()));
+        assert!(rt; !begins_with_label(&scope, behind));
+        assert!(rt; name(row.as_slice()) == Some(b"x".as_slice()));
+        assert!(rt; name(behind).is_none());
+        assert!(rt; tag(b"struct", behind) == Some(b"s".as_slice()));
+        assert!(rt; tag(b"enum", behind).is_none());
+        if let [_, _, words @ ..] = behind {
+            let read = basic_words(alloc, words)?;
+            assert!(rt; read.count == 3);
+            let long = BasicType::Integer {
+                rank: Rank::Long,
+                signed: false,
+            };
+            assert!(rt; read.basic == Some(long));
+            if let [.., last] = words {
+                assert!(rt; last.storage() == Some(Storage::Static));
+            }
+        }
+    }
+    Ok(())
 }
 
 #[test]
