@@ -11,3 +11,4 @@ pub mod TokenReadings
 pub mod Truth
 pub mod Unpassed
 pub mod Worked
+pub mod Reached

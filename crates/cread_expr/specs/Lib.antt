@@ -10,6 +10,16 @@ pub mod Keywords
 pub mod Labels
 pub mod Operators
 pub mod Phrases
+pub mod Outcomes
+pub mod ReadStarts
+pub mod ReadLevels
+pub mod FrontOf
+pub mod ReadOperators
+pub mod ReadTypes
+pub mod ReadDeclarations
+pub mod ReadStatements
+pub mod ReadOperands
+pub mod Reader
 pub mod Readings
 pub mod Rows
 pub mod Scope

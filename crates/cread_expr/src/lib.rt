@@ -11,6 +11,7 @@ mod laws;
 mod name;
 mod names;
 mod operators;
+mod reading;
 mod rows;
 mod scope;
 mod stars;
