@@ -8,6 +8,7 @@ pub mod Labels
 pub mod Scopes
 pub mod StarRows
 pub mod TokenReadings
+pub mod TreeLevels
 pub mod Truth
 pub mod Unpassed
 pub mod Worked
