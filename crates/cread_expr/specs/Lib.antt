@@ -3,6 +3,7 @@ pub mod ConstantParts
 pub mod Constants
 pub mod Contexts
 pub mod Firsts
+pub mod FrontOf
 pub mod FrontReadings
 pub mod Grammar
 pub mod CodeTables
