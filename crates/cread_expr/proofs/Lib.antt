@@ -9,6 +9,7 @@ pub mod Labels
 pub mod Scopes
 pub mod StarRows
 pub mod TokenReadings
+pub mod Starting
 pub mod TokenKinds
 pub mod TreeLevels
 pub mod Truth

@@ -14,6 +14,7 @@ pub mod Phrases
 pub mod Readings
 pub mod Rows
 pub mod Scope
+pub mod Starts
 pub mod Terminals
 pub mod TokenReadings
 pub mod Trees
