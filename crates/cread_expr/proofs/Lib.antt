@@ -2,12 +2,16 @@ pub mod BasicRows
 pub mod Contexts
 pub mod Firsts
 pub mod FrontReadings
+pub mod Fronts
 pub mod Integers
 pub mod Keywords
 pub mod Labels
 pub mod Scopes
 pub mod StarRows
 pub mod TokenReadings
+pub mod Starting
+pub mod TokenKinds
+pub mod TreeLevels
 pub mod Truth
 pub mod Unpassed
 pub mod Worked

@@ -1,5 +1,5 @@
--- What a row has before what is left of it.
-use Rattle.std.specs.Prelude.{ℕ, ◌-◌, List, length, take}
+-- The front of a row, up to what is left of it.
+use Rattle.std.specs.Prelude.{List, length, take, ◌-◌}
 use Rattle.cread_expr.specs.Terminals.{Terminal}
 
 abbrev pub front_of : List Terminal → List Terminal → List Terminal

@@ -3,6 +3,7 @@ pub mod ConstantParts
 pub mod Constants
 pub mod Contexts
 pub mod Firsts
+pub mod FrontOf
 pub mod FrontReadings
 pub mod Grammar
 pub mod CodeTables
@@ -13,7 +14,6 @@ pub mod Phrases
 pub mod Outcomes
 pub mod ReadStarts
 pub mod ReadLevels
-pub mod FrontOf
 pub mod ReadOperators
 pub mod ReadTypes
 pub mod ReadDeclarations
@@ -23,6 +23,7 @@ pub mod Reader
 pub mod Readings
 pub mod Rows
 pub mod Scope
+pub mod Starts
 pub mod Terminals
 pub mod TokenReadings
 pub mod Trees
