@@ -18,3 +18,6 @@ pub mod Worked
 pub mod Reached
 pub mod WithinSteps
 pub mod Within
+pub mod SoundSteps
+pub mod SoundSays
+pub mod SoundOperators
