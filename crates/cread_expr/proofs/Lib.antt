@@ -21,3 +21,4 @@ pub mod Within
 pub mod SoundSteps
 pub mod SoundSays
 pub mod SoundOperators
+pub mod SoundLists
