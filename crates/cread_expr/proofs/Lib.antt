@@ -22,3 +22,4 @@ pub mod SoundSteps
 pub mod SoundSays
 pub mod SoundOperators
 pub mod SoundLists
+pub mod SoundTypes
