@@ -23,3 +23,4 @@ pub mod SoundSays
 pub mod SoundOperators
 pub mod SoundLists
 pub mod SoundTypes
+pub mod SoundDeclarations
