@@ -24,3 +24,4 @@ pub mod SoundOperators
 pub mod SoundLists
 pub mod SoundTypes
 pub mod SoundDeclarations
+pub mod SoundStatements
