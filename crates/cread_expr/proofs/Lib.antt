@@ -25,3 +25,6 @@ pub mod SoundLists
 pub mod SoundTypes
 pub mod SoundDeclarations
 pub mod SoundStatements
+pub mod SoundBrackets
+pub mod SoundOperands
+pub mod Sound
