@@ -1,20 +1,18 @@
 -- The reader is sound: what it reads is spelled by the tokens that it took.
-use Rattle.std.proofs.Common.{◌≡◌, ℕ, zero, suc, ◌+◌, ◌≤◌, List, [], ◌∷◌, ◌++◌, map, refl, ap, sym, ◌∙◌, subst, arith, codes}
+use Rattle.std.proofs.Common.{◌≡◌, ℕ, zero, suc, List, map, refl, subst, arith}
 use Rattle.cbase.specs.declared.tree.expr.Expr.{Expr}
-use Rattle.cbase.specs.declared.tree.stmt.Stmt.{Stmt}
 use Rattle.ctrees.specs.Weight.{joined}
 use Rattle.ctrees.specs.Levels.{depth, expr_levels, init_levels, spec_levels, stmt_levels}
-use Rattle.cread_expr.proofs.Reached.{IsSound, Fronts, operand_phrase, operand_levels}
+use Rattle.cread_expr.proofs.Reached.{IsSound, operand_phrase, operand_levels}
 use Rattle.cread_expr.proofs.SoundDeclarations.{sound_initializer}
-use Rattle.cread_expr.proofs.SoundLists.{levels_of_all}
 use Rattle.cread_expr.proofs.SoundOperands.{sound_cast}
 use Rattle.cread_expr.proofs.SoundOperators.{operand_cast, held_as, sound_operations_from, sound_conditional_from, sound_assignment_from, sound_expression_from}
 use Rattle.cread_expr.proofs.SoundSays.{spelled_as, says_operation, says_statement, says_item, SoundLevel}
 use Rattle.cread_expr.proofs.SoundStatements.{sound_clause, sound_statement, sound_item, sound_block as sound_block_of}
-use Rattle.cread_expr.proofs.SoundSteps.{Sound, Reads, sound_nothing, sound_continued}
+use Rattle.cread_expr.proofs.SoundSteps.{Sound, sound_nothing, sound_continued}
 use Rattle.cread_expr.proofs.SoundTypes.{sound_specifier}
 use Rattle.cread_expr.specs.Grammar.{OneAssignment, OneConditional, OneOperation, OneCast}
-use Rattle.cread_expr.specs.Outcomes.{Outcome, Nothing, Stopped, Read, Reader}
+use Rattle.cread_expr.specs.Outcomes.{Outcome, Nothing, Stopped, Read}
 use Rattle.cread_expr.specs.Phrases.{Phrase, Context}
 use Rattle.cread_expr.specs.Phrases.{Expression, Assignment, Conditional, Operation, TypeSpecifier, Initializer, FirstClause, CompoundStatement}
 use Rattle.cread_expr.specs.ReadLevels.{Level}
@@ -22,7 +20,6 @@ use Rattle.cread_expr.specs.ReadOperands.{read_cast}
 use Rattle.cread_expr.specs.ReadStatements.{read_block}
 use Rattle.cread_expr.specs.Reader.{level, level_above}
 use Rattle.cread_expr.specs.Terminals.{Terminal}
-use Rattle.cread_expr.specs.declared.reading.operand.Operand.{Operand}
 
 sound_above : (inner : Level) → SoundLevel inner → SoundLevel (level_above inner)
 sound_above inner is = record {

@@ -1,5 +1,5 @@
 -- What stands before the bracket that closes an open one has its own brackets matched.
-use Rattle.std.proofs.Common.{◌≡◌, ℕ, Bool, true, false, not, List, [], ◌∷◌, ◌++◌, refl, ap, sym, ◌∙◌, subst, codes, Option, None, Some, IsTrue, inl, inr}
+use Rattle.std.proofs.Common.{◌≡◌, ℕ, Bool, true, false, not, List, [], ◌∷◌, ◌++◌, refl, ap, subst, codes, Option, None, Some, IsTrue, inl, inr}
 use Rattle.std.specs.Prelude.{if◌then◌else◌}
 use Rattle.cread_expr.proofs.SoundSteps.{Splits, split_none, split_first, split_more}
 use Rattle.cread_expr.specs.Brackets.{is_bracket, ArePair, AreMatched, NothingMore, NoBracket, InBrackets}

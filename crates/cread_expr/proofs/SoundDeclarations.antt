@@ -1,36 +1,27 @@
 -- Declarations and initialisers are read as the grammar spells them.
-use Rattle.std.proofs.Common.{◌≡◌, ◌↔◌, ℕ, zero, suc, ◌+◌, ◌≤◌, ◌<◌, ◌⊎◌, Bool, true, false, ◌&&◌, not, List, [], ◌∷◌, ◌++◌, length, take, drop, refl, ap, sym, ◌∙◌, subst, arith, codes, Option, None, Some, max, map, IsTrue}
-use Rattle.std.specs.Prelude.{if◌then◌else◌, is_some}
-use Rattle.cbase.specs.declared.tree.decl.Decl.{Decl}
-use Rattle.cbase.specs.declared.tree.decl.Declared.{Declared}
+use Rattle.std.proofs.Common.{◌≡◌, ℕ, ◌+◌, ◌≤◌, Bool, true, false, ◌&&◌, not, List, [], ◌∷◌, ◌++◌, length, refl, ap, sym, ◌∙◌, subst, arith, codes, Option, None, Some, IsTrue}
 use Rattle.cbase.specs.declared.tree.decl.Param.{Param}
 use Rattle.cbase.specs.declared.tree.decl.Storage.{Storage}
-use Rattle.cbase.specs.declared.tree.decl.Storage.TheVariants.{Plain}
-use Rattle.cbase.specs.declared.tree.expr.Expr.{Expr}
-use Rattle.cbase.specs.declared.tree.init.Init.{Init}
-use Rattle.cbase.specs.declared.tree.init.Init.TheVariants.{Value, Braces}
-use Rattle.cbase.specs.declared.tree.init.InitPart.{InitPart}
 use Rattle.cbase.specs.declared.tree.spec.TypeSpec.{TypeSpec}
-use Rattle.ctrees.specs.Levels.{depth, decl_levels, declared_levels, init_levels, init_part_levels, maybe_levels, param_levels, spec_levels}
+use Rattle.ctrees.specs.Levels.{decl_levels, declared_levels, init_levels, init_part_levels, param_levels, spec_levels}
 use Rattle.cread_expr.proofs.Contexts.{scopes_kept}
-use Rattle.cread_expr.proofs.SoundLists.{levels_of_all, sound_list, Stars, stars_of, MaybeComma, comma_of_row}
+use Rattle.cread_expr.proofs.SoundLists.{levels_of_all, sound_list, stars_of, comma_of_row}
 use Rattle.cread_expr.proofs.SoundSays.{spelled_as, SoundLevel}
-use Rattle.cread_expr.proofs.SoundSteps.{Splits, split_none, split_last, split_first, split_more, Got, Sound, Reads, sound_nothing, sound_got, got, made, sound_then, sound_if, sound_first, first_of, one_more, larger, larger_fits, one_more_fits}
+use Rattle.cread_expr.proofs.SoundSteps.{Splits, split_last, split_first, split_more, Got, Sound, Reads, sound_nothing, made, sound_then, sound_if, sound_first, first_of, one_more, larger, larger_fits, one_more_fits}
 use Rattle.cread_expr.proofs.SoundTypes.{sound_sizes}
 use Rattle.cread_expr.proofs.TokenReadings.{storage_exact}
 use Rattle.cread_expr.proofs.TreeLevels.{levels_value, levels_braces, levels_empty_braces, levels_initializer, levels_parameter, levels_declaration, levels_type_declaration, levels_object, levels_initialized, levels_function}
 use Rattle.cread_expr.proofs.Truth.{and-left, and-right}
-use Rattle.cread_expr.specs.Grammar.{Spells, is_void, declaring, inside, outside, TypeAlone, StorageBefore, StorageBehind, NoDeclarator, WithDeclarators, OneDeclarator, MoreDeclarators, ObjectDeclarator, InitializedDeclarator, DeclaratorOfFunction, NoParameters, VoidParameters, WithParameters, OneParameter, MoreParameters, NamedParameter, UnnamedParameter, InitializedTo, EmptyBraces, InBraces, OneInitializer, MoreInitializers, NextPart, MemberPart}
-use Rattle.cread_expr.specs.Outcomes.{Outcome, Nothing, Stopped, Read, Reader, has_first, has_mark, behind_first}
-use Rattle.cread_expr.specs.Phrases.{Phrase, Context, scoped}
-use Rattle.cread_expr.specs.Phrases.{TypeSpecifier, ArraySizes, Specifiers, Declaration, Declarators, Declarator, FunctionDeclarator, Parameters, Parameter, Initializer, Initializers, DesignatedInitializer}
-use Rattle.cread_expr.specs.ReadDeclarations.{leaving, specifiers_of, storage_at, storage_behind, specifiers_with, read_specifiers, parameter_behind, read_parameter, is_void_alone, read_parameters, object_behind, read_declarator, read_declaration, read_part, in_braces, read_initializer}
+use Rattle.cread_expr.specs.Grammar.{Spells, is_void, declaring, inside, TypeAlone, StorageBefore, StorageBehind, NoDeclarator, WithDeclarators, OneDeclarator, MoreDeclarators, ObjectDeclarator, InitializedDeclarator, DeclaratorOfFunction, NoParameters, VoidParameters, WithParameters, OneParameter, MoreParameters, NamedParameter, UnnamedParameter, InitializedTo, EmptyBraces, InBraces, OneInitializer, MoreInitializers, NextPart, MemberPart}
+use Rattle.cread_expr.specs.Outcomes.{Read, has_mark, behind_first}
+use Rattle.cread_expr.specs.Phrases.{Context, scoped}
+use Rattle.cread_expr.specs.Phrases.{TypeSpecifier, Specifiers, Declaration, Declarators, Declarator, FunctionDeclarator, Parameters, Parameter, Initializer, Initializers, DesignatedInitializer}
+use Rattle.cread_expr.specs.ReadDeclarations.{leaving, storage_at, storage_behind, specifiers_with, read_specifiers, parameter_behind, read_parameter, is_void_alone, read_parameters, object_behind, read_declarator, read_declaration, read_part, in_braces, read_initializer}
 use Rattle.cread_expr.specs.ReadLevels.{Level, read_list}
-use Rattle.cread_expr.specs.ReadTypes.{star_count, behind_stars, read_sizes, never, closes_braces, behind_comma}
+use Rattle.cread_expr.specs.ReadTypes.{behind_stars, read_sizes, never, closes_braces, behind_comma}
 use Rattle.cread_expr.specs.Scope.{Names, left}
-use Rattle.cread_expr.specs.Terminals.{Terminal, is_mark, IsMark, is_word, is_name, IsName, AreStars}
-use Rattle.cread_expr.specs.TokenReadings.{storage_of}
-use Rattle.cread_expr.specs.Trees.{object, function, parameter, declaration, initializer}
+use Rattle.cread_expr.specs.Terminals.{Terminal, is_mark, IsMark, is_word, IsName, AreStars}
+use Rattle.cread_expr.specs.Trees.{function}
 use Rattle.cread_expr.specs.TypeWords.{IsStorage, declares_typedef}
 use Rattle.cread_expr.specs.declared.reading.specifiers.Specifiers.{Specifiers as ReadSpecifiers}
 

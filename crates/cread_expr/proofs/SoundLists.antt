@@ -1,18 +1,17 @@
 -- Lists, stars, tags and commas are read as the grammar spells them.
-use Rattle.std.proofs.Common.{◌≡◌, ℕ, zero, suc, ◌+◌, ◌≤◌, ◌<◌, ◌⊎◌, inl, inr, Bool, true, false, ◌&&◌, ◌||◌, not, List, [], ◌∷◌, ◌++◌, take, drop, length, refl, ap, sym, ◌∙◌, subst, arith, codes, Option, None, Some, max, map, IsTrue}
+use Rattle.std.proofs.Common.{◌≡◌, ℕ, zero, suc, ◌≤◌, inl, inr, Bool, true, false, ◌&&◌, ◌||◌, not, List, [], ◌∷◌, ◌++◌, take, length, refl, ap, sym, ◌∙◌, arith, codes, None, Some, map}
 use Rattle.std.specs.Prelude.{if◌then◌else◌}
-use Rattle.std.specs.List.{prefix_len}
 use Rattle.ctrees.specs.Levels.{depth}
 use Rattle.ctrees.specs.Weight.{joined}
 use Rattle.cread_expr.proofs.Fronts.{stars_are_stars, stars_within}
-use Rattle.cread_expr.proofs.SoundSteps.{Splits, split_none, split_last, split_first, split_more, split_taken, Got, Sound, Reads, sound_nothing, sound_got, got, made, sound_then, sound_if, sound_prepended, first_of, larger, larger_fits}
+use Rattle.cread_expr.proofs.SoundSteps.{Splits, split_none, split_last, split_first, split_more, split_taken, Reads, sound_nothing, made, sound_then, sound_if, sound_prepended, first_of, larger, larger_fits}
 use Rattle.cread_expr.proofs.TreeLevels.{joined_one}
-use Rattle.cread_expr.proofs.Truth.{and-left, and-right}
+use Rattle.cread_expr.proofs.Truth.{and-left}
 use Rattle.cread_expr.specs.Firsts.{is_among, type_words, storage_words, begins_type, begins_declaration}
 use Rattle.cread_expr.specs.Grammar.{IsTag, IsMaybeComma}
-use Rattle.cread_expr.specs.Outcomes.{Outcome, Nothing, Stopped, Read, Reader, has_first, has_mark, behind_first}
+use Rattle.cread_expr.specs.Outcomes.{Reader, has_first, has_mark, behind_first}
 use Rattle.cread_expr.specs.Phrases.{Context}
-use Rattle.cread_expr.specs.ReadLevels.{prepended, read_list, read_until_brace}
+use Rattle.cread_expr.specs.ReadLevels.{read_list, read_until_brace}
 use Rattle.cread_expr.specs.ReadTypes.{star_count, behind_stars, behind_comma, tag_at, behind_tag}
 use Rattle.cread_expr.specs.Scope.{Names}
 use Rattle.cread_expr.specs.Terminals.{Terminal, is_mark, IsMark, is_name, is_typedef, begins_with_typedef, IsNoType, AreStars}

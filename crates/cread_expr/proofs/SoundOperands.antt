@@ -1,11 +1,10 @@
 -- Operands are read as the grammar spells them.
-use Rattle.std.proofs.Common.{◌≡◌, ◌↔◌, ℕ, zero, suc, ◌+◌, ◌≤◌, ◌<◌, ◌⊎◌, Bool, true, false, ◌&&◌, not, List, [], ◌∷◌, ◌++◌, length, refl, ap, sym, ◌∙◌, subst, arith, codes, Option, None, Some, max, map, IsTrue, nat_le}
+use Rattle.std.proofs.Common.{◌≡◌, ℕ, zero, suc, ◌+◌, ◌≤◌, Bool, true, false, ◌&&◌, not, List, [], ◌∷◌, length, refl, ap, sym, ◌∙◌, subst, arith, codes, Option, None, Some, max, nat_le}
 use Rattle.std.specs.Prelude.{if◌then◌else◌}
 use Rattle.cbase.specs.declared.place.Place.{Place}
 use Rattle.cbase.specs.declared.tree.expr.Expr.{Expr}
 use Rattle.cbase.specs.declared.tree.expr.ExprForm.{ExprForm}
-use Rattle.cbase.specs.declared.tree.expr.ExprForm.TheVariants.{Name, Constant, Unary, Count, Cast, SizeOf, SizeOfType, OffsetOf, Index, Member, Call, Inner, AssertFail}
-use Rattle.cbase.specs.declared.tree.expr.Part.{Part}
+use Rattle.cbase.specs.declared.tree.expr.ExprForm.TheVariants.{Name, Constant, Unary, Count, SizeOf, OffsetOf, Index, Member, Call, Inner, AssertFail}
 use Rattle.cbase.specs.declared.tree.expr.Part.TheVariants.{Member as NamedPart, At}
 use Rattle.cbase.specs.declared.tree.operators.UnaryOp.{UnaryOp}
 use Rattle.ctokens.specs.declared.token.TokenKind.{TokenKind}
@@ -13,26 +12,26 @@ use Rattle.ctokens.specs.declared.token.TokenKind.TheVariants.{Word, Number, Let
 use Rattle.ctrees.specs.Levels.{expr_levels, part_levels}
 use Rattle.cread_expr.proofs.Fronts.{front_of_both}
 use Rattle.cread_expr.proofs.Integers.{integer_exact}
-use Rattle.cread_expr.proofs.Reached.{operand_phrase, operand_levels}
+use Rattle.cread_expr.proofs.Reached.{operand_levels}
 use Rattle.cread_expr.proofs.SoundBrackets.{Closes, brackets_close}
 use Rattle.cread_expr.proofs.SoundLists.{levels_of_all, sound_list, no_type, no_typedef}
 use Rattle.cread_expr.proofs.SoundOperators.{operand_cast, operand_unary, fits_tree, le_of, sound_expression_from}
 use Rattle.cread_expr.proofs.SoundSays.{spelled_as, says_operand, SoundLevel}
 use Rattle.cread_expr.proofs.SoundStatements.{sound_block}
-use Rattle.cread_expr.proofs.SoundSteps.{Splits, split_none, split_last, split_first, split_more, Got, Held, Sound, Reads, sound_nothing, sound_got, sound_held, got, made, held, sound_then, sound_right, sound_else, sound_if, sound_first, sound_prepended, first_of, one_more, larger, larger_fits, one_more_fits}
+use Rattle.cread_expr.proofs.SoundSteps.{split_none, split_last, split_first, split_more, Got, Sound, Reads, sound_nothing, sound_held, got, made, held, sound_then, sound_right, sound_else, sound_if, sound_first, sound_prepended, first_of, one_more, larger, larger_fits, one_more_fits}
 use Rattle.cread_expr.proofs.SoundTypes.{sound_type_name}
 use Rattle.cread_expr.proofs.TreeLevels.{levels_name, levels_constant, levels_assert_fail, levels_unary, levels_count, levels_cast, levels_size_of, levels_size_of_type, levels_offset_of, levels_index, levels_member, levels_call, levels_call_of_nothing, levels_inner, levels_named_part, levels_at}
 use Rattle.cread_expr.proofs.Truth.{and-left, and-right}
 use Rattle.cread_expr.specs.Constants.{IsConstant, IsOfKind}
 use Rattle.cread_expr.specs.Firsts.{begins_type}
 use Rattle.cread_expr.specs.FrontOf.{front_of}
-use Rattle.cread_expr.specs.Grammar.{Spells, OneCast, OneUnary, CastOperator, OnePostfix, CountBefore, UnaryOperator, SizeOfExpression, SizeOfTypeName, OnePrimary, IndexOperator, CallOfNothing, CallOperator, MemberOperator, CountBehind, OneArgument, MoreArguments, OneName, OneConstant, Bracketed, StatementExpression, OffsetOfMember, NoMoreMembers, PathToMember, PathToItem, FailedAssertion}
+use Rattle.cread_expr.specs.Grammar.{Spells, CastOperator, OnePostfix, CountBefore, UnaryOperator, SizeOfExpression, SizeOfTypeName, OnePrimary, IndexOperator, CallOfNothing, CallOperator, MemberOperator, CountBehind, OneArgument, MoreArguments, OneName, OneConstant, Bracketed, StatementExpression, OffsetOfMember, NoMoreMembers, PathToMember, PathToItem, FailedAssertion}
 use Rattle.cread_expr.specs.Operators.{mark_row, unary_rows, count_rows, member_rows, IsUnary, IsCount, IsMember}
 use Rattle.cread_expr.specs.Outcomes.{Outcome, Nothing, Stopped, Read, Reader, has_first, has_mark, behind_first}
-use Rattle.cread_expr.specs.Phrases.{Phrase, Context, counted, numbered}
-use Rattle.cread_expr.specs.Phrases.{Expression, Assignment, CastExpression, UnaryExpression, PostfixExpression, PrimaryExpression, Arguments, MemberPath}
+use Rattle.cread_expr.specs.Phrases.{Context, counted, numbered}
+use Rattle.cread_expr.specs.Phrases.{Assignment, CastExpression, UnaryExpression, PostfixExpression, PrimaryExpression, Arguments, MemberPath}
 use Rattle.cread_expr.specs.ReadLevels.{Level, read_list}
-use Rattle.cread_expr.specs.ReadOperands.{unary_operand, cast_operand, prefixed, unary_alone, index_behind, call_behind, member_behind, postfix_with, goes_on, read_postfixes, postfixes_from, read_path, behind_matched, statement_expression, read_cast_to, read_bracket, begins_type_in_brackets, read_size_of, read_offset_of, failed_assertion, read_assert_fail, plain_with, read_plain, opens, closed, read_cast}
+use Rattle.cread_expr.specs.ReadOperands.{unary_operand, prefixed, unary_alone, index_behind, call_behind, member_behind, postfix_with, goes_on, read_postfixes, postfixes_from, read_path, behind_matched, statement_expression, read_cast_to, read_bracket, begins_type_in_brackets, read_size_of, read_offset_of, failed_assertion, read_assert_fail, plain_with, read_plain, opens, closed, read_cast}
 use Rattle.cread_expr.specs.ReadOperators.{expression_of, expression_from}
 use Rattle.cread_expr.specs.ReadStarts.{is_constant, counting_start, unary_start, operand_start, count_start, member_start, postfix_start}
 use Rattle.cread_expr.specs.ReadStatements.{read_block}

@@ -1,23 +1,23 @@
 -- Operators behind an operand are read as the grammar spells them.
-use Rattle.std.proofs.Common.{◌≡◌, ℕ, zero, suc, ◌+◌, ◌≤◌, ◌<◌, Bool, true, false, ◌&&◌, not, List, [], ◌∷◌, ◌++◌, length, refl, ap, sym, ◌∙◌, subst, arith, codes, Option, None, Some, max, map, nat_le}
+use Rattle.std.proofs.Common.{◌≡◌, ℕ, zero, suc, ◌+◌, ◌≤◌, ◌<◌, Bool, true, false, List, [], ◌∷◌, length, refl, ap, sym, ◌∙◌, subst, arith, codes, Option, None, Some, max, nat_le}
 use Rattle.std.proofs.lemmas.Bool.{leb-true, leb-false}
 use Rattle.std.specs.Prelude.{if◌then◌else◌}
 use Rattle.cbase.specs.declared.tree.expr.Expr.{Expr}
-use Rattle.cbase.specs.declared.tree.expr.ExprForm.TheVariants.{Binary, Assign, Choose}
+use Rattle.cbase.specs.declared.tree.expr.ExprForm.TheVariants.{Binary}
 use Rattle.cbase.specs.declared.tree.operators.BinaryOp.{BinaryOp}
 use Rattle.cbase.specs.declared.tree.operators.BinaryOp.TheVariants.{Comma}
 use Rattle.ctrees.specs.Levels.{expr_levels}
 use Rattle.cread_expr.proofs.Reached.{operand_phrase, operand_levels}
 use Rattle.cread_expr.proofs.SoundSays.{spelled_as, says_operand, is_no_looser, goes_on_from, says_operation, SoundLevel}
-use Rattle.cread_expr.proofs.SoundSteps.{Splits, split_none, split_last, split_first, split_more, split_length, Got, Held, Sound, Reads, sound_nothing, sound_got, got, made, held, sound_then, sound_continued, sound_right, sound_else, sound_if, sound_first, one_more, larger, larger_fits, one_more_fits}
+use Rattle.cread_expr.proofs.SoundSteps.{split_first, split_more, split_length, Got, Held, Sound, sound_nothing, sound_got, got, made, held, sound_continued, sound_right, sound_else, sound_if, sound_first, one_more, larger, larger_fits, one_more_fits}
 use Rattle.cread_expr.proofs.TreeLevels.{levels_binary, levels_assign, levels_choose}
 use Rattle.cread_expr.specs.Grammar.{Spells, OneAssignment, CommaOperator, OneConditional, AssignmentOperator, OneOperation, ConditionalOperator, OneCast, BinaryOperator, OneUnary}
 use Rattle.cread_expr.specs.Operators.{mark_row, binary_rows, assignment_rows}
 use Rattle.cread_expr.specs.Outcomes.{Outcome, Nothing, Stopped, Read, Reader, has_first}
-use Rattle.cread_expr.specs.Phrases.{Phrase, Context, counted, numbered}
+use Rattle.cread_expr.specs.Phrases.{Context, counted, numbered}
 use Rattle.cread_expr.specs.Phrases.{Expression, Assignment, Conditional, Operation, CastExpression, UnaryExpression}
 use Rattle.cread_expr.specs.ReadLevels.{Level}
-use Rattle.cread_expr.specs.ReadOperators.{itself, expression_of, binary_with, read_operations, operations_from, read_choice, conditional_from, assignment_with, assignment_from, read_commas, expression_from}
+use Rattle.cread_expr.specs.ReadOperators.{binary_with, read_operations, operations_from, read_choice, conditional_from, assignment_with, assignment_from, read_commas, expression_from}
 use Rattle.cread_expr.specs.Terminals.{Terminal, is_mark}
 use Rattle.cread_expr.specs.declared.reading.operand.Operand.{Operand}
 

@@ -1,34 +1,34 @@
 -- Statements and blocks are read as the grammar spells them.
-use Rattle.std.proofs.Common.{◌≡◌, ◌↔◌, ℕ, zero, suc, ◌+◌, ◌≤◌, ◌<◌, ◌⊎◌, inl, inr, Bool, true, false, ◌&&◌, not, List, [], ◌∷◌, ◌++◌, length, take, drop, refl, ap, sym, ◌∙◌, subst, arith, codes, Option, None, Some, max, map, IsTrue}
+use Rattle.std.proofs.Common.{◌≡◌, ℕ, ◌+◌, inl, inr, Bool, true, false, ◌&&◌, not, List, [], ◌∷◌, ◌++◌, length, refl, ap, sym, ◌∙◌, subst, arith, codes, Option, None, Some, max}
 use Rattle.std.specs.Prelude.{if◌then◌else◌}
 use Rattle.cbase.specs.declared.place.Place.{Place}
 use Rattle.cbase.specs.declared.tree.decl.Decl.{Decl}
 use Rattle.cbase.specs.declared.tree.expr.Expr.{Expr}
 use Rattle.cbase.specs.declared.tree.stmt.Stmt.{Stmt}
-use Rattle.cbase.specs.declared.tree.stmt.StmtForm.TheVariants.{Declare, Eval, Block, If, While, Do, For, Break, Continue, Return}
-use Rattle.ctrees.specs.Levels.{depth, expr_levels, maybe_levels, stmt_levels}
+use Rattle.cbase.specs.declared.tree.stmt.StmtForm.TheVariants.{Declare, Eval, Block, For, Return}
+use Rattle.ctrees.specs.Levels.{expr_levels, maybe_levels, stmt_levels}
 use Rattle.cread_expr.proofs.Contexts.{scopes_kept}
 use Rattle.cread_expr.proofs.Fronts.{front_of_both}
 use Rattle.cread_expr.proofs.Scopes.{left_entered}
 use Rattle.cread_expr.proofs.SoundDeclarations.{sound_declaration}
 use Rattle.cread_expr.proofs.SoundLists.{levels_of_all, sound_until_brace, no_type, no_typedef, no_declaration}
 use Rattle.cread_expr.proofs.SoundSays.{spelled_as, says_statement, says_item, SoundLevel}
-use Rattle.cread_expr.proofs.SoundSteps.{Splits, split_none, split_last, split_first, split_more, Got, Sound, Reads, sound_nothing, sound_got, got, made, sound_then, sound_if, sound_first, first_of, one_more, larger, larger_fits, one_more_fits}
+use Rattle.cread_expr.proofs.SoundSteps.{Splits, split_none, split_last, split_first, split_more, Sound, Reads, sound_nothing, made, sound_then, sound_if, sound_first, first_of, one_more, larger, larger_fits, one_more_fits}
 use Rattle.cread_expr.proofs.Starting.{starts}
 use Rattle.cread_expr.proofs.TreeLevels.{levels_declare, levels_empty, levels_eval, levels_block, levels_if, levels_if_else, levels_while, levels_do, levels_for, levels_break, levels_continue, levels_return_nothing, levels_return}
 use Rattle.cread_expr.proofs.Truth.{and-left, and-right}
 use Rattle.cread_expr.specs.Firsts.{begins_declaration, Begins}
 use Rattle.cread_expr.specs.FrontOf.{front_of}
 use Rattle.cread_expr.specs.FrontReadings.{begins_with_label}
-use Rattle.cread_expr.specs.Grammar.{Spells, inside, outside, OneBlock, NoMoreItems, NextDeclaration, NextStatement, BlockStatement, EmptyStatement, ExpressionStatement, IfStatement, IfElseStatement, WhileStatement, DoStatement, ForStatement, FirstDeclaration, FirstLeftOut, FirstExpression, NoExpression, SomeExpression, BreakStatement, ContinueStatement, ReturnStatement, LabeledStatement}
-use Rattle.cread_expr.specs.Outcomes.{Outcome, Nothing, Stopped, Read, Reader, has_first, has_mark, behind_first, after_mark}
-use Rattle.cread_expr.specs.Phrases.{Phrase, Context, scoped}
+use Rattle.cread_expr.specs.Grammar.{Spells, inside, OneBlock, NoMoreItems, NextDeclaration, NextStatement, BlockStatement, EmptyStatement, ExpressionStatement, IfStatement, IfElseStatement, WhileStatement, DoStatement, ForStatement, FirstDeclaration, FirstLeftOut, FirstExpression, NoExpression, SomeExpression, BreakStatement, ContinueStatement, ReturnStatement, LabeledStatement}
+use Rattle.cread_expr.specs.Outcomes.{Outcome, Nothing, Stopped, Read, has_first, has_mark, behind_first, after_mark}
+use Rattle.cread_expr.specs.Phrases.{Context, scoped}
 use Rattle.cread_expr.specs.Phrases.{Expression, Declaration, CompoundStatement, BlockItems, Statement, FirstClause, MaybeExpression}
-use Rattle.cread_expr.specs.ReadDeclarations.{leaving, read_declaration}
+use Rattle.cread_expr.specs.ReadDeclarations.{read_declaration}
 use Rattle.cread_expr.specs.ReadLevels.{Level, read_until_brace}
 use Rattle.cread_expr.specs.ReadStarts.{statement_start}
-use Rattle.cread_expr.specs.ReadStatements.{read_block, read_maybe, declared_statement, expression_statement, read_clause, untyped, otherwise_behind, read_if, read_while, read_do, read_for, read_return, statement_with, read_unlabeled, read_statement, read_item}
-use Rattle.cread_expr.specs.Scope.{Names, left, entered}
+use Rattle.cread_expr.specs.ReadStatements.{read_block, read_maybe, declared_statement, expression_statement, read_clause, untyped, read_if, read_while, read_do, read_for, read_return, statement_with, read_unlabeled, read_statement, read_item}
+use Rattle.cread_expr.specs.Scope.{Names, left}
 use Rattle.cread_expr.specs.Terminals.{Terminal, is_mark, IsMark, is_word, IsWord, is_name, is_typedef, IsNoType, begins_with_typedef, first_place, last_place}
 use Rattle.cread_expr.specs.Trees.{statement}
 use Rattle.cread_expr.specs.declared.reading.starts.StatementStart.{StatementStart}

@@ -1,9 +1,9 @@
 -- What a reader gives is spelled by the tokens that it took: how that goes through what readers are made of. `says` tells
 -- what is known of a tree, of the context before it, its row, the context behind it and the rest.
-use Rattle.std.proofs.Common.{◌≡◌, ℕ, zero, suc, ◌+◌, ◌≤◌, ◌<◌, Bool, true, false, ◌&&◌, not, List, [], ◌∷◌, ◌++◌, take, drop, length, refl, ap, sym, ◌∙◌, subst, arith, codes, Option, None, Some, max, map}
+use Rattle.std.proofs.Common.{◌≡◌, ℕ, zero, suc, ◌+◌, ◌≤◌, Bool, true, false, List, [], ◌∷◌, ◌++◌, take, drop, length, refl, ap, ◌∙◌, subst, arith, max}
 use Rattle.std.proofs.lemmas.List.{length-append}
 use Rattle.std.specs.Prelude.{if◌then◌else◌}
-use Rattle.cread_expr.specs.Outcomes.{Outcome, Nothing, Stopped, Read, Reader, then_read, continued, with_right, or_else, has_first, has_mark, after_first, behind_first}
+use Rattle.cread_expr.specs.Outcomes.{Outcome, Nothing, Stopped, Read, Reader, then_read, continued, with_right, or_else, has_first, after_first, behind_first}
 use Rattle.cread_expr.specs.Phrases.{Context}
 use Rattle.cread_expr.specs.ReadLevels.{prepended}
 use Rattle.cread_expr.specs.Terminals.{Terminal}

@@ -1,33 +1,30 @@
 -- Types are read as the grammar spells them.
-use Rattle.std.proofs.Common.{◌≡◌, ◌↔◌, ℕ, zero, suc, ◌+◌, ◌≤◌, ◌<◌, ◌⊎◌, Bool, true, false, ◌&&◌, not, List, [], ◌∷◌, ◌++◌, length, take, drop, refl, ap, sym, ◌∙◌, subst, arith, codes, Option, None, Some, max, map, IsTrue}
+use Rattle.std.proofs.Common.{◌≡◌, ℕ, zero, suc, ◌+◌, ◌≤◌, Bool, true, false, List, [], ◌∷◌, ◌++◌, length, take, drop, refl, ap, sym, ◌∙◌, subst, arith, codes, Option, None, Some, max, map, IsTrue}
 use Rattle.std.specs.Prelude.{if◌then◌else◌, is_some}
 use Rattle.std.specs.List.{list_all, prefix_len}
-use Rattle.cbase.specs.declared.tree.decl.TypeName.{TypeName}
 use Rattle.cbase.specs.declared.tree.expr.Expr.{Expr}
 use Rattle.cbase.specs.declared.tree.spec.BasicType.{BasicType}
-use Rattle.cbase.specs.declared.tree.spec.Enumerator.{Enumerator}
 use Rattle.cbase.specs.declared.tree.spec.FieldDecl.{FieldDecl}
-use Rattle.cbase.specs.declared.tree.spec.FieldName.{FieldName}
 use Rattle.cbase.specs.declared.tree.spec.TypeSpec.{TypeSpec}
-use Rattle.cbase.specs.declared.tree.spec.TypeSpec.TheVariants.{Basic, Named, Struct, Enum, OfExpr, OfType}
-use Rattle.ctrees.specs.Levels.{depth, enumerator_levels, expr_levels, field_decl_levels, field_name_levels, maybe_levels, spec_levels, type_name_levels}
+use Rattle.cbase.specs.declared.tree.spec.TypeSpec.TheVariants.{Struct, Enum}
+use Rattle.ctrees.specs.Levels.{enumerator_levels, field_decl_levels, field_name_levels, maybe_levels, spec_levels, type_name_levels}
 use Rattle.cread_expr.proofs.BasicRows.{basic_exact}
-use Rattle.cread_expr.proofs.SoundLists.{levels_of_all, sound_list, sound_until_brace, Stars, stars_of, Tag, tag_of_row, MaybeComma, comma_of_row, no_type, no_typedef}
+use Rattle.cread_expr.proofs.SoundLists.{levels_of_all, sound_list, sound_until_brace, stars_of, tag_of_row, comma_of_row, no_type, no_typedef}
 use Rattle.cread_expr.proofs.SoundSays.{spelled_as, SoundLevel}
-use Rattle.cread_expr.proofs.SoundSteps.{Splits, split_none, split_last, split_first, split_more, split_taken, Got, Sound, Reads, sound_nothing, sound_got, got, made, sound_then, sound_if, sound_first, sound_prepended, first_of, one_more, larger, larger_fits, one_more_fits}
+use Rattle.cread_expr.proofs.SoundSteps.{Splits, split_none, split_last, split_first, split_more, split_taken, Sound, Reads, sound_nothing, made, sound_then, sound_if, sound_first, sound_prepended, first_of, one_more, larger, larger_fits, one_more_fits}
 use Rattle.cread_expr.proofs.TreeLevels.{levels_type_name, levels_field, levels_bits, levels_unnamed_bits, levels_fields, levels_enumerator, levels_valued_enumerator, levels_struct, levels_struct_by_tag, levels_enum, levels_enum_by_tag, levels_of_expr, levels_of_type, levels_basic, levels_named}
 use Rattle.cread_expr.specs.Firsts.{begins_type}
 use Rattle.cread_expr.specs.FrontReadings.{is_basic_word}
-use Rattle.cread_expr.specs.Grammar.{Spells, IsTag, declaring, BasicWords, TypedefName, TypeOfExpression, TypeOfType, StructWithFields, StructByTag, NoMoreFields, MoreFields, OneFieldDeclaration, OneField, MoreFieldNames, NamedField, NamedBits, UnnamedBits, EnumWithValues, EnumByTag, LastEnumerator, MoreEnumerators, PlainEnumerator, ValuedEnumerator, OneTypeName, NoMoreSizes, SizeLeftOut, SizeGiven}
-use Rattle.cread_expr.specs.Outcomes.{Outcome, Nothing, Stopped, Read, Reader, has_first, has_mark, behind_first}
-use Rattle.cread_expr.specs.Phrases.{Phrase, Context}
+use Rattle.cread_expr.specs.Grammar.{Spells, IsTag, BasicWords, TypedefName, TypeOfExpression, TypeOfType, StructWithFields, StructByTag, NoMoreFields, MoreFields, OneFieldDeclaration, OneField, MoreFieldNames, NamedField, NamedBits, UnnamedBits, EnumWithValues, EnumByTag, LastEnumerator, MoreEnumerators, PlainEnumerator, ValuedEnumerator, OneTypeName, NoMoreSizes, SizeLeftOut, SizeGiven}
+use Rattle.cread_expr.specs.Outcomes.{Read, has_first, has_mark, behind_first}
+use Rattle.cread_expr.specs.Phrases.{Context}
 use Rattle.cread_expr.specs.Phrases.{TypeSpecifier, NameOfType, ArraySizes, Fields, FieldDeclaration, FieldDeclarators, FieldDeclarator, Enumerators, OneEnumerator}
 use Rattle.cread_expr.specs.ReadLevels.{Level, read_list, read_until_brace}
 use Rattle.cread_expr.specs.ReadStarts.{type_start}
-use Rattle.cread_expr.specs.ReadTypes.{star_count, behind_stars, size_behind, read_sizes, read_type_name, bits_behind, named_field, never, read_field, read_fields, read_enumerator, closes_braces, behind_comma, tag_at, behind_tag, by_tag, read_struct, read_enum, type_of, of_basic, read_basic, specifier_with, read_specifier}
+use Rattle.cread_expr.specs.ReadTypes.{behind_stars, read_sizes, read_type_name, bits_behind, named_field, never, read_field, read_fields, read_enumerator, closes_braces, behind_comma, tag_at, behind_tag, by_tag, read_struct, read_enum, type_of, of_basic, specifier_with, read_specifier}
 use Rattle.cread_expr.specs.Scope.{Names}
-use Rattle.cread_expr.specs.Terminals.{Terminal, is_mark, is_word, IsWord, is_name, IsName, is_typedef, IsTypedef, bytes_of, AreStars}
-use Rattle.cread_expr.specs.Trees.{field, fields, enumerator, type_name}
+use Rattle.cread_expr.specs.Terminals.{Terminal, is_mark, is_word, IsWord, IsName, is_typedef, IsTypedef, bytes_of, AreStars}
+use Rattle.cread_expr.specs.Trees.{type_name}
 use Rattle.cread_expr.specs.TypeWords.{basic_rows, basic_of}
 use Rattle.cread_expr.specs.declared.reading.starts.TypeStart.{TypeStart}
 use Rattle.cread_expr.specs.declared.reading.starts.TypeStart.TheVariants as start

@@ -1,5 +1,5 @@
 -- What a reader of a level gives leaves no more tokens than the row that it was given has.
-use Rattle.std.proofs.Common.{◌≡◌, ℕ, zero, suc, ◌+◌, ◌≤◌, Bool, true, false, ◌&&◌, not, List, [], ◌∷◌, ◌++◌, length, refl, ap, sym, ◌∙◌, arith, codes, map, take, drop, max, Option, None, Some, nat_le}
+use Rattle.std.proofs.Common.{ℕ, zero, suc, ◌+◌, ◌≤◌, Bool, true, false, ◌&&◌, not, List, [], ◌∷◌, length, arith, codes, map, take, drop, Option, None, Some, nat_le}
 use Rattle.std.specs.Prelude.{if◌then◌else◌, is_some}
 use Rattle.std.specs.List.{list_all, prefix_len}
 use Rattle.cbase.specs.declared.place.Place.{Place}
@@ -16,17 +16,17 @@ use Rattle.cread_expr.specs.Firsts.{begins_type, begins_declaration}
 use Rattle.cread_expr.specs.FrontReadings.{is_basic_word, begins_with_label}
 use Rattle.cread_expr.specs.Grammar.{inside, declaring}
 use Rattle.cread_expr.specs.Operators.{mark_row, binary_rows, assignment_rows}
-use Rattle.cread_expr.specs.Outcomes.{Outcome, Nothing, Stopped, Read, Reader, has_first, has_mark, behind_first, then_read}
+use Rattle.cread_expr.specs.Outcomes.{Outcome, Nothing, Stopped, Read, Reader, has_first, has_mark, behind_first}
 use Rattle.cread_expr.specs.Phrases.{Context}
 use Rattle.cread_expr.specs.ReadDeclarations.{storage_at, storage_behind, specifiers_with, read_specifiers, parameter_behind, read_parameter, is_void_alone, read_parameters, object_behind, read_declarator, read_declaration, read_part, in_braces, read_initializer}
-use Rattle.cread_expr.specs.ReadLevels.{Level, no_level, read_list, read_until_brace}
-use Rattle.cread_expr.specs.ReadOperands.{read_cast, read_plain, plain_with, read_bracket, statement_expression, read_cast_to, begins_type_in_brackets, read_size_of, read_offset_of, read_assert_fail, failed_assertion, behind_matched, matched_with, closer_of, read_path, postfixes_from, read_postfixes, postfix_with, goes_on, index_behind, call_behind, member_behind, prefixed, unary_alone, opens, closed}
-use Rattle.cread_expr.specs.ReadOperators.{expr_of, itself, binary_with, read_operations, operations_from, read_choice, conditional_from, assignment_with, assignment_from, read_commas, expression_from}
+use Rattle.cread_expr.specs.ReadLevels.{Level, read_list, read_until_brace}
+use Rattle.cread_expr.specs.ReadOperands.{read_cast, read_plain, plain_with, read_bracket, statement_expression, read_cast_to, begins_type_in_brackets, read_size_of, read_offset_of, read_assert_fail, failed_assertion, behind_matched, matched_with, closer_of, read_path, postfixes_from, read_postfixes, postfix_with, goes_on, prefixed, unary_alone, opens, closed}
+use Rattle.cread_expr.specs.ReadOperators.{binary_with, read_operations, operations_from, read_choice, conditional_from, assignment_with, assignment_from, read_commas, expression_from}
 use Rattle.cread_expr.specs.Reader.{level, level_above}
 use Rattle.cread_expr.specs.ReadStarts.{operand_start, postfix_start, type_start, statement_start}
 use Rattle.cread_expr.specs.ReadStatements.{read_block, read_maybe, declared_statement, expression_statement, read_clause, untyped, otherwise_behind, read_if, read_while, read_do, read_for, read_return, statement_with, read_unlabeled, read_statement, read_item}
-use Rattle.cread_expr.specs.ReadTypes.{star_count, behind_stars, size_behind, read_sizes, read_type_name, bits_behind, named_field, never, read_field, read_fields, read_enumerator, closes_braces, behind_comma, tag_at, behind_tag, by_tag, read_struct, read_enum, type_of, of_basic, read_basic, specifier_with, read_specifier}
-use Rattle.cread_expr.specs.Terminals.{Terminal, is_mark, is_word, is_name, begins_with_typedef, bytes_of}
+use Rattle.cread_expr.specs.ReadTypes.{star_count, behind_stars, size_behind, read_sizes, read_type_name, bits_behind, named_field, never, read_field, read_fields, read_enumerator, closes_braces, behind_comma, tag_at, behind_tag, by_tag, read_struct, read_enum, type_of, of_basic, specifier_with, read_specifier}
+use Rattle.cread_expr.specs.Terminals.{Terminal, is_mark, is_name, begins_with_typedef, bytes_of}
 use Rattle.cread_expr.specs.TypeWords.{basic_of, basic_rows, declares_typedef}
 use Rattle.cread_expr.specs.declared.reading.operand.Operand.{Operand}
 use Rattle.cread_expr.specs.declared.reading.starts.OperandStart.{OperandStart}

@@ -1,7 +1,7 @@
 -- What a reader gives leaves no more than so many tokens: how that goes through what readers are made of.
-use Rattle.std.proofs.Common.{◌≡◌, ℕ, zero, suc, ◌+◌, ◌-◌, ◌≤◌, ◌<◌, Bool, true, false, ◌&&◌, not, List, [], ◌∷◌, ◌++◌, take, drop, length, refl, ap, sym, ◌∙◌, arith, codes, Option, None, Some, max}
+use Rattle.std.proofs.Common.{ℕ, zero, suc, ◌≤◌, Bool, true, false, ◌&&◌, not, List, [], ◌∷◌, drop, length, arith, codes}
 use Rattle.std.specs.Prelude.{if◌then◌else◌}
-use Rattle.cread_expr.specs.Outcomes.{Outcome, Nothing, Stopped, Read, Reader, then_read, continued, with_right, or_else, has_first, has_mark, after_first, after_mark, behind_first}
+use Rattle.cread_expr.specs.Outcomes.{Outcome, Nothing, Stopped, Read, Reader, then_read, continued, with_right, or_else, has_mark, after_first, behind_first}
 use Rattle.cread_expr.specs.Phrases.{Context}
 use Rattle.cread_expr.specs.ReadLevels.{Level, prepended, read_list, read_until_brace}
 use Rattle.cread_expr.specs.Terminals.{Terminal}
