@@ -1,4 +1,8 @@
 pub mod BasicRows
+pub mod CompletingOutcomes
+pub mod CompletingParts
+pub mod CompletingTokens
+pub mod CompleteTypes
 pub mod Contexts
 pub mod Firsts
 pub mod FrontReadings
