@@ -230,7 +230,7 @@ complete_struct_with_fields before after xs name declarations tag word opening c
     ∙ read_levels _ after rest (sym (levels_struct name declarations))))
 
 -- what closes a list in braces: a comma, or none, before the brace
-last_comma : (last : List Terminal) (closing : Terminal) (rest : List Terminal) → IsMaybeComma last → IsMark (codes "}") closing
+pub last_comma : (last : List Terminal) (closing : Terminal) (rest : List Terminal) → IsMaybeComma last → IsMark (codes "}") closing
     → (behind_comma (last ++ (closing ∷ rest)) ≡ closing ∷ rest) × ClosesList (last ++ (closing ∷ rest))
 last_comma last closing rest (inl is) mark =
     rw is (go_false _ (other_mark (codes "}") (codes ",") closing refl mark) refl, not_is _ (ap (λ (b : Bool). b && not (closes_braces rest)) (other_mark (codes "}") (codes ",") closing refl mark)))
@@ -241,7 +241,7 @@ last_comma last closing rest (inr (comma, is, named)) mark =
     and_off true = refl
     and_off false = refl
 
-last_ends : (test : Terminal → Bool) (last : List Terminal) (closing : Terminal) (rest : List Terminal) → ((token : Terminal) → IsMark (codes ",") token → test token ≡ false) → ((token : Terminal) → IsMark (codes "}") token → test token ≡ false)
+pub last_ends : (test : Terminal → Bool) (last : List Terminal) (closing : Terminal) (rest : List Terminal) → ((token : Terminal) → IsMark (codes ",") token → test token ≡ false) → ((token : Terminal) → IsMark (codes "}") token → test token ≡ false)
     → IsMaybeComma last → IsMark (codes "}") closing → Ends test (last ++ (closing ∷ rest))
 last_ends test last closing rest at_comma at_brace (inl is) mark = rw is (not_is (test closing) (at_brace closing mark))
 last_ends test last closing rest at_comma at_brace (inr (comma, is, named)) mark = rw is (not_is (test comma) (at_comma comma named))
@@ -473,7 +473,7 @@ complete_valued_enumerator before after xs value name mark p1 p2 d1 c1 n rest sm
       (read_levels _ (declaring after name.bytes false) rest (sym levels))))
 
 -- names of types
-type_end : (stars : List Terminal) (sizes : List (Option Expr)) (before after : Context) (ys rest : List Terminal) (test : Terminal → Bool) → AreStars stars → Spells (ArraySizes sizes) before ys after
+pub type_end : (stars : List Terminal) (sizes : List (Option Expr)) (before after : Context) (ys rest : List Terminal) (test : Terminal → Bool) → AreStars stars → Spells (ArraySizes sizes) before ys after
     → ((token : Terminal) → IsMark (codes "*") token → test token ≡ false) → ((token : Terminal) → IsMark (codes "[") token → test token ≡ false) → has_first test rest ≡ false → Ends test (stars ++ (ys ++ rest))
 type_end stars sizes before after ys rest test are spelled star size off = not_is _ (stars_first test stars (ys ++ rest) star are (sizes_first test sizes before after ys rest spelled size off))
 

@@ -2,6 +2,7 @@ pub mod BasicRows
 pub mod CompletingOutcomes
 pub mod CompletingParts
 pub mod CompletingTokens
+pub mod CompleteDeclarations
 pub mod CompleteTypes
 pub mod Contexts
 pub mod Firsts
