@@ -121,7 +121,7 @@ take_all : (row : List Terminal) → take (length row) row ≡ row
 take_all [] = refl
 take_all (token ∷ row) = ap (λ (r : List Terminal). token ∷ r) (take_all row)
 
-all_basic : (row : List Terminal) (type : BasicType) → IsBasic row type → length row ≤ prefix_len is_basic_word row
+pub all_basic : (row : List Terminal) (type : BasicType) → IsBasic row type → length row ≤ prefix_len is_basic_word row
 all_basic row type is =
     basic_covered row (length row) type (omega arith) (rw (take_all row) is)
 
