@@ -3,6 +3,7 @@ pub mod CompletingOutcomes
 pub mod CompletingParts
 pub mod CompletingTokens
 pub mod CompleteDeclarations
+pub mod CompleteStatements
 pub mod CompleteTypes
 pub mod Contexts
 pub mod Firsts
