@@ -4,6 +4,9 @@ use Rattle.std.specs.Prelude.{if◌then◌else◌}
 use Rattle.std.specs.List.{list_any, list_all}
 use Rattle.std.specs.Str.{bytes_eq}
 use Rattle.std.proofs.lemmas.Slice.Eq.{bytes_eq-Decides}
+use Rattle.cbase.specs.declared.tree.decl.Decl.{Decl}
+use Rattle.cbase.specs.declared.tree.expr.Expr.{Expr}
+use Rattle.cbase.specs.declared.tree.stmt.Stmt.{Stmt}
 use Rattle.ctokens.specs.declared.token.TokenKind.{TokenKind}
 use Rattle.ctokens.specs.declared.token.TokenKind.TheVariants.{Word, Number, Letter, Quoted, Mark}
 use Rattle.cread_expr.proofs.Firsts.{begins-append, first}
@@ -13,7 +16,7 @@ use Rattle.cread_expr.specs.Constants.{IsConstant, IsOfKind}
 use Rattle.cread_expr.specs.Firsts.{is_among, Begins, begins_type, begins_declaration, type_words, storage_words}
 use Rattle.cread_expr.specs.Grammar.{Spells, OneAssignment, CommaOperator, OneConditional, AssignmentOperator, OneOperation, ConditionalOperator, OneCast, BinaryOperator, OneUnary, CastOperator, OnePostfix, CountBefore, UnaryOperator, SizeOfExpression, SizeOfTypeName, OnePrimary, IndexOperator, CallOfNothing, CallOperator, MemberOperator, CountBehind, OneArgument, MoreArguments, OneName, OneConstant, Bracketed, StatementExpression, OffsetOfMember, NoMoreMembers, PathToMember, PathToItem, FailedAssertion, BasicWords, TypedefName, TypeOfExpression, TypeOfType, StructWithFields, StructByTag, NoMoreFields, MoreFields, OneFieldDeclaration, OneField, MoreFieldNames, NamedField, NamedBits, UnnamedBits, EnumWithValues, EnumByTag, LastEnumerator, MoreEnumerators, PlainEnumerator, ValuedEnumerator, OneTypeName, NoMoreSizes, SizeLeftOut, SizeGiven, TypeAlone, StorageBefore, StorageBehind, NoDeclarator, WithDeclarators, OneDeclarator, MoreDeclarators, ObjectDeclarator, InitializedDeclarator, DeclaratorOfFunction, NoParameters, VoidParameters, WithParameters, OneParameter, MoreParameters, NamedParameter, UnnamedParameter, InitializedTo, EmptyBraces, InBraces, OneInitializer, MoreInitializers, NextPart, MemberPart, OneBlock, NoMoreItems, NextDeclaration, NextStatement, BlockStatement, EmptyStatement, ExpressionStatement, IfStatement, IfElseStatement, WhileStatement, DoStatement, ForStatement, FirstDeclaration, FirstLeftOut, FirstExpression, NoExpression, SomeExpression, BreakStatement, ContinueStatement, ReturnStatement, LabeledStatement}
 use Rattle.cread_expr.specs.Operators.{row_of, mark_row, unary_rows, count_rows}
-use Rattle.cread_expr.specs.Phrases.{Phrase, Context}
+use Rattle.cread_expr.specs.Phrases.{Phrase, Context, Expression, Statement, Declaration}
 use Rattle.cread_expr.specs.Scope.{Names, is_typedef_name}
 use Rattle.cread_expr.specs.Starts.{is_mark_among, is_constant_kind, operand_marks, operand_words, begins_operand, statement_marks, statement_words, begins_statement, HasFirst, StartsAs}
 use Rattle.cread_expr.specs.Terminals.{Terminal, is_word_kind, is_mark_kind, IsWord, is_mark, IsMark, is_name, IsName}
@@ -281,3 +284,19 @@ declaration_not_else scopes token is word =
     (either (is_among storage_words token) _ (not-among (is_word_kind token.kind) token.bytes (codes "else") storage_words (word_bytes (codes "else") token word) refl)
     (either (is_among type_words token) _ (not-among (is_word_kind token.kind) token.bytes (codes "else") type_words (word_bytes (codes "else") token word) refl)
     (not-kind (is_name token) (is_typedef_name scopes token.bytes) (word_is_no_name (codes "else") token refl word))))
+
+-- rows
+pub statement_row_not_else : (dangling : Bool) (stmt : Stmt) (before after : Context) (token : Terminal) (row : List Terminal) → Spells (Statement dangling stmt) before (token ∷ row) after → IsWord (codes "else") token → ⊥
+statement_row_not_else dangling stmt before after token row d word = statement_not_else token (starts d) word
+
+pub statement_row_not_mark : (bytes : List ℕ) (dangling : Bool) (stmt : Stmt) (before after : Context) (token : Terminal) (row : List Terminal) → list_any (bytes_eq bytes) operand_marks ≡ false → list_any (bytes_eq bytes) statement_marks ≡ false → Spells (Statement dangling stmt) before (token ∷ row) after → IsMark bytes token → ⊥
+statement_row_not_mark bytes dangling stmt before after token row none other d mark = statement_not_mark bytes token none other (starts d) mark
+
+pub expression_row_not_mark : (bytes : List ℕ) (expr : Expr) (before after : Context) (token : Terminal) (row : List Terminal) → list_any (bytes_eq bytes) operand_marks ≡ false → Spells (Expression expr) before (token ∷ row) after → IsMark bytes token → ⊥
+expression_row_not_mark bytes expr before after token row none d mark = operand_not_mark bytes token none (starts d) mark
+
+pub declaration_row_not_else : (decl : Decl) (before after : Context) (token : Terminal) (row : List Terminal) → Spells (Declaration decl) before (token ∷ row) after → IsWord (codes "else") token → ⊥
+declaration_row_not_else decl before after token row d word = declaration_not_else before.scope token (first d) word
+
+pub declaration_row_not_mark : (bytes : List ℕ) (decl : Decl) (before after : Context) (token : Terminal) (row : List Terminal) → Spells (Declaration decl) before (token ∷ row) after → IsMark bytes token → ⊥
+declaration_row_not_mark bytes decl before after token row d mark = declaration_not_mark before.scope bytes token (first d) mark
