@@ -16,3 +16,4 @@ pub mod Truth
 pub mod Unpassed
 pub mod Worked
 pub mod Reached
+pub mod Between
