@@ -17,3 +17,4 @@ pub mod Unpassed
 pub mod Worked
 pub mod Reached
 pub mod Between
+pub mod ReadAt
