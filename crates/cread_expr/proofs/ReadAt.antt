@@ -1,5 +1,5 @@
 -- From what is read of the row of a text to what stands at a token of it.
-use Rattle.std.proofs.Common.{◌≡◌, ℕ, Bool, zero, suc, ◌+◌, ◌-◌, ◌<◌, ◌≤◌, ◌⊎◌, inl, inr, List, [], ◌∷◌, ◌++◌, map, take, drop, length, refl, ap, sym, ◌∙◌, subst, arith}
+use Rattle.std.proofs.Common.{◌≡◌, ℕ, Bool, zero, suc, ◌+◌, ◌-◌, ◌<◌, ◌≤◌, ◌⊎◌, inl, inr, List, [], ◌∷◌, ◌++◌, map, take, drop, length, refl, ap, sym, ◌∙◌, subst, arith, codes}
 use Rattle.std.specs.List.{prefix_len}
 use Rattle.std.proofs.lemmas.List.{length-append}
 use Rattle.cbase.specs.declared.tree.expr.Expr.{Expr}
@@ -20,7 +20,8 @@ use Rattle.cread_expr.specs.ReadStatements.{read_block}
 use Rattle.cread_expr.specs.Reader.{level}
 use Rattle.cread_expr.specs.Readings.{AreNumbered, row_between, at_first, IsReadAt, IsExpressionAt, IsLongestExpressionAt, IsBlockAt, block_levels}
 use Rattle.cread_expr.specs.Scope.{Names}
-use Rattle.cread_expr.specs.Terminals.{Terminal, terminal_of, terminals, unpassed, last_place}
+use Rattle.cread_expr.specs.Starts.{begins_operand}
+use Rattle.cread_expr.specs.Terminals.{Terminal, is_mark, terminal_of, terminals, unpassed, last_place}
 
 -- what stands at and behind a token of a text
 abbrev pub row_from : Tokens → ℕ → List Terminal
@@ -154,3 +155,91 @@ found_there phrase levels most t scope at end tree numbered begins spelled =
         let taken : last_place (take end (terminals t)) ≡ last_place (first ∷ front) =
             last_taken (terminals t) front first (prefix_len (comes_before at) (terminals t)) end (row_at t at numbered ∙ whole) in
         subst (λ place. IsReadAt t scope at (place.at + 1) (phrase tree)) (sym taken) (read_there t scope at (phrase tree) spelled.behind first front (drop end (terminals t)) numbered whole spells)
+
+-- an outcome that is a tree, or goes further, leaves no more than what stands behind the tree
+goes_less : (expr : Expr) (levels : ℕ) (after : Context) (rest : List Terminal) (outcome : Outcome Expr) (tree : Expr) (end : List Terminal)
+    → Goes goes_on_expression expr levels after rest outcome → Leaves outcome tree end → length end ≤ length rest
+goes_less expr levels after rest outcome tree end (inl same) leaves =
+    let left : (expr ≡ tree) × (rest ≡ end) = subst (λ o. Leaves o tree end) same leaves in
+    omega (arith, ap length (left.1))
+goes_less expr levels after rest outcome tree end (inr further) leaves = leaves_less outcome tree end rest leaves further.1
+
+goes_some : (expr : Expr) (levels : ℕ) (after : Context) (rest : List Terminal) (outcome : Outcome Expr) → Goes goes_on_expression expr levels after rest outcome → outcome ≡ Nothing → ⊥
+goes_some expr levels after rest outcome (inl same) none = let clash : Read expr levels after rest ≡ Nothing = sym same ∙ none in cc clash
+goes_some expr levels after rest outcome (inr further) none = subst (λ o. Reaches o rest) none further.1
+
+expression_begins : (expr : Expr) (before : Context) (front : List Terminal) (behind : Context) → Spells (Expression expr) before front behind → (test : Terminal → Bool) × Begins test front
+expression_begins expr before front behind spells = (begins_operand, starts spells)
+
+-- the row that is spelled from a token on has a first token, and what it goes on to ends no later than a longer one
+ends_no_later : (t : Tokens) (scope : List Names) (at end number : ℕ) (other : Expr) (first : Terminal) (front : List Terminal) → AreNumbered t
+    → row_from t at ≡ first ∷ (front ++ drop end (terminals t))
+    → (there : IsReadAt t scope at number (Expression other))
+    → length (drop end (terminals t)) ≤ length ((front_there t at number).0)
+    → number ≤ (last_place (first ∷ front)).at + 1
+ends_no_later t scope at end number other first front numbered whole there shorter =
+    step (row_between t at number) refl (starts there.spelled)
+  where
+    step : (row : List Terminal) → row_between t at number ≡ row → Begins begins_operand (row_between t at number) → number ≤ (last_place (first ∷ front)).at + 1
+    step [] same begins = absurd (subst (Begins begins_operand) same begins)
+    step (one ∷ us) same begins =
+        let two : row_from t at ≡ one ∷ (us ++ (front_there t at number).0) = (front_there t at number).1 ∙ ap (λ (row : List Terminal). row ++ (front_there t at number).0) same in
+        let later = ends_later at (row_from t at) first front (drop end (terminals t)) one us ((front_there t at number).0) (rises_at t at numbered) whole two shorter in
+        let last : (last_place (one ∷ us)).at + 1 ≡ number = ap (λ (row : List Terminal). (last_place row).at + 1) (sym same) ∙ there.last in
+        omega (arith, later, last)
+
+-- what the reader leaves is the longest expression
+pub longest_there : ExpressionsComplete → ExpressionsSound → (t : Tokens) (scope : List Names) (at end most : ℕ) (outcome : Outcome Expr) (tree : Expr) → AreNumbered t
+    → outcome ≡ (level most).expression (at_first scope) (row_from t at) → Leaves outcome tree (drop end (terminals t))
+    → IsLongestExpressionAt most t scope at ((last_place (take end (terminals t))).at + 1) tree
+longest_there complete sound t scope at end most outcome tree numbered is leaves =
+    let sounds : IsSound Expression expr_levels most (at_first scope) (row_from t at) outcome = subst (IsSound Expression expr_levels most (at_first scope) (row_from t at)) (sym is) (sound most (at_first scope) (row_from t at)) in
+    let spelled : IsSpelled Expression expr_levels most (at_first scope) (row_from t at) tree (drop end (terminals t)) =
+        spelled_left Expression expr_levels most (at_first scope) (row_from t at) outcome tree (drop end (terminals t)) sounds leaves in
+    let found = found_there Expression expr_levels most t scope at end tree numbered (expression_begins tree (at_first scope)) spelled in
+    ((found, spelled.small), λ other number there. longest spelled.fronts.front spelled.fronts.whole (starts spelled.fronts.spelled) other number there)
+  where
+    longest : (front : List Terminal) → row_from t at ≡ front ++ drop end (terminals t) → Begins begins_operand front
+        → (other : Expr) (number : ℕ) → IsExpressionAt most t scope at number other → number ≤ (last_place (take end (terminals t))).at + 1
+    longest [] whole begins other number there = absurd begins
+    longest (first ∷ front) whole begins other number there =
+        let taken : last_place (take end (terminals t)) ≡ last_place (first ∷ front) =
+            last_taken (terminals t) front first (prefix_len (comes_before at) (terminals t)) end (row_at t at numbered ∙ whole) in
+        let goes : Goes goes_on_expression other (expr_levels other) there.0.behind ((front_there t at number).0) ((level most).expression (at_first scope) (row_between t at number ++ (front_there t at number).0)) =
+            complete most other (at_first scope) there.0.behind (row_between t at number) ((front_there t at number).0) there.0.spelled there.1 in
+        let goes_there : Goes goes_on_expression other (expr_levels other) there.0.behind ((front_there t at number).0) outcome =
+            subst (Goes goes_on_expression other (expr_levels other) there.0.behind ((front_there t at number).0))
+            (ap (λ (row : List Terminal). (level most).expression (at_first scope) row) (sym ((front_there t at number).1)) ∙ sym is) goes in
+        let shorter = goes_less other (expr_levels other) there.0.behind ((front_there t at number).0) outcome tree (drop end (terminals t)) goes_there leaves in
+        let later = ends_no_later t scope at end number other first front numbered whole there.0 shorter in
+        omega (arith, later, ap (λ place. place.at) taken)
+
+-- where it reads nothing no expression begins
+pub none_there : ExpressionsComplete → (t : Tokens) (scope : List Names) (at most : ℕ) → Nothing ≡ (level most).expression (at_first scope) (row_from t at)
+    → (expr : Expr) (after : ℕ) → IsExpressionAt most t scope at after expr → ⊥
+none_there complete t scope at most is expr after there =
+    let rest = (front_there t at after).0 in
+    goes_some expr (expr_levels expr) there.0.behind rest ((level most).expression (at_first scope) (row_between t at after ++ rest))
+    (complete most expr (at_first scope) there.0.behind (row_between t at after) rest there.0.spelled there.1)
+    (ap (λ (row : List Terminal). (level most).expression (at_first scope) row) (sym ((front_there t at after).1)) ∙ sym is)
+
+-- the same of blocks
+block_begins : (body : List Stmt) (before : Context) (front : List Terminal) (behind : Context) → Spells (CompoundStatement body) before front behind → (test : Terminal → Bool) × Begins test front
+block_begins body before front behind spells = (is_mark (codes "{"), starts spells)
+
+pub block_there : BlocksSound → (t : Tokens) (scope : List Names) (at end most : ℕ) (outcome : Outcome (List Stmt)) (body : List Stmt) → AreNumbered t
+    → outcome ≡ read_block (level most) (at_first scope) (row_from t at) → Leaves outcome body (drop end (terminals t))
+    → IsBlockAt most t scope at ((last_place (take end (terminals t))).at + 1) body
+block_there sound t scope at end most outcome body numbered is leaves =
+    let sounds : IsSound CompoundStatement block_levels most (at_first scope) (row_from t at) outcome = subst (IsSound CompoundStatement block_levels most (at_first scope) (row_from t at)) (sym is) (sound most (at_first scope) (row_from t at)) in
+    let spelled : IsSpelled CompoundStatement block_levels most (at_first scope) (row_from t at) body (drop end (terminals t)) =
+        spelled_left CompoundStatement block_levels most (at_first scope) (row_from t at) outcome body (drop end (terminals t)) sounds leaves in
+    (found_there CompoundStatement block_levels most t scope at end body numbered (block_begins body (at_first scope)) spelled, spelled.small)
+
+pub no_block_there : BlocksComplete → (t : Tokens) (scope : List Names) (at most : ℕ) → Nothing ≡ read_block (level most) (at_first scope) (row_from t at)
+    → (body : List Stmt) (after : ℕ) → IsBlockAt most t scope at after body → ⊥
+no_block_there complete t scope at most is body after there =
+    let rest = (front_there t at after).0 in
+    let read = complete most body (at_first scope) there.0.behind (row_between t at after) rest there.0.spelled there.1 in
+    let clash : Nothing ≡ Read body (block_levels body) there.0.behind rest = is ∙ (ap (λ (row : List Terminal). read_block (level most) (at_first scope) row) ((front_there t at after).1) ∙ read) in
+    cc clash
