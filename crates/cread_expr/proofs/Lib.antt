@@ -18,3 +18,4 @@ pub mod Worked
 pub mod Reached
 pub mod Between
 pub mod ReadAt
+pub mod OneTree
