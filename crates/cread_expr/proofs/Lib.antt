@@ -22,3 +22,6 @@ pub mod Truth
 pub mod Unpassed
 pub mod Worked
 pub mod Reached
+pub mod Between
+pub mod ReadAt
+pub mod OneTree
