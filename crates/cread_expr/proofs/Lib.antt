@@ -25,3 +25,10 @@ pub mod Reached
 pub mod Between
 pub mod ReadAt
 pub mod OneTree
+pub mod WithinSteps
+pub mod Within
+pub mod SoundSteps
+pub mod SoundSays
+pub mod SoundOperators
+pub mod SoundLists
+pub mod SoundTypes
