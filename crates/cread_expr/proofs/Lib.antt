@@ -16,3 +16,5 @@ pub mod Truth
 pub mod Unpassed
 pub mod Worked
 pub mod Reached
+pub mod CompleteTokens
+pub mod CompleteReaches
