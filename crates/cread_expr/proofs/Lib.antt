@@ -18,3 +18,5 @@ pub mod Worked
 pub mod Reached
 pub mod CompleteTokens
 pub mod CompleteReaches
+pub mod CompleteSteps
+pub mod CompleteOperations
