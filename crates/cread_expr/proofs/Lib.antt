@@ -20,3 +20,4 @@ pub mod CompleteTokens
 pub mod CompleteReaches
 pub mod CompleteSteps
 pub mod CompleteOperations
+pub mod CompleteConditionals
