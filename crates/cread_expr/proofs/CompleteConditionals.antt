@@ -31,7 +31,7 @@ some_tighter : (k : ℕ) (entry : Option (ℕ × BinaryOp)) → is_tighter k ent
 some_tighter k None is = is
 some_tighter k (Some entry) is = refl
 
-taken_goes_on : (loosest : ℕ) (token : Terminal) → is_taken loosest token ≡ true → goes_on_conditional token ≡ true
+pub taken_goes_on : (loosest : ℕ) (token : Terminal) → is_taken loosest token ≡ true → goes_on_conditional token ≡ true
 taken_goes_on loosest token is =
     or-right (goes_on_operand token) (or-left (is_mark (codes "?") token) (some_taken loosest (mark_row binary_rows token) is))
 
@@ -42,7 +42,7 @@ operation_goes_on_conditional k token is = step (or-cases (goes_on_operand token
     step (inl operand) = or-left (is_some_binary (mark_row binary_rows token) || is_mark (codes "?") token) operand
     step (inr mark) = or-right (goes_on_operand token) (or-left (is_mark (codes "?") token) (some_tighter k (mark_row binary_rows token) mark))
 
-question_goes_on : (token : Terminal) → is_mark (codes "?") token ≡ true → goes_on_conditional token ≡ true
+pub question_goes_on : (token : Terminal) → is_mark (codes "?") token ≡ true → goes_on_conditional token ≡ true
 question_goes_on token is = or-right (goes_on_operand token) (or-right (is_some_binary (mark_row binary_rows token)) is)
 
 -- a `?` is read, or there is none

@@ -21,3 +21,5 @@ pub mod CompleteReaches
 pub mod CompleteSteps
 pub mod CompleteOperations
 pub mod CompleteConditionals
+pub mod CompleteAssignments
+pub mod CompleteCommas
