@@ -61,7 +61,7 @@ row_test test rows token answer is all =
     let here : token.bytes ≡ token.bytes = refl in
     ap test (sym (spelled token.bytes token kind here)) ∙ row_all (λ bytes. test (mark_at bytes token.place)) rows token.bytes answer (all token.place) found
 
-not_true : (b : Bool) → not b ≡ true → b ≡ false
+pub not_true : (b : Bool) → not b ≡ true → b ≡ false
 not_true true is = sym is
 not_true false is = refl
 

@@ -23,3 +23,5 @@ pub mod CompleteOperations
 pub mod CompleteConditionals
 pub mod CompleteAssignments
 pub mod CompleteCommas
+pub mod CompletePostfixReaches
+pub mod CompletePostfixes
