@@ -25,3 +25,4 @@ pub mod CompleteAssignments
 pub mod CompleteCommas
 pub mod CompletePostfixReaches
 pub mod CompletePostfixes
+pub mod CompleteArguments
