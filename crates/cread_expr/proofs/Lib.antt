@@ -26,3 +26,4 @@ pub mod CompleteCommas
 pub mod CompletePostfixReaches
 pub mod CompletePostfixes
 pub mod CompleteArguments
+pub mod CompleteOperandStarts
