@@ -27,3 +27,5 @@ pub mod CompletePostfixReaches
 pub mod CompletePostfixes
 pub mod CompleteArguments
 pub mod CompleteOperandStarts
+pub mod CompletePrimaries
+pub mod CompleteAssertions
