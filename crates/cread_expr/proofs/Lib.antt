@@ -32,3 +32,16 @@ pub mod SoundSays
 pub mod SoundOperators
 pub mod SoundLists
 pub mod SoundTypes
+pub mod CompleteTokens
+pub mod CompleteReaches
+pub mod CompleteSteps
+pub mod CompleteOperations
+pub mod CompleteConditionals
+pub mod CompleteAssignments
+pub mod CompleteCommas
+pub mod CompletePostfixReaches
+pub mod CompletePostfixes
+pub mod CompleteArguments
+pub mod CompleteOperandStarts
+pub mod CompletePrimaries
+pub mod CompleteAssertions
