@@ -1,9 +1,8 @@
 -- The reader of declarations and initialisers is complete, rule by rule of the grammar.
-use Rattle.std.proofs.Common.{◌≡◌, ℕ, zero, suc, ◌+◌, ◌<◌, ◌≤◌, Bool, true, false, ◌&&◌, ◌||◌, not, refl, ap, sym, ◌∙◌, List, [], ◌∷◌, ◌++◌, length, map, drop, codes, cond, IsTrue, inl, inr, arith, append_assoc, Option, Some, None, ◌⊎◌}
+use Rattle.std.proofs.Common.{◌≡◌, ℕ, zero, suc, ◌+◌, ◌<◌, ◌≤◌, Bool, true, false, ◌&&◌, ◌||◌, not, refl, ap, sym, ◌∙◌, List, [], ◌∷◌, ◌++◌, length, map, drop, codes, cond, IsTrue, inl, inr, arith, Option, Some, None, ◌⊎◌}
 use Rattle.std.specs.Prelude.{max}
-use Rattle.std.specs.List.{list_any, list_all, prefix_len}
+use Rattle.std.specs.List.{list_any, prefix_len}
 use Rattle.std.specs.Str.{bytes_eq}
-use Rattle.cbase.specs.declared.tree.decl.Decl.{Decl}
 use Rattle.cbase.specs.declared.tree.decl.Declared.{Declared}
 use Rattle.cbase.specs.declared.tree.decl.Param.{Param}
 use Rattle.cbase.specs.declared.tree.decl.Storage.{Storage}
@@ -14,35 +13,33 @@ use Rattle.cbase.specs.declared.tree.init.Init.TheVariants.{Value, Braces}
 use Rattle.cbase.specs.declared.tree.init.InitPart.{InitPart}
 use Rattle.cbase.specs.declared.tree.spec.BasicType.{BasicType}
 use Rattle.cbase.specs.declared.tree.spec.TypeSpec.{TypeSpec}
-use Rattle.ctokens.specs.Symbol.{keyword_symbol, name_symbol, passed_symbol}
 use Rattle.ctrees.specs.Weight.{joined}
-use Rattle.ctrees.specs.Levels.{depth, decl_levels, declared_levels, expr_levels, init_levels, init_part_levels, maybe_levels, param_levels, spec_levels}
+use Rattle.ctrees.specs.Levels.{depth, declared_levels, init_part_levels, maybe_levels, param_levels, spec_levels}
 use Rattle.cread_expr.proofs.CompleteTypes.{last_comma, last_ends, type_end, all_basic}
 use Rattle.cread_expr.proofs.CompletingOutcomes.{go_true, go_false, go_read, go_past, is_not, not_is, neither, no_truth, never_true, ends_first, ends_less, or_false_left, or_false_right, list_of_one, list_of_more, row_of_two, row_of_three, shorter_behind}
-use Rattle.cread_expr.proofs.CompletingTokens.{by_mark, by_word, name_no_specifiers, name_no_storage, begins_apart, operand_no_mark, operand_row_no_mark, stars_front, behind_stars_front, stars_first, begins_declarator, stars_and_name, declarator_apart}
+use Rattle.cread_expr.proofs.CompletingTokens.{by_mark, by_word, name_no_specifiers, name_no_storage, begins_apart, operand_no_mark, operand_row_no_mark, stars_front, stars_first, begins_declarator, stars_and_name, declarator_apart}
 use Rattle.cread_expr.proofs.CompletingParts.{read_levels, ends_known, assignment_read, declaration_row_no_mark, sizes_first}
 use Rattle.cread_expr.proofs.Contexts.{scopes_kept}
 use Rattle.cread_expr.proofs.Firsts.{first, begins-append}
 use Rattle.cread_expr.proofs.Fronts.{drop_front}
-use Rattle.cread_expr.proofs.Reached.{Completes, Ends, ClosesList, goes_on_assignment, goes_on_type, goes_on_sizes, is_storage, goes_on_specifiers, goes_on_parameter, goes_on_list, goes_on_declarator}
+use Rattle.cread_expr.proofs.Reached.{Completes, Ends, goes_on_assignment, goes_on_type, goes_on_sizes, is_storage, goes_on_specifiers, goes_on_parameter, goes_on_list, goes_on_declarator}
 use Rattle.cread_expr.proofs.Starting.{starts}
-use Rattle.cread_expr.proofs.TokenKinds.{name_is_no_mark, other_mark, other_word, mark_is_no_word, name_is_no_word, word_is_no_mark, word_bytes, word_kind_no_mark}
+use Rattle.cread_expr.proofs.TokenKinds.{name_is_no_mark, other_mark, other_word, word_is_no_mark, word_bytes, word_kind_no_mark}
 use Rattle.cread_expr.proofs.TreeLevels.{levels_parameter, levels_declaration, levels_type_declaration, levels_object, levels_initialized, levels_function, levels_value, levels_braces, levels_empty_braces, levels_initializer, joined_one}
 use Rattle.cread_expr.proofs.Truth.{and-left, and-right, and-both, or-cases, or-left, or-right}
 use Rattle.cread_expr.specs.FrontReadings.{is_basic_word, basic_words}
 use Rattle.cread_expr.specs.Firsts.{begins_type, begins_declaration, Begins, is_among, type_words}
 use Rattle.cread_expr.specs.Grammar.{Spells, IsMaybeComma, declaring, inside, outside, is_void, BasicWords, TypedefName, TypeOfExpression, TypeOfType, StructWithFields, StructByTag, EnumWithValues, EnumByTag, NoMoreSizes, SizeLeftOut, SizeGiven, TypeAlone, StorageBefore, StorageBehind, OneDeclarator, MoreDeclarators, ObjectDeclarator, InitializedDeclarator, DeclaratorOfFunction, NoParameters, VoidParameters, WithParameters, OneParameter, MoreParameters, NamedParameter, UnnamedParameter, InitializedTo, EmptyBraces, InBraces, OneInitializer, MoreInitializers, NextPart, MemberPart}
-use Rattle.cread_expr.specs.Outcomes.{Outcome, Nothing, Read, then_read, after_first, after_mark, has_first, has_mark, behind_first}
-use Rattle.cread_expr.specs.Phrases.{Phrase, Context, scoped, Assignment, TypeSpecifier, ArraySizes, Specifiers, Declaration, Declarators, Declarator, FunctionDeclarator, Parameters, Parameter, Initializer, Initializers, DesignatedInitializer}
-use Rattle.cread_expr.specs.ReadDeclarations.{leaving, specifiers_of, storage_at, storage_behind, specifiers_with, read_specifiers, parameter_behind, read_parameter, is_void_alone, read_parameters, object_behind, read_declarator, read_declaration, read_part, in_braces, read_initializer}
+use Rattle.cread_expr.specs.Outcomes.{Outcome, Read, then_read, after_mark, has_first, has_mark}
+use Rattle.cread_expr.specs.Phrases.{Context, scoped, Assignment, TypeSpecifier, ArraySizes, Specifiers, Declaration, Declarators, Declarator, FunctionDeclarator, Parameters, Parameter, Initializer, Initializers, DesignatedInitializer}
+use Rattle.cread_expr.specs.ReadDeclarations.{leaving, storage_at, storage_behind, specifiers_with, read_specifiers, parameter_behind, read_parameter, is_void_alone, read_parameters, object_behind, read_declarator, read_declaration, read_part, in_braces, read_initializer}
 use Rattle.cread_expr.specs.ReadLevels.{Level, read_list}
-use Rattle.cread_expr.specs.ReadOperands.{goes_on}
 use Rattle.cread_expr.specs.ReadStarts.{postfix_start}
 use Rattle.cread_expr.specs.ReadTypes.{star_count, behind_stars, read_sizes, never, closes_braces, behind_comma}
 use Rattle.cread_expr.specs.Reader.{level}
-use Rattle.cread_expr.specs.Scope.{Names, left}
+use Rattle.cread_expr.specs.Scope.{Names}
 use Rattle.cread_expr.specs.Starts.{begins_operand}
-use Rattle.cread_expr.specs.Terminals.{Terminal, is_word_kind, is_word, IsWord, is_mark, IsMark, is_name, IsName, is_typedef, IsTypedef, AreStars}
+use Rattle.cread_expr.specs.Terminals.{Terminal, is_word_kind, is_word, IsWord, is_mark, IsMark, is_name, IsName, is_typedef, AreStars}
 use Rattle.cread_expr.specs.TokenReadings.{storage_of}
 use Rattle.cread_expr.specs.Trees.{object, function, parameter, declaration, initializer}
 use Rattle.cread_expr.specs.TypeWords.{IsStorage, declares_typedef, IsBasic}

@@ -1,5 +1,5 @@
 -- The reader of statements and blocks is complete, rule by rule of the grammar.
-use Rattle.std.proofs.Common.{◌≡◌, ℕ, zero, suc, ◌+◌, ◌<◌, ◌≤◌, Bool, true, false, ◌&&◌, ◌||◌, not, refl, ap, sym, ◌∙◌, List, [], ◌∷◌, ◌++◌, length, map, codes, cond, IsTrue, inl, inr, arith, Option, Some, None, ◌⊎◌}
+use Rattle.std.proofs.Common.{◌≡◌, ℕ, zero, suc, ◌+◌, ◌<◌, ◌≤◌, Bool, true, false, ◌&&◌, not, refl, ap, sym, ◌∙◌, List, [], ◌∷◌, ◌++◌, length, map, codes, IsTrue, inl, inr, arith, Option, Some, None, ◌⊎◌}
 use Rattle.std.specs.Prelude.{max}
 use Rattle.std.specs.List.{list_any}
 use Rattle.std.specs.Str.{bytes_eq}
@@ -8,34 +8,32 @@ use Rattle.cbase.specs.declared.tree.decl.Decl.{Decl}
 use Rattle.cbase.specs.declared.tree.expr.Expr.{Expr}
 use Rattle.cbase.specs.declared.tree.stmt.Stmt.{Stmt}
 use Rattle.cbase.specs.declared.tree.stmt.StmtForm.TheVariants.{Declare, Eval, Block, If, While, Do, For, Break, Continue, Return}
-use Rattle.ctokens.specs.declared.token.TokenKind.TheVariants.{Word, Mark}
+use Rattle.ctokens.specs.declared.token.TokenKind.TheVariants.{Word}
 use Rattle.ctokens.specs.Symbol.{keyword_symbol, name_symbol, passed_symbol}
 use Rattle.ctrees.specs.Weight.{joined}
-use Rattle.ctrees.specs.Levels.{depth, decl_levels, expr_levels, maybe_levels, stmt_levels, statement_form_levels}
-use Rattle.cread_expr.proofs.CompletingOutcomes.{go_true, go_false, go_read, go_past, is_not, not_is, no_truth, never_true, ends_first, ends_less, or_false_left, or_false_right, braces_of_none, braces_of_more, row_of_two, row_of_three}
-use Rattle.cread_expr.proofs.CompletingTokens.{by_mark, by_word, word_is, mark_is, begins_apart, operand_no_mark, operand_row_no_mark}
+use Rattle.ctrees.specs.Levels.{depth, decl_levels, expr_levels, maybe_levels, stmt_levels}
+use Rattle.cread_expr.proofs.CompletingOutcomes.{go_true, go_false, go_read, go_past, is_not, not_is, no_truth, never_true, braces_of_none, braces_of_more, row_of_two, row_of_three}
+use Rattle.cread_expr.proofs.CompletingTokens.{by_mark, by_word, begins_apart, operand_no_mark, operand_row_no_mark}
 use Rattle.cread_expr.proofs.CompletingParts.{read_levels, ends_known, expression_read, not_declaration_row, declaration_row, declaration_row_no_mark, fewer}
 use Rattle.cread_expr.proofs.Contexts.{scopes_kept}
-use Rattle.cread_expr.proofs.Firsts.{first, begins-append}
+use Rattle.cread_expr.proofs.Firsts.{first}
 use Rattle.cread_expr.proofs.Fronts.{front_of_both}
 use Rattle.cread_expr.proofs.Labels.{labels_apart}
 use Rattle.cread_expr.proofs.Reached.{Completes, Ends, goes_on_expression, goes_on_statement}
 use Rattle.cread_expr.proofs.Scopes.{left_entered}
 use Rattle.cread_expr.proofs.Starting.{starts, operand_not_mark, operand_not_word, statement_not_mark, statement_not_else}
-use Rattle.cread_expr.proofs.TokenKinds.{named_words, other_mark, other_word, mark_is_no_name, mark_is_no_word, word_bytes}
+use Rattle.cread_expr.proofs.TokenKinds.{named_words, other_mark, other_word, mark_is_no_name, mark_is_no_word}
 use Rattle.cread_expr.proofs.TreeLevels.{levels_stmt, levels_declare, levels_empty, levels_eval, levels_block, levels_if, levels_if_else, levels_while, levels_do, levels_for, levels_break, levels_continue, levels_return_nothing, levels_return}
-use Rattle.cread_expr.proofs.Truth.{and-left, and-right, and-both, or-cases, or-left, or-right}
+use Rattle.cread_expr.proofs.Truth.{and-both}
 use Rattle.cread_expr.specs.Firsts.{begins_declaration, Begins}
-use Rattle.cread_expr.specs.FrontOf.{front_of}
 use Rattle.cread_expr.specs.FrontReadings.{begins_with_label}
 use Rattle.cread_expr.specs.Grammar.{Spells, inside, outside, NoMoreItems, NextDeclaration, NextStatement}
-use Rattle.cread_expr.specs.Outcomes.{Outcome, Nothing, Read, then_read, after_first, after_mark, has_first, has_mark, behind_first}
-use Rattle.cread_expr.specs.Phrases.{Phrase, Context, scoped, Expression, Declaration, CompoundStatement, BlockItems, Statement, FirstClause, MaybeExpression}
-use Rattle.cread_expr.specs.ReadDeclarations.{leaving, read_declaration}
+use Rattle.cread_expr.specs.Outcomes.{Read, has_first, has_mark}
+use Rattle.cread_expr.specs.Phrases.{Context, scoped, Expression, Declaration, CompoundStatement, BlockItems, Statement, FirstClause, MaybeExpression}
+use Rattle.cread_expr.specs.ReadDeclarations.{leaving}
 use Rattle.cread_expr.specs.ReadLevels.{Level, read_until_brace}
-use Rattle.cread_expr.specs.ReadOperands.{goes_on}
 use Rattle.cread_expr.specs.ReadStarts.{postfix_start, statement_start}
-use Rattle.cread_expr.specs.ReadStatements.{read_block, read_maybe, declared_statement, expression_statement, read_clause, untyped, otherwise_behind, read_if, read_while, read_do, read_for, read_return, statement_with, read_unlabeled, read_statement, read_item}
+use Rattle.cread_expr.specs.ReadStatements.{read_block, read_maybe, read_clause, untyped, read_if, read_while, read_do, read_for, read_return, statement_with, read_unlabeled, read_statement, read_item}
 use Rattle.cread_expr.specs.Reader.{level}
 use Rattle.cread_expr.specs.Scope.{Names, left}
 use Rattle.cread_expr.specs.Starts.{begins_operand, begins_statement, operand_words}

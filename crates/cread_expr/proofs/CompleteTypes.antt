@@ -1,9 +1,7 @@
 -- The reader of types is complete, rule by rule of the grammar.
 use Rattle.std.proofs.Common.{◌≡◌, ℕ, zero, suc, ◌+◌, ◌<◌, ◌≤◌, Bool, true, false, ◌&&◌, ◌||◌, not, refl, ap, sym, ◌∙◌, List, [], ◌∷◌, ◌++◌, length, map, take, drop, codes, cond, IsTrue, inl, inr, arith, append_assoc, Option, Some, None, ◌⊎◌}
-use Rattle.std.specs.Prelude.{max, is_some}
+use Rattle.std.specs.Prelude.{is_some}
 use Rattle.std.specs.List.{list_all, prefix_len}
-use Rattle.std.proofs.lemmas.List.{length-append}
-use Rattle.cbase.specs.declared.place.Place.{Place}
 use Rattle.cbase.specs.declared.tree.decl.TypeName.{TypeName}
 use Rattle.cbase.specs.declared.tree.expr.Expr.{Expr}
 use Rattle.cbase.specs.declared.tree.spec.BasicType.{BasicType}
@@ -14,33 +12,31 @@ use Rattle.cbase.specs.declared.tree.spec.TypeSpec.{TypeSpec}
 use Rattle.cbase.specs.declared.tree.spec.TypeSpec.TheVariants.{Basic, Named, Struct, Enum, OfExpr, OfType}
 use Rattle.ctokens.specs.Symbol.{keyword_symbol, name_symbol, passed_symbol}
 use Rattle.ctrees.specs.Weight.{joined}
-use Rattle.ctrees.specs.Levels.{depth, enumerator_levels, expr_levels, field_decl_levels, field_name_levels, maybe_levels, spec_levels, type_name_levels}
+use Rattle.ctrees.specs.Levels.{depth, enumerator_levels, field_decl_levels, field_name_levels}
 use Rattle.cread_expr.proofs.BasicRows.{basic_covered}
-use Rattle.cread_expr.proofs.CompletingOutcomes.{go_true, go_false, go_read, go_past, go_prepended, is_not, not_is, neither_left, neither_right, neither, no_truth, never_true, ends_first, ends_by, ends_less, or_false_left, or_false_right, exactly, list_of_one, list_of_more, braces_of_none, braces_of_more, row_of_two, row_of_three, shorter_behind}
-use Rattle.cread_expr.proofs.CompletingTokens.{mark_is, word_is, by_mark, by_word, name_no_basic_word, name_no_storage, name_no_type, name_no_specifiers, begins_apart, begins_as, operand_no_mark, operand_row_no_mark, stars_front, behind_stars_front, stars_first, begins_declarator, stars_and_name, declarator_apart}
-use Rattle.cread_expr.proofs.CompletingParts.{read_levels, ends_known, ends_token, expression_read, assignment_read, conditional_read, not_type_row, type_row, type_row_no_mark, sizes_first, fewer}
+use Rattle.cread_expr.proofs.CompletingOutcomes.{go_true, go_false, go_read, go_past, go_prepended, is_not, not_is, no_truth, never_true, ends_first, ends_less, or_false_left, or_false_right, list_of_one, list_of_more, braces_of_none, braces_of_more, row_of_two, row_of_three, shorter_behind}
+use Rattle.cread_expr.proofs.CompletingTokens.{by_mark, by_word, name_no_basic_word, name_no_type, begins_apart, operand_row_no_mark, stars_front, behind_stars_front, stars_first, begins_declarator, stars_and_name, declarator_apart}
+use Rattle.cread_expr.proofs.CompletingParts.{read_levels, ends_known, expression_read, conditional_read, not_type_row, type_row, type_row_no_mark, sizes_first, fewer}
 use Rattle.cread_expr.proofs.Firsts.{first, begins-append}
 use Rattle.cread_expr.proofs.Fronts.{take_front, drop_front}
-use Rattle.cread_expr.proofs.Reached.{Completes, Goes, Ends, ClosesList, goes_on_operand, goes_on_conditional, goes_on_assignment, goes_on_expression, goes_on_type, goes_on_sizes, goes_on_type_name, goes_on_field, goes_on_list, goes_on_enumerator}
+use Rattle.cread_expr.proofs.Reached.{Completes, Ends, ClosesList, goes_on_conditional, goes_on_expression, goes_on_type, goes_on_sizes, goes_on_type_name, goes_on_field, goes_on_list, goes_on_enumerator}
 use Rattle.cread_expr.proofs.Starting.{starts}
 use Rattle.cread_expr.proofs.TokenKinds.{name_is_no_mark, other_mark, mark_is_no_name}
 use Rattle.cread_expr.proofs.TreeLevels.{levels_basic, levels_named, levels_struct_by_tag, levels_struct, levels_enum_by_tag, levels_enum, levels_of_expr, levels_of_type, levels_type_name, levels_fields, levels_field, levels_bits, levels_unnamed_bits, levels_enumerator, levels_valued_enumerator, joined_one}
-use Rattle.cread_expr.proofs.Truth.{and-left, and-right, and-both, or-cases, or-left, or-right}
+use Rattle.cread_expr.proofs.Truth.{and-left, or-cases, or-left, or-right}
 use Rattle.cread_expr.specs.FrontReadings.{is_basic_word}
 use Rattle.cread_expr.specs.Firsts.{begins_type, Begins}
 use Rattle.cread_expr.specs.Grammar.{Spells, IsTag, IsMaybeComma, declaring, OneFieldDeclaration, OneField, MoreFieldNames, NamedField, NamedBits, UnnamedBits, LastEnumerator, MoreEnumerators, PlainEnumerator, ValuedEnumerator}
-use Rattle.cread_expr.specs.Outcomes.{Outcome, Nothing, Stopped, Read, then_read, after_first, after_mark, has_first, has_mark, behind_first}
-use Rattle.cread_expr.specs.Phrases.{Phrase, Context, Expression, Conditional, TypeSpecifier, NameOfType, ArraySizes, Fields, FieldDeclaration, FieldDeclarators, FieldDeclarator, Enumerators, OneEnumerator}
+use Rattle.cread_expr.specs.Outcomes.{Outcome, Nothing, Read, then_read, has_first, has_mark, behind_first}
+use Rattle.cread_expr.specs.Phrases.{Context, Expression, Conditional, TypeSpecifier, NameOfType, ArraySizes, Fields, FieldDeclaration, FieldDeclarators, FieldDeclarator, Enumerators, OneEnumerator}
 use Rattle.cread_expr.specs.ReadLevels.{Level, read_list, read_until_brace}
-use Rattle.cread_expr.specs.ReadOperands.{goes_on}
 use Rattle.cread_expr.specs.ReadStarts.{postfix_start, type_start}
-use Rattle.cread_expr.specs.ReadTypes.{star_count, behind_stars, read_sizes, read_type_name, read_field, named_field, bits_behind, read_fields, read_enumerator, never, closes_braces, behind_comma, tag_at, behind_tag, read_struct, read_enum, type_of, of_basic, read_basic, specifier_with, read_specifier}
+use Rattle.cread_expr.specs.ReadTypes.{behind_stars, read_sizes, read_type_name, read_field, named_field, bits_behind, read_fields, read_enumerator, never, closes_braces, behind_comma, tag_at, behind_tag, read_struct, read_enum, of_basic, read_basic, specifier_with, read_specifier}
 use Rattle.cread_expr.specs.Reader.{level}
 use Rattle.cread_expr.specs.Scope.{Names}
 use Rattle.cread_expr.specs.Terminals.{Terminal, IsWord, is_mark, IsMark, is_name, IsName, is_typedef, IsTypedef, IsNoType, AreStars, bytes_of}
 use Rattle.cread_expr.specs.Trees.{field, fields, enumerator, type_name}
 use Rattle.cread_expr.specs.TypeWords.{basic_rows, basic_of, IsBasic}
-use Rattle.cread_expr.specs.declared.reading.starts.TypeStart.{TypeStart}
 use Rattle.cread_expr.specs.declared.reading.starts.TypeStart.TheVariants as start
 
 -- how a type begins
