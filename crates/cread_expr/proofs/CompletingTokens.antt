@@ -53,10 +53,10 @@ name_among : (words : List (List ℕ)) (token : Terminal) → list_all no_identi
 unfolding no_identifier
 name_among words token all is =
     never_true (is_among words token) (λ among.
-        let any = and-right (is_word_kind token.kind) (list_any (bytes_eq token.bytes) words) among in
-        let identifier = and-left (is_identifier (word_symbol token.bytes)) (not (is_left_out token.bytes)) (and-right (is_word_kind token.kind) (is_identifier (word_symbol token.bytes) && not (is_left_out token.bytes)) is) in
-        let none : not true ≡ true = sym (ap not identifier) ∙ of-any no_identifier words token.bytes all any in
-        cc none)
+    let any = and-right (is_word_kind token.kind) (list_any (bytes_eq token.bytes) words) among in
+    let identifier = and-left (is_identifier (word_symbol token.bytes)) (not (is_left_out token.bytes)) (and-right (is_word_kind token.kind) (is_identifier (word_symbol token.bytes) && not (is_left_out token.bytes)) is) in
+    let none : not true ≡ true = sym (ap not identifier) ∙ of-any no_identifier words token.bytes all any in
+    cc none)
 
 pub name_no_basic_word : (token : Terminal) → is_name token ≡ true → is_basic_word token ≡ false
 unfolding keyword_symbol name_symbol passed_symbol no_identifier
