@@ -1,9 +1,8 @@
 -- The reader of declarations and initialisers is complete, rule by rule of the grammar.
-use Rattle.std.proofs.Common.{◌≡◌, ℕ, zero, suc, ◌+◌, ◌<◌, ◌≤◌, Bool, true, false, ◌&&◌, ◌||◌, not, refl, ap, sym, ◌∙◌, List, [], ◌∷◌, ◌++◌, length, map, drop, codes, cond, IsTrue, inl, inr, arith, append_assoc, Option, Some, None, ◌⊎◌}
+use Rattle.std.proofs.Common.{◌≡◌, ℕ, zero, suc, ◌+◌, ◌<◌, ◌≤◌, Bool, true, false, ◌&&◌, ◌||◌, not, refl, ap, sym, ◌∙◌, List, [], ◌∷◌, ◌++◌, length, map, drop, codes, cond, IsTrue, inl, inr, arith, Option, Some, None, ◌⊎◌}
 use Rattle.std.specs.Prelude.{max}
-use Rattle.std.specs.List.{list_any, list_all, prefix_len}
+use Rattle.std.specs.List.{list_any, prefix_len}
 use Rattle.std.specs.Str.{bytes_eq}
-use Rattle.cbase.specs.declared.tree.decl.Decl.{Decl}
 use Rattle.cbase.specs.declared.tree.decl.Declared.{Declared}
 use Rattle.cbase.specs.declared.tree.decl.Param.{Param}
 use Rattle.cbase.specs.declared.tree.decl.Storage.{Storage}
@@ -14,35 +13,33 @@ use Rattle.cbase.specs.declared.tree.init.Init.TheVariants.{Value, Braces}
 use Rattle.cbase.specs.declared.tree.init.InitPart.{InitPart}
 use Rattle.cbase.specs.declared.tree.spec.BasicType.{BasicType}
 use Rattle.cbase.specs.declared.tree.spec.TypeSpec.{TypeSpec}
-use Rattle.ctokens.specs.Symbol.{keyword_symbol, name_symbol, passed_symbol}
 use Rattle.ctrees.specs.Weight.{joined}
-use Rattle.ctrees.specs.Levels.{depth, decl_levels, declared_levels, expr_levels, init_levels, init_part_levels, maybe_levels, param_levels, spec_levels}
+use Rattle.ctrees.specs.Levels.{depth, declared_levels, init_part_levels, maybe_levels, param_levels, spec_levels}
 use Rattle.cread_expr.proofs.CompleteTypes.{last_comma, last_ends, type_end, all_basic}
 use Rattle.cread_expr.proofs.CompletingOutcomes.{go_true, go_false, go_read, go_past, is_not, not_is, neither, no_truth, never_true, ends_first, ends_less, or_false_left, or_false_right, list_of_one, list_of_more, row_of_two, row_of_three, shorter_behind}
-use Rattle.cread_expr.proofs.CompletingTokens.{by_mark, by_word, name_no_specifiers, name_no_storage, begins_apart, operand_no_mark, operand_row_no_mark, stars_front, behind_stars_front, stars_first, begins_declarator, stars_and_name, declarator_apart}
+use Rattle.cread_expr.proofs.CompletingTokens.{by_mark, by_word, name_no_specifiers, name_no_storage, begins_apart, operand_no_mark, operand_row_no_mark, stars_front, stars_first, begins_declarator, stars_and_name, declarator_apart}
 use Rattle.cread_expr.proofs.CompletingParts.{read_levels, ends_known, assignment_read, declaration_row_no_mark, sizes_first}
 use Rattle.cread_expr.proofs.Contexts.{scopes_kept}
 use Rattle.cread_expr.proofs.Firsts.{first, begins-append}
 use Rattle.cread_expr.proofs.Fronts.{drop_front}
-use Rattle.cread_expr.proofs.Reached.{Completes, Ends, ClosesList, goes_on_assignment, goes_on_type, goes_on_sizes, is_storage, goes_on_specifiers, goes_on_parameter, goes_on_list, goes_on_declarator}
+use Rattle.cread_expr.proofs.Reached.{Completes, Ends, goes_on_assignment, goes_on_type, goes_on_sizes, is_storage, goes_on_specifiers, goes_on_parameter, goes_on_list, goes_on_declarator}
 use Rattle.cread_expr.proofs.Starting.{starts}
-use Rattle.cread_expr.proofs.TokenKinds.{name_is_no_mark, other_mark, other_word, mark_is_no_word, name_is_no_word, word_is_no_mark, word_bytes, word_kind_no_mark}
+use Rattle.cread_expr.proofs.TokenKinds.{name_is_no_mark, other_mark, other_word, word_is_no_mark, word_bytes, word_kind_no_mark}
 use Rattle.cread_expr.proofs.TreeLevels.{levels_parameter, levels_declaration, levels_type_declaration, levels_object, levels_initialized, levels_function, levels_value, levels_braces, levels_empty_braces, levels_initializer, joined_one}
 use Rattle.cread_expr.proofs.Truth.{and-left, and-right, and-both, or-cases, or-left, or-right}
 use Rattle.cread_expr.specs.FrontReadings.{is_basic_word, basic_words}
 use Rattle.cread_expr.specs.Firsts.{begins_type, begins_declaration, Begins, is_among, type_words}
 use Rattle.cread_expr.specs.Grammar.{Spells, IsMaybeComma, declaring, inside, outside, is_void, BasicWords, TypedefName, TypeOfExpression, TypeOfType, StructWithFields, StructByTag, EnumWithValues, EnumByTag, NoMoreSizes, SizeLeftOut, SizeGiven, TypeAlone, StorageBefore, StorageBehind, OneDeclarator, MoreDeclarators, ObjectDeclarator, InitializedDeclarator, DeclaratorOfFunction, NoParameters, VoidParameters, WithParameters, OneParameter, MoreParameters, NamedParameter, UnnamedParameter, InitializedTo, EmptyBraces, InBraces, OneInitializer, MoreInitializers, NextPart, MemberPart}
-use Rattle.cread_expr.specs.Outcomes.{Outcome, Nothing, Read, then_read, after_first, after_mark, has_first, has_mark, behind_first}
-use Rattle.cread_expr.specs.Phrases.{Phrase, Context, scoped, Assignment, TypeSpecifier, ArraySizes, Specifiers, Declaration, Declarators, Declarator, FunctionDeclarator, Parameters, Parameter, Initializer, Initializers, DesignatedInitializer}
-use Rattle.cread_expr.specs.ReadDeclarations.{leaving, specifiers_of, storage_at, storage_behind, specifiers_with, read_specifiers, parameter_behind, read_parameter, is_void_alone, read_parameters, object_behind, read_declarator, read_declaration, read_part, in_braces, read_initializer}
+use Rattle.cread_expr.specs.Outcomes.{Outcome, Read, then_read, after_mark, has_first, has_mark}
+use Rattle.cread_expr.specs.Phrases.{Context, scoped, Assignment, TypeSpecifier, ArraySizes, Specifiers, Declaration, Declarators, Declarator, FunctionDeclarator, Parameters, Parameter, Initializer, Initializers, DesignatedInitializer}
+use Rattle.cread_expr.specs.ReadDeclarations.{leaving, storage_at, storage_behind, specifiers_with, read_specifiers, parameter_behind, read_parameter, is_void_alone, read_parameters, object_behind, read_declarator, read_declaration, read_part, in_braces, read_initializer}
 use Rattle.cread_expr.specs.ReadLevels.{Level, read_list}
-use Rattle.cread_expr.specs.ReadOperands.{goes_on}
 use Rattle.cread_expr.specs.ReadStarts.{postfix_start}
 use Rattle.cread_expr.specs.ReadTypes.{star_count, behind_stars, read_sizes, never, closes_braces, behind_comma}
 use Rattle.cread_expr.specs.Reader.{level}
-use Rattle.cread_expr.specs.Scope.{Names, left}
+use Rattle.cread_expr.specs.Scope.{Names}
 use Rattle.cread_expr.specs.Starts.{begins_operand}
-use Rattle.cread_expr.specs.Terminals.{Terminal, is_word_kind, is_word, IsWord, is_mark, IsMark, is_name, IsName, is_typedef, IsTypedef, AreStars}
+use Rattle.cread_expr.specs.Terminals.{Terminal, is_word_kind, is_word, IsWord, is_mark, IsMark, is_name, IsName, is_typedef, AreStars}
 use Rattle.cread_expr.specs.TokenReadings.{storage_of}
 use Rattle.cread_expr.specs.Trees.{object, function, parameter, declaration, initializer}
 use Rattle.cread_expr.specs.TypeWords.{IsStorage, declares_typedef, IsBasic}
@@ -64,7 +61,7 @@ no_storage token off =
 type_word_no : (bytes : List ℕ) (token : Terminal) → list_any (bytes_eq bytes) type_words ≡ false → is_among type_words token ≡ true → is_word bytes token ≡ false
 type_word_no bytes token none among =
     never_true (is_word bytes token) (λ word. no_truth (list_any (bytes_eq bytes) type_words)
-      (ap (λ (b : List ℕ). list_any (bytes_eq b) type_words) (sym (word_bytes bytes token word)) ∙ and-right (is_word_kind token.kind) (list_any (bytes_eq token.bytes) type_words) among) none)
+    (ap (λ (b : List ℕ). list_any (bytes_eq b) type_words) (sym (word_bytes bytes token word)) ∙ and-right (is_word_kind token.kind) (list_any (bytes_eq token.bytes) type_words) among) none)
 
 type_no_storage : (scopes : List Names) (token : Terminal) → begins_type scopes token ≡ true → is_storage token ≡ false
 type_no_storage scopes token is = step (or-cases (is_among type_words token) (is_typedef scopes token) is)
@@ -168,9 +165,9 @@ complete_with_declarators before middle after xs ys storage type names semicolon
     let begins = declarators_begin (declares_typedef storage) names middle after ys d2 in
     ap (λ row. read_declaration (level n) before row) (row_of_three xs ys (semicolon ∷ []) rest)
     ∙ go_read _ (c1 n (ys ++ (semicolon ∷ rest)) (omega (arith, small, levels)) (not_is _ (begins_apart begins_declarator goes_on_specifiers ys (semicolon ∷ rest) declarator_no_specifiers begins)))
-      (go_past (is_mark (codes ";")) (ys ++ (semicolon ∷ rest)) _ _ (begins_apart begins_declarator (is_mark (codes ";")) ys (semicolon ∷ rest) declarator_no_semicolon begins)
-      ∙ go_read _ (c2 n (length (ys ++ (semicolon ∷ rest)) + 1) (semicolon ∷ rest) (omega arith) (omega (arith, small, levels)) (ends_known (goes_on_list goes_on_declarator) (codes ";") semicolon rest p1 refl))
-        (go_true _ p1 (read_levels _ after rest (sym levels))))
+    (go_past (is_mark (codes ";")) (ys ++ (semicolon ∷ rest)) _ _ (begins_apart begins_declarator (is_mark (codes ";")) ys (semicolon ∷ rest) declarator_no_semicolon begins)
+    ∙ go_read _ (c2 n (length (ys ++ (semicolon ∷ rest)) + 1) (semicolon ∷ rest) (omega arith) (omega (arith, small, levels)) (ends_known (goes_on_list goes_on_declarator) (codes ";") semicolon rest p1 refl))
+    (go_true _ p1 (read_levels _ after rest (sym levels))))
 
 pub complete_one_declarator : (before after : Context) (xs : List Terminal) (typedef : Bool) (name : Declared)
     → Spells (Declarator typedef name) before xs after
@@ -178,8 +175,8 @@ pub complete_one_declarator : (before after : Context) (xs : List Terminal) (typ
     → Completes (Declarators typedef (name ∷ [])) before xs after
 complete_one_declarator before after xs typedef name d1 c1 n count rest enough small ends =
     list_of_one never (read_declarator (level n) typedef) count before (xs ++ rest) name (declared_levels name) after rest enough
-      (c1 n rest (omega (arith, small)) (ends_less (goes_on_list goes_on_declarator) goes_on_declarator rest (λ t off. or_false_left (goes_on_declarator t) (is_mark (codes ",") t) off) ends))
-      (ap (λ (b : Bool). b && true) (ends_first (is_mark (codes ",")) rest (ends_less (goes_on_list goes_on_declarator) (is_mark (codes ",")) rest (λ t off. or_false_right (goes_on_declarator t) (is_mark (codes ",") t) off) ends)))
+    (c1 n rest (omega (arith, small)) (ends_less (goes_on_list goes_on_declarator) goes_on_declarator rest (λ t off. or_false_left (goes_on_declarator t) (is_mark (codes ",") t) off) ends))
+    (ap (λ (b : Bool). b && true) (ends_first (is_mark (codes ",")) rest (ends_less (goes_on_list goes_on_declarator) (is_mark (codes ",")) rest (λ t off. or_false_right (goes_on_declarator t) (is_mark (codes ",") t) off) ends)))
     ∙ read_levels (name ∷ []) after rest (sym (joined_one (declared_levels name)))
 
 pub complete_more_declarators : (before middle after : Context) (xs ys : List Terminal) (typedef : Bool) (name : Declared) (others : List Declared) (comma : Terminal)
@@ -195,12 +192,12 @@ complete_more_declarators before middle after xs ys typedef name others comma d1
     let less : length (ys ++ rest) < count = let far = shorter_behind xs comma (ys ++ rest) in let same = ap (λ (r : List Terminal). length r) (row_of_two xs (comma ∷ ys) rest) in omega (arith, enough, far, same) in
     ap (λ row. read_list never (read_declarator (level n) typedef) (suc count) before row) (row_of_two xs (comma ∷ ys) rest)
     ∙ list_of_more never (read_declarator (level n) typedef) count before (xs ++ (comma ∷ (ys ++ rest))) name (declared_levels name) middle comma (ys ++ rest) others (joined depth (map declared_levels others)) after rest
-        (c1 n (comma ∷ (ys ++ rest)) (omega (arith, small)) (ends_known goes_on_declarator (codes ",") comma (ys ++ rest) p1 refl)) p1 refl (c2 n count rest less (omega (arith, small)) ends)
+    (c1 n (comma ∷ (ys ++ rest)) (omega (arith, small)) (ends_known goes_on_declarator (codes ",") comma (ys ++ rest) p1 refl)) p1 refl (c2 n count rest less (omega (arith, small)) ends)
 
 -- declarators
 declarator_front : (inner : Level) (typedef : Bool) (before : Context) (stars : List Terminal) (name : Terminal) (others : List Terminal) (result : Outcome Declared) → AreStars stars → IsName name
     → after_mark (codes "(") others (object_behind inner typedef name (length stars) before others) (λ opening more.
-        then_read (read_parameters inner before more) (λ params levels within end. Read (function name (length stars) params) levels (declaring (leaving within) name.bytes typedef) end)) ≡ result
+    then_read (read_parameters inner before more) (λ params levels within end. Read (function name (length stars) params) levels (declaring (leaving within) name.bytes typedef) end)) ≡ result
     → read_declarator inner typedef before (stars ++ (name ∷ others)) ≡ result
 unfolding read_declarator
 declarator_front inner typedef before stars name others result are is more =
@@ -228,9 +225,9 @@ complete_object_declarator before after xs typedef sizes stars name p1 p2 d1 c1 
     let levels = levels_object name (length stars) sizes in
     ap (λ row. read_declarator (level n) typedef before row) (row_of_two stars (name ∷ xs) rest)
     ∙ declarator_front (level n) typedef before stars name (xs ++ rest) _ p1 p2
-      (go_past (is_mark (codes "(")) (xs ++ rest) _ _ (sizes_first (is_mark (codes "(")) sizes before after xs rest d1 (λ t is. by_mark (is_mark (codes "(")) (codes "[") t is refl) (declarator_bracket rest ends))
-      ∙ go_read _ (c1 n (length (xs ++ rest) + 1) rest (omega arith) (omega (arith, small, levels)) (declarator_sizes rest ends))
-        (go_past (is_mark (codes "=")) rest _ _ (declarator_equals rest ends) ∙ read_levels _ (declaring after name.bytes typedef) rest (sym levels)))
+    (go_past (is_mark (codes "(")) (xs ++ rest) _ _ (sizes_first (is_mark (codes "(")) sizes before after xs rest d1 (λ t is. by_mark (is_mark (codes "(")) (codes "[") t is refl) (declarator_bracket rest ends))
+    ∙ go_read _ (c1 n (length (xs ++ rest) + 1) rest (omega arith) (omega (arith, small, levels)) (declarator_sizes rest ends))
+    (go_past (is_mark (codes "=")) rest _ _ (declarator_equals rest ends) ∙ read_levels _ (declaring after name.bytes typedef) rest (sym levels)))
 
 pub complete_initialized_declarator : (before middle after : Context) (xs ys : List Terminal) (typedef : Bool) (sizes : List (Option Expr)) (init : Init) (stars : List Terminal) (name mark : Terminal)
     → AreStars stars
@@ -247,9 +244,9 @@ complete_initialized_declarator before middle after xs ys typedef sizes init sta
     ap (λ row. read_declarator (level n) typedef before row) (row_of_two stars (name ∷ (xs ++ (mark ∷ ys))) rest)
     ∙ (ap (λ row. read_declarator (level n) typedef before (stars ++ (name ∷ row))) (row_of_two xs (mark ∷ ys) rest)
     ∙ declarator_front (level n) typedef before stars name (xs ++ (mark ∷ (ys ++ rest))) _ p1 p2
-      (go_past (is_mark (codes "(")) (xs ++ (mark ∷ (ys ++ rest))) _ _ (sizes_first (is_mark (codes "(")) sizes before middle xs (mark ∷ (ys ++ rest)) d1 (λ t is. by_mark (is_mark (codes "(")) (codes "[") t is refl) (by_mark (is_mark (codes "(")) (codes "=") mark p3 refl))
-      ∙ go_read _ (c1 n (length (xs ++ (mark ∷ (ys ++ rest))) + 1) (mark ∷ (ys ++ rest)) (omega arith) (omega (arith, small, levels)) (ends_known goes_on_sizes (codes "=") mark (ys ++ rest) p3 refl))
-        (go_true _ p3 (go_read _ (c2 n rest (omega (arith, small, levels)) (declarator_assignment rest ends)) (read_levels _ after rest (sym levels))))))
+    (go_past (is_mark (codes "(")) (xs ++ (mark ∷ (ys ++ rest))) _ _ (sizes_first (is_mark (codes "(")) sizes before middle xs (mark ∷ (ys ++ rest)) d1 (λ t is. by_mark (is_mark (codes "(")) (codes "[") t is refl) (by_mark (is_mark (codes "(")) (codes "=") mark p3 refl))
+    ∙ go_read _ (c1 n (length (xs ++ (mark ∷ (ys ++ rest))) + 1) (mark ∷ (ys ++ rest)) (omega arith) (omega (arith, small, levels)) (ends_known goes_on_sizes (codes "=") mark (ys ++ rest) p3 refl))
+    (go_true _ p3 (go_read _ (c2 n rest (omega (arith, small, levels)) (declarator_assignment rest ends)) (read_levels _ after rest (sym levels))))))
 
 pub complete_declarator_of_function : (before within : Context) (xs : List Terminal) (typedef : Bool) (name : List ℕ) (head : Declared)
     → Spells (FunctionDeclarator name head) before xs within
@@ -270,7 +267,7 @@ unfolding read_parameters
 complete_no_parameters before stars name opening closing p1 p2 p3 p4 n typedef rest small =
     ap (λ row. read_declarator (level n) typedef before row) (row_of_two stars (name ∷ (opening ∷ (closing ∷ []))) rest)
     ∙ declarator_front (level n) typedef before stars name (opening ∷ (closing ∷ rest)) _ p1 p2
-      (go_true _ p3 (go_read _ (go_true _ p4 refl) (read_levels _ (declaring (leaving (inside before)) name.bytes typedef) rest (sym (levels_function name (length stars) [])))))
+    (go_true _ p3 (go_read _ (go_true _ p4 refl) (read_levels _ (declaring (leaving (inside before)) name.bytes typedef) rest (sym (levels_function name (length stars) [])))))
 
 pub complete_void_parameters : (before : Context) (stars : List Terminal) (name opening word closing : Terminal)
     → AreStars stars
@@ -283,7 +280,7 @@ unfolding read_parameters
 complete_void_parameters before stars name opening word closing p1 p2 p3 p4 p5 n typedef rest small =
     ap (λ row. read_declarator (level n) typedef before row) (row_of_two stars (name ∷ (opening ∷ (word ∷ (closing ∷ [])))) rest)
     ∙ declarator_front (level n) typedef before stars name (opening ∷ (word ∷ (closing ∷ rest))) _ p1 p2
-      (go_true _ p3 (go_read _ (go_false _ (word_is_no_mark (codes "void") (codes ")") word p4) (go_true _ (and-both p4 p5) refl)) (read_levels _ (declaring (leaving (inside before)) name.bytes typedef) rest (sym (levels_function name (length stars) [])))))
+    (go_true _ p3 (go_read _ (go_false _ (word_is_no_mark (codes "void") (codes ")") word p4) (go_true _ (and-both p4 p5) refl)) (read_levels _ (declaring (leaving (inside before)) name.bytes typedef) rest (sym (levels_function name (length stars) [])))))
 
 -- a row in which no `)` stands behind the word `void` at its front
 abbrev goes_behind_void : List Terminal → Bool
@@ -405,12 +402,12 @@ complete_with_parameters before after xs params stars name opening closing p1 p2
     ap (λ row. read_declarator (level n) typedef before row) (row_of_two stars (name ∷ (opening ∷ (xs ++ (closing ∷ [])))) rest)
     ∙ (ap (λ row. read_declarator (level n) typedef before (stars ++ (name ∷ (opening ∷ row)))) (row_of_two xs (closing ∷ []) rest)
     ∙ declarator_front (level n) typedef before stars name (opening ∷ (xs ++ (closing ∷ rest))) _ p1 p2
-      (go_true _ p3 (go_read _
-        (go_false _ (declaration_row_no_mark (inside before).scope (codes ")") xs (closing ∷ rest) begins)
-        (go_false _ (no_void_alone xs (closing ∷ rest) (begins_some (begins_declaration (inside before).scope) xs begins) p4 (parameters_void params (inside before) after xs d1))
-        (go_read _ (c1 n (length (xs ++ (closing ∷ rest)) + 1) (closing ∷ rest) (omega arith) (omega (arith, small, levels)) (ends_known (goes_on_list goes_on_parameter) (codes ")") closing rest p5 refl))
-        (go_true _ p5 refl))))
-        (read_levels _ (declaring (leaving after) name.bytes typedef) rest (sym levels)))))
+    (go_true _ p3 (go_read _
+    (go_false _ (declaration_row_no_mark (inside before).scope (codes ")") xs (closing ∷ rest) begins)
+    (go_false _ (no_void_alone xs (closing ∷ rest) (begins_some (begins_declaration (inside before).scope) xs begins) p4 (parameters_void params (inside before) after xs d1))
+    (go_read _ (c1 n (length (xs ++ (closing ∷ rest)) + 1) (closing ∷ rest) (omega arith) (omega (arith, small, levels)) (ends_known (goes_on_list goes_on_parameter) (codes ")") closing rest p5 refl))
+    (go_true _ p5 refl))))
+    (read_levels _ (declaring (leaving after) name.bytes typedef) rest (sym levels)))))
 
 pub complete_one_parameter : (before after : Context) (xs : List Terminal) (param : Param)
     → Spells (Parameter param) before xs after
@@ -418,8 +415,8 @@ pub complete_one_parameter : (before after : Context) (xs : List Terminal) (para
     → Completes (Parameters (param ∷ [])) before xs after
 complete_one_parameter before after xs param d1 c1 n count rest enough small ends =
     list_of_one never (read_parameter (level n)) count before (xs ++ rest) param (param_levels param) after rest enough
-      (c1 n rest (omega (arith, small)) (ends_less (goes_on_list goes_on_parameter) goes_on_parameter rest (λ t off. or_false_left (goes_on_parameter t) (is_mark (codes ",") t) off) ends))
-      (ap (λ (b : Bool). b && true) (ends_first (is_mark (codes ",")) rest (ends_less (goes_on_list goes_on_parameter) (is_mark (codes ",")) rest (λ t off. or_false_right (goes_on_parameter t) (is_mark (codes ",") t) off) ends)))
+    (c1 n rest (omega (arith, small)) (ends_less (goes_on_list goes_on_parameter) goes_on_parameter rest (λ t off. or_false_left (goes_on_parameter t) (is_mark (codes ",") t) off) ends))
+    (ap (λ (b : Bool). b && true) (ends_first (is_mark (codes ",")) rest (ends_less (goes_on_list goes_on_parameter) (is_mark (codes ",")) rest (λ t off. or_false_right (goes_on_parameter t) (is_mark (codes ",") t) off) ends)))
     ∙ read_levels (param ∷ []) after rest (sym (joined_one (param_levels param)))
 
 pub complete_more_parameters : (before middle after : Context) (xs ys : List Terminal) (param : Param) (others : List Param) (comma : Terminal)
@@ -434,7 +431,7 @@ complete_more_parameters before middle after xs ys param others comma d1 p1 d2 c
     let less : length (ys ++ rest) < count = let far = shorter_behind xs comma (ys ++ rest) in let same = ap (λ (r : List Terminal). length r) (row_of_two xs (comma ∷ ys) rest) in omega (arith, enough, far, same) in
     ap (λ row. read_list never (read_parameter (level n)) (suc count) before row) (row_of_two xs (comma ∷ ys) rest)
     ∙ list_of_more never (read_parameter (level n)) count before (xs ++ (comma ∷ (ys ++ rest))) param (param_levels param) middle comma (ys ++ rest) others (joined depth (map param_levels others)) after rest
-        (c1 n (comma ∷ (ys ++ rest)) (omega (arith, small)) (ends_known goes_on_parameter (codes ",") comma (ys ++ rest) p1 refl)) p1 refl (c2 n count rest less (omega (arith, small)) ends)
+    (c1 n (comma ∷ (ys ++ rest)) (omega (arith, small)) (ends_known goes_on_parameter (codes ",") comma (ys ++ rest) p1 refl)) p1 refl (c2 n count rest less (omega (arith, small)) ends)
 
 parameter_specifiers : (rest : List Terminal) → Ends goes_on_parameter rest → Ends goes_on_specifiers rest
 parameter_specifiers rest ends = ends_less goes_on_parameter goes_on_specifiers rest (λ t off. or_false_left (goes_on_specifiers t) _ off) ends
@@ -478,8 +475,8 @@ complete_named_parameter before middle after xs ys storage type sizes stars name
     let levels = levels_parameter type (length stars) (Some name.bytes) sizes in
     ap (λ row. read_parameter (level n) before row) (row_of_three xs stars (name ∷ ys) rest)
     ∙ go_read _ (c1 n (stars ++ (name ∷ (ys ++ rest))) (omega (arith, small, levels)) (not_is _ (begins_no_specifiers stars name (ys ++ rest) p1 p2)))
-      (named_read (level n) type (spec_levels type) middle stars name (ys ++ rest) sizes (joined depth (map maybe_levels sizes)) after rest p1 p2 (c2 n (length (ys ++ rest) + 1) rest (omega arith) (omega (arith, small, levels)) (parameter_sizes rest ends))
-      ∙ read_levels _ (declaring after name.bytes false) rest (sym levels))
+    (named_read (level n) type (spec_levels type) middle stars name (ys ++ rest) sizes (joined depth (map maybe_levels sizes)) after rest p1 p2 (c2 n (length (ys ++ rest) + 1) rest (omega arith) (omega (arith, small, levels)) (parameter_sizes rest ends))
+    ∙ read_levels _ (declaring after name.bytes false) rest (sym levels))
   where
     begins_no_specifiers : (stars : List Terminal) (name : Terminal) (others : List Terminal) → AreStars stars → IsName name → has_first goes_on_specifiers (stars ++ (name ∷ others)) ≡ false
     begins_no_specifiers stars name others are is = stars_first goes_on_specifiers stars (name ∷ others) (λ t star. by_mark goes_on_specifiers (codes "*") t star refl) are (name_no_specifiers name is)
@@ -496,11 +493,11 @@ complete_unnamed_parameter before middle after xs ys storage type sizes stars d1
     let levels = levels_parameter type (length stars) None sizes in
     ap (λ row. read_parameter (level n) before row) (row_of_three xs stars ys rest)
     ∙ go_read _ (c1 n (stars ++ (ys ++ rest)) (omega (arith, small, levels)) (type_end stars sizes middle after ys rest goes_on_specifiers p1 d2 (λ t is. by_mark goes_on_specifiers (codes "*") t is refl) (λ t is. by_mark goes_on_specifiers (codes "[") t is refl) (ends_first goes_on_specifiers rest (parameter_specifiers rest ends))))
-      (unnamed_read (level n) type (spec_levels type) middle stars (ys ++ rest) sizes (joined depth (map maybe_levels sizes)) after rest p1
-        (sizes_first (is_mark (codes "*")) sizes middle after ys rest d2 (λ t is. by_mark (is_mark (codes "*")) (codes "[") t is refl) (parameter_star rest ends))
-        (sizes_first is_name sizes middle after ys rest d2 (λ t is. by_mark is_name (codes "[") t is refl) (parameter_name rest ends))
-        (c2 n (length (ys ++ rest) + 1) rest (omega arith) (omega (arith, small, levels)) (parameter_sizes rest ends))
-      ∙ read_levels _ after rest (sym levels))
+    (unnamed_read (level n) type (spec_levels type) middle stars (ys ++ rest) sizes (joined depth (map maybe_levels sizes)) after rest p1
+    (sizes_first (is_mark (codes "*")) sizes middle after ys rest d2 (λ t is. by_mark (is_mark (codes "*")) (codes "[") t is refl) (parameter_star rest ends))
+    (sizes_first is_name sizes middle after ys rest d2 (λ t is. by_mark is_name (codes "[") t is refl) (parameter_name rest ends))
+    (c2 n (length (ys ++ rest) + 1) rest (omega arith) (omega (arith, small, levels)) (parameter_sizes rest ends))
+    ∙ read_levels _ after rest (sym levels))
 
 -- initialisers
 abbrev begins_initializer : Terminal → Bool
@@ -584,10 +581,10 @@ complete_in_braces before after xs parts last opening closing p1 d1 p2 p3 c1 (su
     let ended = last_ends goes_on_assignment last closing rest (λ t is. by_mark goes_on_assignment (codes ",") t is refl) (λ t is. by_mark goes_on_assignment (codes "}") t is refl) p2 p3 in
     ap (λ row. read_initializer (level m) before (opening ∷ row)) (row_of_three xs last (closing ∷ []) rest)
     ∙ go_true _ p1
-      (braces_read (level m) before (xs ++ (last ++ (closing ∷ rest))) parts (joined depth (map init_part_levels parts)) after (last ++ (closing ∷ rest)) closing rest
-        (begins_apart begins_part (is_mark (codes "}")) xs (last ++ (closing ∷ rest)) part_no_brace (parts_begin parts before after xs d1))
-        (c1 m (length (xs ++ (last ++ (closing ∷ rest))) + 1) (last ++ (closing ∷ rest)) (omega arith) (omega (arith, small, levels)) ended closed.1) closed.0 p3
-      ∙ read_levels _ after rest (sym levels))
+    (braces_read (level m) before (xs ++ (last ++ (closing ∷ rest))) parts (joined depth (map init_part_levels parts)) after (last ++ (closing ∷ rest)) closing rest
+    (begins_apart begins_part (is_mark (codes "}")) xs (last ++ (closing ∷ rest)) part_no_brace (parts_begin parts before after xs d1))
+    (c1 m (length (xs ++ (last ++ (closing ∷ rest))) + 1) (last ++ (closing ∷ rest)) (omega arith) (omega (arith, small, levels)) ended closed.1) closed.0 p3
+    ∙ read_levels _ after rest (sym levels))
 
 pub complete_one_initializer : (before after : Context) (xs : List Terminal) (part : InitPart)
     → Spells (DesignatedInitializer part) before xs after
@@ -610,8 +607,8 @@ complete_more_initializers before middle after xs ys part others comma d1 p1 d2 
     let less : length (ys ++ rest) < count = let far = shorter_behind xs comma (ys ++ rest) in let same = ap (λ (r : List Terminal). length r) (row_of_two xs (comma ∷ ys) rest) in omega (arith, enough, far, same) in
     ap (λ row. read_list closes_braces (read_part (level n)) (suc count) before row) (row_of_two xs (comma ∷ ys) rest)
     ∙ list_of_more closes_braces (read_part (level n)) count before (xs ++ (comma ∷ (ys ++ rest))) part (init_part_levels part) middle comma (ys ++ rest) others (joined depth (map init_part_levels others)) after rest
-        (c1 n (comma ∷ (ys ++ rest)) (omega (arith, small)) (ends_known goes_on_assignment (codes ",") comma (ys ++ rest) p1 refl)) p1
-        (begins_apart begins_part (is_mark (codes "}")) ys rest part_no_brace (parts_begin others middle after ys d2)) (c2 n count rest less (omega (arith, small)) ends closes)
+    (c1 n (comma ∷ (ys ++ rest)) (omega (arith, small)) (ends_known goes_on_assignment (codes ",") comma (ys ++ rest) p1 refl)) p1
+    (begins_apart begins_part (is_mark (codes "}")) ys rest part_no_brace (parts_begin others middle after ys d2)) (c2 n count rest less (omega (arith, small)) ends closes)
 
 pub complete_next_part : (before after : Context) (xs : List Terminal) (init : Init)
     → Spells (Initializer init) before xs after

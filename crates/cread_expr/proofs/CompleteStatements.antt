@@ -1,5 +1,5 @@
 -- The reader of statements and blocks is complete, rule by rule of the grammar.
-use Rattle.std.proofs.Common.{◌≡◌, ℕ, zero, suc, ◌+◌, ◌<◌, ◌≤◌, Bool, true, false, ◌&&◌, ◌||◌, not, refl, ap, sym, ◌∙◌, List, [], ◌∷◌, ◌++◌, length, map, codes, cond, IsTrue, inl, inr, arith, Option, Some, None, ◌⊎◌}
+use Rattle.std.proofs.Common.{◌≡◌, ℕ, zero, suc, ◌+◌, ◌<◌, ◌≤◌, Bool, true, false, ◌&&◌, not, refl, ap, sym, ◌∙◌, List, [], ◌∷◌, ◌++◌, length, map, codes, IsTrue, inl, inr, arith, Option, Some, None, ◌⊎◌}
 use Rattle.std.specs.Prelude.{max}
 use Rattle.std.specs.List.{list_any}
 use Rattle.std.specs.Str.{bytes_eq}
@@ -8,34 +8,32 @@ use Rattle.cbase.specs.declared.tree.decl.Decl.{Decl}
 use Rattle.cbase.specs.declared.tree.expr.Expr.{Expr}
 use Rattle.cbase.specs.declared.tree.stmt.Stmt.{Stmt}
 use Rattle.cbase.specs.declared.tree.stmt.StmtForm.TheVariants.{Declare, Eval, Block, If, While, Do, For, Break, Continue, Return}
-use Rattle.ctokens.specs.declared.token.TokenKind.TheVariants.{Word, Mark}
+use Rattle.ctokens.specs.declared.token.TokenKind.TheVariants.{Word}
 use Rattle.ctokens.specs.Symbol.{keyword_symbol, name_symbol, passed_symbol}
 use Rattle.ctrees.specs.Weight.{joined}
-use Rattle.ctrees.specs.Levels.{depth, decl_levels, expr_levels, maybe_levels, stmt_levels, statement_form_levels}
-use Rattle.cread_expr.proofs.CompletingOutcomes.{go_true, go_false, go_read, go_past, is_not, not_is, no_truth, never_true, ends_first, ends_less, or_false_left, or_false_right, braces_of_none, braces_of_more, row_of_two, row_of_three}
-use Rattle.cread_expr.proofs.CompletingTokens.{by_mark, by_word, word_is, mark_is, begins_apart, operand_no_mark, operand_row_no_mark}
+use Rattle.ctrees.specs.Levels.{depth, decl_levels, expr_levels, maybe_levels, stmt_levels}
+use Rattle.cread_expr.proofs.CompletingOutcomes.{go_true, go_false, go_read, go_past, is_not, not_is, no_truth, never_true, braces_of_none, braces_of_more, row_of_two, row_of_three}
+use Rattle.cread_expr.proofs.CompletingTokens.{by_mark, by_word, begins_apart, operand_no_mark, operand_row_no_mark}
 use Rattle.cread_expr.proofs.CompletingParts.{read_levels, ends_known, expression_read, not_declaration_row, declaration_row, declaration_row_no_mark, fewer}
 use Rattle.cread_expr.proofs.Contexts.{scopes_kept}
-use Rattle.cread_expr.proofs.Firsts.{first, begins-append}
+use Rattle.cread_expr.proofs.Firsts.{first}
 use Rattle.cread_expr.proofs.Fronts.{front_of_both}
 use Rattle.cread_expr.proofs.Labels.{labels_apart}
 use Rattle.cread_expr.proofs.Reached.{Completes, Ends, goes_on_expression, goes_on_statement}
 use Rattle.cread_expr.proofs.Scopes.{left_entered}
 use Rattle.cread_expr.proofs.Starting.{starts, operand_not_mark, operand_not_word, statement_not_mark, statement_not_else}
-use Rattle.cread_expr.proofs.TokenKinds.{named_words, other_mark, other_word, mark_is_no_name, mark_is_no_word, word_bytes}
+use Rattle.cread_expr.proofs.TokenKinds.{named_words, other_mark, other_word, mark_is_no_name, mark_is_no_word}
 use Rattle.cread_expr.proofs.TreeLevels.{levels_stmt, levels_declare, levels_empty, levels_eval, levels_block, levels_if, levels_if_else, levels_while, levels_do, levels_for, levels_break, levels_continue, levels_return_nothing, levels_return}
-use Rattle.cread_expr.proofs.Truth.{and-left, and-right, and-both, or-cases, or-left, or-right}
+use Rattle.cread_expr.proofs.Truth.{and-both}
 use Rattle.cread_expr.specs.Firsts.{begins_declaration, Begins}
-use Rattle.cread_expr.specs.FrontOf.{front_of}
 use Rattle.cread_expr.specs.FrontReadings.{begins_with_label}
 use Rattle.cread_expr.specs.Grammar.{Spells, inside, outside, NoMoreItems, NextDeclaration, NextStatement}
-use Rattle.cread_expr.specs.Outcomes.{Outcome, Nothing, Read, then_read, after_first, after_mark, has_first, has_mark, behind_first}
-use Rattle.cread_expr.specs.Phrases.{Phrase, Context, scoped, Expression, Declaration, CompoundStatement, BlockItems, Statement, FirstClause, MaybeExpression}
-use Rattle.cread_expr.specs.ReadDeclarations.{leaving, read_declaration}
+use Rattle.cread_expr.specs.Outcomes.{Read, has_first, has_mark}
+use Rattle.cread_expr.specs.Phrases.{Context, scoped, Expression, Declaration, CompoundStatement, BlockItems, Statement, FirstClause, MaybeExpression}
+use Rattle.cread_expr.specs.ReadDeclarations.{leaving}
 use Rattle.cread_expr.specs.ReadLevels.{Level, read_until_brace}
-use Rattle.cread_expr.specs.ReadOperands.{goes_on}
 use Rattle.cread_expr.specs.ReadStarts.{postfix_start, statement_start}
-use Rattle.cread_expr.specs.ReadStatements.{read_block, read_maybe, declared_statement, expression_statement, read_clause, untyped, otherwise_behind, read_if, read_while, read_do, read_for, read_return, statement_with, read_unlabeled, read_statement, read_item}
+use Rattle.cread_expr.specs.ReadStatements.{read_block, read_maybe, read_clause, untyped, read_if, read_while, read_do, read_for, read_return, statement_with, read_unlabeled, read_statement, read_item}
 use Rattle.cread_expr.specs.Reader.{level}
 use Rattle.cread_expr.specs.Scope.{Names, left}
 use Rattle.cread_expr.specs.Starts.{begins_operand, begins_statement, operand_words}
@@ -59,7 +57,7 @@ unfolding read_block
 complete_one_block before within xs body opening closing p1 d1 p2 c1 n rest small =
     ap (λ row. read_block (level n) before (opening ∷ row)) (row_of_two xs (closing ∷ []) rest)
     ∙ go_true _ p1 (go_read _ (c1 n (length (xs ++ (closing ∷ rest)) + 1) (closing ∷ rest) (omega arith) small p2)
-      (ap (λ (c : Context). Read body (joined depth (map stmt_levels body)) c rest) (left_outside before within (scopes_kept (BlockItems body) (inside before) within xs d1 ∙ left_entered before.scope))))
+    (ap (λ (c : Context). Read body (joined depth (map stmt_levels body)) c rest) (left_outside before within (scopes_kept (BlockItems body) (inside before) within xs d1 ∙ left_entered before.scope))))
 
 pub complete_no_more_items : (before : Context)
     → Completes (BlockItems []) before [] before
@@ -71,8 +69,8 @@ clause_of_declaration : (m : ℕ) (before after : Context) (xs rest : List Termi
 unfolding read_clause
 clause_of_declaration m before after xs rest decl spelled completes small =
     go_true _ (declaration_row before.scope xs rest (first spelled)) (go_read _ (completes m rest small)
-      (ap (λ (front : List Terminal). Read (statement (first_place front) (last_place front) (Declare decl)) (1 + decl_levels decl) after rest) (front_of_both xs rest)
-      ∙ read_levels _ after rest (sym (levels_declare (first_place xs) (last_place xs) decl))))
+    (ap (λ (front : List Terminal). Read (statement (first_place front) (last_place front) (Declare decl)) (1 + decl_levels decl) after rest) (front_of_both xs rest)
+    ∙ read_levels _ after rest (sym (levels_declare (first_place xs) (last_place xs) decl))))
 
 item_of_declaration : (m : ℕ) (before : Context) (xs rest : List Terminal) → Begins (begins_declaration before.scope) xs → read_item (level m) before (xs ++ rest) ≡ read_clause (level m) before (xs ++ rest)
 unfolding read_item
@@ -91,9 +89,9 @@ complete_next_declaration before middle after xs ys decl others d1 d2 c1 c2 (suc
     let less : length (ys ++ rest) < count = let far = fewer (begins_declaration before.scope) xs (ys ++ rest) (first d1) in let same = ap (λ (r : List Terminal). length r) (row_of_two xs ys rest) in omega (arith, enough, far, same) in
     ap (λ row. read_until_brace (level (suc m)).item (suc count) before row) (row_of_two xs ys rest)
     ∙ braces_of_more (level (suc m)).item count before (xs ++ (ys ++ rest)) (statement (first_place xs) (last_place xs) (Declare decl)) (stmt_levels (statement (first_place xs) (last_place xs) (Declare decl))) middle (ys ++ rest) others (joined depth (map stmt_levels others)) after rest
-        (declaration_row_no_mark before.scope (codes "}") xs (ys ++ rest) (first d1))
-        (item_of_declaration m before xs (ys ++ rest) (first d1) ∙ clause_of_declaration m before middle xs (ys ++ rest) decl d1 c1 (omega (arith, small, levels)))
-        (c2 (suc m) count rest less (omega (arith, small)) closes)
+    (declaration_row_no_mark before.scope (codes "}") xs (ys ++ rest) (first d1))
+    (item_of_declaration m before xs (ys ++ rest) (first d1) ∙ clause_of_declaration m before middle xs (ys ++ rest) decl d1 c1 (omega (arith, small, levels)))
+    (c2 (suc m) count rest less (omega (arith, small)) closes)
 
 item_of_statement : (m : ℕ) (before : Context) (xs rest : List Terminal) → Begins (λ t. not (begins_declaration before.scope t)) xs → read_item (level m) before (xs ++ rest) ≡ read_statement (level m) before (xs ++ rest)
 unfolding read_item
@@ -139,9 +137,9 @@ complete_next_statement before middle after xs ys dangling stmt others d1 d2 c1 
     let less : length (ys ++ rest) < count = let far = fewer begins_statement xs (ys ++ rest) (starts d1) in let same = ap (λ (r : List Terminal). length r) (row_of_two xs ys rest) in omega (arith, enough, far, same) in
     ap (λ row. read_until_brace (level (suc m)).item (suc count) before row) (row_of_two xs ys rest)
     ∙ braces_of_more (level (suc m)).item count before (xs ++ (ys ++ rest)) stmt (stmt_levels stmt) middle (ys ++ rest) others (joined depth (map stmt_levels others)) after rest
-        (begins_apart begins_statement (is_mark (codes "}")) xs (ys ++ rest) statement_no_brace (starts d1))
-        (item_of_statement m before xs (ys ++ rest) (first d1) ∙ c1 (suc m) (ys ++ rest) (omega (arith, small)) (no_else_ends dangling (ys ++ rest) (items_no_else others middle after ys rest d2 (brace_no_else rest closes))))
-        (c2 (suc m) count rest less (omega (arith, small)) closes)
+    (begins_apart begins_statement (is_mark (codes "}")) xs (ys ++ rest) statement_no_brace (starts d1))
+    (item_of_statement m before xs (ys ++ rest) (first d1) ∙ c1 (suc m) (ys ++ rest) (omega (arith, small)) (no_else_ends dangling (ys ++ rest) (items_no_else others middle after ys rest d2 (brace_no_else rest closes))))
+    (c2 (suc m) count rest less (omega (arith, small)) closes)
 
 -- expressions that may be left out
 pub complete_no_expression : (before : Context)
@@ -195,9 +193,9 @@ clause_of_expression m before after xs expr semicolon rest none spelled is compl
     go_false _ (not_declaration_row before.scope xs (semicolon ∷ rest) (first spelled) none)
     (go_past (is_mark (codes ";")) (xs ++ (semicolon ∷ rest)) _ _ (operand_row_no_mark (codes ";") xs (semicolon ∷ rest) refl (starts spelled))
     ∙ go_read _ (expression_read m before xs expr after (semicolon ∷ rest) completes small (ends_known goes_on_expression (codes ";") semicolon rest is refl))
-      (go_true _ is
-        (ap (λ (place : Place). Read (statement place semicolon.place (Eval (Some expr))) (1 + expr_levels expr) after rest) (place_of_front xs (semicolon ∷ rest) (starts spelled))
-        ∙ read_levels _ after rest (sym (levels_eval (first_place xs) semicolon.place expr)))))
+    (go_true _ is
+    (ap (λ (place : Place). Read (statement place semicolon.place (Eval (Some expr))) (1 + expr_levels expr) after rest) (place_of_front xs (semicolon ∷ rest) (starts spelled))
+    ∙ read_levels _ after rest (sym (levels_eval (first_place xs) semicolon.place expr)))))
 
 pub complete_first_declaration : (before after : Context) (xs : List Terminal) (decl : Decl)
     → Spells (Declaration decl) before xs after
@@ -254,8 +252,8 @@ block_statement m before within [] rest body begins is = absurd begins
 block_statement m before within (opening ∷ xs) rest body begins is =
     block_front (level m) before opening (xs ++ rest) begins
     ∙ go_read _ is
-      (ap (λ (front : List Terminal). Read (statement opening.place (last_place front) (Block body)) (1 + joined depth (map stmt_levels body)) within rest) (front_of_both (opening ∷ xs) rest)
-      ∙ read_levels _ within rest (sym (levels_block opening.place (last_place (opening ∷ xs)) body)))
+    (ap (λ (front : List Terminal). Read (statement opening.place (last_place front) (Block body)) (1 + joined depth (map stmt_levels body)) within rest) (front_of_both (opening ∷ xs) rest)
+    ∙ read_levels _ within rest (sym (levels_block opening.place (last_place (opening ∷ xs)) body)))
 
 pub complete_block_statement : (before within : Context) (xs : List Terminal) (body : List Stmt)
     → Spells (CompoundStatement body) before xs within
@@ -357,8 +355,8 @@ complete_if_statement before middle after xs ys test dangling stmt word opening 
     ap (λ row. read_statement (level m) before (word ∷ (opening ∷ row))) (row_of_two xs (closing ∷ ys) rest)
     ∙ (statement_of_word (level m) before (codes "if") word (opening ∷ (xs ++ (closing ∷ (ys ++ rest)))) start.If p1 refl refl
     ∙ go_true _ p2 (go_read _ (untyped_read m before middle xs test closing (ys ++ rest) p3 d1 p4 c1 (omega (arith, small, levels)))
-      (go_true _ p4 (go_read _ (c2 m rest (omega (arith, small, levels)) (no_else_ends dangling rest (rest_no_else rest ends)))
-      (go_past (is_word (codes "else")) rest _ _ (rest_no_else rest ends) ∙ read_levels _ after rest (sym levels))))))
+    (go_true _ p4 (go_read _ (c2 m rest (omega (arith, small, levels)) (no_else_ends dangling rest (rest_no_else rest ends)))
+    (go_past (is_word (codes "else")) rest _ _ (rest_no_else rest ends) ∙ read_levels _ after rest (sym levels))))))
 
 row_of_else : (xs : List Terminal) (closing : Terminal) (ys : List Terminal) (otherwise : Terminal) (zs rest : List Terminal) → (xs ++ (closing ∷ (ys ++ (otherwise ∷ zs)))) ++ rest ≡ xs ++ (closing ∷ (ys ++ (otherwise ∷ (zs ++ rest))))
 row_of_else xs closing ys otherwise zs rest = row_of_two xs (closing ∷ (ys ++ (otherwise ∷ zs))) rest ∙ ap (λ (row : List Terminal). xs ++ (closing ∷ row)) (row_of_two ys (otherwise ∷ zs) rest)
@@ -383,8 +381,8 @@ complete_if_else_statement before first second after xs ys zs test dangling one 
     ap (λ row. read_statement (level m) before (word ∷ (opening ∷ row))) (row_of_else xs closing ys otherwise zs rest)
     ∙ (statement_of_word (level m) before (codes "if") word (opening ∷ (xs ++ (closing ∷ (ys ++ (otherwise ∷ (zs ++ rest)))))) start.If p1 refl refl
     ∙ go_true _ p2 (go_read _ (untyped_read m before first xs test closing (ys ++ (otherwise ∷ (zs ++ rest))) p3 d1 p4 c1 (omega (arith, small, levels)))
-      (go_true _ p4 (go_read _ (c2 m (otherwise ∷ (zs ++ rest)) (omega (arith, small, levels)) refl)
-      (go_true _ p5 (go_read _ (c3 m rest (omega (arith, small, levels)) ends) (read_levels _ after rest (sym levels))))))))
+    (go_true _ p4 (go_read _ (c2 m (otherwise ∷ (zs ++ rest)) (omega (arith, small, levels)) refl)
+    (go_true _ p5 (go_read _ (c3 m rest (omega (arith, small, levels)) ends) (read_levels _ after rest (sym levels))))))))
 
 pub complete_while_statement : (before middle after : Context) (xs ys : List Terminal) (test : Expr) (dangling : Bool) (body : Stmt) (word opening closing : Terminal)
     → IsWord (codes "while") word
@@ -403,7 +401,7 @@ complete_while_statement before middle after xs ys test dangling body word openi
     ap (λ row. read_statement (level m) before (word ∷ (opening ∷ row))) (row_of_two xs (closing ∷ ys) rest)
     ∙ (statement_of_word (level m) before (codes "while") word (opening ∷ (xs ++ (closing ∷ (ys ++ rest)))) start.While p1 refl refl
     ∙ go_true _ p2 (go_read _ (untyped_read m before middle xs test closing (ys ++ rest) p3 d1 p4 c1 (omega (arith, small, levels)))
-      (go_true _ p4 (go_read _ (c2 m rest (omega (arith, small, levels)) ends) (read_levels _ after rest (sym levels))))))
+    (go_true _ p4 (go_read _ (c2 m rest (omega (arith, small, levels)) ends) (read_levels _ after rest (sym levels))))))
 
 row_of_do : (xs : List Terminal) (while opening : Terminal) (ys : List Terminal) (closing semicolon : Terminal) (rest : List Terminal)
     → (xs ++ (while ∷ (opening ∷ (ys ++ (closing ∷ (semicolon ∷ [])))))) ++ rest ≡ xs ++ (while ∷ (opening ∷ (ys ++ (closing ∷ (semicolon ∷ rest)))))
@@ -428,8 +426,8 @@ complete_do_statement before middle after xs ys test dangling body word while op
     ap (λ row. read_statement (level m) before (word ∷ row)) (row_of_do xs while opening ys closing semicolon rest)
     ∙ (statement_of_word (level m) before (codes "do") word (xs ++ (while ∷ (opening ∷ (ys ++ (closing ∷ (semicolon ∷ rest)))))) start.Do p1 refl refl
     ∙ go_read _ (c1 m (while ∷ (opening ∷ (ys ++ (closing ∷ (semicolon ∷ rest))))) (omega (arith, small, levels)) (no_else_ends dangling (while ∷ (opening ∷ (ys ++ (closing ∷ (semicolon ∷ rest))))) (other_word (codes "while") (codes "else") while refl p2)))
-      (go_true _ p2 (go_true _ p3 (go_read _ (untyped_read m middle after ys test closing (semicolon ∷ rest) p4 d2 p5 c2 (omega (arith, small, levels)))
-      (go_true _ p5 (go_true _ p6 (read_levels _ after rest (sym levels))))))))
+    (go_true _ p2 (go_true _ p3 (go_read _ (untyped_read m middle after ys test closing (semicolon ∷ rest) p4 d2 p5 c2 (omega (arith, small, levels)))
+    (go_true _ p5 (go_true _ p6 (read_levels _ after rest (sym levels))))))))
 
 row_of_for : (ws xs : List Terminal) (semicolon : Terminal) (ys : List Terminal) (closing : Terminal) (zs rest : List Terminal)
     → (ws ++ (xs ++ (semicolon ∷ (ys ++ (closing ∷ zs))))) ++ rest ≡ ws ++ (xs ++ (semicolon ∷ (ys ++ (closing ∷ (zs ++ rest)))))
@@ -458,11 +456,11 @@ complete_for_statement before one two three after ws xs ys zs first test next da
     ap (λ row. read_statement (level m) before (word ∷ (opening ∷ row))) (row_of_for ws xs semicolon ys closing zs rest)
     ∙ (statement_of_word (level m) before (codes "for") word (opening ∷ (ws ++ (xs ++ (semicolon ∷ (ys ++ (closing ∷ (zs ++ rest))))))) start.For p1 refl refl
     ∙ go_true _ p2 (go_read _ (c1 m (xs ++ (semicolon ∷ (ys ++ (closing ∷ (zs ++ rest))))) (omega (arith, small, levels)))
-      (go_read _ (c2 m (is_mark (codes ";")) (semicolon ∷ (ys ++ (closing ∷ (zs ++ rest)))) (omega (arith, small, levels)) p3 (λ t is. inr is))
-      (go_true _ p3 (go_read _ (c3 m (is_mark (codes ")")) (closing ∷ (zs ++ rest)) (omega (arith, small, levels)) p4 (λ t is. inl is))
-      (go_true _ p4 (go_read _ (c4 m rest (omega (arith, small, levels)) ends)
-        (ap (λ (c : Context). Read (statement word.place body.after (For first test next body)) (1 + max (max (stmt_levels first) (maybe_levels test)) (max (maybe_levels next) (stmt_levels body))) c rest) (left_outside before after kept)
-        ∙ read_levels _ (outside before after) rest (sym levels)))))))))
+    (go_read _ (c2 m (is_mark (codes ";")) (semicolon ∷ (ys ++ (closing ∷ (zs ++ rest)))) (omega (arith, small, levels)) p3 (λ t is. inr is))
+    (go_true _ p3 (go_read _ (c3 m (is_mark (codes ")")) (closing ∷ (zs ++ rest)) (omega (arith, small, levels)) p4 (λ t is. inl is))
+    (go_true _ p4 (go_read _ (c4 m rest (omega (arith, small, levels)) ends)
+    (ap (λ (c : Context). Read (statement word.place body.after (For first test next body)) (1 + max (max (stmt_levels first) (maybe_levels test)) (max (maybe_levels next) (stmt_levels body))) c rest) (left_outside before after kept)
+    ∙ read_levels _ (outside before after) rest (sym levels)))))))))
 
 pub complete_break_statement : (before : Context) (word semicolon : Terminal)
     → IsWord (codes "break") word

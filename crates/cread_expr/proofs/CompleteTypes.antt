@@ -1,9 +1,7 @@
 -- The reader of types is complete, rule by rule of the grammar.
 use Rattle.std.proofs.Common.{◌≡◌, ℕ, zero, suc, ◌+◌, ◌<◌, ◌≤◌, Bool, true, false, ◌&&◌, ◌||◌, not, refl, ap, sym, ◌∙◌, List, [], ◌∷◌, ◌++◌, length, map, take, drop, codes, cond, IsTrue, inl, inr, arith, append_assoc, Option, Some, None, ◌⊎◌}
-use Rattle.std.specs.Prelude.{max, is_some}
+use Rattle.std.specs.Prelude.{is_some}
 use Rattle.std.specs.List.{list_all, prefix_len}
-use Rattle.std.proofs.lemmas.List.{length-append}
-use Rattle.cbase.specs.declared.place.Place.{Place}
 use Rattle.cbase.specs.declared.tree.decl.TypeName.{TypeName}
 use Rattle.cbase.specs.declared.tree.expr.Expr.{Expr}
 use Rattle.cbase.specs.declared.tree.spec.BasicType.{BasicType}
@@ -14,33 +12,31 @@ use Rattle.cbase.specs.declared.tree.spec.TypeSpec.{TypeSpec}
 use Rattle.cbase.specs.declared.tree.spec.TypeSpec.TheVariants.{Basic, Named, Struct, Enum, OfExpr, OfType}
 use Rattle.ctokens.specs.Symbol.{keyword_symbol, name_symbol, passed_symbol}
 use Rattle.ctrees.specs.Weight.{joined}
-use Rattle.ctrees.specs.Levels.{depth, enumerator_levels, expr_levels, field_decl_levels, field_name_levels, maybe_levels, spec_levels, type_name_levels}
+use Rattle.ctrees.specs.Levels.{depth, enumerator_levels, field_decl_levels, field_name_levels}
 use Rattle.cread_expr.proofs.BasicRows.{basic_covered}
-use Rattle.cread_expr.proofs.CompletingOutcomes.{go_true, go_false, go_read, go_past, go_prepended, is_not, not_is, neither_left, neither_right, neither, no_truth, never_true, ends_first, ends_by, ends_less, or_false_left, or_false_right, exactly, list_of_one, list_of_more, braces_of_none, braces_of_more, row_of_two, row_of_three, shorter_behind}
-use Rattle.cread_expr.proofs.CompletingTokens.{mark_is, word_is, by_mark, by_word, name_no_basic_word, name_no_storage, name_no_type, name_no_specifiers, begins_apart, begins_as, operand_no_mark, operand_row_no_mark, stars_front, behind_stars_front, stars_first, begins_declarator, stars_and_name, declarator_apart}
-use Rattle.cread_expr.proofs.CompletingParts.{read_levels, ends_known, ends_token, expression_read, assignment_read, conditional_read, not_type_row, type_row, type_row_no_mark, sizes_first, fewer}
+use Rattle.cread_expr.proofs.CompletingOutcomes.{go_true, go_false, go_read, go_past, go_prepended, is_not, not_is, no_truth, never_true, ends_first, ends_less, or_false_left, or_false_right, list_of_one, list_of_more, braces_of_none, braces_of_more, row_of_two, row_of_three, shorter_behind}
+use Rattle.cread_expr.proofs.CompletingTokens.{by_mark, by_word, name_no_basic_word, name_no_type, begins_apart, operand_row_no_mark, stars_front, behind_stars_front, stars_first, begins_declarator, stars_and_name, declarator_apart}
+use Rattle.cread_expr.proofs.CompletingParts.{read_levels, ends_known, expression_read, conditional_read, not_type_row, type_row, type_row_no_mark, sizes_first, fewer}
 use Rattle.cread_expr.proofs.Firsts.{first, begins-append}
 use Rattle.cread_expr.proofs.Fronts.{take_front, drop_front}
-use Rattle.cread_expr.proofs.Reached.{Completes, Goes, Ends, ClosesList, goes_on_operand, goes_on_conditional, goes_on_assignment, goes_on_expression, goes_on_type, goes_on_sizes, goes_on_type_name, goes_on_field, goes_on_list, goes_on_enumerator}
+use Rattle.cread_expr.proofs.Reached.{Completes, Ends, ClosesList, goes_on_conditional, goes_on_expression, goes_on_type, goes_on_sizes, goes_on_type_name, goes_on_field, goes_on_list, goes_on_enumerator}
 use Rattle.cread_expr.proofs.Starting.{starts}
 use Rattle.cread_expr.proofs.TokenKinds.{name_is_no_mark, other_mark, mark_is_no_name}
 use Rattle.cread_expr.proofs.TreeLevels.{levels_basic, levels_named, levels_struct_by_tag, levels_struct, levels_enum_by_tag, levels_enum, levels_of_expr, levels_of_type, levels_type_name, levels_fields, levels_field, levels_bits, levels_unnamed_bits, levels_enumerator, levels_valued_enumerator, joined_one}
-use Rattle.cread_expr.proofs.Truth.{and-left, and-right, and-both, or-cases, or-left, or-right}
+use Rattle.cread_expr.proofs.Truth.{and-left, or-cases, or-left, or-right}
 use Rattle.cread_expr.specs.FrontReadings.{is_basic_word}
 use Rattle.cread_expr.specs.Firsts.{begins_type, Begins}
 use Rattle.cread_expr.specs.Grammar.{Spells, IsTag, IsMaybeComma, declaring, OneFieldDeclaration, OneField, MoreFieldNames, NamedField, NamedBits, UnnamedBits, LastEnumerator, MoreEnumerators, PlainEnumerator, ValuedEnumerator}
-use Rattle.cread_expr.specs.Outcomes.{Outcome, Nothing, Stopped, Read, then_read, after_first, after_mark, has_first, has_mark, behind_first}
-use Rattle.cread_expr.specs.Phrases.{Phrase, Context, Expression, Conditional, TypeSpecifier, NameOfType, ArraySizes, Fields, FieldDeclaration, FieldDeclarators, FieldDeclarator, Enumerators, OneEnumerator}
+use Rattle.cread_expr.specs.Outcomes.{Outcome, Nothing, Read, then_read, has_first, has_mark, behind_first}
+use Rattle.cread_expr.specs.Phrases.{Context, Expression, Conditional, TypeSpecifier, NameOfType, ArraySizes, Fields, FieldDeclaration, FieldDeclarators, FieldDeclarator, Enumerators, OneEnumerator}
 use Rattle.cread_expr.specs.ReadLevels.{Level, read_list, read_until_brace}
-use Rattle.cread_expr.specs.ReadOperands.{goes_on}
 use Rattle.cread_expr.specs.ReadStarts.{postfix_start, type_start}
-use Rattle.cread_expr.specs.ReadTypes.{star_count, behind_stars, read_sizes, read_type_name, read_field, named_field, bits_behind, read_fields, read_enumerator, never, closes_braces, behind_comma, tag_at, behind_tag, read_struct, read_enum, type_of, of_basic, read_basic, specifier_with, read_specifier}
+use Rattle.cread_expr.specs.ReadTypes.{behind_stars, read_sizes, read_type_name, read_field, named_field, bits_behind, read_fields, read_enumerator, never, closes_braces, behind_comma, tag_at, behind_tag, read_struct, read_enum, of_basic, read_basic, specifier_with, read_specifier}
 use Rattle.cread_expr.specs.Reader.{level}
 use Rattle.cread_expr.specs.Scope.{Names}
 use Rattle.cread_expr.specs.Terminals.{Terminal, IsWord, is_mark, IsMark, is_name, IsName, is_typedef, IsTypedef, IsNoType, AreStars, bytes_of}
 use Rattle.cread_expr.specs.Trees.{field, fields, enumerator, type_name}
 use Rattle.cread_expr.specs.TypeWords.{basic_rows, basic_of, IsBasic}
-use Rattle.cread_expr.specs.declared.reading.starts.TypeStart.{TypeStart}
 use Rattle.cread_expr.specs.declared.reading.starts.TypeStart.TheVariants as start
 
 -- how a type begins
@@ -87,8 +83,8 @@ complete_type_of_expression before after xs expr word opening closing p1 p2 p3 d
     ap (λ row. read_specifier (level m) before (word ∷ (opening ∷ row))) (row_of_two xs (closing ∷ []) rest)
     ∙ (ap (λ s. specifier_with (level m) before word (opening ∷ (xs ++ (closing ∷ rest))) s) (typeof_start before.scope word p1)
     ∙ go_true _ p2 (go_false _ (not_type_row before.scope xs (closing ∷ rest) (first d1) p3)
-      (go_read _ (expression_read m before xs expr after (closing ∷ rest) c1 (omega (arith, small, levels_of_expr expr)) (ends_known goes_on_expression (codes ")") closing rest p4 refl))
-      (go_true _ p4 (read_levels _ after rest (sym (levels_of_expr expr)))))))
+    (go_read _ (expression_read m before xs expr after (closing ∷ rest) c1 (omega (arith, small, levels_of_expr expr)) (ends_known goes_on_expression (codes ")") closing rest p4 refl))
+    (go_true _ p4 (read_levels _ after rest (sym (levels_of_expr expr)))))))
 
 pub complete_type_of_type : (before after : Context) (xs : List Terminal) (to : TypeName) (word opening closing : Terminal)
     → IsWord (codes "typeof") word
@@ -103,8 +99,8 @@ complete_type_of_type before after xs to word opening closing p1 p2 d1 p3 c1 (su
     ap (λ row. read_specifier (level m) before (word ∷ (opening ∷ row))) (row_of_two xs (closing ∷ []) rest)
     ∙ (ap (λ s. specifier_with (level m) before word (opening ∷ (xs ++ (closing ∷ rest))) s) (typeof_start before.scope word p1)
     ∙ go_true _ p2 (go_true _ (type_row before.scope xs (closing ∷ rest) (first d1))
-      (go_read _ (c1 m (closing ∷ rest) (omega (arith, small, levels_of_type to)) (ends_known goes_on_type_name (codes ")") closing rest p3 refl))
-      (go_true _ p3 (read_levels _ after rest (sym (levels_of_type to)))))))
+    (go_read _ (c1 m (closing ∷ rest) (omega (arith, small, levels_of_type to)) (ends_known goes_on_type_name (codes ")") closing rest p3 refl))
+    (go_true _ p3 (read_levels _ after rest (sym (levels_of_type to)))))))
 
 -- keywords of a basic type
 prefix_all : (test : Terminal → Bool) (row rest : List Terminal) → length row ≤ prefix_len test row → has_first test rest ≡ false → prefix_len test (row ++ rest) ≡ length row
@@ -226,7 +222,7 @@ complete_struct_with_fields before after xs name declarations tag word opening c
     ap (λ row. read_specifier (level m) before (word ∷ row)) (row_of_braces tag opening xs closing rest)
     ∙ (ap (λ s. specifier_with (level m) before word (tag ++ (opening ∷ (xs ++ (closing ∷ rest)))) s) (struct_start before.scope word p1)
     ∙ (struct_read (level m) before (tag ++ (opening ∷ (xs ++ (closing ∷ rest)))) name opening (xs ++ (closing ∷ rest)) declarations (joined depth (map field_decl_levels declarations)) after (closing ∷ rest)
-        facts.0 facts.1 p3 (c1 m (length (opening ∷ (xs ++ (closing ∷ rest)))) (closing ∷ rest) (omega arith) (omega (arith, small, levels_struct name declarations)) p4)
+    facts.0 facts.1 p3 (c1 m (length (opening ∷ (xs ++ (closing ∷ rest)))) (closing ∷ rest) (omega arith) (omega (arith, small, levels_struct name declarations)) p4)
     ∙ read_levels _ after rest (sym (levels_struct name declarations))))
 
 -- what closes a list in braces: a comma, or none, before the brace
@@ -267,7 +263,7 @@ complete_enum_with_values before after xs name values tag last word opening clos
     ap (λ row. read_specifier (level m) before (word ∷ row)) (row_of_list tag opening xs last closing rest)
     ∙ (ap (λ s. specifier_with (level m) before word (tag ++ (opening ∷ (xs ++ (last ++ (closing ∷ rest))))) s) (enum_start before.scope word p1)
     ∙ (enum_read (level m) before (tag ++ (opening ∷ (xs ++ (last ++ (closing ∷ rest))))) name opening (xs ++ (last ++ (closing ∷ rest))) values (joined depth (map enumerator_levels values)) after (last ++ (closing ∷ rest)) closing rest
-        facts.0 facts.1 p3 (c1 m (length (opening ∷ (xs ++ (last ++ (closing ∷ rest))))) (last ++ (closing ∷ rest)) (omega arith) (omega (arith, small, levels_enum name values)) ended closed.1) closed.0 p5
+    facts.0 facts.1 p3 (c1 m (length (opening ∷ (xs ++ (last ++ (closing ∷ rest))))) (last ++ (closing ∷ rest)) (omega arith) (omega (arith, small, levels_enum name values)) ended closed.1) closed.0 p5
     ∙ read_levels _ after rest (sym (levels_enum name values))))
 
 -- fields
@@ -290,7 +286,7 @@ complete_more_fields before middle after xs ys decl others d1 d2 c1 c2 n (suc co
     let less : length (ys ++ rest) < count = let far = fewer (begins_type before.scope) xs (ys ++ rest) begins in let same = ap (λ (r : List Terminal). length r) (row_of_two xs ys rest) in omega (arith, enough, far, same) in
     ap (λ row. read_until_brace (read_fields (level n)) (suc count) before row) (row_of_two xs ys rest)
     ∙ braces_of_more (read_fields (level n)) count before (xs ++ (ys ++ rest)) decl (field_decl_levels decl) middle (ys ++ rest) others (joined depth (map field_decl_levels others)) after rest
-        (type_row_no_mark before.scope (codes "}") xs (ys ++ rest) begins) (c1 n (ys ++ rest) (omega (arith, small))) (c2 n count rest less (omega (arith, small)) closes)
+    (type_row_no_mark before.scope (codes "}") xs (ys ++ rest) begins) (c1 n (ys ++ rest) (omega (arith, small))) (c2 n count rest less (omega (arith, small)) closes)
 
 -- with what the names of fields begin
 abbrev begins_field : Terminal → Bool
@@ -328,8 +324,8 @@ complete_one_field_declaration before middle after xs ys type names semicolon d1
     let levels = levels_fields type names in
     ap (λ row. read_fields (level n) before row) (row_of_three xs ys (semicolon ∷ []) rest)
     ∙ go_read _ (c1 n (ys ++ (semicolon ∷ rest)) (omega (arith, small, levels)) (not_is _ (begins_apart begins_field goes_on_type ys (semicolon ∷ rest) field_no_type (field_names_begin names middle after ys d2))))
-      (go_read _ (c2 n (length (ys ++ (semicolon ∷ rest)) + 1) (semicolon ∷ rest) (omega arith) (omega (arith, small, levels)) (ends_known (goes_on_list goes_on_field) (codes ";") semicolon rest p1 refl))
-      (go_true _ p1 (read_levels _ after rest (sym levels))))
+    (go_read _ (c2 n (length (ys ++ (semicolon ∷ rest)) + 1) (semicolon ∷ rest) (omega arith) (omega (arith, small, levels)) (ends_known (goes_on_list goes_on_field) (codes ";") semicolon rest p1 refl))
+    (go_true _ p1 (read_levels _ after rest (sym levels))))
 
 pub complete_one_field : (before after : Context) (xs : List Terminal) (name : FieldName)
     → Spells (FieldDeclarator name) before xs after
@@ -337,8 +333,8 @@ pub complete_one_field : (before after : Context) (xs : List Terminal) (name : F
     → Completes (FieldDeclarators (name ∷ [])) before xs after
 complete_one_field before after xs name d1 c1 n count rest enough small ends =
     list_of_one never (read_field (level n)) count before (xs ++ rest) name (field_name_levels name) after rest enough
-      (c1 n rest (omega (arith, small)) (ends_less (goes_on_list goes_on_field) goes_on_field rest (λ t off. or_false_left (goes_on_field t) (is_mark (codes ",") t) off) ends))
-      (ap (λ (b : Bool). b && true) (ends_first (is_mark (codes ",")) rest (ends_less (goes_on_list goes_on_field) (is_mark (codes ",")) rest (λ t off. or_false_right (goes_on_field t) (is_mark (codes ",") t) off) ends)))
+    (c1 n rest (omega (arith, small)) (ends_less (goes_on_list goes_on_field) goes_on_field rest (λ t off. or_false_left (goes_on_field t) (is_mark (codes ",") t) off) ends))
+    (ap (λ (b : Bool). b && true) (ends_first (is_mark (codes ",")) rest (ends_less (goes_on_list goes_on_field) (is_mark (codes ",")) rest (λ t off. or_false_right (goes_on_field t) (is_mark (codes ",") t) off) ends)))
     ∙ read_levels (name ∷ []) after rest (sym (joined_one (field_name_levels name)))
 
 pub complete_more_field_names : (before middle after : Context) (xs ys : List Terminal) (name : FieldName) (others : List FieldName) (comma : Terminal)
@@ -354,7 +350,7 @@ complete_more_field_names before middle after xs ys name others comma d1 p1 d2 c
     let less : length (ys ++ rest) < count = let far = shorter_behind xs comma (ys ++ rest) in let same = ap (λ (r : List Terminal). length r) (row_of_two xs (comma ∷ ys) rest) in omega (arith, enough, far, same) in
     ap (λ row. read_list never (read_field (level n)) (suc count) before row) (row_of_two xs (comma ∷ ys) rest)
     ∙ list_of_more never (read_field (level n)) count before (xs ++ (comma ∷ (ys ++ rest))) name (field_name_levels name) middle comma (ys ++ rest) others (joined depth (map field_name_levels others)) after rest
-        (c1 n (comma ∷ (ys ++ rest)) (omega (arith, small)) (ends_known goes_on_field (codes ",") comma (ys ++ rest) p1 refl)) p1 refl (c2 n count rest less (omega (arith, small)) ends)
+    (c1 n (comma ∷ (ys ++ rest)) (omega (arith, small)) (ends_known goes_on_field (codes ",") comma (ys ++ rest) p1 refl)) p1 refl (c2 n count rest less (omega (arith, small)) ends)
 
 sizes_end : (rest : List Terminal) → Ends goes_on_field rest → Ends goes_on_sizes rest
 sizes_end rest ends = ends_less goes_on_field goes_on_sizes rest (λ t off. or_false_left (goes_on_sizes t) (is_mark (codes ":") t || goes_on_conditional t) off) ends
@@ -387,8 +383,8 @@ complete_named_field before after xs sizes stars name p1 p2 d1 p3 c1 n rest smal
     let levels = levels_field name.place (Some name.bytes) (length stars) sizes in
     ap (λ row. read_field (level n) before row) (row_of_two stars (name ∷ xs) rest)
     ∙ field_front (level n) before stars name (xs ++ rest) _ p1 p2
-      (go_read _ (c1 n (length (xs ++ rest) + 1) rest (omega arith) (omega (arith, small, levels)) (sizes_end rest ends))
-      (go_true _ p3 (go_false _ (field_colon rest ends) (read_levels _ after rest (sym levels)))))
+    (go_read _ (c1 n (length (xs ++ rest) + 1) rest (omega arith) (omega (arith, small, levels)) (sizes_end rest ends))
+    (go_true _ p3 (go_false _ (field_colon rest ends) (read_levels _ after rest (sym levels)))))
 
 pub complete_named_bits : (before middle after : Context) (xs ys : List Terminal) (sizes : List (Option Expr)) (bits : Expr) (stars : List Terminal) (name colon : Terminal)
     → AreStars stars
@@ -406,8 +402,8 @@ complete_named_bits before middle after xs ys sizes bits stars name colon p1 p2 
     ap (λ row. read_field (level n) before row) (row_of_two stars (name ∷ (xs ++ (colon ∷ ys))) rest)
     ∙ (ap (λ row. read_field (level n) before (stars ++ (name ∷ row))) (row_of_two xs (colon ∷ ys) rest)
     ∙ field_front (level n) before stars name (xs ++ (colon ∷ (ys ++ rest))) _ p1 p2
-      (go_read _ (c1 n (length (xs ++ (colon ∷ (ys ++ rest))) + 1) (colon ∷ (ys ++ rest)) (omega arith) (omega (arith, small, levels)) (ends_known goes_on_sizes (codes ":") colon (ys ++ rest) p4 refl))
-      (go_true _ p3 (go_true _ p4 (go_read _ (conditional_read n middle ys bits after rest c2 (omega (arith, small, levels)) (field_conditional rest ends)) (read_levels _ after rest (sym levels)))))))
+    (go_read _ (c1 n (length (xs ++ (colon ∷ (ys ++ rest))) + 1) (colon ∷ (ys ++ rest)) (omega arith) (omega (arith, small, levels)) (ends_known goes_on_sizes (codes ":") colon (ys ++ rest) p4 refl))
+    (go_true _ p3 (go_true _ p4 (go_read _ (conditional_read n middle ys bits after rest c2 (omega (arith, small, levels)) (field_conditional rest ends)) (read_levels _ after rest (sym levels)))))))
 
 pub complete_unnamed_bits : (before after : Context) (xs : List Terminal) (bits : Expr) (colon : Terminal)
     → IsMark (codes ":") colon
@@ -449,8 +445,8 @@ complete_more_enumerators before middle after xs ys value others comma d1 p1 d2 
     let less : length (ys ++ rest) < count = let far = shorter_behind xs comma (ys ++ rest) in let same = ap (λ (r : List Terminal). length r) (row_of_two xs (comma ∷ ys) rest) in omega (arith, enough, far, same) in
     ap (λ row. read_list closes_braces (read_enumerator (level n)) (suc count) before row) (row_of_two xs (comma ∷ ys) rest)
     ∙ list_of_more closes_braces (read_enumerator (level n)) count before (xs ++ (comma ∷ (ys ++ rest))) value (enumerator_levels value) middle comma (ys ++ rest) others (joined depth (map enumerator_levels others)) after rest
-        (c1 n (comma ∷ (ys ++ rest)) (omega (arith, small)) (ends_known goes_on_enumerator (codes ",") comma (ys ++ rest) p1 refl)) p1
-        (begins_apart is_name (is_mark (codes "}")) ys rest (name_is_no_mark (codes "}")) (enumerators_begin others middle after ys d2)) (c2 n count rest less (omega (arith, small)) ends closes)
+    (c1 n (comma ∷ (ys ++ rest)) (omega (arith, small)) (ends_known goes_on_enumerator (codes ",") comma (ys ++ rest) p1 refl)) p1
+    (begins_apart is_name (is_mark (codes "}")) ys rest (name_is_no_mark (codes "}")) (enumerators_begin others middle after ys d2)) (c2 n count rest less (omega (arith, small)) ends closes)
 
 pub complete_plain_enumerator : (before : Context) (name : Terminal)
     → IsName name
@@ -470,7 +466,7 @@ unfolding read_enumerator
 complete_valued_enumerator before after xs value name mark p1 p2 d1 c1 n rest small ends =
     let levels = levels_valued_enumerator name value in
     go_true _ p1 (go_true _ p2 (go_read _ (conditional_read n before xs value after rest c1 (omega (arith, small, levels)) (ends_less goes_on_enumerator goes_on_conditional rest (λ t off. or_false_right (is_mark (codes "=") t) (goes_on_conditional t) off) ends))
-      (read_levels _ (declaring after name.bytes false) rest (sym levels))))
+    (read_levels _ (declaring after name.bytes false) rest (sym levels))))
 
 -- names of types
 pub type_end : (stars : List Terminal) (sizes : List (Option Expr)) (before after : Context) (ys rest : List Terminal) (test : Terminal → Bool) → AreStars stars → Spells (ArraySizes sizes) before ys after
@@ -499,8 +495,8 @@ complete_one_type_name before middle after xs ys type sizes stars d1 p1 d2 c1 c2
     let no_star = sizes_first (is_mark (codes "*")) sizes middle after ys rest d2 (λ t is. by_mark (is_mark (codes "*")) (codes "[") t is refl) (name_star rest ends) in
     ap (λ row. read_type_name (level n) before row) (row_of_three xs stars ys rest)
     ∙ go_read _ (c1 n (stars ++ (ys ++ rest)) (omega (arith, small, levels)) (type_end stars sizes middle after ys rest goes_on_type p1 d2 (λ t is. by_mark goes_on_type (codes "*") t is refl) (λ t is. by_mark goes_on_type (codes "[") t is refl) (ends_first goes_on_type rest (name_type rest ends))))
-      (rw (stars_front stars (ys ++ rest) p1 no_star) (rw (drop_front stars (ys ++ rest))
-      (go_read _ (c2 n (length (ys ++ rest) + 1) rest (omega arith) (omega (arith, small, levels)) (name_sizes rest ends)) (read_levels _ after rest (sym levels)))))
+    (rw (stars_front stars (ys ++ rest) p1 no_star) (rw (drop_front stars (ys ++ rest))
+    (go_read _ (c2 n (length (ys ++ rest) + 1) rest (omega arith) (omega (arith, small, levels)) (name_sizes rest ends)) (read_levels _ after rest (sym levels)))))
 
 -- sizes
 pub complete_no_more_sizes : (before : Context)
@@ -534,5 +530,5 @@ complete_size_given before middle after xs ys size sizes opening closing p1 d1 p
     let less : length (ys ++ rest) < count = let far = shorter_behind xs closing (ys ++ rest) in let same = ap (λ (r : List Terminal). length r) (row_of_two xs (closing ∷ ys) rest) in omega (arith, enough, far, same) in
     ap (λ row. read_sizes (level n) (suc count) before (opening ∷ row)) (row_of_two xs (closing ∷ ys) rest)
     ∙ go_true _ p1 (go_false _ (operand_row_no_mark (codes "]") xs (closing ∷ (ys ++ rest)) refl (starts d1))
-      (go_read _ (conditional_read n before xs size middle (closing ∷ (ys ++ rest)) c1 (omega (arith, small)) (ends_known goes_on_conditional (codes "]") closing (ys ++ rest) p2 refl))
-      (go_true _ p2 (go_prepended _ _ (c2 n count rest less (omega (arith, small)) ends) refl))))
+    (go_read _ (conditional_read n before xs size middle (closing ∷ (ys ++ rest)) c1 (omega (arith, small)) (ends_known goes_on_conditional (codes "]") closing (ys ++ rest) p2 refl))
+    (go_true _ p2 (go_prepended _ _ (c2 n count rest less (omega (arith, small)) ends) refl))))

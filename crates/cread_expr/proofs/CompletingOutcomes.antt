@@ -1,10 +1,10 @@
 -- What a reader gives where the outcome of what it calls, or the test that it makes, is known.
-use Rattle.std.proofs.Common.{◌≡◌, ℕ, zero, suc, ◌+◌, ◌<◌, ◌≤◌, Bool, true, false, ◌&&◌, ◌||◌, not, refl, ap, sym, ◌∙◌, List, [], ◌∷◌, ◌++◌, length, codes, cond, IsTrue, inl, inr, arith, append_assoc}
+use Rattle.std.proofs.Common.{◌≡◌, ℕ, zero, suc, ◌<◌, Bool, true, false, ◌&&◌, ◌||◌, not, refl, ap, sym, ◌∙◌, List, [], ◌∷◌, ◌++◌, length, codes, cond, IsTrue, inl, inr, arith, append_assoc}
 use Rattle.std.specs.Prelude.{max}
 use Rattle.std.proofs.lemmas.List.{length-append}
-use Rattle.cread_expr.proofs.Reached.{Goes, Ends, Reaches}
-use Rattle.cread_expr.proofs.Truth.{and-left, and-right, and-both, or-cases}
-use Rattle.cread_expr.specs.Outcomes.{Outcome, Nothing, Stopped, Read, Reader, then_read, has_first, after_first, has_mark, behind_first}
+use Rattle.cread_expr.proofs.Reached.{Goes, Ends}
+use Rattle.cread_expr.proofs.Truth.{and-both}
+use Rattle.cread_expr.specs.Outcomes.{Outcome, Read, Reader, then_read, has_first, after_first, has_mark, behind_first}
 use Rattle.cread_expr.specs.Phrases.{Context}
 use Rattle.cread_expr.specs.ReadLevels.{prepended, read_list, read_until_brace}
 use Rattle.cread_expr.specs.Terminals.{Terminal, is_mark}

@@ -1,24 +1,23 @@
 -- What is read of the parts of a phrase, and what stands at their fronts.
-use Rattle.std.proofs.Common.{◌≡◌, ℕ, zero, suc, ◌+◌, ◌<◌, ◌≤◌, Bool, true, false, ◌&&◌, ◌||◌, not, refl, ap, sym, ◌∙◌, List, [], ◌∷◌, ◌++◌, length, codes, cond, IsTrue, inl, inr, arith}
+use Rattle.std.proofs.Common.{◌≡◌, ℕ, ◌<◌, ◌≤◌, Bool, true, false, ◌&&◌, ◌||◌, not, refl, ap, ◌∙◌, List, [], ◌∷◌, ◌++◌, length, codes, arith}
 use Rattle.std.specs.List.{list_any}
 use Rattle.std.specs.Str.{bytes_eq}
 use Rattle.std.proofs.lemmas.List.{length-append}
 use Rattle.cbase.specs.declared.tree.expr.Expr.{Expr}
-use Rattle.ctokens.specs.declared.token.TokenKind.TheVariants.{Word, Mark}
+use Rattle.ctokens.specs.declared.token.TokenKind.TheVariants.{Mark}
 use Rattle.ctokens.specs.Symbol.{is_identifier, word_symbol}
 use Rattle.ctrees.specs.Levels.{expr_levels}
-use Rattle.cread_expr.proofs.CompletingOutcomes.{is_not, not_is, neither, no_truth, never_true, exactly}
-use Rattle.cread_expr.proofs.Reached.{Completes, Goes, Ends, goes_on_conditional, goes_on_assignment, goes_on_expression}
+use Rattle.cread_expr.proofs.CompletingOutcomes.{is_not, not_is, exactly}
+use Rattle.cread_expr.proofs.Reached.{Completes, Ends, goes_on_conditional, goes_on_assignment, goes_on_expression}
 use Rattle.cread_expr.proofs.TokenKinds.{word_kind_no_mark}
 use Rattle.cread_expr.proofs.CompletingTokens.{mark_is}
-use Rattle.cread_expr.proofs.Truth.{and-left, and-right, or-cases, or-left, or-right}
 use Rattle.cread_expr.specs.Firsts.{Begins, begins_type, begins_declaration, is_plain, is_among, type_words, storage_words}
 use Rattle.cread_expr.specs.Grammar.{Spells, NoMoreSizes, SizeLeftOut, SizeGiven}
-use Rattle.cread_expr.specs.Outcomes.{Outcome, Read, has_first}
-use Rattle.cread_expr.specs.Phrases.{Phrase, Context, Expression, Assignment, Conditional, ArraySizes}
+use Rattle.cread_expr.specs.Outcomes.{Read, has_first}
+use Rattle.cread_expr.specs.Phrases.{Context, Expression, Assignment, Conditional, ArraySizes}
 use Rattle.cread_expr.specs.Reader.{level}
 use Rattle.cread_expr.specs.Scope.{Names, is_typedef_name}
-use Rattle.cread_expr.specs.Terminals.{Terminal, is_word_kind, is_mark_kind, is_mark, IsMark, is_left_out, is_typedef, IsNoType}
+use Rattle.cread_expr.specs.Terminals.{Terminal, is_word_kind, is_mark, IsMark, is_left_out, is_typedef, IsNoType}
 use Rattle.std.specs.Prelude.{Option}
 
 pub read_levels : {A : Type 0} {k l : ℕ} (tree : A) (after : Context) (rest : List Terminal) → k ≡ l → Read tree k after rest ≡ Read tree l after rest

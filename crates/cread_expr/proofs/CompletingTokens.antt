@@ -1,21 +1,21 @@
 -- Which tests hold of tokens of which kind and spelling is known, and of the fronts of rows that they begin.
-use Rattle.std.proofs.Common.{◌≡◌, ℕ, ◌+◌, Bool, true, false, ◌&&◌, ◌||◌, not, refl, ap, sym, ◌∙◌, List, [], ◌∷◌, ◌++◌, length, drop, codes, IsTrue, ◌⊎◌, inl, inr}
-use Rattle.std.specs.List.{list_any, list_all, prefix_len}
+use Rattle.std.proofs.Common.{◌≡◌, ℕ, Bool, true, false, ◌&&◌, ◌||◌, not, refl, ap, sym, ◌∙◌, List, [], ◌∷◌, ◌++◌, length, drop, codes, ◌⊎◌, inl, inr}
+use Rattle.std.specs.List.{list_any, list_all}
 use Rattle.std.specs.Str.{bytes_eq}
 use Rattle.ctokens.specs.declared.token.TokenKind.{TokenKind}
 use Rattle.ctokens.specs.declared.token.TokenKind.TheVariants.{Word, Number, Letter, Quoted, Mark}
 use Rattle.ctokens.specs.Symbol.{keyword_symbol, name_symbol, passed_symbol, is_identifier, word_symbol}
-use Rattle.cread_expr.proofs.CompletingOutcomes.{never_true, no_truth, neither, not_is}
+use Rattle.cread_expr.proofs.CompletingOutcomes.{never_true, neither}
 use Rattle.cread_expr.proofs.Fronts.{stars_before, stars_before_nothing, drop_front}
-use Rattle.cread_expr.proofs.Reached.{Ends, goes_on_type, goes_on_sizes, goes_on_specifiers, is_storage}
-use Rattle.cread_expr.proofs.Starting.{operand_not_mark, operand_not_word}
-use Rattle.cread_expr.proofs.TokenKinds.{mark_is_mark_kind, word_is_word_kind, mark_bytes, word_bytes, name_is_no_mark, name_is_no_word, named_words, name_is_word_kind}
+use Rattle.cread_expr.proofs.Reached.{goes_on_type, goes_on_specifiers, is_storage}
+use Rattle.cread_expr.proofs.Starting.{operand_not_mark}
+use Rattle.cread_expr.proofs.TokenKinds.{mark_is_mark_kind, word_is_word_kind, mark_bytes, word_bytes, name_is_no_mark, name_is_no_word}
 use Rattle.cread_expr.proofs.Truth.{and-left, and-right, or-cases, of-any, or-left, or-right}
 use Rattle.cread_expr.specs.FrontReadings.{basic_words, is_basic_word}
-use Rattle.cread_expr.specs.Firsts.{is_among, type_words, storage_words, Begins}
+use Rattle.cread_expr.specs.Firsts.{is_among, Begins}
 use Rattle.cread_expr.specs.Outcomes.{has_first}
 use Rattle.cread_expr.specs.ReadTypes.{star_count, behind_stars}
-use Rattle.cread_expr.specs.Starts.{begins_operand, operand_marks, operand_words}
+use Rattle.cread_expr.specs.Starts.{begins_operand, operand_marks}
 use Rattle.cread_expr.specs.Terminals.{Terminal, is_word_kind, is_mark_kind, is_word, IsWord, is_mark, IsMark, is_name, IsName, is_left_out, are_stars, AreStars}
 
 kind_mark : (kind : TokenKind) → is_mark_kind kind ≡ true → kind ≡ Mark
@@ -53,10 +53,10 @@ name_among : (words : List (List ℕ)) (token : Terminal) → list_all no_identi
 unfolding no_identifier
 name_among words token all is =
     never_true (is_among words token) (λ among.
-        let any = and-right (is_word_kind token.kind) (list_any (bytes_eq token.bytes) words) among in
-        let identifier = and-left (is_identifier (word_symbol token.bytes)) (not (is_left_out token.bytes)) (and-right (is_word_kind token.kind) (is_identifier (word_symbol token.bytes) && not (is_left_out token.bytes)) is) in
-        let none : not true ≡ true = sym (ap not identifier) ∙ of-any no_identifier words token.bytes all any in
-        cc none)
+    let any = and-right (is_word_kind token.kind) (list_any (bytes_eq token.bytes) words) among in
+    let identifier = and-left (is_identifier (word_symbol token.bytes)) (not (is_left_out token.bytes)) (and-right (is_word_kind token.kind) (is_identifier (word_symbol token.bytes) && not (is_left_out token.bytes)) is) in
+    let none : not true ≡ true = sym (ap not identifier) ∙ of-any no_identifier words token.bytes all any in
+    cc none)
 
 pub name_no_basic_word : (token : Terminal) → is_name token ≡ true → is_basic_word token ≡ false
 unfolding keyword_symbol name_symbol passed_symbol no_identifier
