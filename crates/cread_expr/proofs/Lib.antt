@@ -45,3 +45,4 @@ pub mod CompleteArguments
 pub mod CompleteOperandStarts
 pub mod CompletePrimaries
 pub mod CompleteAssertions
+pub mod Complete
