@@ -46,3 +46,4 @@ pub mod CompleteOperandStarts
 pub mod CompletePrimaries
 pub mod CompleteAssertions
 pub mod Complete
+pub mod Exact
