@@ -29,3 +29,4 @@ pub mod CompleteArguments
 pub mod CompleteOperandStarts
 pub mod CompletePrimaries
 pub mod CompleteAssertions
+pub mod CompleteUnaryOutcomes
