@@ -30,3 +30,5 @@ pub mod CompleteOperandStarts
 pub mod CompletePrimaries
 pub mod CompleteAssertions
 pub mod CompleteUnaryOutcomes
+pub mod CompleteNoCasts
+pub mod CompletePrefixes
