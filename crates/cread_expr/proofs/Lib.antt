@@ -47,3 +47,6 @@ pub mod CompletePrimaries
 pub mod CompleteAssertions
 pub mod Complete
 pub mod Exact
+pub mod CompleteUnaryOutcomes
+pub mod CompleteNoCasts
+pub mod CompletePrefixes
