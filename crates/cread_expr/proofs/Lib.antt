@@ -50,3 +50,8 @@ pub mod Exact
 pub mod CompleteUnaryOutcomes
 pub mod CompleteNoCasts
 pub mod CompletePrefixes
+pub mod SoundDeclarations
+pub mod SoundStatements
+pub mod SoundBrackets
+pub mod SoundOperands
+pub mod Sound

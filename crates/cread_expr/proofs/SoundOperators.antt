@@ -33,7 +33,7 @@ pub operand_unary : (operand : Operand) {before after : Context} {front : List T
 operand_unary operand {before} {after} {front} is spelled =
     subst (λ (unary : Bool). Spells (if unary then UnaryExpression operand.expr else CastExpression operand.expr) before front after) is spelled
 
-fits_tree : {count levels most : ℕ} → count ≡ levels → count ≤ most → levels ≤ most
+pub fits_tree : {count levels most : ℕ} → count ≡ levels → count ≤ most → levels ≤ most
 fits_tree same fits = omega (arith, same, fits)
 
 pub le_of : {a b : ℕ} → nat_le a b ≡ true → a ≤ b
