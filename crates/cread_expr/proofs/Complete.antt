@@ -8,6 +8,7 @@ use Rattle.cread_expr.proofs.CompleteConditionals.{complete_one_operation, compl
 use Rattle.cread_expr.proofs.CompleteDeclarations.{complete_type_alone, complete_storage_before, complete_storage_behind, complete_no_declarator, complete_with_declarators, complete_one_declarator, complete_more_declarators, complete_object_declarator, complete_initialized_declarator, complete_declarator_of_function, complete_no_parameters, complete_void_parameters, complete_with_parameters, complete_one_parameter, complete_more_parameters, complete_named_parameter, complete_unnamed_parameter, complete_initialized_to, complete_empty_braces, complete_in_braces, complete_one_initializer, complete_more_initializers, complete_next_part, complete_member_part}
 use Rattle.cread_expr.proofs.CompleteOperations.{complete_one_cast, complete_binary_operator}
 use Rattle.cread_expr.proofs.CompletePostfixes.{complete_one_postfix, complete_one_primary, complete_index_operator, complete_call_of_nothing, complete_call_operator, complete_member_operator, complete_count_behind}
+use Rattle.cread_expr.proofs.CompletePrefixes.{complete_one_unary, complete_cast_operator, complete_count_before, complete_unary_operator, complete_size_of_expression, complete_size_of_type_name}
 use Rattle.cread_expr.proofs.CompletePrimaries.{complete_one_name, complete_one_constant, complete_bracketed, complete_statement_expression, complete_offset_of_member}
 use Rattle.cread_expr.proofs.CompleteStatements.{complete_one_block, complete_no_more_items, complete_next_declaration, complete_next_statement, complete_block_statement, complete_empty_statement, complete_expression_statement, complete_if_statement, complete_if_else_statement, complete_while_statement, complete_do_statement, complete_for_statement, complete_first_declaration, complete_first_left_out, complete_first_expression, complete_no_expression, complete_some_expression, complete_break_statement, complete_continue_statement, complete_return_statement, complete_labeled_statement}
 use Rattle.cread_expr.proofs.CompleteTypes.{complete_basic_words, complete_typedef_name, complete_type_of_expression, complete_type_of_type, complete_struct_with_fields, complete_struct_by_tag, complete_no_more_fields, complete_more_fields, complete_one_field_declaration, complete_one_field, complete_more_field_names, complete_named_field, complete_named_bits, complete_unnamed_bits, complete_enum_with_values, complete_enum_by_tag, complete_last_enumerator, complete_more_enumerators, complete_plain_enumerator, complete_valued_enumerator, complete_one_type_name, complete_no_more_sizes, complete_size_left_out, complete_size_given}
@@ -32,13 +33,13 @@ all (OneOperation {before} {after} {row} {expr} d1) = (complete_one_operation be
 all (ConditionalOperator {before} {first} {second} {after} {xs} {ys} {zs} {test} {one} {other} mark colon d1 p1 d2 p2 d3) = (complete_conditional_operator before first second after xs ys zs test one other mark colon p1 p2 (all d1).0 (all d2).0 (all d3).0 within, tt)
 all (OneCast {before} {after} {row} {expr} {level} d1) = (complete_one_cast before after row expr level (all d1).0 within, tt)
 all (BinaryOperator {before} {middle} {after} {xs} {ys} {left} {right} {level} {tighter} {op} mark p1 d1 p2 d2) = (complete_binary_operator before middle after xs ys left right level tighter op mark p1 p2 (all d1).0 (all d2).0 within, tt)
-all (OneUnary {before} {after} {row} {expr} q0) = ?
-all (CastOperator {before} {middle} {after} {xs} {ys} {to} {expr} opening closing q0 q1 q2 q3) = ?
+all (OneUnary {before} {after} {row} {expr} d1) = (complete_one_unary before after row expr (all d1).0, tt)
+all (CastOperator {before} {middle} {after} {xs} {ys} {to} {expr} opening closing p1 d1 p2 d2) = (complete_cast_operator before middle after xs ys to expr opening closing p1 p2 d1 (all d1).0 (all d2).0, tt)
 all (OnePostfix {before} {after} {row} {expr} d1) = (complete_one_postfix before after row expr (all d1).0 within, tt)
-all (CountBefore {before} {after} {xs} {expr} {up} mark q0 q1) = ?
-all (UnaryOperator {before} {after} {xs} {expr} {op} mark q0 q1) = ?
-all (SizeOfExpression {before} {after} {xs} {expr} word q0 q1) = ?
-all (SizeOfTypeName {before} {after} {xs} {to} word opening closing q0 q1 q2 q3) = ?
+all (CountBefore {before} {after} {xs} {expr} {up} mark p1 d1) = (complete_count_before before after xs expr up mark p1 d1 (all d1).0, tt)
+all (UnaryOperator {before} {after} {xs} {expr} {op} mark p1 d1) = (complete_unary_operator before after xs expr op mark p1 (all d1).0, tt)
+all (SizeOfExpression {before} {after} {xs} {expr} word p1 d1) = (complete_size_of_expression before after xs expr word p1 d1 (all d1).0, tt)
+all (SizeOfTypeName {before} {after} {xs} {to} word opening closing p1 p2 d1 p3) = (complete_size_of_type_name before after xs to word opening closing p1 p2 p3 d1 (all d1).0, tt)
 all (OnePrimary {before} {after} {row} {expr} d1) = (complete_one_primary before after row expr (all d1).0, tt)
 all (IndexOperator {before} {middle} {after} {xs} {ys} {base} {index} opening closing d1 p1 d2 p2) = (complete_index_operator before middle after xs ys base index opening closing p1 p2 (all d1).0 (all d2).0, tt)
 all (CallOfNothing {before} {after} {xs} {callee} opening closing d1 p1 p2) = (complete_call_of_nothing before after xs callee opening closing p1 p2 (all d1).0, tt)

@@ -4,7 +4,8 @@ use Rattle.cbase.specs.declared.tree.expr.Expr.{Expr}
 use Rattle.cbase.specs.declared.tree.stmt.Stmt.{Stmt}
 use Rattle.cread_expr.proofs.Complete.{complete}
 use Rattle.cread_expr.proofs.OneTree.{each_has_one_tree}
-use Rattle.cread_expr.proofs.ReadAt.{ExpressionsComplete, BlocksComplete}
+use Rattle.cread_expr.proofs.ReadAt.{ExpressionsComplete, ExpressionsSound, BlocksComplete, BlocksSound}
+use Rattle.cread_expr.proofs.Sound.{sound_expression, sound_block}
 use Rattle.cread_expr.specs.OneTree.{EachHasOneTree}
 use Rattle.cread_expr.specs.Phrases.{Phrase, Context, Expression, CompoundStatement}
 use Rattle.cread_expr.specs.Terminals.{Terminal}
@@ -17,3 +18,9 @@ expressions_complete most expr before after front rest spells small = complete (
 
 pub blocks_complete : BlocksComplete
 blocks_complete most body before after front rest spells small = complete (CompoundStatement body) before after front spells most rest small
+
+pub expressions_sound : ExpressionsSound
+expressions_sound = sound_expression
+
+pub blocks_sound : BlocksSound
+blocks_sound = sound_block
