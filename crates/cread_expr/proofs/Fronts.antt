@@ -1,5 +1,5 @@
 -- The fronts of rows: what stands before the rest, its first and its last place, and its stars.
-use Rattle.std.proofs.Common.{◌≡◌, ℕ, suc, ◌+◌, ◌-◌, ◌≤◌, Bool, true, false, List, [], ◌∷◌, ◌++◌, take, drop, length, refl, ap, ◌∙◌, arith, codes, cond}
+use Rattle.std.proofs.Common.{◌≡◌, ℕ, suc, ◌+◌, ◌-◌, ◌≤◌, Bool, true, false, List, [], ◌∷◌, ◌++◌, take, drop, length, refl, ap, sym, ◌∙◌, arith, codes, cond}
 use Rattle.std.proofs.Math.Seq.{take-append_seam, drop-append_seam}
 use Rattle.std.proofs.lemmas.List.{length-append}
 use Rattle.std.specs.List.{prefix_len}
@@ -99,3 +99,25 @@ stars_within (first ∷ others) = step (is_mark (codes "*") first) (stars_within
     step : (star : Bool) → prefix_len (is_mark (codes "*")) others ≤ length others → cond star (1 + prefix_len (is_mark (codes "*")) others) 0 ≤ length (first ∷ others)
     step true inside = omega (arith, inside)
     step false inside = omega arith
+
+abbrev first_or : Terminal → List Terminal → Terminal
+first_or other [] = other
+first_or other (token ∷ tokens) = token
+
+same_first : (a b : Terminal) (xs ys : List Terminal) → a ∷ xs ≡ b ∷ ys → a ≡ b
+same_first a b xs ys is = ap (first_or a) is
+
+-- behind the longest row of stars no star follows
+pub stars_stop : (row : List Terminal) (next : Terminal) (rest : List Terminal) → drop (prefix_len (is_mark (codes "*")) row) row ≡ next ∷ rest → is_mark (codes "*") next ≡ false
+stars_stop [] next rest is = cc is
+stars_stop (first ∷ others) next rest is = step (is_mark (codes "*") first) refl (stars_stop others next rest) is
+  where
+    step : (star : Bool) → is_mark (codes "*") first ≡ star
+        → (drop (prefix_len (is_mark (codes "*")) others) others ≡ next ∷ rest → is_mark (codes "*") next ≡ false)
+        → drop (cond star (1 + prefix_len (is_mark (codes "*")) others) 0) (first ∷ others) ≡ next ∷ rest → is_mark (codes "*") next ≡ false
+    step true star further i =
+        let one : 1 + prefix_len (is_mark (codes "*")) others ≡ suc (prefix_len (is_mark (codes "*")) others) = omega arith in
+        further (sym (ap (λ (n : ℕ). drop n (first ∷ others)) one) ∙ i)
+    step false star further i =
+        let same : first ≡ next = same_first first next others rest i in
+        ap (is_mark (codes "*")) (sym same) ∙ star

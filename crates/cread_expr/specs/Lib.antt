@@ -9,6 +9,7 @@ pub mod Grammar
 pub mod CodeTables
 pub mod Keywords
 pub mod Labels
+pub mod OneTree
 pub mod Operators
 pub mod Phrases
 pub mod Outcomes

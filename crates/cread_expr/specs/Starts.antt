@@ -1,12 +1,12 @@
 -- With which tokens operands and statements begin, and which parts of the grammar have a first token (C11 6.5.1 to
 -- 6.5.3, 6.8).
-use Rattle.std.specs.Prelude.{ℕ, Bool, true, false, ◌&&◌, ◌||◌, List, [], ◌∷◌, codes}
+use Rattle.std.specs.Prelude.{ℕ, Bool, true, false, ◌&&◌, ◌||◌, not, List, [], ◌∷◌, codes}
 use Rattle.std.specs.List.{list_any}
 use Rattle.std.specs.Str.{bytes_eq}
 use Rattle.ctokens.specs.declared.token.TokenKind.{TokenKind}
 use Rattle.ctokens.specs.declared.token.TokenKind.TheVariants.{Number, Letter}
 use Rattle.cread_expr.specs.Firsts.{is_among, Begins}
-use Rattle.cread_expr.specs.Phrases.{Phrase, Expression, Assignment, Conditional, Operation, CastExpression, UnaryExpression, PostfixExpression, PrimaryExpression, Arguments, CompoundStatement, Statement}
+use Rattle.cread_expr.specs.Phrases.{Phrase, Expression, Assignment, Conditional, Operation, CastExpression, UnaryExpression, PostfixExpression, PrimaryExpression, Arguments, TypeSpecifier, NameOfType, FieldDeclaration, FieldDeclarators, FieldDeclarator, Enumerators, OneEnumerator, Specifiers, Declaration, Declarators, Declarator, FunctionDeclarator, Parameters, Parameter, Initializer, Initializers, DesignatedInitializer, CompoundStatement, Statement}
 use Rattle.cread_expr.specs.Terminals.{Terminal, is_mark_kind, is_mark, is_name}
 
 abbrev pub is_mark_among : List (List ℕ) → Terminal → Bool
@@ -57,4 +57,21 @@ StartsAs (PrimaryExpression expr) row = Begins begins_operand row
 StartsAs (Arguments exprs) row = Begins begins_operand row
 StartsAs (Statement dangling stmt) row = Begins begins_statement row
 StartsAs (CompoundStatement body) row = Begins (is_mark (codes "{")) row
+StartsAs (Initializer init) row = Begins (λ token. not (is_mark (codes "}") token)) row
+StartsAs (DesignatedInitializer part) row = Begins (λ token. not (is_mark (codes "}") token)) row
+StartsAs (Initializers parts) row = Begins (λ token. not (is_mark (codes "}") token)) row
+StartsAs (TypeSpecifier type) row = HasFirst row
+StartsAs (NameOfType name) row = HasFirst row
+StartsAs (FieldDeclaration decl) row = HasFirst row
+StartsAs (FieldDeclarators names) row = HasFirst row
+StartsAs (FieldDeclarator name) row = HasFirst row
+StartsAs (Enumerators values) row = HasFirst row
+StartsAs (OneEnumerator value) row = HasFirst row
+StartsAs (Specifiers storage type) row = HasFirst row
+StartsAs (Declaration decl) row = HasFirst row
+StartsAs (Declarators typedef names) row = HasFirst row
+StartsAs (Declarator typedef name) row = HasFirst row
+StartsAs (FunctionDeclarator name head) row = HasFirst row
+StartsAs (Parameters params) row = HasFirst row
+StartsAs (Parameter param) row = HasFirst row
 StartsAs _ row = Unit {0}

@@ -1,4 +1,5 @@
 //! Laws of the grammar. Each is the contract of a function that does nothing.
+ghost use Rattle.cread_expr.specs.OneTree.{EachHasOneTree};
 ghost use Rattle.std.specs.Prelude.{◌≡◌, ◌<◌, ℕ, Bool, false, List, Some, length};
 ghost use Rattle.std.specs.Str.{bytes_eq};
 ghost use Rattle.cread_expr.specs.Scope.{Names, found, declared, entered, left};
@@ -53,3 +54,11 @@ pub fn declared_names_are_found()
 pub fn labels_are_told_apart()
     ensures { LabelsAreNoExpressions }
 {}
+
+/// A row of tokens has one tree where the same names are in scope: an `else` belongs to the nearest `if`, and no row is
+/// both a cast and a call in brackets, a declaration and an expression, or a label and an expression (C11 6.5 to 6.8).
+#[tactic(auto, using(crate::proofs::Exact::one_tree))]
+pub fn each_row_has_one_tree()
+    ensures { EachHasOneTree }
+{
+}

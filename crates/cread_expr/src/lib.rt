@@ -22,6 +22,7 @@ mod texts;
 mod words;
 
 pub use laws::{
+    each_row_has_one_tree,
     declared_names_are_found, first_tokens, labels_are_told_apart, numbers_go_up, scopes_are_kept,
     types_are_told_apart,
 };

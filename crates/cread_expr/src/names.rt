@@ -1,4 +1,4 @@
-ghost use Rattle.std.specs.Prelude.{◌≡◌, [], map, IfOk, OnOk, OnErr};
+ghost use Rattle.std.specs.Prelude.{◌≡◌, ℕ, Bool, List, [], map, IfOk, OnOk, OnErr};
 ghost use Rattle.cread_expr.specs.Scope.{found_in, declared_in};
 
 use cbase::NoMemory;
@@ -49,6 +49,15 @@ impl Names {
     {
         declare_in(alloc, &mut self.table, name, typedef)
     }
+
+    /// A copy of them.
+    pub(crate) fn copied(&self) -> Result<Names, NoMemory>
+        ensures { IfOk result (λ copy. copy ≡ self.now) }
+    {
+        Ok(Names {
+            table: copied(&self.table)?,
+        })
+    }
 }
 
 /// What a map says of a name.
@@ -71,4 +80,11 @@ fn declare_in(
     let copy = Vec::from_slice(alloc, name)?;
     table.insert(copy, typedef)?;
     Ok(())
+}
+
+/// A copy of a map.
+fn copied(table: &IndexMap<Vec<u8>, bool>) -> Result<IndexMap<Vec<u8>, bool>, NoMemory>
+    ensures { IfOk result (λ copy. map {B = List ℕ × Bool} (λ entry. (entry.0.items, entry.1)) copy.entries ≡ map (λ entry. (entry.0.items, entry.1)) table.now.entries) }
+{
+    Ok(table.clone()?)
 }

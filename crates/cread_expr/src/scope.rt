@@ -59,6 +59,15 @@ impl Scope {
         declare_last(alloc, &mut self.sets, name, typedef)
     }
 
+    /// A copy, with the same names.
+    pub fn copied(&self, alloc: Global) -> Result<Scope, NoMemory>
+        ensures { IfOk result (λ copy. copy ≡ self.now) }
+    {
+        Ok(Scope {
+            sets: copied(alloc, self.sets.as_slice())?,
+        })
+    }
+
     /// Whether the innermost scope that has the name declares it as a typedef.
     pub fn is_typedef(&self, name: &[u8]) -> bool
         ensures { result ≡ is_typedef_name self.now name.now }
@@ -97,4 +106,15 @@ fn declare_last(
         return Ok(());
     }
     sets[count - 1].declare(alloc, name, typedef)
+}
+
+/// Copies of the names of each scope.
+fn copied(alloc: Global, sets: &[Names]) -> Result<Vec<Names>, NoMemory>
+    ensures { IfOk result (λ copy. copy.items ≡ sets.now) }
+{
+    let mut copy = Vec::with_capacity(alloc, sets.len())?;
+    for names in sets {
+        copy.push(names.copied()?)?;
+    }
+    Ok(copy)
 }

@@ -1,0 +1,26 @@
+-- The reader and the grammar say the same.
+use Rattle.std.proofs.Common.{◌≡◌, ℕ, ◌≤◌, List, ◌++◌}
+use Rattle.cbase.specs.declared.tree.expr.Expr.{Expr}
+use Rattle.cbase.specs.declared.tree.stmt.Stmt.{Stmt}
+use Rattle.cread_expr.proofs.Complete.{complete}
+use Rattle.cread_expr.proofs.OneTree.{each_has_one_tree}
+use Rattle.cread_expr.proofs.ReadAt.{ExpressionsComplete, ExpressionsSound, BlocksComplete, BlocksSound}
+use Rattle.cread_expr.proofs.Sound.{sound_expression, sound_block}
+use Rattle.cread_expr.specs.OneTree.{EachHasOneTree}
+use Rattle.cread_expr.specs.Phrases.{Phrase, Context, Expression, CompoundStatement}
+use Rattle.cread_expr.specs.Terminals.{Terminal}
+
+pub one_tree : EachHasOneTree
+one_tree = each_has_one_tree complete
+
+pub expressions_complete : ExpressionsComplete
+expressions_complete most expr before after front rest spells small = complete (Expression expr) before after front spells most rest small
+
+pub blocks_complete : BlocksComplete
+blocks_complete most body before after front rest spells small = complete (CompoundStatement body) before after front spells most rest small
+
+pub expressions_sound : ExpressionsSound
+expressions_sound = sound_expression
+
+pub blocks_sound : BlocksSound
+blocks_sound = sound_block
