@@ -1,8 +1,8 @@
 -- The rows between two tokens of a text: what stands from one token on, and up to the last token of a front of that.
-use Rattle.std.proofs.Common.{◌≡◌, ℕ, zero, suc, ◌+◌, ◌-◌, ◌<◌, ◌≤◌, Bool, true, false, List, [], ◌∷◌, ◌++◌, map, take, drop, length, refl, ap, sym, ◌∙◌, subst, arith, if◌then◌else◌, nat_lt}
+use Rattle.std.proofs.Common.{◌≡◌, ℕ, zero, suc, ◌+◌, ◌-◌, ◌<◌, ◌≤◌, Bool, true, false, List, [], ◌∷◌, ◌++◌, map, take, drop, length, refl, ap, sym, ◌∙◌, subst, arith, nat_lt}
 use Rattle.std.specs.Prelude.{slice_index_or, cond}
 use Rattle.std.specs.List.{prefix_len}
-use Rattle.std.proofs.lemmas.Bool.{ltb-true, lt-ltb, ltb-false}
+use Rattle.std.proofs.lemmas.Bool.{ltb-true, lt-ltb}
 use Rattle.std.proofs.lemmas.List.{length-append}
 use Rattle.ctokens.specs.declared.token.Token.{Token}
 use Rattle.cread_expr.specs.Terminals.{Terminal, terminal_of, unpassed, last_place}
@@ -159,6 +159,7 @@ pub numbered_counts : (text : List ℕ) (base : ℕ) (list : List Token)
     → ((number : ℕ) (other : Token) → number < length list → (slice_index_or list number other).place.at ≡ base + number)
     → Counts base (map (terminal_of text) list)
 numbered_counts text base [] numbered = tt
-numbered_counts text base (token ∷ list) numbered =
-    (numbered 0 token (omega arith) ∙ omega arith,
-     numbered_counts text (base + 1) list (λ number other inside. numbered (suc number) other (omega (arith, inside)) ∙ omega arith))
+numbered_counts text base (token ∷ list) numbered = (
+  numbered 0 token (omega arith) ∙ omega arith,
+  numbered_counts text (base + 1) list (λ number other inside. numbered (suc number) other (omega (arith, inside)) ∙ omega arith),
+)

@@ -1,6 +1,6 @@
 -- The reader is complete on the arguments of a call and on the members of `__builtin_offsetof` (C11 6.5.2, 7.19).
-use Rattle.std.proofs.Common.{◌≡◌, ℕ, zero, suc, Bool, true, false, ◌&&◌, ◌||◌, not, ◌+◌, ◌<◌, ◌≤◌, ◌⊎◌, inl, inr, max, map, List, [], ◌∷◌, ◌++◌, codes, length, Some, None, IsTrue, refl, ap, sym, subst, ◌∙◌, arith}
-use Rattle.std.specs.Prelude.{if◌then◌else◌, Option}
+use Rattle.std.proofs.Common.{◌≡◌, ℕ, zero, suc, Bool, true, false, ◌&&◌, ◌||◌, not, ◌<◌, inl, inr, max, map, List, [], ◌∷◌, ◌++◌, codes, length, IsTrue, refl, ap, sym, ◌∙◌, arith}
+use Rattle.std.specs.Prelude.{if◌then◌else◌}
 use Rattle.std.proofs.lemmas.List.{append_assoc, length-append}
 use Rattle.cbase.specs.declared.tree.expr.Expr.{Expr}
 use Rattle.cbase.specs.declared.tree.expr.Part.{Part}
@@ -9,11 +9,11 @@ use Rattle.ctrees.specs.Levels.{depth, expr_levels, part_levels}
 use Rattle.ctrees.specs.Weight.{joined}
 use Rattle.cread_expr.proofs.CompleteSteps.{clash, if_true, if_false, first_more, goes_exactly}
 use Rattle.cread_expr.proofs.CompleteTokens.{not_true, mark_test, comma_no_assignment, item_end_no_expression}
-use Rattle.cread_expr.proofs.Reached.{Reaches, Goes, Ends, Completes, goes_on_assignment, goes_on_conditional, goes_on_list, goes_on_path, is_some_assignment}
+use Rattle.cread_expr.proofs.Reached.{Goes, Ends, Completes, goes_on_assignment, goes_on_conditional, goes_on_list, goes_on_path, is_some_assignment}
 use Rattle.cread_expr.proofs.TreeLevels.{joined_one, levels_named_part, levels_at}
-use Rattle.cread_expr.proofs.Truth.{or-left, or-right, and-both}
+use Rattle.cread_expr.proofs.Truth.{or-left, or-right}
 use Rattle.cread_expr.specs.Operators.{mark_row, assignment_rows}
-use Rattle.cread_expr.specs.Outcomes.{Outcome, Nothing, Stopped, Read, Reader, then_read, after_first, after_mark, has_first, has_mark, behind_first}
+use Rattle.cread_expr.specs.Outcomes.{Outcome, Nothing, Read, Reader, then_read, after_mark, has_first, has_mark, behind_first}
 use Rattle.cread_expr.specs.Phrases.{Context, Assignment, Arguments, Conditional, MemberPath}
 use Rattle.cread_expr.specs.ReadLevels.{Level, prepended, read_list}
 use Rattle.cread_expr.specs.ReadOperands.{read_path}
@@ -41,11 +41,11 @@ pub list_last : {A : Type 0} (item : Reader A) (count : ℕ) (context : Context)
 unfolding read_list
 list_last item count context row tree levels behind rest read ends =
     ap (λ o. then_read o (λ tree levels behind rest.
-        if has_mark (codes ",") rest && not (never (behind_first rest))
-        then prepended tree levels (read_list never item count behind (behind_first rest))
-        else Read (tree ∷ []) levels behind rest)) read
+    if has_mark (codes ",") rest && not (never (behind_first rest))
+    then prepended tree levels (read_list never item count behind (behind_first rest))
+    else Read (tree ∷ []) levels behind rest)) read
     ∙ if_false (has_mark (codes ",") rest && not (never (behind_first rest))) (prepended tree levels (read_list never item count behind (behind_first rest))) (Read (tree ∷ []) levels behind rest)
-      (ap (λ (b : Bool). b && not (never (behind_first rest))) ends)
+    (ap (λ (b : Bool). b && not (never (behind_first rest))) ends)
 
 pub list_more : {A : Type 0} (item : Reader A) (count : ℕ) (context : Context) (row : List Terminal) (tree : A) (levels : ℕ) (behind : Context) (comma : Terminal) (rest : List Terminal)
     → item context row ≡ Read tree levels behind (comma ∷ rest) → is_mark (codes ",") comma ≡ true
@@ -53,11 +53,11 @@ pub list_more : {A : Type 0} (item : Reader A) (count : ℕ) (context : Context)
 unfolding read_list
 list_more item count context row tree levels behind comma rest read more =
     ap (λ o. then_read o (λ tree levels behind rest.
-        if has_mark (codes ",") rest && not (never (behind_first rest))
-        then prepended tree levels (read_list never item count behind (behind_first rest))
-        else Read (tree ∷ []) levels behind rest)) read
+    if has_mark (codes ",") rest && not (never (behind_first rest))
+    then prepended tree levels (read_list never item count behind (behind_first rest))
+    else Read (tree ∷ []) levels behind rest)) read
     ∙ if_true (is_mark (codes ",") comma && true) (prepended tree levels (read_list never item count behind rest)) (Read (tree ∷ []) levels behind (comma ∷ rest))
-      (ap (λ (b : Bool). b && true) more)
+    (ap (λ (b : Bool). b && true) more)
 
 -- arguments
 argument_goes_on : (token : Terminal) → goes_on_assignment token ≡ true → goes_on_list goes_on_assignment token ≡ true
@@ -71,8 +71,8 @@ complete_one_argument before after xs expr whole n zero rest shorter fits ends =
 complete_one_argument before after xs expr whole n (suc count) rest shorter fits ends =
     let one = joined_one (expr_levels expr) in
     list_last (level n).assignment count before (xs ++ rest) expr (expr_levels expr) after rest
-        (ends_exactly goes_on_assignment (goes_on_list goes_on_assignment) expr (expr_levels expr) after rest ((level n).assignment before (xs ++ rest)) argument_goes_on ends (whole n rest (omega (arith, fits, one))))
-        (ends_less (is_mark (codes ",")) (goes_on_list goes_on_assignment) rest comma_goes_on ends)
+    (ends_exactly goes_on_assignment (goes_on_list goes_on_assignment) expr (expr_levels expr) after rest ((level n).assignment before (xs ++ rest)) argument_goes_on ends (whole n rest (omega (arith, fits, one))))
+    (ends_less (is_mark (codes ",")) (goes_on_list goes_on_assignment) rest comma_goes_on ends)
     ∙ ap (λ (n : ℕ). Read (expr ∷ []) n after rest) (sym one)
 
 less_behind : (xs ys rest : List Terminal) (comma : Terminal) (count : ℕ) → length ((xs ++ (comma ∷ ys)) ++ rest) < suc count → length (ys ++ rest) < count
@@ -89,7 +89,7 @@ complete_more_arguments before middle after xs ys expr others comma is one more 
 complete_more_arguments before middle after xs ys expr others comma is one more n (suc count) rest shorter fits ends =
     ap (read_list never (level n).assignment (suc count) before) (append_assoc xs (comma ∷ ys) rest)
     ∙ list_more (level n).assignment count before (xs ++ (comma ∷ (ys ++ rest))) expr (expr_levels expr) middle comma (ys ++ rest)
-        (goes_exactly goes_on_assignment expr (expr_levels expr) middle comma (ys ++ rest) ((level n).assignment before (xs ++ (comma ∷ (ys ++ rest)))) (comma_no_assignment comma is) (one n (comma ∷ (ys ++ rest)) (omega (arith, fits)))) is
+    (goes_exactly goes_on_assignment expr (expr_levels expr) middle comma (ys ++ rest) ((level n).assignment before (xs ++ (comma ∷ (ys ++ rest)))) (comma_no_assignment comma is) (one n (comma ∷ (ys ++ rest)) (omega (arith, fits)))) is
     ∙ ap (prepended expr (expr_levels expr)) (more n count rest (less_behind xs ys rest comma count shorter) (omega (arith, fits)) ends)
 
 -- members
@@ -152,6 +152,6 @@ complete_path_to_item before middle after xs ys index path opening closing opens
     let at = levels_at index in
     ap (λ (row : List Terminal). read_path (level n) (suc count) before (opening ∷ row)) (append_assoc xs (closing ∷ ys) rest)
     ∙ item_read (level n) count before opening (xs ++ (closing ∷ (ys ++ rest))) index (expr_levels index) middle closing (ys ++ rest) opens closes
-        (goes_exactly goes_on_conditional index (expr_levels index) middle closing (ys ++ rest) ((level n).conditional before (xs ++ (closing ∷ (ys ++ rest)))) (item_end_no_conditional closing closes) (one n (closing ∷ (ys ++ rest)) (omega (arith, fits, at))))
+    (goes_exactly goes_on_conditional index (expr_levels index) middle closing (ys ++ rest) ((level n).conditional before (xs ++ (closing ∷ (ys ++ rest)))) (item_end_no_conditional closing closes) (one n (closing ∷ (ys ++ rest)) (omega (arith, fits, at))))
     ∙ ap (prepended (At index) (expr_levels index)) (more n count rest (less_behind xs ys rest closing count (omega (arith, shorter))) (omega (arith, fits)) ends)
     ∙ ap (λ (m : ℕ). Read (At index ∷ path) (max m (joined depth (map part_levels path))) after rest) (sym at)

@@ -1,11 +1,9 @@
 -- The reader is complete on failed assertions, whose brackets are matched by kind (C11 7.2).
-use Rattle.std.proofs.Common.{◌≡◌, ℕ, zero, suc, Bool, true, false, ◌&&◌, ◌||◌, not, ◌+◌, ◌<◌, ◌≤◌, ◌⊎◌, inl, inr, List, [], ◌∷◌, ◌++◌, codes, length, Some, None, IsTrue, refl, ap, sym, subst, ◌∙◌, arith}
-use Rattle.std.specs.Prelude.{if◌then◌else◌, Option}
+use Rattle.std.proofs.Common.{◌≡◌, ℕ, Bool, true, false, ◌⊎◌, inl, inr, List, [], ◌∷◌, ◌++◌, codes, Some, None, refl, ap, sym, subst, ◌∙◌}
+use Rattle.std.specs.Prelude.{if◌then◌else◌}
 use Rattle.std.specs.Str.{bytes_eq}
 use Rattle.std.proofs.lemmas.List.{append_assoc}
-use Rattle.cbase.specs.declared.tree.expr.Expr.{Expr}
 use Rattle.cbase.specs.declared.tree.expr.ExprForm.TheVariants.{AssertFail}
-use Rattle.ctrees.specs.Levels.{expr_levels}
 use Rattle.cread_expr.proofs.CompleteOperandStarts.{assert_fail_starts, opens_not, read_as_plain}
 use Rattle.cread_expr.proofs.CompletePostfixes.{Postfixed}
 use Rattle.cread_expr.proofs.CompletePrimaries.{postfixes_follow}
@@ -15,13 +13,12 @@ use Rattle.cread_expr.proofs.Reached.{Completes}
 use Rattle.cread_expr.proofs.TokenKinds.{other_mark, word_is_no_mark}
 use Rattle.cread_expr.proofs.TreeLevels.{levels_assert_fail}
 use Rattle.cread_expr.specs.Brackets.{is_bracket, ArePair, AreMatched, NothingMore, NoBracket, InBrackets}
-use Rattle.cread_expr.specs.Outcomes.{Outcome, Nothing, Stopped, Read}
+use Rattle.cread_expr.specs.Outcomes.{Nothing}
 use Rattle.cread_expr.specs.Phrases.{Context, counted, numbered, PrimaryExpression}
 use Rattle.cread_expr.specs.ReadLevels.{Level}
-use Rattle.cread_expr.specs.ReadOperands.{read_cast, closer_of, matched_with, behind_matched, failed_assertion, read_assert_fail, postfixes_from}
+use Rattle.cread_expr.specs.ReadOperands.{closer_of, matched_with, behind_matched, failed_assertion, read_assert_fail, postfixes_from}
 use Rattle.cread_expr.specs.Reader.{level}
 use Rattle.cread_expr.specs.Terminals.{Terminal, is_mark, IsMark, IsWord}
-use Rattle.cread_expr.specs.declared.reading.operand.Operand.{Operand}
 use Rattle.cread_expr.specs.declared.reading.starts.OperandStart.TheVariants as operand
 
 -- the byte of a closing bracket
@@ -53,11 +50,11 @@ no_closer closer token (inr (inr is)) none =
 closes_nothing : (token : Terminal) → is_bracket token ≡ false → closer_of token ≡ None
 closes_nothing token none =
     if_false (is_mark (codes "(") token) (Some 41) (if is_mark (codes "[") token then Some 93 else (if is_mark (codes "{") token then Some 125 else None))
-        (no_mark (codes "(") token none (λ mark. mark_test is_bracket true (codes "(") token mark (λ place. refl)))
+    (no_mark (codes "(") token none (λ mark. mark_test is_bracket true (codes "(") token mark (λ place. refl)))
     ∙ if_false (is_mark (codes "[") token) (Some 93) (if is_mark (codes "{") token then Some 125 else None)
-        (no_mark (codes "[") token none (λ mark. mark_test is_bracket true (codes "[") token mark (λ place. refl)))
+    (no_mark (codes "[") token none (λ mark. mark_test is_bracket true (codes "[") token mark (λ place. refl)))
     ∙ if_false (is_mark (codes "{") token) (Some 125) None
-        (no_mark (codes "{") token none (λ mark. mark_test is_bracket true (codes "{") token mark (λ place. refl)))
+    (no_mark (codes "{") token none (λ mark. mark_test is_bracket true (codes "{") token mark (λ place. refl)))
 
 -- one token
 behind_other : (closer : ℕ) (others : List ℕ) (token : Terminal) (row : List Terminal) → IsCloser closer → is_bracket token ≡ false
@@ -88,14 +85,26 @@ record Opened (closer : ℕ) (opening closing : Terminal) : Type 0 where
 
 opened : (closer : ℕ) (opening closing : Terminal) → IsCloser closer → ArePair opening closing → Opened closer opening closing
 opened closer opening closing is (inl (opens, closes)) = record {
-    inner = 41; known = inl refl; opens = mark_test closer_of (Some 41) (codes "(") opening opens (λ place. refl);
-    closes = closes; other = not_closer closer (codes "(") opening is opens refl refl refl }
+  inner = 41;
+  known = inl refl;
+  opens = mark_test closer_of (Some 41) (codes "(") opening opens (λ place. refl);
+  closes = closes;
+  other = not_closer closer (codes "(") opening is opens refl refl refl;
+}
 opened closer opening closing is (inr (inl (opens, closes))) = record {
-    inner = 93; known = inr (inl refl); opens = mark_test closer_of (Some 93) (codes "[") opening opens (λ place. refl);
-    closes = closes; other = not_closer closer (codes "[") opening is opens refl refl refl }
+  inner = 93;
+  known = inr (inl refl);
+  opens = mark_test closer_of (Some 93) (codes "[") opening opens (λ place. refl);
+  closes = closes;
+  other = not_closer closer (codes "[") opening is opens refl refl refl;
+}
 opened closer opening closing is (inr (inr (opens, closes))) = record {
-    inner = 125; known = inr (inr refl); opens = mark_test closer_of (Some 125) (codes "{") opening opens (λ place. refl);
-    closes = closes; other = not_closer closer (codes "{") opening is opens refl refl refl }
+  inner = 125;
+  known = inr (inr refl);
+  opens = mark_test closer_of (Some 125) (codes "{") opening opens (λ place. refl);
+  closes = closes;
+  other = not_closer closer (codes "{") opening is opens refl refl refl;
+}
 
 -- a row of matched brackets closes none of those that are open
 matched_passed : (closer : ℕ) (others : List ℕ) (xs more : List Terminal) → IsCloser closer → AreMatched xs → behind_matched (closer ∷ others) (xs ++ more) ≡ behind_matched (closer ∷ others) more

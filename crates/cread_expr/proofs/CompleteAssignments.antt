@@ -1,27 +1,27 @@
 -- The reader is complete on assignments (C11 6.5.16).
-use Rattle.std.proofs.Common.{◌≡◌, ℕ, zero, suc, Bool, true, false, ◌&&◌, ◌||◌, not, ◌+◌, ◌<◌, ◌≤◌, ◌⊎◌, inl, inr, max, nat_le, List, [], ◌∷◌, ◌++◌, codes, length, Some, None, IsTrue, refl, ap, sym, subst, ◌∙◌, arith}
-use Rattle.std.specs.Prelude.{if◌then◌else◌, Option}
+use Rattle.std.proofs.Common.{◌≡◌, ℕ, zero, suc, Bool, true, false, ◌||◌, ◌+◌, ◌≤◌, ◌⊎◌, inl, inr, max, nat_le, List, [], ◌∷◌, ◌++◌, codes, length, Some, None, IsTrue, refl, ap, sym, subst, ◌∙◌, arith}
+use Rattle.std.specs.Prelude.{Option}
 use Rattle.std.proofs.lemmas.List.{append_assoc}
 use Rattle.cbase.specs.declared.tree.expr.Expr.{Expr}
 use Rattle.cbase.specs.declared.tree.expr.ExprForm.TheVariants.{Assign}
 use Rattle.cbase.specs.declared.tree.operators.BinaryOp.{BinaryOp}
 use Rattle.ctrees.specs.Levels.{expr_levels}
-use Rattle.cread_expr.proofs.CompleteConditionals.{conditional_at, choice_stops, taken_goes_on, question_goes_on}
+use Rattle.cread_expr.proofs.CompleteConditionals.{choice_stops, taken_goes_on, question_goes_on}
 use Rattle.cread_expr.proofs.CompleteOperations.{is_taken, operations_stop}
 use Rattle.cread_expr.proofs.CompleteReaches.{reaches_more, assignment_reaches}
-use Rattle.cread_expr.proofs.CompleteSteps.{clash, if_true, if_false, first_more, levels_fit, some_level, with_right_step, goes_exactly}
+use Rattle.cread_expr.proofs.CompleteSteps.{clash, if_true, first_more, levels_fit, some_level, with_right_step, goes_exactly}
 use Rattle.cread_expr.proofs.CompleteTokens.{assignment_no_conditional}
 use Rattle.cread_expr.proofs.Reached.{Reaches, Goes, IsWithinLevel, Completes, goes_on_operand, goes_on_conditional, goes_on_assignment, is_some_binary, is_some_assignment}
 use Rattle.cread_expr.proofs.TreeLevels.{levels_assign}
-use Rattle.cread_expr.proofs.Truth.{or-left, or-right, or-cases}
+use Rattle.cread_expr.proofs.Truth.{or-left, or-right}
 use Rattle.cread_expr.specs.Operators.{mark_row, binary_rows, assignment_rows, IsAssignment}
-use Rattle.cread_expr.specs.Outcomes.{Outcome, Nothing, Stopped, Read, Reader, with_right, continued, has_first}
+use Rattle.cread_expr.specs.Outcomes.{Outcome, Nothing, Stopped, Read, with_right, continued, has_first}
 use Rattle.cread_expr.specs.Phrases.{Context, counted, numbered, Conditional, Assignment, UnaryExpression}
 use Rattle.cread_expr.specs.ReadLevels.{Level}
 use Rattle.cread_expr.specs.ReadOperands.{read_cast, unary_operand}
-use Rattle.cread_expr.specs.ReadOperators.{expression_of, expr_of, itself, stopped, read_operations, operations_from, read_choice, conditional_from, assignment_with, assignment_from}
+use Rattle.cread_expr.specs.ReadOperators.{expression_of, expr_of, itself, stopped, read_operations, read_choice, conditional_from, assignment_with, assignment_from}
 use Rattle.cread_expr.specs.Reader.{level}
-use Rattle.cread_expr.specs.Terminals.{Terminal, is_mark, IsMark}
+use Rattle.cread_expr.specs.Terminals.{Terminal, is_mark}
 use Rattle.cread_expr.specs.declared.reading.operand.Operand.{Operand}
 
 abbrev pub is_assigning : Terminal → Bool
@@ -56,7 +56,7 @@ alternatives inner operand levels context (mark ∷ row) = step (mark_row assign
   where
     step : (op : Option (Option BinaryOp)) → mark_row assignment_rows mark ≡ op
         → (assignment_with inner operand levels context mark row op ≡ conditional_from inner operand levels context (mark ∷ row))
-          ⊎ (IsTrue (is_some_assignment op) × (conditional_from inner operand levels context (mark ∷ row) ≡ Read operand.expr levels context (mark ∷ row)))
+        ⊎ (IsTrue (is_some_assignment op) × (conditional_from inner operand levels context (mark ∷ row) ≡ Read operand.expr levels context (mark ∷ row)))
     step None is = inl refl
     step (Some op) is = inr (refl, conditional_ends inner operand levels context mark row (assignment_no_conditional op mark is))
 
@@ -87,12 +87,16 @@ assigned inner within operand n context row e levels after rest goes (inl same) 
     subst (λ o. Goes goes_on_assignment e levels after rest o) (sym same) (goes_further e levels after rest (conditional_from inner operand n context row) goes)
 assigned inner within operand n context row e levels after rest (inl is) (inr (assigning, ends)) =
     let same : row ≡ rest = same_rest operand.expr e n levels context after row rest (sym ends ∙ is) in
-    inr (subst (λ r. IsTrue (has_first goes_on_assignment r)) same (first_more is_assigning goes_on_assignment row assigning_goes_on assigning)
-        , subst (λ r. Reaches (assignment_from inner operand n context row) r) same (assignment_reaches inner within operand n context row))
+    inr (
+      subst (λ r. IsTrue (has_first goes_on_assignment r)) same (first_more is_assigning goes_on_assignment row assigning_goes_on assigning),
+      subst (λ r. Reaches (assignment_from inner operand n context row) r) same (assignment_reaches inner within operand n context row),
+    )
 assigned inner within operand n context row e levels after rest (inr (goes, far)) (inr (assigning, ends)) =
     let further : length row ≤ length rest = subst (λ o. Reaches o rest) ends far in
-    inr (first_more goes_on_conditional goes_on_assignment rest conditional_goes_on goes
-        , reaches_more (assignment_from inner operand n context row) row rest further (assignment_reaches inner within operand n context row))
+    inr (
+      first_more goes_on_conditional goes_on_assignment rest conditional_goes_on goes,
+      reaches_more (assignment_from inner operand n context row) row rest further (assignment_reaches inner within operand n context row),
+    )
 
 conditional_assigned : (inner : Level) (within : IsWithinLevel inner) (outcome : Outcome Operand) (e : Expr) (levels : ℕ) (after : Context) (rest : List Terminal)
     → Goes goes_on_conditional e levels after rest (continued outcome expr_of (conditional_from inner))
@@ -115,9 +119,9 @@ or_false false b is = refl
 
 assignment_turn : (inner : Level) (left : Expr) (levels : ℕ) (context : Context) (mark : Terminal) (row : List Terminal) (op : Option BinaryOp) → IsAssignment op mark → nat_le levels inner.most ≡ true
     → assignment_from inner (unary_operand left) levels context (mark ∷ row)
-      ≡ with_right (inner.assignment context row) (stopped left context mark row)
-            (λ right number. expression_of number mark.place (Assign op left right))
-            (λ right others behind rest. Read (numbered behind mark.place (Assign op left right)) (1 + max levels others) (counted behind) rest)
+    ≡ with_right (inner.assignment context row) (stopped left context mark row)
+    (λ right number. expression_of number mark.place (Assign op left right))
+    (λ right others behind rest. Read (numbered behind mark.place (Assign op left right)) (1 + max levels others) (counted behind) rest)
 unfolding assignment_from
 assignment_turn inner left levels context mark row op is fits =
     ap (λ (o : Option (Option BinaryOp)). assignment_with inner (unary_operand left) levels context mark row o) is
@@ -131,7 +135,7 @@ complete_assignment_operator before middle after xs ys left right op mark is one
 complete_assignment_operator before middle after xs ys left right op mark is one other within (suc m) rest fits =
     subst (λ row. Goes goes_on_assignment whole (expr_levels whole) (counted after) rest (assignment_at m before row)) (sym (append_assoc xs (mark ∷ ys) rest))
     (step (with_right_step goes_on_assignment right (expr_levels right) after rest ((level m).assignment middle (ys ++ rest)) (stopped left middle mark (ys ++ rest))
-        (λ e number. expression_of number mark.place (Assign op left e)) go reaches (other m rest (omega (arith, fits, levels)))))
+    (λ e number. expression_of number mark.place (Assign op left e)) go reaches (other m rest (omega (arith, fits, levels)))))
   where
     whole : Expr
     whole = numbered after mark.place (Assign op left right)
@@ -152,8 +156,8 @@ complete_assignment_operator before middle after xs ys left right op mark is one
     turned =
         ap (λ o. continued o expr_of (assignment_from (level m)))
         (goes_exactly goes_on_operand (unary_operand left) (expr_levels left) middle mark (ys ++ rest) (read_cast (level m) before (xs ++ (mark ∷ (ys ++ rest))))
-            (or_false (goes_on_operand mark) (is_some_binary (mark_row binary_rows mark) || is_mark (codes "?") mark) (assignment_no_conditional op mark is))
-            (one (suc m) (mark ∷ (ys ++ rest)) (omega (arith, fits, levels))))
+        (or_false (goes_on_operand mark) (is_some_binary (mark_row binary_rows mark) || is_mark (codes "?") mark) (assignment_no_conditional op mark is))
+        (one (suc m) (mark ∷ (ys ++ rest)) (omega (arith, fits, levels))))
         ∙ assignment_turn (level m) left (expr_levels left) middle mark (ys ++ rest) op is (levels_fit (expr_levels left) m (omega (arith, fits, levels)))
 
     step : (taken ≡ go right (expr_levels right) after rest) ⊎ (IsTrue (has_first goes_on_assignment rest) × Reaches taken rest)

@@ -1,6 +1,6 @@
 -- The reader is complete on expressions with commas (C11 6.5.17).
-use Rattle.std.proofs.Common.{◌≡◌, ℕ, zero, suc, Bool, true, false, ◌&&◌, ◌||◌, not, ◌+◌, ◌<◌, ◌≤◌, ◌⊎◌, inl, inr, max, nat_le, List, [], ◌∷◌, ◌++◌, codes, length, Some, None, IsTrue, refl, ap, sym, subst, ◌∙◌, arith}
-use Rattle.std.specs.Prelude.{if◌then◌else◌, Option}
+use Rattle.std.proofs.Common.{◌≡◌, ℕ, zero, suc, Bool, true, false, ◌+◌, ◌<◌, ◌≤◌, ◌⊎◌, inl, inr, max, nat_le, List, [], ◌∷◌, ◌++◌, codes, length, IsTrue, refl, ap, sym, subst, ◌∙◌, arith}
+use Rattle.std.specs.Prelude.{if◌then◌else◌}
 use Rattle.std.proofs.lemmas.List.{append_assoc, length-append}
 use Rattle.cbase.specs.declared.tree.expr.Expr.{Expr}
 use Rattle.cbase.specs.declared.tree.expr.ExprForm.TheVariants.{Binary}
@@ -8,12 +8,12 @@ use Rattle.cbase.specs.declared.tree.operators.BinaryOp.TheVariants.{Comma}
 use Rattle.ctrees.specs.Levels.{expr_levels}
 use Rattle.cread_expr.proofs.CompleteAssignments.{assignment_at}
 use Rattle.cread_expr.proofs.CompleteReaches.{continued_reaches, commas_reach}
-use Rattle.cread_expr.proofs.CompleteSteps.{clash, if_true, if_false, first_more, levels_fit, some_level, continued_twice, with_right_step}
+use Rattle.cread_expr.proofs.CompleteSteps.{clash, if_true, first_more, levels_fit, some_level, continued_twice, with_right_step}
 use Rattle.cread_expr.proofs.CompleteTokens.{comma_no_assignment}
 use Rattle.cread_expr.proofs.Reached.{Reaches, Goes, IsWithinLevel, Completes, goes_on_assignment, goes_on_expression}
 use Rattle.cread_expr.proofs.TreeLevels.{levels_binary}
 use Rattle.cread_expr.proofs.Truth.{or-left, or-right}
-use Rattle.cread_expr.specs.Outcomes.{Outcome, Nothing, Stopped, Read, Reader, with_right, continued, has_first}
+use Rattle.cread_expr.specs.Outcomes.{Outcome, Read, Reader, with_right, continued, has_first}
 use Rattle.cread_expr.specs.Phrases.{Context, counted, numbered, Assignment, Expression}
 use Rattle.cread_expr.specs.ReadLevels.{Level}
 use Rattle.cread_expr.specs.ReadOperands.{read_cast}
@@ -49,9 +49,9 @@ commas_stop inner (suc count) left levels context (mark ∷ row) = step (is_mark
 
 commas_turn : (inner : Level) (count : ℕ) (left : Expr) (levels : ℕ) (context : Context) (mark : Terminal) (row : List Terminal) → is_mark (codes ",") mark ≡ true → nat_le levels inner.most ≡ true
     → read_commas inner (suc count) left levels context (mark ∷ row)
-      ≡ with_right (inner.assignment context row) (stopped left context mark row)
-            (λ right number. expression_of number mark.place (Binary Comma left right))
-            (λ right others behind rest. read_commas inner count (numbered behind mark.place (Binary Comma left right)) (1 + max levels others) (counted behind) rest)
+    ≡ with_right (inner.assignment context row) (stopped left context mark row)
+    (λ right number. expression_of number mark.place (Binary Comma left right))
+    (λ right others behind rest. read_commas inner count (numbered behind mark.place (Binary Comma left right)) (1 + max levels others) (counted behind) rest)
 unfolding read_commas
 commas_turn inner count left levels context mark row is fits =
     if_true (is_mark (codes ",") mark) _ (Read left levels context (mark ∷ row)) is
@@ -75,8 +75,11 @@ unfolding commas_from
 one_assignment m within before after row rest e (inl is) =
     inl (length rest + 1, omega arith, assignment_first m before row ∙ ap (λ o. continued o itself (commas_from (level m))) is)
 one_assignment m within before after row rest e (inr (goes, far)) =
-    inr (goes, subst (λ o. Reaches o rest) (sym (assignment_first m before row))
-        (continued_reaches (assignment_at m before row) itself (commas_from (level m)) rest far (commas_from_reach m within)))
+    inr (
+      goes,
+      subst (λ o. Reaches o rest) (sym (assignment_first m before row))
+          (continued_reaches (assignment_at m before row) itself (commas_from (level m)) rest far (commas_from_reach m within)),
+    )
 
 pub commas_one_assignment : (before after : Context) (row : List Terminal) (expr : Expr) → Completes (Assignment expr) before row after → ((n : ℕ) → IsWithinLevel (level n))
     → CompletesCommas expr before row after
@@ -119,9 +122,9 @@ commas_comma_operator before middle after xs ys left right mark is one other wit
         behind count (omega (arith, longer, sum))
         (read ∙ commas_turn (level m) count left (expr_levels left) middle mark (ys ++ rest) is (levels_fit (expr_levels left) m (omega (arith, fits, levels))))
         (with_right_step goes_on_assignment right (expr_levels right) after rest ((level m).assignment middle (ys ++ rest)) (stopped left middle mark (ys ++ rest))
-            (λ e number. expression_of number mark.place (Binary Comma left e)) (go count)
-            (λ e others context row. commas_reach (level m) (within m) count (numbered context mark.place (Binary Comma left e)) (1 + max (expr_levels left) others) (counted context) row)
-            (other m rest (omega (arith, fits, levels))))
+        (λ e number. expression_of number mark.place (Binary Comma left e)) (go count)
+        (λ e others context row. commas_reach (level m) (within m) count (numbered context mark.place (Binary Comma left e)) (1 + max (expr_levels left) others) (counted context) row)
+        (other m rest (omega (arith, fits, levels))))
     first (inr (goes, far)) = absurd (clash (goes_on_assignment mark) goes (comma_no_assignment mark is))
 
 -- what is known of it to the left of a comma is known of it anywhere
@@ -141,8 +144,10 @@ complete_of_commas before after row expr whole within (suc m) rest fits = step (
         → Goes goes_on_expression expr (expr_levels expr) after rest (expression_at m before (row ++ rest))
     ends count is (inl stop) = inl (is ∙ stop)
     ends count is (inr more) =
-        inr (first_more (is_mark (codes ",")) goes_on_expression rest comma_goes_on more
-            , subst (λ o. Reaches o rest) (sym is) (commas_reach (level m) (within m) count expr (expr_levels expr) after rest))
+        inr (
+          first_more (is_mark (codes ",")) goes_on_expression rest comma_goes_on more,
+          subst (λ o. Reaches o rest) (sym is) (commas_reach (level m) (within m) count expr (expr_levels expr) after rest),
+        )
 
     step : CommasGo m expr after rest (expression_at m before (row ++ rest)) → Goes goes_on_expression expr (expr_levels expr) after rest (expression_at m before (row ++ rest))
     step (inl (count, less, is)) = ends count is (commas_stop (level m) count expr (expr_levels expr) after rest)

@@ -1,5 +1,5 @@
 -- The reader is complete on conditional expressions (C11 6.5.15).
-use Rattle.std.proofs.Common.{◌≡◌, ℕ, zero, suc, Bool, true, false, ◌&&◌, ◌||◌, not, ◌+◌, ◌<◌, ◌≤◌, ◌⊎◌, inl, inr, max, nat_le, List, [], ◌∷◌, ◌++◌, codes, length, Some, None, IsTrue, refl, ap, sym, subst, ◌∙◌, arith}
+use Rattle.std.proofs.Common.{◌≡◌, ℕ, zero, suc, Bool, true, false, ◌||◌, ◌+◌, ◌<◌, ◌≤◌, ◌⊎◌, inl, inr, max, nat_le, List, [], ◌∷◌, ◌++◌, codes, length, Some, None, IsTrue, refl, ap, sym, subst, ◌∙◌, arith}
 use Rattle.std.specs.Prelude.{if◌then◌else◌, Option}
 use Rattle.std.proofs.lemmas.List.{append_assoc}
 use Rattle.cbase.specs.declared.tree.expr.Expr.{Expr}
@@ -8,20 +8,19 @@ use Rattle.cbase.specs.declared.tree.operators.BinaryOp.{BinaryOp}
 use Rattle.ctrees.specs.Levels.{expr_levels}
 use Rattle.cread_expr.proofs.CompleteOperations.{is_taken, is_at_least, operations_stop}
 use Rattle.cread_expr.proofs.CompleteReaches.{continued_reaches, operations_reach, choice_reaches}
-use Rattle.cread_expr.proofs.CompleteSteps.{clash, if_true, if_false, first_more, levels_fit, some_level, continued_twice, with_right_step, goes_exactly}
+use Rattle.cread_expr.proofs.CompleteSteps.{clash, if_true, first_more, levels_fit, some_level, continued_twice, with_right_step, goes_exactly}
 use Rattle.cread_expr.proofs.CompleteTokens.{colon_no_expression, question_no_operand, question_no_binary}
 use Rattle.cread_expr.proofs.Reached.{Reaches, Goes, IsWithinLevel, Completes, goes_on_operand, goes_on_operation, goes_on_conditional, goes_on_expression, is_tighter, is_some_binary}
 use Rattle.cread_expr.proofs.TreeLevels.{levels_choose}
 use Rattle.cread_expr.proofs.Truth.{or-left, or-right, or-cases}
 use Rattle.cread_expr.specs.Operators.{mark_row, binary_rows}
-use Rattle.cread_expr.specs.Outcomes.{Outcome, Nothing, Stopped, Read, Reader, with_right, or_else, after_mark, continued, has_first}
+use Rattle.cread_expr.specs.Outcomes.{Outcome, Read, with_right, or_else, after_mark, continued, has_first}
 use Rattle.cread_expr.specs.Phrases.{Context, counted, numbered, Operation, Conditional, Expression}
 use Rattle.cread_expr.specs.ReadLevels.{Level}
 use Rattle.cread_expr.specs.ReadOperands.{read_cast}
 use Rattle.cread_expr.specs.ReadOperators.{expression_of, expr_of, itself, stopped, read_operations, operations_from, read_choice, conditional_from}
 use Rattle.cread_expr.specs.Reader.{level}
 use Rattle.cread_expr.specs.Terminals.{Terminal, is_mark, IsMark}
-use Rattle.cread_expr.specs.declared.reading.operand.Operand.{Operand}
 
 some_taken : (loosest : ℕ) (entry : Option (ℕ × BinaryOp)) → is_at_least loosest entry ≡ true → is_some_binary entry ≡ true
 some_taken loosest None is = is
@@ -65,8 +64,8 @@ chosen inner test levels context mark row one ones first others =
 
 choice_turn : (inner : Level) (test : Expr) (levels : ℕ) (context : Context) (mark : Terminal) (row : List Terminal) → is_mark (codes "?") mark ≡ true → nat_le levels inner.most ≡ true
     → read_choice inner test levels context (mark ∷ row)
-      ≡ or_else (inner.expression context row) (stopped test context mark row) (λ one ones first rest.
-            after_mark (codes ":") rest (stopped test context mark row) (λ colon others. chosen inner test levels context mark row one ones first others))
+    ≡ or_else (inner.expression context row) (stopped test context mark row) (λ one ones first rest.
+    after_mark (codes ":") rest (stopped test context mark row) (λ colon others. chosen inner test levels context mark row one ones first others))
 unfolding read_choice
 choice_turn inner test levels context mark row is fits =
     if_true (is_mark (codes "?") mark) _ (Read test levels context (mark ∷ row)) is
@@ -79,7 +78,7 @@ choice_step : (inner : Level) (test : Expr) (levels : ℕ) (context : Context) (
 choice_step inner test levels context mark row is fits one ones first colon others ends read =
     choice_turn inner test levels context mark row is fits
     ∙ ap (λ o. or_else o (stopped test context mark row) (λ one ones first rest.
-            after_mark (codes ":") rest (stopped test context mark row) (λ colon others. chosen inner test levels context mark row one ones first others))) read
+    after_mark (codes ":") rest (stopped test context mark row) (λ colon others. chosen inner test levels context mark row one ones first others))) read
     ∙ if_true (is_mark (codes ":") colon) _ (stopped test context mark row) ends
 
 -- an operation is read first
@@ -114,18 +113,22 @@ choices m before after row rest e within read = step read
         → Choices m e after rest (conditional_at m before row)
     ends count is (inl stop) = inl (operation_first m before row ∙ ap (λ o. continued o itself (read_choice (level m))) (is ∙ stop))
     ends count is (inr more) =
-        inr (first_more (is_taken 0) goes_on_conditional rest (taken_goes_on 0) more
-            , subst (λ o. Reaches o rest) (sym (operation_first m before row))
+        inr (
+          first_more (is_taken 0) goes_on_conditional rest (taken_goes_on 0) more,
+          subst (λ o. Reaches o rest) (sym (operation_first m before row))
               (continued_reaches outcome itself (read_choice (level m)) rest
-                (subst (λ o. Reaches o rest) (sym is) (operations_reach (level m) within 0 count e (expr_levels e) after rest))
-                (choice_reaches (level m) within)))
+              (subst (λ o. Reaches o rest) (sym is) (operations_reach (level m) within 0 count e (expr_levels e) after rest))
+              (choice_reaches (level m) within)),
+        )
 
     step : Operated m e after rest outcome → Choices m e after rest (conditional_at m before row)
     step (inl (count, less, is)) = ends count is (operations_stop (level m) 0 count e (expr_levels e) after rest)
     step (inr (goes, far)) =
-        inr (first_more (goes_on_operation 0) goes_on_conditional rest (operation_goes_on_conditional 0) goes
-            , subst (λ o. Reaches o rest) (sym (operation_first m before row))
-              (continued_reaches outcome itself (read_choice (level m)) rest far (choice_reaches (level m) within)))
+        inr (
+          first_more (goes_on_operation 0) goes_on_conditional rest (operation_goes_on_conditional 0) goes,
+          subst (λ o. Reaches o rest) (sym (operation_first m before row))
+              (continued_reaches outcome itself (read_choice (level m)) rest far (choice_reaches (level m) within)),
+        )
 
 operation_choices : (e : Expr) (before after : Context) (front : List Terminal) → Completes (Operation 0 e) before front after → ((n : ℕ) → IsWithinLevel (level n))
     → (m : ℕ) (rest : List Terminal) → expr_levels e ≤ m + 1 → Choices m e after rest (conditional_at m before (front ++ rest))
@@ -142,8 +145,10 @@ complete_one_operation before after row expr whole within (suc m) rest fits = st
         → Goes goes_on_conditional expr (expr_levels expr) after rest (conditional_at m before (row ++ rest))
     ends is (inl stop) = inl (is ∙ stop)
     ends is (inr more) =
-        inr (first_more (is_mark (codes "?")) goes_on_conditional rest question_goes_on more
-            , subst (λ o. Reaches o rest) (sym is) (choice_reaches (level m) (within m) expr (expr_levels expr) after rest))
+        inr (
+          first_more (is_mark (codes "?")) goes_on_conditional rest question_goes_on more,
+          subst (λ o. Reaches o rest) (sym is) (choice_reaches (level m) (within m) expr (expr_levels expr) after rest),
+        )
 
     step : Choices m expr after rest (conditional_at m before (row ++ rest)) → Goes goes_on_conditional expr (expr_levels expr) after rest (conditional_at m before (row ++ rest))
     step (inl is) = ends is (choice_stops (level m) expr (expr_levels expr) after rest)
@@ -191,7 +196,7 @@ complete_conditional_operator before first second after xs ys zs test one other 
 complete_conditional_operator before first second after xs ys zs test one other mark colon is ends tests ones others within (suc m) rest fits =
     subst (λ row. Goes goes_on_conditional whole (expr_levels whole) (counted after) rest (conditional_at m before row)) (sym (three_parts xs ys zs rest mark colon))
     (step (with_right_step goes_on_conditional other (expr_levels other) after rest ((level m).conditional second (zs ++ rest)) (stopped test first mark behind_mark)
-        (λ e number. expression_of number mark.place (Choose test one e)) go (λ e twos behind more. reaches e twos behind more) (others m rest (omega (arith, fits, levels)))))
+    (λ e number. expression_of number mark.place (Choose test one e)) go (λ e twos behind more. reaches e twos behind more) (others m rest (omega (arith, fits, levels)))))
   where
     whole : Expr
     whole = numbered after mark.place (Choose test one other)
@@ -215,7 +220,7 @@ complete_conditional_operator before first second after xs ys zs test one other 
     turned =
         operation_question test before first xs tests m mark behind_mark is (omega (arith, fits, levels))
         ∙ choice_step (level m) test (expr_levels test) first mark behind_mark is (levels_fit (expr_levels test) m (omega (arith, fits, levels))) one (expr_levels one) second colon (zs ++ rest) ends
-          (goes_exactly goes_on_expression one (expr_levels one) second colon (zs ++ rest) ((level m).expression first behind_mark) (colon_no_expression colon ends) (ones m (colon ∷ (zs ++ rest)) (omega (arith, fits, levels))))
+        (goes_exactly goes_on_expression one (expr_levels one) second colon (zs ++ rest) ((level m).expression first behind_mark) (colon_no_expression colon ends) (ones m (colon ∷ (zs ++ rest)) (omega (arith, fits, levels))))
 
     step : (right ≡ go other (expr_levels other) after rest) ⊎ (IsTrue (has_first goes_on_conditional rest) × Reaches right rest)
         → Goes goes_on_conditional whole (expr_levels whole) (counted after) rest (conditional_at m before (xs ++ (mark ∷ behind_mark)))

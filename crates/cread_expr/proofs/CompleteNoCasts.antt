@@ -1,23 +1,21 @@
 -- A unary expression begins with no type in a bracket (C11 6.5.3).
-use Rattle.std.proofs.Common.{◌≡◌, ℕ, zero, suc, Bool, true, false, ◌&&◌, ◌||◌, not, List, [], ◌∷◌, ◌++◌, codes, length, Some, None, IsTrue, refl, ap, sym, ◌∙◌}
+use Rattle.std.proofs.Common.{◌≡◌, Bool, true, false, ◌&&◌, ◌||◌, not, List, [], ◌∷◌, ◌++◌, codes, refl, ap, ◌∙◌}
 use Rattle.std.proofs.lemmas.List.{append_assoc}
 use Rattle.std.specs.List.{list_any}
 use Rattle.std.specs.Str.{bytes_eq}
-use Rattle.cbase.specs.declared.tree.expr.Expr.{Expr}
 use Rattle.cread_expr.proofs.CompleteOperandStarts.{unary_no_bracket, count_no_bracket, begins_no_type}
 use Rattle.cread_expr.proofs.CompleteTokens.{not_true}
 use Rattle.cread_expr.proofs.CompleteUnaryOutcomes.{is_cast_row}
 use Rattle.cread_expr.proofs.Firsts.{first_tokens}
 use Rattle.cread_expr.proofs.Starting.{starts}
 use Rattle.cread_expr.proofs.TokenKinds.{mark_is_mark_kind, mark_kind_no_word, name_is_no_mark, constant_is_no_mark, word_is_no_mark}
-use Rattle.cread_expr.specs.Constants.{IsConstant}
 use Rattle.cread_expr.specs.Firsts.{Begins, is_plain, begins_type, type_words}
 use Rattle.cread_expr.specs.Grammar.{Spells, OnePostfix, CountBefore, UnaryOperator, SizeOfExpression, SizeOfTypeName, OnePrimary, IndexOperator, CallOfNothing, CallOperator, MemberOperator, CountBehind, OneName, OneConstant, Bracketed, StatementExpression, OffsetOfMember, FailedAssertion}
-use Rattle.cread_expr.specs.Phrases.{Phrase, Context, Expression, UnaryExpression, PostfixExpression, PrimaryExpression, CompoundStatement}
+use Rattle.cread_expr.specs.Phrases.{Phrase, Context, Expression, UnaryExpression, PostfixExpression, PrimaryExpression}
 use Rattle.cread_expr.specs.Scope.{Names, is_typedef_name}
 use Rattle.ctokens.specs.Symbol.{is_identifier, word_symbol}
 use Rattle.cread_expr.specs.Starts.{begins_operand}
-use Rattle.cread_expr.specs.Terminals.{Terminal, is_word_kind, is_mark, IsMark, is_left_out, IsNoType}
+use Rattle.cread_expr.specs.Terminals.{Terminal, is_mark, IsMark, is_left_out, IsNoType}
 
 abbrev pub NoCast : Phrase → Context → List Terminal → Type 0
 NoCast (UnaryExpression expr) before row = (rest : List Terminal) → is_cast_row before (row ++ rest) ≡ false

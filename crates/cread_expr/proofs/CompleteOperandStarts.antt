@@ -1,29 +1,28 @@
 -- With what an operand is seen to begin, by its first token (C11 6.5.1 to 6.5.4).
-use Rattle.std.proofs.Common.{◌≡◌, ℕ, Bool, true, false, ◌&&◌, ◌||◌, not, refl, ap, sym, ◌∙◌, List, [], ◌∷◌, ◌++◌, codes, Some, None, IsTrue}
+use Rattle.std.proofs.Common.{◌≡◌, ℕ, Bool, true, false, ◌&&◌, ◌||◌, not, refl, ap, ◌∙◌, List, ◌∷◌, codes, Some, None, IsTrue}
 use Rattle.std.specs.Prelude.{if◌then◌else◌, Option}
-use Rattle.std.specs.List.{list_any, list_all}
+use Rattle.std.specs.List.{list_any}
 use Rattle.std.specs.Str.{bytes_eq}
 use Rattle.cbase.specs.declared.place.Place.{Place}
 use Rattle.cbase.specs.declared.tree.operators.UnaryOp.{UnaryOp}
 use Rattle.ctokens.specs.declared.token.TokenKind.{TokenKind}
 use Rattle.ctokens.specs.declared.token.TokenKind.TheVariants.{Word, Number, Letter, Quoted, Mark}
-use Rattle.cread_expr.proofs.CompleteSteps.{clash, if_true, if_false}
-use Rattle.cread_expr.proofs.CompleteTokens.{mark_at, mark_test, row_fails, row_test, not_true}
+use Rattle.cread_expr.proofs.CompleteSteps.{if_true, if_false}
+use Rattle.cread_expr.proofs.CompleteTokens.{mark_test, row_fails, row_test}
 use Rattle.cread_expr.proofs.Integers.{integer_exact}
 use Rattle.cread_expr.proofs.Starting.{operand_not_mark}
-use Rattle.cread_expr.proofs.TokenKinds.{named_words, mark_kind_is_no_word, mark_kind_is_no_name, row_is_mark_kind, word_is_word_kind, word_is_no_mark, word_is_no_name, other_word, name_is_no_mark, constant_is_no_name, constant_is_no_mark}
+use Rattle.cread_expr.proofs.TokenKinds.{named_words, mark_kind_is_no_word, mark_kind_is_no_name, row_is_mark_kind, word_is_word_kind, word_is_no_mark, word_is_no_name, other_word, constant_is_no_name}
 use Rattle.cread_expr.specs.Constants.{IsConstant, IsOfKind}
-use Rattle.cread_expr.specs.Firsts.{Begins, is_among, is_plain, begins_type, storage_words, type_words}
+use Rattle.cread_expr.specs.Firsts.{is_among, is_plain, begins_type, storage_words, type_words}
 use Rattle.cread_expr.specs.Operators.{mark_row, unary_rows, count_rows, IsUnary, IsCount}
-use Rattle.cread_expr.specs.Outcomes.{Outcome, has_first, has_mark}
+use Rattle.cread_expr.specs.Outcomes.{has_first}
 use Rattle.cread_expr.specs.Phrases.{Context}
 use Rattle.cread_expr.specs.ReadLevels.{Level}
 use Rattle.cread_expr.specs.ReadOperands.{opens, plain_with, read_plain, read_cast}
 use Rattle.cread_expr.specs.ReadStarts.{operand_start, is_constant, unary_start, counting_start}
 use Rattle.cread_expr.specs.Scope.{Names}
 use Rattle.cread_expr.specs.Starts.{begins_operand}
-use Rattle.cread_expr.specs.Terminals.{Terminal, is_word_kind, is_mark_kind, is_mark, IsMark, is_word, IsWord, is_name, IsName, is_typedef, IsNoType}
-use Rattle.cread_expr.specs.declared.reading.operand.Operand.{Operand}
+use Rattle.cread_expr.specs.Terminals.{Terminal, is_word_kind, is_mark_kind, is_mark, IsMark, is_word, IsWord, is_name, IsName, is_typedef}
 use Rattle.cread_expr.specs.declared.reading.starts.OperandStart.{OperandStart}
 use Rattle.cread_expr.specs.declared.reading.starts.OperandStart.TheVariants as operand
 

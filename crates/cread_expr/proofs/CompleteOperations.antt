@@ -1,28 +1,26 @@
 -- The reader is complete on binary operators (C11 6.5.5 to 6.5.14).
-use Rattle.std.proofs.Common.{◌≡◌, ℕ, zero, suc, Bool, true, false, ◌&&◌, ◌||◌, not, ◌+◌, ◌<◌, ◌≤◌, ◌⊎◌, inl, inr, max, nat_le, nat_lt, List, [], ◌∷◌, ◌++◌, codes, length, Some, None, IsTrue, refl, ap, sym, subst, ◌∙◌, arith}
+use Rattle.std.proofs.Common.{◌≡◌, ℕ, zero, suc, Bool, true, false, ◌||◌, ◌+◌, ◌<◌, ◌≤◌, ◌⊎◌, inl, inr, max, nat_le, List, [], ◌∷◌, ◌++◌, length, Some, None, IsTrue, refl, ap, sym, subst, ◌∙◌, arith}
 use Rattle.std.specs.Prelude.{if◌then◌else◌, Option}
 use Rattle.std.proofs.lemmas.Bool.{le-leb, leb-true, lt-ltb, ltb-true, le-ltb}
 use Rattle.std.proofs.lemmas.List.{append_assoc, length-append}
-use Rattle.cbase.specs.declared.place.Place.{Place}
 use Rattle.cbase.specs.declared.tree.expr.Expr.{Expr}
 use Rattle.cbase.specs.declared.tree.expr.ExprForm.TheVariants.{Binary}
 use Rattle.cbase.specs.declared.tree.operators.BinaryOp.{BinaryOp}
 use Rattle.ctrees.specs.Levels.{expr_levels}
 use Rattle.cread_expr.proofs.CompleteReaches.{continued_reaches, operations_reach}
-use Rattle.cread_expr.proofs.CompleteSteps.{clash, if_true, if_false, first_more, levels_fit, some_level, with_right_step}
+use Rattle.cread_expr.proofs.CompleteSteps.{clash, if_true, first_more, levels_fit, some_level, with_right_step}
 use Rattle.cread_expr.proofs.CompleteTokens.{binary_no_operand}
 use Rattle.cread_expr.proofs.Reached.{Reaches, Goes, IsWithinLevel, Completes, goes_on_operand, goes_on_operation, is_tighter}
 use Rattle.cread_expr.proofs.TreeLevels.{levels_binary}
 use Rattle.cread_expr.proofs.Truth.{or-left, or-right, or-cases}
 use Rattle.cread_expr.specs.Operators.{mark_row, binary_rows, IsBinary}
-use Rattle.cread_expr.specs.Outcomes.{Outcome, Nothing, Stopped, Read, Reader, with_right, continued, has_first}
+use Rattle.cread_expr.specs.Outcomes.{Outcome, Read, Reader, with_right, continued, has_first}
 use Rattle.cread_expr.specs.Phrases.{Context, counted, numbered, Operation, CastExpression}
 use Rattle.cread_expr.specs.ReadLevels.{Level}
 use Rattle.cread_expr.specs.ReadOperands.{read_cast}
 use Rattle.cread_expr.specs.ReadOperators.{expression_of, expr_of, stopped, binary_with, read_operations, operations_from}
 use Rattle.cread_expr.specs.Reader.{level}
 use Rattle.cread_expr.specs.Terminals.{Terminal}
-use Rattle.cread_expr.specs.declared.reading.operand.Operand.{Operand}
 
 -- operators that the loop takes
 abbrev pub is_at_least : ℕ → Option (ℕ × BinaryOp) → Bool
@@ -69,9 +67,9 @@ operations_stop inner loosest (suc count) left levels context (mark ∷ row) =
 pub operations_turn : (inner : Level) (loosest count : ℕ) (left : Expr) (levels : ℕ) (context : Context) (mark : Terminal) (row : List Terminal) (tighter : ℕ) (op : BinaryOp)
     → IsBinary tighter op mark → nat_le loosest tighter ≡ true → nat_le levels inner.most ≡ true
     → read_operations inner loosest (suc count) left levels context (mark ∷ row)
-      ≡ with_right (inner.operation (tighter + 1) context row) (stopped left context mark row)
-            (λ right number. expression_of number mark.place (Binary op left right))
-            (λ right others behind rest. read_operations inner loosest count (numbered behind mark.place (Binary op left right)) (1 + max levels others) (counted behind) rest)
+    ≡ with_right (inner.operation (tighter + 1) context row) (stopped left context mark row)
+    (λ right number. expression_of number mark.place (Binary op left right))
+    (λ right others behind rest. read_operations inner loosest count (numbered behind mark.place (Binary op left right)) (1 + max levels others) (counted behind) rest)
 unfolding read_operations
 operations_turn inner loosest count left levels context mark row tighter op is loose fits =
     ap (λ (entry : Option (ℕ × BinaryOp)). binary_with (read_operations inner loosest count) inner loosest left levels context mark row entry) is
@@ -114,13 +112,15 @@ complete_one_cast before after row expr k whole within m loosest rest loose fits
     outcome = continued (read_cast (level m) before (row ++ rest)) expr_of (operations_from (level m) loosest)
 
     step : ((unary : Bool) × (read_cast (level m) before (row ++ rest) ≡ Read (record { expr = expr; unary = unary }) (expr_levels expr) after rest))
-          ⊎ (IsTrue (has_first goes_on_operand rest) × Reaches (read_cast (level m) before (row ++ rest)) rest)
+        ⊎ (IsTrue (has_first goes_on_operand rest) × Reaches (read_cast (level m) before (row ++ rest)) rest)
         → Wanted k m loosest expr after rest outcome
     step (inl (unary, is)) = inl (length rest + 1, omega arith, ap (λ o. continued o expr_of (operations_from (level m) loosest)) is)
     step (inr (goes, far)) =
-        inr (first_more goes_on_operand (goes_on_operation k) rest (λ token is. or-left (is_tighter k (mark_row binary_rows token)) is) goes
-            , continued_reaches (read_cast (level m) before (row ++ rest)) expr_of (operations_from (level m) loosest) rest far
-              (λ operand levels context others. operations_reach (level m) (within m) loosest (length others + 1) operand.expr levels context others))
+        inr (
+          first_more goes_on_operand (goes_on_operation k) rest (λ token is. or-left (is_tighter k (mark_row binary_rows token)) is) goes,
+          continued_reaches (read_cast (level m) before (row ++ rest)) expr_of (operations_from (level m) loosest) rest far
+              (λ operand levels context others. operations_reach (level m) (within m) loosest (length others + 1) operand.expr levels context others),
+        )
 
 -- a binary operator is not tighter than itself
 binary_ends : (tighter : ℕ) (op : BinaryOp) (mark : Terminal) → IsBinary tighter op mark → goes_on_operation tighter mark ≡ false
@@ -158,7 +158,7 @@ complete_binary_operator before middle after xs ys left right k tighter op mark 
     behind : (count : ℕ) → length rest < count
         → outcome ≡ with_right ((level m).operation (tighter + 1) middle (ys ++ rest)) (stopped left middle mark (ys ++ rest)) (λ e number. expression_of number mark.place (Binary op left e)) (go count)
         → (with_right ((level m).operation (tighter + 1) middle (ys ++ rest)) (stopped left middle mark (ys ++ rest)) (λ e number. expression_of number mark.place (Binary op left e)) (go count) ≡ go count right (expr_levels right) after rest)
-          ⊎ (IsTrue (has_first (goes_on_operation tighter) rest) × Reaches (with_right ((level m).operation (tighter + 1) middle (ys ++ rest)) (stopped left middle mark (ys ++ rest)) (λ e number. expression_of number mark.place (Binary op left e)) (go count)) rest)
+        ⊎ (IsTrue (has_first (goes_on_operation tighter) rest) × Reaches (with_right ((level m).operation (tighter + 1) middle (ys ++ rest)) (stopped left middle mark (ys ++ rest)) (λ e number. expression_of number mark.place (Binary op left e)) (go count)) rest)
         → Wanted k m loosest whole (counted after) rest outcome
     behind count more turned (inl exact) =
         inl (count, more, turned ∙ exact ∙ ap (λ (n : ℕ). read_operations (level m) loosest count whole n (counted after) rest) (sym levels))
@@ -172,7 +172,7 @@ complete_binary_operator before middle after xs ys left right k tighter op mark 
         behind count (omega (arith, longer, sum))
         (read ∙ operations_turn (level m) loosest count left (expr_levels left) middle mark (ys ++ rest) tighter op is (le-leb loosest tighter (omega (arith, loose, less))) (levels_fit (expr_levels left) m lefts))
         (with_right_step (goes_on_operation tighter) right (expr_levels right) after rest ((level m).operation (tighter + 1) middle (ys ++ rest)) (stopped left middle mark (ys ++ rest))
-            (λ e number. expression_of number mark.place (Binary op left e)) (go count)
-            (λ e others context row. operations_reach (level m) (within m) loosest count (numbered context mark.place (Binary op left e)) (1 + max (expr_levels left) others) (counted context) row)
-            (operation_goes tighter right middle after ys other within m rest rights))
+        (λ e number. expression_of number mark.place (Binary op left e)) (go count)
+        (λ e others context row. operations_reach (level m) (within m) loosest count (numbered context mark.place (Binary op left e)) (1 + max (expr_levels left) others) (counted context) row)
+        (operation_goes tighter right middle after ys other within m rest rights))
     first (inr (goes, far)) = absurd (clash (goes_on_operation tighter mark) goes (binary_ends tighter op mark is))

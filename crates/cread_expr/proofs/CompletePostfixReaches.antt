@@ -1,13 +1,13 @@
 -- How far the reader reaches behind an operand: postfix operators reach at least as far as where they begin.
-use Rattle.std.proofs.Common.{◌≡◌, ℕ, zero, suc, Bool, true, false, ◌&&◌, not, ◌+◌, ◌<◌, ◌≤◌, ◌⊎◌, inl, inr, max, nat_le, List, [], ◌∷◌, ◌++◌, codes, length, Some, None, IsTrue, refl, ap, sym, ◌∙◌, arith}
-use Rattle.std.specs.Prelude.{if◌then◌else◌, Option}
+use Rattle.std.proofs.Common.{ℕ, zero, suc, Bool, true, false, ◌&&◌, not, ◌+◌, ◌≤◌, max, nat_le, List, [], ◌∷◌, codes, length, arith}
+use Rattle.std.specs.Prelude.{if◌then◌else◌}
 use Rattle.cbase.specs.declared.place.Place.{Place}
 use Rattle.cbase.specs.declared.tree.expr.Expr.{Expr}
 use Rattle.cbase.specs.declared.tree.expr.ExprForm.TheVariants.{Count, Index, Member, Call}
 use Rattle.cread_expr.proofs.CompleteReaches.{reaches_more, or_else_reaches, chosen_reaches, after_first_reaches}
 use Rattle.cread_expr.proofs.Reached.{Reaches, IsWithin, IsWithinLevel}
 use Rattle.cread_expr.specs.FrontOf.{front_of}
-use Rattle.cread_expr.specs.Outcomes.{Outcome, Nothing, Stopped, Read, Reader, then_read, or_else, after_first, after_mark, has_mark, behind_first}
+use Rattle.cread_expr.specs.Outcomes.{Outcome, Nothing, Stopped, Read, Reader, then_read, after_mark, has_mark, behind_first}
 use Rattle.cread_expr.specs.Phrases.{Context, counted, numbered}
 use Rattle.cread_expr.specs.ReadLevels.{Level, prepended, read_list}
 use Rattle.cread_expr.specs.ReadOperands.{unary_operand, stopped_operand, index_behind, call_behind, member_behind, postfix_with, goes_on, read_postfixes}
@@ -50,10 +50,10 @@ list_within closes item each zero context row = tt
 list_within closes item each (suc count) context row =
     then_within (item context row) _ row (each context row)
     (λ tree levels behind rest.
-        chosen_within (has_mark (codes ",") rest && not (closes (behind_first rest))) (prepended tree levels (read_list closes item count behind (behind_first rest))) (Read (tree ∷ []) levels behind rest) rest
-        (prepended_within tree levels (read_list closes item count behind (behind_first rest)) rest
-            (within_more (read_list closes item count behind (behind_first rest)) (behind_first rest) rest (behind_first_shorter rest) (list_within closes item each count behind (behind_first rest))))
-        (omega arith))
+    chosen_within (has_mark (codes ",") rest && not (closes (behind_first rest))) (prepended tree levels (read_list closes item count behind (behind_first rest))) (Read (tree ∷ []) levels behind rest) rest
+    (prepended_within tree levels (read_list closes item count behind (behind_first rest)) rest
+    (within_more (read_list closes item count behind (behind_first rest)) (behind_first rest) rest (behind_first_shorter rest) (list_within closes item each count behind (behind_first rest))))
+    (omega arith))
 
 -- a postfix operator
 Reaching : (Expr → ℕ → Reader Operand) → Type 0
@@ -75,8 +75,8 @@ unfolding Reaching
 index_reaches go further inner within base levels context mark row =
     or_else_reaches (inner.expression context row) (stopped_operand base context mark row) _ row (mark ∷ row) (within.expression context row) (omega arith) (stopped_far base context mark row)
     (λ index others behind rest less.
-        mark_far (codes "]") (λ closing more. go (numbered behind mark.place (Index base index)) (1 + max levels others) (counted behind) more) (stopped_operand base context mark row) rest (mark ∷ row) less (stopped_far base context mark row)
-        (λ closing more. further (numbered behind mark.place (Index base index)) (1 + max levels others) (counted behind) more))
+    mark_far (codes "]") (λ closing more. go (numbered behind mark.place (Index base index)) (1 + max levels others) (counted behind) more) (stopped_operand base context mark row) rest (mark ∷ row) less (stopped_far base context mark row)
+    (λ closing more. further (numbered behind mark.place (Index base index)) (1 + max levels others) (counted behind) more))
 
 call_reaches : (go : Expr → ℕ → Reader Operand) → Reaching go → (inner : Level) → IsWithinLevel inner → (place : Place) (base : Expr) (levels : ℕ) (context : Context) (mark : Terminal) (row : List Terminal)
     → Reaches (call_behind go inner place base levels context mark row) (mark ∷ row)
@@ -84,11 +84,11 @@ unfolding Reaching
 call_reaches go further inner within place base levels context mark row =
     mark_far (codes ")") (λ closing more. go (numbered context place (Call base [])) (1 + levels) (counted context) more) _ row (mark ∷ row) (omega arith)
     (chosen_reaches (begins_with_typedef context.scope row) (stopped_operand base context mark row) _ (mark ∷ row) (stopped_far base context mark row)
-        (or_else_reaches (read_list never inner.assignment (length row + 1) context row) (stopped_operand base context mark row) _ row (mark ∷ row)
-            (list_within never inner.assignment within.assignment (length row + 1) context row) (omega arith) (stopped_far base context mark row)
-            (λ arguments others behind rest less.
-                mark_far (codes ")") (λ closing more. go (numbered behind place (Call base arguments)) (1 + max levels others) (counted behind) more) (stopped_operand base context mark row) rest (mark ∷ row) less (stopped_far base context mark row)
-                (λ closing more. further (numbered behind place (Call base arguments)) (1 + max levels others) (counted behind) more))))
+    (or_else_reaches (read_list never inner.assignment (length row + 1) context row) (stopped_operand base context mark row) _ row (mark ∷ row)
+    (list_within never inner.assignment within.assignment (length row + 1) context row) (omega arith) (stopped_far base context mark row)
+    (λ arguments others behind rest less.
+    mark_far (codes ")") (λ closing more. go (numbered behind place (Call base arguments)) (1 + max levels others) (counted behind) more) (stopped_operand base context mark row) rest (mark ∷ row) less (stopped_far base context mark row)
+    (λ closing more. further (numbered behind place (Call base arguments)) (1 + max levels others) (counted behind) more))))
     (λ closing more. further (numbered context place (Call base [])) (1 + levels) (counted context) more)
 
 member_reaches : (go : Expr → ℕ → Reader Operand) → Reaching go → (through : Bool) (base : Expr) (levels : ℕ) (context : Context) (mark : Terminal) (row : List Terminal)

@@ -1,6 +1,6 @@
 -- The reader is complete on postfix operators (C11 6.5.2).
-use Rattle.std.proofs.Common.{◌≡◌, ℕ, zero, suc, Bool, true, false, ◌&&◌, ◌||◌, not, ◌+◌, ◌<◌, ◌≤◌, ◌⊎◌, inl, inr, max, nat_le, map, List, [], ◌∷◌, ◌++◌, codes, length, Some, None, IsTrue, refl, ap, sym, subst, ◌∙◌, arith}
-use Rattle.std.specs.Prelude.{if◌then◌else◌, Option}
+use Rattle.std.proofs.Common.{◌≡◌, ℕ, zero, suc, Bool, true, false, ◌&&◌, not, ◌+◌, ◌<◌, ◌≤◌, ◌⊎◌, inl, inr, max, nat_le, map, List, [], ◌∷◌, ◌++◌, codes, length, IsTrue, refl, ap, sym, subst, ◌∙◌, arith}
+use Rattle.std.specs.Prelude.{if◌then◌else◌}
 use Rattle.std.proofs.lemmas.List.{append_assoc, length-append}
 use Rattle.cbase.specs.declared.place.Place.{Place}
 use Rattle.cbase.specs.declared.tree.expr.Expr.{Expr}
@@ -8,24 +8,23 @@ use Rattle.cbase.specs.declared.tree.expr.ExprForm.TheVariants.{Count, Index, Me
 use Rattle.ctrees.specs.Levels.{depth, expr_levels}
 use Rattle.ctrees.specs.Weight.{joined}
 use Rattle.cread_expr.proofs.CompletePostfixReaches.{postfixes_reach}
-use Rattle.cread_expr.proofs.CompleteSteps.{clash, if_true, if_false, first_more, levels_fit, some_level, goes_exactly}
+use Rattle.cread_expr.proofs.CompleteSteps.{if_true, if_false, levels_fit, some_level, goes_exactly}
 use Rattle.cread_expr.proofs.CompleteTokens.{item_starts, call_starts, member_starts, count_starts, item_end_no_expression, closing_no_list, not_true}
 use Rattle.cread_expr.proofs.Fronts.{front_of_both}
-use Rattle.cread_expr.proofs.Reached.{Reaches, Goes, IsWithinLevel, Completes, goes_on_operand, goes_on_assignment, goes_on_expression, goes_on_list}
+use Rattle.cread_expr.proofs.Reached.{Reaches, Goes, IsWithinLevel, Completes, goes_on_operand, goes_on_expression}
 use Rattle.cread_expr.proofs.Starting.{starts, operand_not_mark}
 use Rattle.cread_expr.proofs.TreeLevels.{levels_index, levels_call, levels_call_of_nothing, levels_member, levels_count}
 use Rattle.cread_expr.specs.Firsts.{Begins}
 use Rattle.cread_expr.specs.FrontOf.{front_of}
 use Rattle.cread_expr.specs.Grammar.{Spells}
 use Rattle.cread_expr.specs.Operators.{IsMember, IsCount}
-use Rattle.cread_expr.specs.Outcomes.{Outcome, Nothing, Stopped, Read, Reader, or_else, after_first, after_mark, has_first}
+use Rattle.cread_expr.specs.Outcomes.{Read, Reader, or_else, after_mark, has_first}
 use Rattle.cread_expr.specs.Phrases.{Context, counted, numbered, UnaryExpression, PostfixExpression, PrimaryExpression, Expression, Arguments}
 use Rattle.cread_expr.specs.ReadLevels.{Level, read_list}
-use Rattle.cread_expr.specs.ReadOperands.{read_cast, unary_operand, stopped_operand, index_behind, call_behind, member_behind, postfix_with, goes_on, read_postfixes}
+use Rattle.cread_expr.specs.ReadOperands.{read_cast, unary_operand, stopped_operand, index_behind, call_behind, postfix_with, goes_on, read_postfixes}
 use Rattle.cread_expr.specs.ReadStarts.{postfix_start}
 use Rattle.cread_expr.specs.ReadTypes.{never}
 use Rattle.cread_expr.specs.Reader.{level}
-use Rattle.cread_expr.specs.Scope.{Names}
 use Rattle.cread_expr.specs.Starts.{begins_operand}
 use Rattle.cread_expr.specs.Terminals.{Terminal, is_mark, IsMark, is_name, IsName, IsNoType, begins_with_typedef, first_word_place}
 use Rattle.cread_expr.specs.declared.reading.operand.Operand.{Operand}
@@ -82,7 +81,7 @@ postfixes_turn : (inner : Level) (start : List Terminal) (count : ℕ) (base : E
 unfolding read_postfixes
 postfixes_turn inner start count base levels context mark row kind is fits =
     if_false (goes_on (postfix_start mark) && not (nat_le levels inner.most)) (stopped_operand base context mark row) (postfix_with (read_postfixes inner start count) inner start base levels context mark row (postfix_start mark))
-        (no_and (goes_on (postfix_start mark)) (not (nat_le levels inner.most)) (ap not fits))
+    (no_and (goes_on (postfix_start mark)) (not (nat_le levels inner.most)) (ap not fits))
     ∙ ap (λ (k : PostfixStart). postfix_with (read_postfixes inner start count) inner start base levels context mark row k) is
 
 -- a turn of which it is known what it does
@@ -91,10 +90,12 @@ turned : (m : ℕ) (before : Context) (row : List Terminal) (base whole : Expr) 
     → ((count : ℕ) → postfix_with (read_postfixes (level m) row count) (level m) row base (expr_levels base) middle mark between kind ≡ read_postfixes (level m) row count whole levels after rest)
     → Postfixed m before base middle (mark ∷ between) row → Postfixed m before whole after rest row
 turned m before row base whole middle after mark between rest kind levels same fits is less turn (zero, longer, read) = absurd (omega (arith, longer))
-turned m before row base whole middle after mark between rest kind levels same fits is less turn (suc count, longer, read) =
-    (count , omega (arith, longer, less)
-    , read ∙ postfixes_turn (level m) row count base (expr_levels base) middle mark between kind is (levels_fit (expr_levels base) m fits)
-      ∙ turn count ∙ ap (λ (n : ℕ). read_postfixes (level m) row count whole n after rest) (sym same))
+turned m before row base whole middle after mark between rest kind levels same fits is less turn (suc count, longer, read) = (
+  count,
+  omega (arith, longer, less),
+  read ∙ postfixes_turn (level m) row count base (expr_levels base) middle mark between kind is (levels_fit (expr_levels base) m fits)
+      ∙ turn count ∙ ap (λ (n : ℕ). read_postfixes (level m) row count whole n after rest) (sym same),
+)
 
 -- rows
 pub two_parts : (xs ys rest : List Terminal) (opening closing : Terminal) → (xs ++ (opening ∷ (ys ++ (closing ∷ [])))) ++ rest ≡ xs ++ (opening ∷ (ys ++ (closing ∷ rest)))
@@ -110,8 +111,8 @@ index_read : (go : Expr → ℕ → Reader Operand) (inner : Level) (base : Expr
     → index_behind go inner base levels context mark row ≡ go (numbered behind mark.place (Index base index)) (1 + max levels others) (counted behind) rest
 index_read go inner base levels context mark row index others behind closing rest ends read =
     ap (λ o. or_else o (stopped_operand base context mark row) (λ index others behind rest.
-        after_mark (codes "]") rest (stopped_operand base context mark row) (λ closing more.
-            go (numbered behind mark.place (Index base index)) (1 + max levels others) (counted behind) more))) read
+    after_mark (codes "]") rest (stopped_operand base context mark row) (λ closing more.
+    go (numbered behind mark.place (Index base index)) (1 + max levels others) (counted behind) more))) read
     ∙ if_true (is_mark (codes "]") closing) _ (stopped_operand base context mark row) ends
 
 pub complete_index_operator : (before middle after : Context) (xs ys : List Terminal) (base index : Expr) (opening closing : Terminal)
@@ -121,9 +122,9 @@ pub complete_index_operator : (before middle after : Context) (xs ys : List Term
 complete_index_operator before middle after xs ys base index opening closing opens closes one other m rest fits =
     subst (λ row. Postfixed m before whole (counted after) rest row) (sym (two_parts xs ys rest opening closing))
     (turned m before row base whole middle (counted after) opening (ys ++ (closing ∷ rest)) rest postfix.Index (1 + max (expr_levels base) (expr_levels index)) levels (omega (arith, fits, levels)) (item_starts opening opens) (shorter ys rest closing)
-        (λ count. index_read (read_postfixes (level m) row count) (level m) base (expr_levels base) middle opening (ys ++ (closing ∷ rest)) index (expr_levels index) after closing rest closes
-            (goes_exactly goes_on_expression index (expr_levels index) after closing rest ((level m).expression middle (ys ++ (closing ∷ rest))) (item_end_no_expression closing closes) (other m (closing ∷ rest) (omega (arith, fits, levels)))))
-        (one m (opening ∷ (ys ++ (closing ∷ rest))) (omega (arith, fits, levels))))
+    (λ count. index_read (read_postfixes (level m) row count) (level m) base (expr_levels base) middle opening (ys ++ (closing ∷ rest)) index (expr_levels index) after closing rest closes
+    (goes_exactly goes_on_expression index (expr_levels index) after closing rest ((level m).expression middle (ys ++ (closing ∷ rest))) (item_end_no_expression closing closes) (other m (closing ∷ rest) (omega (arith, fits, levels)))))
+    (one m (opening ∷ (ys ++ (closing ∷ rest))) (omega (arith, fits, levels))))
   where
     whole : Expr
     whole = numbered after opening.place (Index base index)
@@ -146,9 +147,9 @@ pub complete_call_of_nothing : (before after : Context) (xs : List Terminal) (ca
 complete_call_of_nothing before after xs callee opening closing opens closes one m rest fits =
     subst (λ row. Postfixed m before whole (counted after) rest row) (sym (append_assoc xs (opening ∷ (closing ∷ [])) rest))
     (turned m before row callee whole after (counted after) opening (closing ∷ rest) rest postfix.Call (1 + expr_levels callee) levels (omega (arith, fits, levels)) (call_starts opening opens) (omega arith)
-        (λ count. nothing_read (read_postfixes (level m) row count) (level m) (first_word_place (front_of row (opening ∷ (closing ∷ rest)))) callee (expr_levels callee) after opening closing rest closes
-            ∙ ap (λ (front : List Terminal). read_postfixes (level m) row count (numbered after (first_word_place front) (Call callee [])) (1 + expr_levels callee) (counted after) rest) (front_of_both xs (opening ∷ (closing ∷ rest))))
-        (one m (opening ∷ (closing ∷ rest)) (omega (arith, fits, levels))))
+    (λ count. nothing_read (read_postfixes (level m) row count) (level m) (first_word_place (front_of row (opening ∷ (closing ∷ rest)))) callee (expr_levels callee) after opening closing rest closes
+    ∙ ap (λ (front : List Terminal). read_postfixes (level m) row count (numbered after (first_word_place front) (Call callee [])) (1 + expr_levels callee) (counted after) rest) (front_of_both xs (opening ∷ (closing ∷ rest))))
+    (one m (opening ∷ (closing ∷ rest)) (omega (arith, fits, levels))))
   where
     whole : Expr
     whole = numbered after (first_word_place xs) (Call callee [])
@@ -162,9 +163,9 @@ complete_call_of_nothing before after xs callee opening closing opens closes one
 -- a call with arguments
 arguments_first : (go : Expr → ℕ → Reader Operand) (inner : Level) (place : Place) (base : Expr) (levels : ℕ) (context : Context) (mark : Terminal) (ys more : List Terminal) → Begins begins_operand ys → IsNoType context.scope ys
     → call_behind go inner place base levels context mark (ys ++ more)
-      ≡ or_else (read_list never inner.assignment (length (ys ++ more) + 1) context (ys ++ more)) (stopped_operand base context mark (ys ++ more)) (λ arguments others behind rest.
-        after_mark (codes ")") rest (stopped_operand base context mark (ys ++ more)) (λ closing more.
-            go (numbered behind place (Call base arguments)) (1 + max levels others) (counted behind) more))
+    ≡ or_else (read_list never inner.assignment (length (ys ++ more) + 1) context (ys ++ more)) (stopped_operand base context mark (ys ++ more)) (λ arguments others behind rest.
+    after_mark (codes ")") rest (stopped_operand base context mark (ys ++ more)) (λ closing more.
+    go (numbered behind place (Call base arguments)) (1 + max levels others) (counted behind) more))
 arguments_first go inner place base levels context mark [] more begins no_type = absurd begins
 arguments_first go inner place base levels context mark (first ∷ others) more begins no_type =
     if_false (is_mark (codes ")") first) _ _ (not_closing (is_mark (codes ")") first) refl)
@@ -181,8 +182,8 @@ arguments_read : (go : Expr → ℕ → Reader Operand) (inner : Level) (place :
 arguments_read go inner place base levels context mark ys arguments others behind closing rest begins no_type ends read =
     arguments_first go inner place base levels context mark ys (closing ∷ rest) begins no_type
     ∙ ap (λ o. or_else o (stopped_operand base context mark (ys ++ (closing ∷ rest))) (λ arguments others behind rest'.
-        after_mark (codes ")") rest' (stopped_operand base context mark (ys ++ (closing ∷ rest))) (λ closing more.
-            go (numbered behind place (Call base arguments)) (1 + max levels others) (counted behind) more))) read
+    after_mark (codes ")") rest' (stopped_operand base context mark (ys ++ (closing ∷ rest))) (λ closing more.
+    go (numbered behind place (Call base arguments)) (1 + max levels others) (counted behind) more))) read
     ∙ if_true (is_mark (codes ")") closing) _ (stopped_operand base context mark (ys ++ (closing ∷ rest))) ends
 
 pub complete_call_operator : (before middle after : Context) (xs ys : List Terminal) (callee : Expr) (arguments : List Expr) (opening closing : Terminal)
@@ -192,10 +193,10 @@ pub complete_call_operator : (before middle after : Context) (xs ys : List Termi
 complete_call_operator before middle after xs ys callee arguments opening closing opens no_type closes one spelled other m rest fits =
     subst (λ row. Postfixed m before whole (counted after) rest row) (sym (two_parts xs ys rest opening closing))
     (turned m before row callee whole middle (counted after) opening (ys ++ (closing ∷ rest)) rest postfix.Call (1 + max (expr_levels callee) (joined depth (map expr_levels arguments))) levels (omega (arith, fits, levels)) (call_starts opening opens) (shorter ys rest closing)
-        (λ count. arguments_read (read_postfixes (level m) row count) (level m) (first_word_place (front_of row (opening ∷ (ys ++ (closing ∷ rest))))) callee (expr_levels callee) middle opening ys arguments (joined depth (map expr_levels arguments)) after closing rest (starts spelled) no_type closes
-                (other m (length (ys ++ (closing ∷ rest)) + 1) (closing ∷ rest) (omega arith) (omega (arith, fits, levels)) (ap not (closing_no_list closing closes)))
-            ∙ ap (λ (front : List Terminal). read_postfixes (level m) row count (numbered after (first_word_place front) (Call callee arguments)) (1 + max (expr_levels callee) (joined depth (map expr_levels arguments))) (counted after) rest) (front_of_both xs (opening ∷ (ys ++ (closing ∷ rest)))))
-        (one m (opening ∷ (ys ++ (closing ∷ rest))) (omega (arith, fits, levels))))
+    (λ count. arguments_read (read_postfixes (level m) row count) (level m) (first_word_place (front_of row (opening ∷ (ys ++ (closing ∷ rest))))) callee (expr_levels callee) middle opening ys arguments (joined depth (map expr_levels arguments)) after closing rest (starts spelled) no_type closes
+    (other m (length (ys ++ (closing ∷ rest)) + 1) (closing ∷ rest) (omega arith) (omega (arith, fits, levels)) (ap not (closing_no_list closing closes)))
+    ∙ ap (λ (front : List Terminal). read_postfixes (level m) row count (numbered after (first_word_place front) (Call callee arguments)) (1 + max (expr_levels callee) (joined depth (map expr_levels arguments))) (counted after) rest) (front_of_both xs (opening ∷ (ys ++ (closing ∷ rest)))))
+    (one m (opening ∷ (ys ++ (closing ∷ rest))) (omega (arith, fits, levels))))
   where
     whole : Expr
     whole = numbered after (first_word_place xs) (Call callee arguments)
@@ -214,8 +215,8 @@ pub complete_member_operator : (before after : Context) (xs : List Terminal) (ba
 complete_member_operator before after xs base through mark name is named one m rest fits =
     subst (λ row. Postfixed m before whole (counted after) rest row) (sym (append_assoc xs (mark ∷ (name ∷ [])) rest))
     (turned m before row base whole after (counted after) mark (name ∷ rest) rest (postfix.Member through) (1 + expr_levels base) levels (omega (arith, fits, levels)) (member_starts through mark is) (omega arith)
-        (λ count. if_true (is_name name) _ (stopped_operand base after mark (name ∷ rest)) named)
-        (one m (mark ∷ (name ∷ rest)) (omega (arith, fits, levels))))
+    (λ count. if_true (is_name name) _ (stopped_operand base after mark (name ∷ rest)) named)
+    (one m (mark ∷ (name ∷ rest)) (omega (arith, fits, levels))))
   where
     whole : Expr
     whole = numbered after mark.place (Member base name.bytes through)
@@ -234,8 +235,8 @@ pub complete_count_behind : (before after : Context) (xs : List Terminal) (expr 
 complete_count_behind before after xs expr up mark is one m rest fits =
     subst (λ row. Postfixed m before whole (counted after) rest row) (sym (append_assoc xs (mark ∷ []) rest))
     (turned m before row expr whole after (counted after) mark rest rest (postfix.Count up) (1 + expr_levels expr) levels (omega (arith, fits, levels)) (count_starts up mark is) (omega arith)
-        (λ count. refl)
-        (one m (mark ∷ rest) (omega (arith, fits, levels))))
+    (λ count. refl)
+    (one m (mark ∷ rest) (omega (arith, fits, levels))))
   where
     whole : Expr
     whole = numbered after mark.place (Count up true expr)

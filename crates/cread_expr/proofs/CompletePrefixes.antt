@@ -1,6 +1,5 @@
 -- The reader is complete on casts and on prefix operators (C11 6.5.3, 6.5.4).
-use Rattle.std.proofs.Common.{◌≡◌, ℕ, zero, suc, Bool, true, false, ◌&&◌, ◌||◌, not, ◌+◌, ◌<◌, ◌≤◌, ◌⊎◌, inl, inr, max, List, [], ◌∷◌, ◌++◌, codes, length, Some, None, IsTrue, refl, ap, sym, subst, ◌∙◌, arith}
-use Rattle.std.specs.Prelude.{if◌then◌else◌, Option}
+use Rattle.std.proofs.Common.{◌≡◌, ℕ, zero, suc, Bool, true, false, ◌&&◌, not, ◌+◌, ◌⊎◌, inl, inr, max, List, [], ◌∷◌, ◌++◌, codes, IsTrue, refl, ap, sym, subst, ◌∙◌, arith}
 use Rattle.std.specs.List.{list_any}
 use Rattle.std.specs.Str.{bytes_eq}
 use Rattle.std.proofs.lemmas.List.{append_assoc}
@@ -14,9 +13,9 @@ use Rattle.ctrees.specs.Levels.{expr_levels, type_name_levels}
 use Rattle.cread_expr.proofs.CompleteNoCasts.{no_cast}
 use Rattle.cread_expr.proofs.CompleteOperandStarts.{unary_starts, counting_starts, size_of_starts, bracket_starts, unary_no_bracket, count_no_bracket, opens_not, opens_no_type, read_as_plain}
 use Rattle.cread_expr.proofs.CompleteReaches.{right_goes}
-use Rattle.cread_expr.proofs.CompleteSteps.{clash, if_true, if_false, some_level}
-use Rattle.cread_expr.proofs.CompleteTokens.{mark_test, not_true}
-use Rattle.cread_expr.proofs.CompleteUnaryOutcomes.{is_cast_row, no_type_in_brackets, cast_alone}
+use Rattle.cread_expr.proofs.CompleteSteps.{if_true, if_false, some_level}
+use Rattle.cread_expr.proofs.CompleteTokens.{mark_test}
+use Rattle.cread_expr.proofs.CompleteUnaryOutcomes.{no_type_in_brackets, cast_alone}
 use Rattle.cread_expr.proofs.Firsts.{first_tokens}
 use Rattle.cread_expr.proofs.Reached.{Reaches, Goes, Completes, goes_on_operand, goes_on_type_name}
 use Rattle.cread_expr.proofs.TokenKinds.{word_is_no_mark, word_kind_no_mark}
@@ -25,7 +24,7 @@ use Rattle.cread_expr.proofs.Truth.{and-left, or-cases}
 use Rattle.cread_expr.specs.Firsts.{Begins, is_among, begins_type, type_words}
 use Rattle.cread_expr.specs.Grammar.{Spells}
 use Rattle.cread_expr.specs.Operators.{IsUnary, IsCount}
-use Rattle.cread_expr.specs.Outcomes.{Outcome, Nothing, Stopped, Read, Reader, then_read, with_right, after_mark, has_first, has_mark, behind_first}
+use Rattle.cread_expr.specs.Outcomes.{Outcome, Nothing, Read, then_read, with_right, after_mark, has_first, has_mark}
 use Rattle.cread_expr.specs.Phrases.{Context, counted, numbered, CastExpression, UnaryExpression, NameOfType}
 use Rattle.cread_expr.specs.ReadLevels.{Level}
 use Rattle.cread_expr.specs.ReadOperands.{unary_operand, cast_operand, prefixed, unary_alone, read_cast, read_bracket, read_cast_to, statement_expression, read_size_of, begins_type_in_brackets, opens}
@@ -34,7 +33,6 @@ use Rattle.cread_expr.specs.ReadTypes.{read_type_name}
 use Rattle.cread_expr.specs.Reader.{level}
 use Rattle.cread_expr.specs.Scope.{Names, is_typedef_name}
 use Rattle.cread_expr.specs.Terminals.{Terminal, is_word_kind, is_mark, IsMark, IsWord, is_name, is_typedef}
-use Rattle.ctokens.specs.Symbol.{is_identifier, word_symbol}
 use Rattle.cread_expr.specs.declared.reading.operand.Operand.{Operand}
 use Rattle.cread_expr.specs.declared.reading.starts.OperandStart.TheVariants as operand
 
@@ -60,8 +58,11 @@ prefix_goes : (outcome : Outcome Operand) (place : Place) (wrapped : Expr → Ex
 prefix_goes outcome place wrapped e after rest levels (inl (unary, is)) =
     inl (ap (λ o. prefixed o place wrapped) is ∙ ap (λ (n : ℕ). Read (unary_operand (numbered after place (wrapped e))) n (counted after) rest) (sym levels))
 prefix_goes outcome place wrapped e after rest levels (inr (goes, far)) =
-    inr (goes, right_goes outcome Nothing (λ operand number. unary_operand (expression_of number place (wrapped operand.expr)))
-        (λ operand levels behind more. Read (unary_operand (numbered behind place (wrapped operand.expr))) (1 + levels) (counted behind) more) rest far (λ operand levels behind more. omega arith))
+    inr (
+      goes,
+      right_goes outcome Nothing (λ operand number. unary_operand (expression_of number place (wrapped operand.expr)))
+          (λ operand levels behind more. Read (unary_operand (numbered behind place (wrapped operand.expr))) (1 + levels) (counted behind) more) rest far (λ operand levels behind more. omega arith),
+    )
 
 pub complete_unary_operator : (before after : Context) (xs : List Terminal) (expr : Expr) (op : UnaryOp) (mark : Terminal) → IsUnary op mark
     → Completes (CastExpression expr) before xs after → Completes (UnaryExpression (numbered after mark.place (Unary op expr))) before (mark ∷ xs) (counted after)
@@ -102,7 +103,7 @@ complete_size_of_expression before after xs expr word is spelled whole (suc m) r
     let levels : expr_levels (numbered after word.place (SizeOf expr)) ≡ 1 + expr_levels expr = levels_size_of after.expressions word.place expr in
     subst (λ o. Unaries (numbered after word.place (SizeOf expr)) (counted after) rest o)
     (sym (read_as_plain (level m) before word (xs ++ rest) operand.SizeOf (opens_not before word (xs ++ rest) (word_is_no_mark (codes "sizeof") (codes "(") word is)) (size_of_starts word is)
-        ∙ size_of_read (level m) before word (xs ++ rest) (no_type_in_brackets before (xs ++ rest) (no_cast spelled rest))))
+    ∙ size_of_read (level m) before word (xs ++ rest) (no_type_in_brackets before (xs ++ rest) (no_cast spelled rest))))
     (prefix_goes (unary_alone ((level m).cast before (xs ++ rest))) word.place SizeOf expr after rest levels (unary_goes m before after xs rest expr spelled (whole m rest (omega (arith, fits, levels)))))
 
 -- a type in brackets
@@ -120,8 +121,8 @@ unfolding read_size_of
 type_read inner context word opening row to levels behind closing rest is begins read ends =
     if_true (begins_type_in_brackets context (opening ∷ row)) _ (prefixed (unary_alone (inner.cast context (opening ∷ row))) word.place SizeOf) (ap (λ (b : Bool). b && has_first (begins_type context.scope) row) is ∙ begins)
     ∙ ap (λ o. then_read o (λ to levels behind rest.
-        after_mark (codes ")") rest Nothing (λ closing others.
-            Read (unary_operand (numbered behind word.place (SizeOfType to))) (1 + levels) (counted behind) others))) read
+    after_mark (codes ")") rest Nothing (λ closing others.
+    Read (unary_operand (numbered behind word.place (SizeOfType to))) (1 + levels) (counted behind) others))) read
     ∙ if_true (is_mark (codes ")") closing) (Read (unary_operand (numbered behind word.place (SizeOfType to))) (1 + levels) (counted behind) rest) Nothing ends
 
 pub complete_size_of_type_name : (before after : Context) (xs : List Terminal) (to : TypeName) (word opening closing : Terminal)
@@ -132,11 +133,11 @@ complete_size_of_type_name before after xs to word opening closing is opens ends
 complete_size_of_type_name before after xs to word opening closing is opens ends spelled whole (suc m) rest fits =
     let levels : expr_levels (numbered after word.place (SizeOfType to)) ≡ 1 + type_name_levels to = levels_size_of_type after.expressions word.place to in
     inl (ap (λ (row : List Terminal). read_cast (level m) before (word ∷ (opening ∷ row))) (append_assoc xs (closing ∷ []) rest)
-        ∙ read_as_plain (level m) before word (opening ∷ (xs ++ (closing ∷ rest))) operand.SizeOf (opens_not before word (opening ∷ (xs ++ (closing ∷ rest))) (word_is_no_mark (codes "sizeof") (codes "(") word is)) (size_of_starts word is)
-        ∙ type_read (level m) before word opening (xs ++ (closing ∷ rest)) to (type_name_levels to) after closing rest opens
-            (type_first before.scope xs (closing ∷ rest) (first_tokens (NameOfType to) before after xs spelled))
-            (whole m (closing ∷ rest) (omega (arith, fits, levels)) (ap not (closing_no_type_name closing ends))) ends
-        ∙ ap (λ (n : ℕ). Read (unary_operand (numbered after word.place (SizeOfType to))) n (counted after) rest) (sym levels))
+    ∙ read_as_plain (level m) before word (opening ∷ (xs ++ (closing ∷ rest))) operand.SizeOf (opens_not before word (opening ∷ (xs ++ (closing ∷ rest))) (word_is_no_mark (codes "sizeof") (codes "(") word is)) (size_of_starts word is)
+    ∙ type_read (level m) before word opening (xs ++ (closing ∷ rest)) to (type_name_levels to) after closing rest opens
+    (type_first before.scope xs (closing ∷ rest) (first_tokens (NameOfType to) before after xs spelled))
+    (whole m (closing ∷ rest) (omega (arith, fits, levels)) (ap not (closing_no_type_name closing ends))) ends
+    ∙ ap (λ (n : ℕ). Read (unary_operand (numbered after word.place (SizeOfType to))) n (counted after) rest) (sym levels))
 
 -- casts
 type_is_word : (scopes : List Names) (token : Terminal) → begins_type scopes token ≡ true → is_word_kind token.kind ≡ true
@@ -171,10 +172,10 @@ unfolding read_bracket cast_with
 cast_read inner context opening row to levels behind closing rest no_brace read ends =
     if_false (has_mark (codes "{") row) (statement_expression inner context opening row) (read_cast_to inner context opening row) no_brace
     ∙ ap (λ o. then_read o (λ to levels behind rest.
-        after_mark (codes ")") rest Nothing (λ closing others.
-            with_right (inner.cast behind others) Nothing
-            (λ operand number. cast_operand (expression_of number opening.place (Cast to operand.expr)))
-            (λ operand more last end. Read (cast_operand (numbered last opening.place (Cast to operand.expr))) (1 + max levels more) (counted last) end)))) read
+    after_mark (codes ")") rest Nothing (λ closing others.
+    with_right (inner.cast behind others) Nothing
+    (λ operand number. cast_operand (expression_of number opening.place (Cast to operand.expr)))
+    (λ operand more last end. Read (cast_operand (numbered last opening.place (Cast to operand.expr))) (1 + max levels more) (counted last) end)))) read
     ∙ if_true (is_mark (codes ")") closing) _ Nothing ends
 
 cast_goes : (context : Context) (opening : Terminal) (to : TypeName) (e : Expr) (after : Context) (rest : List Terminal) (outcome : Outcome Operand)
@@ -184,8 +185,11 @@ unfolding cast_with
 cast_goes context opening to e after rest outcome levels (inl (unary, is)) =
     inl (false, ap (cast_with context opening to (type_name_levels to)) is ∙ ap (λ (n : ℕ). Read (cast_operand (numbered after opening.place (Cast to e))) n (counted after) rest) (sym levels))
 cast_goes context opening to e after rest outcome levels (inr (goes, far)) =
-    inr (goes, right_goes outcome Nothing (λ operand number. cast_operand (expression_of number opening.place (Cast to operand.expr)))
-        (λ operand more last end. Read (cast_operand (numbered last opening.place (Cast to operand.expr))) (1 + max (type_name_levels to) more) (counted last) end) rest far (λ operand more last end. omega arith))
+    inr (
+      goes,
+      right_goes outcome Nothing (λ operand number. cast_operand (expression_of number opening.place (Cast to operand.expr)))
+          (λ operand more last end. Read (cast_operand (numbered last opening.place (Cast to operand.expr))) (1 + max (type_name_levels to) more) (counted last) end) rest far (λ operand more last end. omega arith),
+    )
 
 pub complete_cast_operator : (before middle after : Context) (xs ys : List Terminal) (to : TypeName) (expr : Expr) (opening closing : Terminal)
     → IsMark (codes "(") opening → IsMark (codes ")") closing
@@ -210,4 +214,4 @@ complete_cast_operator before middle after xs ys to expr opening closing is ends
     turned =
         read_as_plain (level m) before opening (xs ++ (closing ∷ (ys ++ rest))) operand.Bracket (cast_opens before opening xs (closing ∷ (ys ++ rest)) begins) (bracket_starts opening is)
         ∙ cast_read (level m) before opening (xs ++ (closing ∷ (ys ++ rest))) to (type_name_levels to) middle closing (ys ++ rest) (cast_no_brace before xs (closing ∷ (ys ++ rest)) begins)
-            (one m (closing ∷ (ys ++ rest)) (omega (arith, fits, levels)) (ap not (closing_no_type_name closing ends))) ends
+        (one m (closing ∷ (ys ++ rest)) (omega (arith, fits, levels)) (ap not (closing_no_type_name closing ends))) ends

@@ -1,8 +1,6 @@
 -- The reader is complete on primary expressions (C11 6.5.1, 7.19).
-use Rattle.std.proofs.Common.{◌≡◌, ℕ, zero, suc, Bool, true, false, ◌&&◌, ◌||◌, not, ◌+◌, ◌<◌, ◌≤◌, ◌⊎◌, inl, inr, max, map, List, [], ◌∷◌, ◌++◌, codes, length, Some, None, IsTrue, refl, ap, sym, subst, ◌∙◌, arith}
-use Rattle.std.specs.Prelude.{if◌then◌else◌, Option}
-use Rattle.std.proofs.lemmas.List.{append_assoc, length-append}
-use Rattle.cbase.specs.declared.place.Place.{Place}
+use Rattle.std.proofs.Common.{◌≡◌, ℕ, suc, true, false, not, ◌+◌, max, map, List, [], ◌∷◌, ◌++◌, codes, length, refl, ap, sym, subst, ◌∙◌, arith}
+use Rattle.std.proofs.lemmas.List.{append_assoc}
 use Rattle.cbase.specs.declared.tree.decl.TypeName.{TypeName}
 use Rattle.cbase.specs.declared.tree.expr.Expr.{Expr}
 use Rattle.cbase.specs.declared.tree.expr.ExprForm.TheVariants.{Name, Constant, OffsetOf, Inner}
@@ -14,7 +12,7 @@ use Rattle.ctrees.specs.Weight.{joined}
 use Rattle.cread_expr.proofs.CompleteCommas.{expression_at}
 use Rattle.cread_expr.proofs.CompleteOperandStarts.{name_starts, constant_starts, bracket_starts, offset_of_starts, opens_not, opens_no_block, opens_expression, read_as_plain}
 use Rattle.cread_expr.proofs.CompletePostfixes.{Postfixed}
-use Rattle.cread_expr.proofs.CompleteSteps.{clash, if_true, if_false, goes_exactly, continued_read}
+use Rattle.cread_expr.proofs.CompleteSteps.{if_true, goes_exactly, continued_read}
 use Rattle.cread_expr.proofs.CompleteTokens.{mark_test, not_true, closing_no_expression, closing_no_path}
 use Rattle.cread_expr.proofs.Firsts.{first_tokens}
 use Rattle.cread_expr.proofs.Reached.{Completes, goes_on_expression, goes_on_type_name}
@@ -24,10 +22,10 @@ use Rattle.cread_expr.proofs.TreeLevels.{levels_name, levels_constant, levels_in
 use Rattle.cread_expr.specs.Constants.{IsConstant}
 use Rattle.cread_expr.specs.Firsts.{Begins, is_plain}
 use Rattle.cread_expr.specs.Grammar.{Spells}
-use Rattle.cread_expr.specs.Outcomes.{Outcome, Nothing, Stopped, Read, Reader, then_read, continued, after_first, after_mark, has_mark}
+use Rattle.cread_expr.specs.Outcomes.{Outcome, Nothing, Read, then_read, continued, after_first, after_mark, has_mark}
 use Rattle.cread_expr.specs.Phrases.{Context, counted, numbered, Expression, PrimaryExpression, CompoundStatement, NameOfType, MemberPath}
 use Rattle.cread_expr.specs.ReadLevels.{Level}
-use Rattle.cread_expr.specs.ReadOperands.{read_cast, closed, opens, plain_with, read_plain, read_bracket, read_cast_to, statement_expression, read_offset_of, read_path, read_postfixes, postfixes_from}
+use Rattle.cread_expr.specs.ReadOperands.{read_cast, closed, opens, read_plain, read_bracket, read_cast_to, statement_expression, read_offset_of, read_path, read_postfixes, postfixes_from}
 use Rattle.cread_expr.specs.ReadOperators.{expr_of, expression_from}
 use Rattle.cread_expr.specs.ReadStatements.{read_block}
 use Rattle.cread_expr.specs.ReadTypes.{read_type_name}
@@ -80,9 +78,9 @@ complete_bracketed before after xs expr opening closing is no_type ends spelled 
     subst (λ row. Postfixed m before expr after rest (opening ∷ row)) (sym (append_assoc xs (closing ∷ []) rest))
     (postfixes_follow m before (opening ∷ row) expr (expr_levels expr) after rest here
     (bracketed_read (level m) before opening row expr (expr_levels expr) after closing rest
-        (opens_spelled before opening xs (closing ∷ rest) is (starts spelled) (first_tokens (Expression expr) before after xs spelled) no_type)
+    (opens_spelled before opening xs (closing ∷ rest) is (starts spelled) (first_tokens (Expression expr) before after xs spelled) no_type)
     ∙ closed_read (level m) (opening ∷ row) (read_cast (level m) before row) expr (expr_levels expr) after closing rest
-        (goes_exactly goes_on_expression expr (expr_levels expr) after closing rest (expression_at m before row) (closing_no_expression closing ends) (whole (suc m) (closing ∷ rest) (omega (arith, fits)))) ends))
+    (goes_exactly goes_on_expression expr (expr_levels expr) after closing rest (expression_at m before row) (closing_no_expression closing ends) (whole (suc m) (closing ∷ rest) (omega (arith, fits)))) ends))
   where
     row : List Terminal
     row = xs ++ (closing ∷ rest)
@@ -95,8 +93,8 @@ unfolding read_bracket
 block_read inner context opening row body levels behind closing rest is read ends =
     if_true (has_mark (codes "{") row) (statement_expression inner context opening row) (read_cast_to inner context opening row) is
     ∙ ap (λ o. then_read o (λ body levels behind rest.
-        after_mark (codes ")") rest Nothing (λ closing others.
-            postfixes_from inner (opening ∷ row) (numbered behind opening.place (Inner body)) (1 + levels) (counted behind) others))) read
+    after_mark (codes ")") rest Nothing (λ closing others.
+    postfixes_from inner (opening ∷ row) (numbered behind opening.place (Inner body)) (1 + levels) (counted behind) others))) read
     ∙ if_true (is_mark (codes ")") closing) (postfixes_from inner (opening ∷ row) (numbered behind opening.place (Inner body)) (1 + levels) (counted behind) rest) Nothing ends
 
 opens_no_expression : (context : Context) (first : Terminal) (xs more : List Terminal) → Begins (is_mark (codes "{")) xs → opens context first (xs ++ more) ≡ false
@@ -137,10 +135,10 @@ unfolding read_offset_of
 offset_read inner context word opening row to levels behind comma name four path others last closing end is read commas named members ends =
     if_true (is_mark (codes "(") opening) _ Nothing is
     ∙ ap (λ o. then_read o (λ to levels behind two.
-            after_mark (codes ",") two Nothing (λ comma three.
-                after_first is_name three Nothing (λ name four.
-                    then_read (read_path inner (length four + 1) behind four) (λ path others last five.
-                        after_mark (codes ")") five Nothing (λ closing end. offset inner word (opening ∷ row) to levels name path others last end)))))) read
+    after_mark (codes ",") two Nothing (λ comma three.
+    after_first is_name three Nothing (λ name four.
+    then_read (read_path inner (length four + 1) behind four) (λ path others last five.
+    after_mark (codes ")") five Nothing (λ closing end. offset inner word (opening ∷ row) to levels name path others last end)))))) read
     ∙ if_true (is_mark (codes ",") comma) _ Nothing commas
     ∙ if_true (is_name name) _ Nothing named
     ∙ ap (λ o. then_read o (λ path others last five. after_mark (codes ")") five Nothing (λ closing end. offset inner word (opening ∷ row) to levels name path others last end))) members
@@ -162,8 +160,8 @@ complete_offset_of_member before middle after xs ys to path word opening comma n
     (postfixes_follow m before (word ∷ (opening ∷ row)) whole (1 + max (type_name_levels to) (joined depth (map part_levels path))) (counted after) rest levels
     (read_as_plain (level m) before word (opening ∷ row) operand.OffsetOf (opens_not before word (opening ∷ row) (word_is_no_mark (codes "__builtin_offsetof") (codes "(") word is)) (offset_of_starts word is)
     ∙ offset_read (level m) before word opening row to (type_name_levels to) middle comma name (ys ++ (closing ∷ rest)) path (joined depth (map part_levels path)) after closing rest opens
-        (one m (comma ∷ (name ∷ (ys ++ (closing ∷ rest)))) (omega (arith, fits, levels)) (ap not (comma_no_type_name comma commas))) commas named
-        (other m (length (ys ++ (closing ∷ rest)) + 1) (closing ∷ rest) (omega arith) (omega (arith, fits, levels)) (ap not (closing_no_path closing ends))) ends))
+    (one m (comma ∷ (name ∷ (ys ++ (closing ∷ rest)))) (omega (arith, fits, levels)) (ap not (comma_no_type_name comma commas))) commas named
+    (other m (length (ys ++ (closing ∷ rest)) + 1) (closing ∷ rest) (omega arith) (omega (arith, fits, levels)) (ap not (closing_no_path closing ends))) ends))
   where
     whole : Expr
     whole = numbered after word.place (OffsetOf to (NamedPart name.bytes ∷ path))

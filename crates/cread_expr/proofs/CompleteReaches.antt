@@ -1,25 +1,18 @@
 -- How far the reader reaches: what reads on behind a tree reaches at least as far as what stands behind the tree.
-use Rattle.std.proofs.Common.{◌≡◌, ℕ, zero, suc, Bool, true, false, ◌&&◌, not, ◌+◌, ◌<◌, ◌≤◌, ◌⊎◌, inl, inr, max, nat_le, List, [], ◌∷◌, ◌++◌, codes, length, Some, None, IsTrue, refl, ap, sym, ◌∙◌, arith}
+use Rattle.std.proofs.Common.{ℕ, zero, suc, Bool, true, false, ◌+◌, ◌≤◌, max, nat_le, List, [], ◌∷◌, codes, length, Some, None, arith}
 use Rattle.std.specs.Prelude.{if◌then◌else◌, Option}
-use Rattle.cbase.specs.declared.place.Place.{Place}
 use Rattle.cbase.specs.declared.tree.expr.Expr.{Expr}
-use Rattle.cbase.specs.declared.tree.expr.ExprForm.TheVariants.{Count, Index, Member, Call, Binary, Assign, Choose}
+use Rattle.cbase.specs.declared.tree.expr.ExprForm.TheVariants.{Binary, Assign, Choose}
 use Rattle.cbase.specs.declared.tree.operators.BinaryOp.{BinaryOp}
 use Rattle.cbase.specs.declared.tree.operators.BinaryOp.TheVariants.{Comma}
 use Rattle.cread_expr.proofs.Reached.{Reaches, IsWithin, IsWithinLevel}
-use Rattle.cread_expr.specs.FrontOf.{front_of}
 use Rattle.cread_expr.specs.Operators.{mark_row, binary_rows, assignment_rows}
-use Rattle.cread_expr.specs.Outcomes.{Outcome, Nothing, Stopped, Read, Reader, then_read, or_else, continued, with_right, after_first, after_mark, has_mark, has_first, behind_first}
+use Rattle.cread_expr.specs.Outcomes.{Outcome, Nothing, Stopped, Read, Reader, or_else, continued, with_right, after_first, after_mark}
 use Rattle.cread_expr.specs.Phrases.{Context, counted, numbered}
-use Rattle.cread_expr.specs.ReadLevels.{Level, prepended, read_list}
-use Rattle.cread_expr.specs.ReadOperands.{unary_operand, stopped_operand, index_behind, call_behind, member_behind, postfix_with, goes_on, read_postfixes, postfixes_from}
-use Rattle.cread_expr.specs.ReadOperators.{expression_of, expr_of, itself, stopped, binary_with, read_operations, operations_from, read_choice, conditional_from, assignment_with, assignment_from, read_commas, expression_from}
-use Rattle.cread_expr.specs.ReadStarts.{postfix_start}
-use Rattle.cread_expr.specs.ReadTypes.{never}
-use Rattle.cread_expr.specs.Terminals.{Terminal, is_mark, is_name, begins_with_typedef, first_word_place}
+use Rattle.cread_expr.specs.ReadLevels.{Level}
+use Rattle.cread_expr.specs.ReadOperators.{expression_of, itself, stopped, binary_with, read_operations, operations_from, read_choice, conditional_from, assignment_with, assignment_from, read_commas}
+use Rattle.cread_expr.specs.Terminals.{Terminal, is_mark}
 use Rattle.cread_expr.specs.declared.reading.operand.Operand.{Operand}
-use Rattle.cread_expr.specs.declared.reading.starts.PostfixStart.{PostfixStart}
-use Rattle.cread_expr.specs.declared.reading.starts.PostfixStart.TheVariants as postfix
 
 pub reaches_more : {A : Type 0} (outcome : Outcome A) (row longer : List Terminal) → length row ≤ length longer → Reaches outcome row → Reaches outcome longer
 reaches_more Nothing row longer more is = is
@@ -84,12 +77,12 @@ binary_reaches go further inner within loosest left levels context mark row (Som
     let stop : Reaches (stopped left context mark row) (mark ∷ row) = omega arith in
     chosen_reaches (nat_le loosest entry.0) _ (Read left levels context (mark ∷ row)) (mark ∷ row)
     (chosen_reaches (nat_le levels inner.most) _ (stopped left context mark row) (mark ∷ row)
-        (right_reaches (inner.operation (entry.0 + 1) context row) (stopped left context mark row)
-            (λ right number. expression_of number mark.place (Binary entry.1 left right))
-            (λ right others behind rest. go (numbered behind mark.place (Binary entry.1 left right)) (1 + max levels others) (counted behind) rest)
-            row (mark ∷ row) (within.operation (entry.0 + 1) context row) (omega arith) stop
-            (λ right others behind rest. further (numbered behind mark.place (Binary entry.1 left right)) (1 + max levels others) (counted behind) rest))
-        stop)
+    (right_reaches (inner.operation (entry.0 + 1) context row) (stopped left context mark row)
+    (λ right number. expression_of number mark.place (Binary entry.1 left right))
+    (λ right others behind rest. go (numbered behind mark.place (Binary entry.1 left right)) (1 + max levels others) (counted behind) rest)
+    row (mark ∷ row) (within.operation (entry.0 + 1) context row) (omega arith) stop
+    (λ right others behind rest. further (numbered behind mark.place (Binary entry.1 left right)) (1 + max levels others) (counted behind) rest))
+    stop)
     (read_reaches left levels context (mark ∷ row))
 
 pub operations_reach : (inner : Level) → IsWithinLevel inner → (loosest count : ℕ) (left : Expr) (levels : ℕ) (context : Context) (row : List Terminal)
@@ -108,24 +101,24 @@ choice_reaches inner within test levels context (mark ∷ row) =
     let stop : Reaches (stopped test context mark row) (mark ∷ row) = omega arith in
     chosen_reaches (is_mark (codes "?") mark) _ (Read test levels context (mark ∷ row)) (mark ∷ row)
     (chosen_reaches (nat_le levels inner.most) _ (stopped test context mark row) (mark ∷ row)
-        (or_else_reaches (inner.expression context row) (stopped test context mark row) _ row (mark ∷ row) (within.expression context row) (omega arith) stop
-            (λ one ones first rest inside. colon mark row stop one ones first rest inside))
-        stop)
+    (or_else_reaches (inner.expression context row) (stopped test context mark row) _ row (mark ∷ row) (within.expression context row) (omega arith) stop
+    (λ one ones first rest inside. colon mark row stop one ones first rest inside))
+    stop)
     (read_reaches test levels context (mark ∷ row))
   where
     colon : (mark : Terminal) (row : List Terminal) → Reaches (stopped test context mark row) (mark ∷ row) → (one : Expr) (ones : ℕ) (first : Context) (rest : List Terminal) → length rest ≤ length (mark ∷ row)
         → Reaches (after_mark (codes ":") rest (stopped test context mark row) (λ colon others.
-            with_right (inner.conditional first others) (stopped test context mark row)
-            (λ other number. expression_of number mark.place (Choose test one other))
-            (λ other twos behind more. Read (numbered behind mark.place (Choose test one other)) (1 + max levels (max ones twos)) (counted behind) more))) (mark ∷ row)
+        with_right (inner.conditional first others) (stopped test context mark row)
+        (λ other number. expression_of number mark.place (Choose test one other))
+        (λ other twos behind more. Read (numbered behind mark.place (Choose test one other)) (1 + max levels (max ones twos)) (counted behind) more))) (mark ∷ row)
     colon mark row stop one ones first [] inside = stop
     colon mark row stop one ones first (token ∷ others) inside =
         chosen_reaches (is_mark (codes ":") token) _ (stopped test context mark row) (mark ∷ row)
         (right_reaches (inner.conditional first others) (stopped test context mark row)
-            (λ other number. expression_of number mark.place (Choose test one other))
-            (λ other twos behind more. Read (numbered behind mark.place (Choose test one other)) (1 + max levels (max ones twos)) (counted behind) more)
-            others (mark ∷ row) (within.conditional first others) (omega (arith, inside)) stop
-            (λ other twos behind more. read_reaches (numbered behind mark.place (Choose test one other)) (1 + max levels (max ones twos)) (counted behind) more))
+        (λ other number. expression_of number mark.place (Choose test one other))
+        (λ other twos behind more. Read (numbered behind mark.place (Choose test one other)) (1 + max levels (max ones twos)) (counted behind) more)
+        others (mark ∷ row) (within.conditional first others) (omega (arith, inside)) stop
+        (λ other twos behind more. read_reaches (numbered behind mark.place (Choose test one other)) (1 + max levels (max ones twos)) (counted behind) more))
         stop
 
 pub conditional_reaches : (inner : Level) → IsWithinLevel inner → (operand : Operand) (levels : ℕ) (context : Context) (row : List Terminal) → Reaches (conditional_from inner operand levels context row) row
@@ -142,12 +135,12 @@ assigned_reaches inner within operand levels context mark row (Some op) =
     let stop : Reaches (stopped operand.expr context mark row) (mark ∷ row) = omega arith in
     chosen_reaches operand.unary _ (conditional_from inner operand levels context (mark ∷ row)) (mark ∷ row)
     (chosen_reaches (nat_le levels inner.most) _ (stopped operand.expr context mark row) (mark ∷ row)
-        (right_reaches (inner.assignment context row) (stopped operand.expr context mark row)
-            (λ right number. expression_of number mark.place (Assign op operand.expr right))
-            (λ right others behind rest. Read (numbered behind mark.place (Assign op operand.expr right)) (1 + max levels others) (counted behind) rest)
-            row (mark ∷ row) (within.assignment context row) (omega arith) stop
-            (λ right others behind rest. read_reaches (numbered behind mark.place (Assign op operand.expr right)) (1 + max levels others) (counted behind) rest))
-        stop)
+    (right_reaches (inner.assignment context row) (stopped operand.expr context mark row)
+    (λ right number. expression_of number mark.place (Assign op operand.expr right))
+    (λ right others behind rest. Read (numbered behind mark.place (Assign op operand.expr right)) (1 + max levels others) (counted behind) rest)
+    row (mark ∷ row) (within.assignment context row) (omega arith) stop
+    (λ right others behind rest. read_reaches (numbered behind mark.place (Assign op operand.expr right)) (1 + max levels others) (counted behind) rest))
+    stop)
     (conditional_reaches inner within operand levels context (mark ∷ row))
 
 pub assignment_reaches : (inner : Level) → IsWithinLevel inner → (operand : Operand) (levels : ℕ) (context : Context) (row : List Terminal) → Reaches (assignment_from inner operand levels context row) row
@@ -165,10 +158,10 @@ commas_reach inner within (suc count) left levels context (mark ∷ row) =
     let stop : Reaches (stopped left context mark row) (mark ∷ row) = omega arith in
     chosen_reaches (is_mark (codes ",") mark) _ (Read left levels context (mark ∷ row)) (mark ∷ row)
     (chosen_reaches (nat_le levels inner.most) _ (stopped left context mark row) (mark ∷ row)
-        (right_reaches (inner.assignment context row) (stopped left context mark row)
-            (λ right number. expression_of number mark.place (Binary Comma left right))
-            (λ right others behind rest. read_commas inner count (numbered behind mark.place (Binary Comma left right)) (1 + max levels others) (counted behind) rest)
-            row (mark ∷ row) (within.assignment context row) (omega arith) stop
-            (λ right others behind rest. commas_reach inner within count (numbered behind mark.place (Binary Comma left right)) (1 + max levels others) (counted behind) rest))
-        stop)
+    (right_reaches (inner.assignment context row) (stopped left context mark row)
+    (λ right number. expression_of number mark.place (Binary Comma left right))
+    (λ right others behind rest. read_commas inner count (numbered behind mark.place (Binary Comma left right)) (1 + max levels others) (counted behind) rest)
+    row (mark ∷ row) (within.assignment context row) (omega arith) stop
+    (λ right others behind rest. commas_reach inner within count (numbered behind mark.place (Binary Comma left right)) (1 + max levels others) (counted behind) rest))
+    stop)
     (read_reaches left levels context (mark ∷ row))

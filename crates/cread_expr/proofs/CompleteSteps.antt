@@ -1,9 +1,9 @@
 -- Steps that all proofs of completeness take: levels, tests, and what stands to the right of an operator.
-use Rattle.std.proofs.Common.{◌≡◌, ℕ, zero, suc, Bool, true, false, ◌&&◌, not, ◌+◌, ◌<◌, ◌≤◌, ◌⊎◌, inl, inr, nat_le, List, [], ◌∷◌, ◌++◌, length, Some, None, IsTrue, refl, ap, sym, ◌∙◌, arith}
+use Rattle.std.proofs.Common.{◌≡◌, ℕ, zero, suc, Bool, true, false, ◌≤◌, ◌⊎◌, inl, inr, nat_le, List, [], ◌∷◌, IsTrue, refl, ap, sym, ◌∙◌, arith}
 use Rattle.std.specs.Prelude.{if◌then◌else◌}
 use Rattle.std.proofs.lemmas.Bool.{le-leb}
 use Rattle.cbase.specs.declared.tree.expr.Expr.{Expr}
-use Rattle.ctrees.specs.Levels.{expr_levels, form_levels}
+use Rattle.ctrees.specs.Levels.{expr_levels}
 use Rattle.cread_expr.proofs.CompleteReaches.{right_goes}
 use Rattle.cread_expr.proofs.Reached.{Reaches, Goes}
 use Rattle.cread_expr.proofs.TreeLevels.{levels_expr}

@@ -1,23 +1,19 @@
 -- Which marks go on with an operand, an operation or an expression, and which do not.
-use Rattle.std.proofs.Common.{◌≡◌, ℕ, Bool, true, false, ◌&&◌, ◌||◌, not, refl, ap, sym, ◌∙◌, List, [], ◌∷◌, codes, Some, None, IsTrue, nat_lt}
+use Rattle.std.proofs.Common.{◌≡◌, ℕ, Bool, true, false, not, refl, ap, sym, ◌∙◌, List, [], ◌∷◌, codes, Some, None}
 use Rattle.std.specs.Prelude.{if◌then◌else◌, Option}
 use Rattle.std.specs.List.{list_all}
 use Rattle.std.specs.Str.{bytes_eq}
 use Rattle.std.proofs.lemmas.Slice.Eq.{bytes_eq-Decides}
 use Rattle.cbase.specs.declared.place.Place.{Place}
 use Rattle.cbase.specs.declared.tree.operators.BinaryOp.{BinaryOp}
-use Rattle.cbase.specs.declared.tree.operators.UnaryOp.{UnaryOp}
 use Rattle.ctokens.specs.declared.token.TokenKind.{TokenKind}
 use Rattle.ctokens.specs.declared.token.TokenKind.TheVariants.{Word, Number, Letter, Quoted, Mark}
-use Rattle.cread_expr.proofs.Reached.{goes_on_operand, goes_on_operation, goes_on_conditional, goes_on_assignment, goes_on_expression, goes_on_list, goes_on_path, goes_on_type_name, is_some_binary, is_some_assignment, is_tighter}
+use Rattle.cread_expr.proofs.Reached.{goes_on_operand, goes_on_conditional, goes_on_assignment, goes_on_expression, goes_on_list, goes_on_path}
 use Rattle.cread_expr.proofs.TokenKinds.{mark_bytes, mark_is_mark_kind, row_is_mark_kind}
 use Rattle.cread_expr.proofs.Truth.{and-left, and-right}
-use Rattle.cread_expr.specs.FrontReadings.{is_basic_word}
-use Rattle.cread_expr.specs.Operators.{row_of, mark_row, binary_rows, assignment_rows, member_rows, count_rows, unary_rows, IsBinary, IsAssignment, IsMember, IsCount, IsUnary}
-use Rattle.cread_expr.specs.ReadOperands.{goes_on}
+use Rattle.cread_expr.specs.Operators.{row_of, mark_row, binary_rows, assignment_rows, member_rows, count_rows, IsBinary, IsAssignment, IsMember, IsCount}
 use Rattle.cread_expr.specs.ReadStarts.{postfix_start, member_start, count_start}
-use Rattle.cread_expr.specs.Terminals.{Terminal, is_word_kind, is_mark_kind, is_mark, IsMark}
-use Rattle.cread_expr.specs.declared.reading.starts.PostfixStart.{PostfixStart}
+use Rattle.cread_expr.specs.Terminals.{Terminal, is_mark_kind, is_mark, IsMark}
 use Rattle.cread_expr.specs.declared.reading.starts.PostfixStart.TheVariants as postfix
 
 kind_is_mark : (kind : TokenKind) → is_mark_kind kind ≡ true → kind ≡ Mark

@@ -1,7 +1,6 @@
 -- Where no type stands in a bracket at the front of a row, what is read there is a unary expression and no cast.
-use Rattle.std.proofs.Common.{◌≡◌, ℕ, zero, suc, Bool, true, false, ◌&&◌, ◌||◌, not, ◌+◌, ◌<◌, ◌≤◌, max, nat_le, List, [], ◌∷◌, ◌++◌, codes, length, Some, None, IsTrue, refl, ap, sym, ◌∙◌}
+use Rattle.std.proofs.Common.{◌≡◌, ℕ, zero, suc, Bool, true, false, ◌&&◌, not, ◌+◌, max, nat_le, List, [], ◌∷◌, codes, length, Some, None, IsTrue, refl, ap, ◌∙◌}
 use Rattle.std.specs.Prelude.{if◌then◌else◌, Option}
-use Rattle.std.proofs.lemmas.List.{append_assoc}
 use Rattle.cbase.specs.declared.place.Place.{Place}
 use Rattle.cbase.specs.declared.tree.expr.Expr.{Expr}
 use Rattle.cbase.specs.declared.tree.expr.ExprForm.{ExprForm}
@@ -13,7 +12,7 @@ use Rattle.cread_expr.proofs.CompleteSteps.{clash, if_true, if_false}
 use Rattle.cread_expr.specs.FrontOf.{front_of}
 use Rattle.cread_expr.specs.Firsts.{begins_type}
 use Rattle.cread_expr.specs.Operators.{mark_row, unary_rows, count_rows}
-use Rattle.cread_expr.specs.Outcomes.{Outcome, Nothing, Stopped, Read, Reader, then_read, or_else, after_first, after_mark, with_right, has_first, has_mark, behind_first}
+use Rattle.cread_expr.specs.Outcomes.{Outcome, Nothing, Stopped, Read, Reader, then_read, or_else, after_first, after_mark, behind_first}
 use Rattle.cread_expr.specs.Phrases.{Context, counted, numbered}
 use Rattle.cread_expr.specs.ReadLevels.{Level, read_list}
 use Rattle.cread_expr.specs.ReadOperands.{unary_operand, prefixed, unary_alone, stopped_operand, index_behind, call_behind, member_behind, postfix_with, goes_on, read_postfixes, closed, opens, plain_with, read_plain, read_cast, read_bracket, read_cast_to, statement_expression, read_size_of, begins_type_in_brackets, read_offset_of, read_assert_fail, failed_assertion, behind_matched, read_path, postfixes_from}
@@ -96,8 +95,8 @@ unfolding Unaries
 call_unary go each inner place base levels context mark row =
     first_unary (is_mark (codes ")")) row _ _
     (chosen_unary (begins_with_typedef context.scope row) (stopped_operand base context mark row) _ refl
-        (else_unary (read_list never inner.assignment (length row + 1) context row) (stopped_operand base context mark row) _ refl
-            (λ arguments others behind rest. first_unary (is_mark (codes ")")) rest (stopped_operand base context mark row) _ refl (λ closing more. each _ _ _ more))))
+    (else_unary (read_list never inner.assignment (length row + 1) context row) (stopped_operand base context mark row) _ refl
+    (λ arguments others behind rest. first_unary (is_mark (codes ")")) rest (stopped_operand base context mark row) _ refl (λ closing more. each _ _ _ more))))
     (λ closing more. each _ _ _ more)
 
 member_unary : (go : Expr → ℕ → Reader Operand) → Unaries go → (through : Bool) (base : Expr) (levels : ℕ) (context : Context) (mark : Terminal) (row : List Terminal) → AllUnary (member_behind go through base levels context mark row)
@@ -125,7 +124,7 @@ postfixes_unary inner start (suc count) base levels context (mark ∷ row) =
 closed_unary : (inner : Level) (start : List Terminal) (outcome : Outcome Operand) → AllUnary (closed inner start outcome)
 closed_unary inner start outcome =
     then_unary outcome _ (λ operand levels behind rest. then_unary (expression_from inner operand levels behind rest) _ (λ expr others last more.
-        first_unary (is_mark (codes ")")) more Nothing _ tt (λ closing end. postfixes_unary inner start (length end + 1) expr others last end)))
+    first_unary (is_mark (codes ")")) more Nothing _ tt (λ closing end. postfixes_unary inner start (length end + 1) expr others last end)))
 
 block_unary : (inner : Level) (context : Context) (opening : Terminal) (row : List Terminal) → AllUnary (statement_expression inner context opening row)
 block_unary inner context opening row =
@@ -136,21 +135,21 @@ unfolding read_size_of
 size_unary inner context word row =
     chosen_unary (begins_type_in_brackets context row) _ _
     (then_unary (read_type_name inner context (behind_first row)) _ (λ to levels behind rest.
-        first_unary (is_mark (codes ")")) rest Nothing (λ closing others. Read (unary_operand (numbered behind word.place (SizeOfType to))) (1 + levels) (counted behind) others) tt (λ closing others. refl)))
+    first_unary (is_mark (codes ")")) rest Nothing (λ closing others. Read (unary_operand (numbered behind word.place (SizeOfType to))) (1 + levels) (counted behind) others) tt (λ closing others. refl)))
     (prefixed_unary (unary_alone (inner.cast context row)) word.place SizeOf)
 
 offset_behind : Level → Terminal → List Terminal → TypeName → ℕ → Context → Terminal → List Terminal → Outcome Operand
 offset_behind inner word row to levels behind name four =
     then_read (read_path inner (length four + 1) behind four) (λ path others last five.
-        after_mark (codes ")") five Nothing (λ closing end.
-            postfixes_from inner (word ∷ row) (numbered last word.place (OffsetOf to (NamedPart name.bytes ∷ path))) (1 + max levels others) (counted last) end))
+    after_mark (codes ")") five Nothing (λ closing end.
+    postfixes_from inner (word ∷ row) (numbered last word.place (OffsetOf to (NamedPart name.bytes ∷ path))) (1 + max levels others) (counted last) end))
 
 offset_behind_unary : (inner : Level) (word : Terminal) (row : List Terminal) (to : TypeName) (levels : ℕ) (behind : Context) (name : Terminal) (four : List Terminal) → AllUnary (offset_behind inner word row to levels behind name four)
 unfolding offset_behind
 offset_behind_unary inner word row to levels behind name four =
     then_unary (read_path inner (length four + 1) behind four) _ (λ path others last five.
     first_unary (is_mark (codes ")")) five Nothing _ tt (λ closing end.
-        postfixes_unary inner (word ∷ row) (length end + 1) (numbered last word.place (OffsetOf to (NamedPart name.bytes ∷ path))) (1 + max levels others) (counted last) end))
+    postfixes_unary inner (word ∷ row) (length end + 1) (numbered last word.place (OffsetOf to (NamedPart name.bytes ∷ path))) (1 + max levels others) (counted last) end))
 
 offset_unary : (inner : Level) (context : Context) (word : Terminal) (row : List Terminal) → AllUnary (read_offset_of inner context word row)
 unfolding read_offset_of offset_behind

@@ -1,14 +1,10 @@
 -- The reader and the grammar say the same.
-use Rattle.std.proofs.Common.{◌≡◌, ℕ, ◌≤◌, List, ◌++◌}
-use Rattle.cbase.specs.declared.tree.expr.Expr.{Expr}
-use Rattle.cbase.specs.declared.tree.stmt.Stmt.{Stmt}
 use Rattle.cread_expr.proofs.Complete.{complete}
 use Rattle.cread_expr.proofs.OneTree.{each_has_one_tree}
 use Rattle.cread_expr.proofs.ReadAt.{ExpressionsComplete, ExpressionsSound, BlocksComplete, BlocksSound}
 use Rattle.cread_expr.proofs.Sound.{sound_expression, sound_block}
 use Rattle.cread_expr.specs.OneTree.{EachHasOneTree}
-use Rattle.cread_expr.specs.Phrases.{Phrase, Context, Expression, CompoundStatement}
-use Rattle.cread_expr.specs.Terminals.{Terminal}
+use Rattle.cread_expr.specs.Phrases.{Expression, CompoundStatement}
 
 pub one_tree : EachHasOneTree
 one_tree = each_has_one_tree complete

@@ -1,11 +1,7 @@
 -- That a row has one tree, from what the reader does on it.
-use Rattle.std.proofs.Common.{◌≡◌, ℕ, Bool, true, false, max, ◌≤◌, ◌⊎◌, inl, inr, List, [], ◌∷◌, ◌++◌, map, refl, ap, sym, ◌∙◌, arith}
-use Rattle.cbase.specs.declared.tree.decl.Decl.{Decl}
-use Rattle.cbase.specs.declared.tree.decl.TypeName.{TypeName}
-use Rattle.cbase.specs.declared.tree.expr.Expr.{Expr}
-use Rattle.cbase.specs.declared.tree.stmt.Stmt.{Stmt}
+use Rattle.std.proofs.Common.{◌≡◌, ℕ, Bool, true, false, max, inl, inr, List, [], ◌++◌, refl, ap, sym, ◌∙◌, arith}
 use Rattle.ctrees.specs.Levels.{decl_levels, expr_levels, stmt_levels, type_name_levels}
-use Rattle.cread_expr.proofs.Reached.{Completes, Goes, Ends, goes_on_expression, goes_on_type_name, goes_on_statement}
+use Rattle.cread_expr.proofs.Reached.{Completes, Goes, goes_on_expression}
 use Rattle.cread_expr.specs.Grammar.{Spells}
 use Rattle.cread_expr.specs.OneTree.{HasOneTree, EachHasOneTree}
 use Rattle.cread_expr.specs.Outcomes.{Outcome, Nothing, Stopped, Read}
@@ -78,8 +74,9 @@ one_block complete one other before after behind row first second =
 
 pub each_has_one_tree : IsComplete → EachHasOneTree
 each_has_one_tree complete = record {
-    expressions = one_expression complete;
-    types = one_type complete;
-    declarations = one_declaration complete;
-    statements = one_statement complete;
-    blocks = one_block complete }
+  expressions = one_expression complete;
+  types = one_type complete;
+  declarations = one_declaration complete;
+  statements = one_statement complete;
+  blocks = one_block complete;
+}

@@ -2,22 +2,18 @@
 --
 -- Complete: where a front of a row spells a phrase of at most so many levels, the reader reads it, or a token behind it
 -- goes on with it and the reader reaches as least as far.
-use Rattle.std.proofs.Common.{◌≡◌, ℕ, Bool, true, false, ◌&&◌, ◌||◌, not, ◌+◌, ◌<◌, ◌≤◌, ◌⊎◌, List, [], ◌∷◌, ◌++◌, map, codes, length, Some, None, IsTrue, nat_lt, nat_le}
+use Rattle.std.proofs.Common.{◌≡◌, ℕ, Bool, true, false, ◌&&◌, ◌||◌, not, ◌+◌, ◌<◌, ◌≤◌, ◌⊎◌, List, ◌++◌, map, codes, length, Some, None, IsTrue, nat_lt}
 use Rattle.std.specs.Prelude.{if◌then◌else◌, Option}
-use Rattle.cbase.specs.declared.tree.expr.Expr.{Expr}
 use Rattle.cbase.specs.declared.tree.operators.BinaryOp.{BinaryOp}
-use Rattle.cbase.specs.declared.tree.decl.Storage.{Storage}
-use Rattle.cbase.specs.declared.tree.spec.TypeSpec.{TypeSpec}
 use Rattle.ctrees.specs.Weight.{joined}
 use Rattle.ctrees.specs.Levels.{depth, decl_levels, declared_levels, enumerator_levels, expr_levels, field_decl_levels, field_name_levels, init_levels, init_part_levels, maybe_levels, param_levels, part_levels, spec_levels, stmt_levels, type_name_levels}
-use Rattle.cread_expr.specs.Firsts.{begins_declaration}
 use Rattle.cread_expr.specs.FrontReadings.{is_basic_word}
 use Rattle.cread_expr.specs.Grammar.{Spells, declaring}
 use Rattle.cread_expr.specs.Operators.{mark_row, binary_rows, assignment_rows}
 use Rattle.cread_expr.specs.Outcomes.{Outcome, Nothing, Stopped, Read, has_first, has_mark, behind_first, continued}
 use Rattle.cread_expr.specs.Phrases.{Phrase, Context}
 use Rattle.cread_expr.specs.Phrases.{Expression, Assignment, Conditional, Operation, CastExpression, UnaryExpression, PostfixExpression, PrimaryExpression, Arguments, MemberPath, TypeSpecifier, NameOfType, ArraySizes, Fields, FieldDeclaration, FieldDeclarators, FieldDeclarator, Enumerators, OneEnumerator, Specifiers, Declaration, Declarators, Declarator, FunctionDeclarator, Parameters, Parameter, Initializer, Initializers, DesignatedInitializer, CompoundStatement, BlockItems, Statement, FirstClause, MaybeExpression}
-use Rattle.cread_expr.specs.ReadDeclarations.{storage_at, leaving, is_void_alone, read_specifiers, read_parameter, read_parameters, read_declarator, read_declaration, read_part, specifiers_of}
+use Rattle.cread_expr.specs.ReadDeclarations.{leaving, read_specifiers, read_parameter, read_declarator, read_declaration, read_part, specifiers_of}
 use Rattle.cread_expr.specs.ReadLevels.{Level, read_list, read_until_brace}
 use Rattle.cread_expr.specs.ReadOperands.{read_cast, read_postfixes, read_path, goes_on, unary_operand}
 use Rattle.cread_expr.specs.ReadOperators.{expr_of, read_operations, operations_from}
@@ -25,10 +21,7 @@ use Rattle.cread_expr.specs.ReadStarts.{postfix_start}
 use Rattle.cread_expr.specs.ReadStatements.{read_block, read_maybe}
 use Rattle.cread_expr.specs.ReadTypes.{read_sizes, read_type_name, read_field, read_fields, read_enumerator, never, closes_braces}
 use Rattle.cread_expr.specs.Reader.{level}
-use Rattle.cread_expr.specs.Scope.{Names}
-use Rattle.cread_expr.specs.Terminals.{Terminal, is_mark, is_word, is_name, AreStars}
-use Rattle.cread_expr.specs.TokenReadings.{storage_of}
-use Rattle.cread_expr.specs.TypeWords.{declares_typedef}
+use Rattle.cread_expr.specs.Terminals.{Terminal, is_mark, is_word, is_name}
 use Rattle.cread_expr.specs.declared.reading.operand.Operand.{Operand}
 
 -- what was read goes at least as far as where the row is left
@@ -127,24 +120,24 @@ Completes (Conditional e) before front after =
 Completes (Operation k e) before front after =
     (m loosest : ℕ) (rest : List Terminal) → loosest ≤ k → expr_levels e ≤ m + 1
     → ((count : ℕ) × (length rest < count)
-        × (continued (read_cast (level m) before (front ++ rest)) expr_of (operations_from (level m) loosest)
-            ≡ read_operations (level m) loosest count e (expr_levels e) after rest))
-      ⊎ (IsTrue (has_first (goes_on_operation k) rest)
-        × Reaches (continued (read_cast (level m) before (front ++ rest)) expr_of (operations_from (level m) loosest)) rest)
+    × (continued (read_cast (level m) before (front ++ rest)) expr_of (operations_from (level m) loosest)
+    ≡ read_operations (level m) loosest count e (expr_levels e) after rest))
+    ⊎ (IsTrue (has_first (goes_on_operation k) rest)
+    × Reaches (continued (read_cast (level m) before (front ++ rest)) expr_of (operations_from (level m) loosest)) rest)
 Completes (CastExpression e) before front after =
     (n : ℕ) (rest : List Terminal) → expr_levels e ≤ n
     → ((unary : Bool) × ((level n).cast before (front ++ rest) ≡ Read (record { expr = e; unary = unary }) (expr_levels e) after rest))
-      ⊎ (IsTrue (has_first goes_on_operand rest) × Reaches ((level n).cast before (front ++ rest)) rest)
+    ⊎ (IsTrue (has_first goes_on_operand rest) × Reaches ((level n).cast before (front ++ rest)) rest)
 Completes (UnaryExpression e) before front after =
     (n : ℕ) (rest : List Terminal) → expr_levels e ≤ n → Goes goes_on_operand (unary_operand e) (expr_levels e) after rest ((level n).cast before (front ++ rest))
 Completes (PostfixExpression e) before front after =
     (m : ℕ) (rest : List Terminal) → expr_levels e ≤ m + 1
     → (count : ℕ) × (length rest < count)
-      × (read_cast (level m) before (front ++ rest) ≡ read_postfixes (level m) (front ++ rest) count e (expr_levels e) after rest)
+    × (read_cast (level m) before (front ++ rest) ≡ read_postfixes (level m) (front ++ rest) count e (expr_levels e) after rest)
 Completes (PrimaryExpression e) before front after =
     (m : ℕ) (rest : List Terminal) → expr_levels e ≤ m + 1
     → (count : ℕ) × (length rest < count)
-      × (read_cast (level m) before (front ++ rest) ≡ read_postfixes (level m) (front ++ rest) count e (expr_levels e) after rest)
+    × (read_cast (level m) before (front ++ rest) ≡ read_postfixes (level m) (front ++ rest) count e (expr_levels e) after rest)
 Completes (Arguments es) before front after =
     (n count : ℕ) (rest : List Terminal) → length (front ++ rest) < count → joined depth (map expr_levels es) ≤ n → Ends (goes_on_list goes_on_assignment) rest
     → read_list never (level n).assignment count before (front ++ rest) ≡ Read es (joined depth (map expr_levels es)) after rest
@@ -186,7 +179,7 @@ Completes (Declarator typedef d) before front after =
 Completes (FunctionDeclarator name d) before front after =
     (n : ℕ) (typedef : Bool) (rest : List Terminal) → declared_levels d ≤ n
     → read_declarator (level n) typedef before (front ++ rest)
-      ≡ Read d (declared_levels d) (declaring (leaving after) name typedef) rest
+    ≡ Read d (declared_levels d) (declaring (leaving after) name typedef) rest
 Completes (Parameters ps) before front after =
     (n count : ℕ) (rest : List Terminal) → length (front ++ rest) < count → joined depth (map param_levels ps) ≤ n → Ends (goes_on_list goes_on_parameter) rest
     → read_list never (read_parameter (level n)) count before (front ++ rest) ≡ Read ps (joined depth (map param_levels ps)) after rest

@@ -1,7 +1,6 @@
 -- From what is read of the row of a text to what stands at a token of it.
-use Rattle.std.proofs.Common.{◌≡◌, ℕ, Bool, zero, suc, ◌+◌, ◌-◌, ◌<◌, ◌≤◌, ◌⊎◌, inl, inr, List, [], ◌∷◌, ◌++◌, map, take, drop, length, refl, ap, sym, ◌∙◌, subst, arith, codes}
+use Rattle.std.proofs.Common.{◌≡◌, ℕ, Bool, zero, suc, ◌+◌, ◌-◌, ◌≤◌, inl, inr, List, [], ◌∷◌, ◌++◌, map, take, drop, length, refl, ap, sym, ◌∙◌, subst, arith, codes}
 use Rattle.std.specs.List.{prefix_len}
-use Rattle.std.proofs.lemmas.List.{length-append}
 use Rattle.cbase.specs.declared.tree.expr.Expr.{Expr}
 use Rattle.cbase.specs.declared.tree.stmt.Stmt.{Stmt}
 use Rattle.ctrees.specs.Levels.{expr_levels}
@@ -51,15 +50,16 @@ read_there : (t : Tokens) (scope : List Names) (at : ℕ) (phrase : Phrase) (beh
     → IsReadAt t scope at ((last_place (first ∷ front)).at + 1) phrase
 read_there t scope at phrase behind first front rest numbered whole spelled =
     let same : row_between t at ((last_place (first ∷ front)).at + 1) ≡ first ∷ front =
-        up_to_last at (drop at (passed_tokens t)) (drop at (map (terminal_of t.text) t.list)) first front rest (counts_from t at numbered) whole in
+    up_to_last at (drop at (passed_tokens t)) (drop at (map (terminal_of t.text) t.list)) first front rest (counts_from t at numbered) whole in
     let P : List Terminal → Type 0 = λ row. Spells phrase (at_first scope) row behind in
     record { behind = behind; spelled = subst P (sym same) spelled; last = ap (λ (row : List Terminal). (last_place row).at + 1) same }
 
 -- what is read there is spelled at the front of that row
 front_there : (t : Tokens) (at after : ℕ) → (rest : List Terminal) × (row_from t at ≡ row_between t at after ++ rest)
-front_there t at after =
-    (unpassed (drop (after - at) (drop at (passed_tokens t))) (drop (after - at) (drop at (map (terminal_of t.text) t.list))),
-     unpassed_split (after - at) (drop at (passed_tokens t)) (drop at (map (terminal_of t.text) t.list)))
+front_there t at after = (
+  unpassed (drop (after - at) (drop at (passed_tokens t))) (drop (after - at) (drop at (map (terminal_of t.text) t.list))),
+  unpassed_split (after - at) (drop at (passed_tokens t)) (drop at (map (terminal_of t.text) t.list)),
+)
 
 -- a longer front ends no earlier
 ends_later : (base : ℕ) (row : List Terminal) (first : Terminal) (xs ys : List Terminal) (other : Terminal) (us vs : List Terminal) → Rises base row
@@ -127,8 +127,8 @@ last_taken row front first start end whole =
     let both : take start row ++ (first ∷ (front ++ drop end row)) ≡ row = ap (λ (xs : List Terminal). take start row ++ xs) (sym whole) ∙ take_and_drop start row in
     let joined : (take start row ++ (first ∷ front)) ++ drop end row ≡ row = append_assoc (take start row) (first ∷ front) (drop end row) ∙ both in
     let same : take end row ≡ take start row ++ (first ∷ front) =
-        sym (front_of_both (take end row) (drop end row))
-        ∙ (ap (λ (xs : List Terminal). front_of xs (drop end row)) (take_and_drop end row ∙ sym joined) ∙ front_of_both (take start row ++ (first ∷ front)) (drop end row)) in
+    sym (front_of_both (take end row) (drop end row))
+    ∙ (ap (λ (xs : List Terminal). front_of xs (drop end row)) (take_and_drop end row ∙ sym joined) ∙ front_of_both (take start row ++ (first ∷ front)) (drop end row)) in
     ap last_place same ∙ last_place_of_nonempty (take start row) (first ∷ front) (omega arith)
   where
     take_and_drop : (n : ℕ) (xs : List Terminal) → take n xs ++ drop n xs ≡ xs
@@ -153,7 +153,7 @@ found_there phrase levels most t scope at end tree numbered begins spelled =
     step [] whole spells first = absurd first.1
     step (first ∷ front) whole spells some =
         let taken : last_place (take end (terminals t)) ≡ last_place (first ∷ front) =
-            last_taken (terminals t) front first (prefix_len (comes_before at) (terminals t)) end (row_at t at numbered ∙ whole) in
+        last_taken (terminals t) front first (prefix_len (comes_before at) (terminals t)) end (row_at t at numbered ∙ whole) in
         subst (λ place. IsReadAt t scope at (place.at + 1) (phrase tree)) (sym taken) (read_there t scope at (phrase tree) spelled.behind first front (drop end (terminals t)) numbered whole spells)
 
 -- an outcome that is a tree, or goes further, leaves no more than what stands behind the tree
@@ -195,7 +195,7 @@ pub longest_there : ExpressionsComplete → ExpressionsSound → (t : Tokens) (s
 longest_there complete sound t scope at end most outcome tree numbered is leaves =
     let sounds : IsSound Expression expr_levels most (at_first scope) (row_from t at) outcome = subst (IsSound Expression expr_levels most (at_first scope) (row_from t at)) (sym is) (sound most (at_first scope) (row_from t at)) in
     let spelled : IsSpelled Expression expr_levels most (at_first scope) (row_from t at) tree (drop end (terminals t)) =
-        spelled_left Expression expr_levels most (at_first scope) (row_from t at) outcome tree (drop end (terminals t)) sounds leaves in
+    spelled_left Expression expr_levels most (at_first scope) (row_from t at) outcome tree (drop end (terminals t)) sounds leaves in
     let found = found_there Expression expr_levels most t scope at end tree numbered (expression_begins tree (at_first scope)) spelled in
     ((found, spelled.small), λ other number there. longest spelled.fronts.front spelled.fronts.whole (starts spelled.fronts.spelled) other number there)
   where
@@ -204,12 +204,12 @@ longest_there complete sound t scope at end most outcome tree numbered is leaves
     longest [] whole begins other number there = absurd begins
     longest (first ∷ front) whole begins other number there =
         let taken : last_place (take end (terminals t)) ≡ last_place (first ∷ front) =
-            last_taken (terminals t) front first (prefix_len (comes_before at) (terminals t)) end (row_at t at numbered ∙ whole) in
+        last_taken (terminals t) front first (prefix_len (comes_before at) (terminals t)) end (row_at t at numbered ∙ whole) in
         let goes : Goes goes_on_expression other (expr_levels other) there.0.behind ((front_there t at number).0) ((level most).expression (at_first scope) (row_between t at number ++ (front_there t at number).0)) =
-            complete most other (at_first scope) there.0.behind (row_between t at number) ((front_there t at number).0) there.0.spelled there.1 in
+        complete most other (at_first scope) there.0.behind (row_between t at number) ((front_there t at number).0) there.0.spelled there.1 in
         let goes_there : Goes goes_on_expression other (expr_levels other) there.0.behind ((front_there t at number).0) outcome =
-            subst (Goes goes_on_expression other (expr_levels other) there.0.behind ((front_there t at number).0))
-            (ap (λ (row : List Terminal). (level most).expression (at_first scope) row) (sym ((front_there t at number).1)) ∙ sym is) goes in
+        subst (Goes goes_on_expression other (expr_levels other) there.0.behind ((front_there t at number).0))
+        (ap (λ (row : List Terminal). (level most).expression (at_first scope) row) (sym ((front_there t at number).1)) ∙ sym is) goes in
         let shorter = goes_less other (expr_levels other) there.0.behind ((front_there t at number).0) outcome tree (drop end (terminals t)) goes_there leaves in
         let later = ends_no_later t scope at end number other first front numbered whole there.0 shorter in
         omega (arith, later, ap (λ place. place.at) taken)
@@ -233,7 +233,7 @@ pub block_there : BlocksSound → (t : Tokens) (scope : List Names) (at end most
 block_there sound t scope at end most outcome body numbered is leaves =
     let sounds : IsSound CompoundStatement block_levels most (at_first scope) (row_from t at) outcome = subst (IsSound CompoundStatement block_levels most (at_first scope) (row_from t at)) (sym is) (sound most (at_first scope) (row_from t at)) in
     let spelled : IsSpelled CompoundStatement block_levels most (at_first scope) (row_from t at) body (drop end (terminals t)) =
-        spelled_left CompoundStatement block_levels most (at_first scope) (row_from t at) outcome body (drop end (terminals t)) sounds leaves in
+    spelled_left CompoundStatement block_levels most (at_first scope) (row_from t at) outcome body (drop end (terminals t)) sounds leaves in
     (found_there CompoundStatement block_levels most t scope at end body numbered (block_begins body (at_first scope)) spelled, spelled.small)
 
 pub no_block_there : BlocksComplete → (t : Tokens) (scope : List Names) (at most : ℕ) → Nothing ≡ read_block (level most) (at_first scope) (row_from t at)

@@ -23,32 +23,40 @@ use Rattle.cread_expr.specs.Terminals.{Terminal}
 
 sound_above : (inner : Level) → SoundLevel inner → SoundLevel (level_above inner)
 sound_above inner is = record {
-    cast = sound_cast inner is;
-    operation = λ loosest context row. sound_continued (read_cast inner context row) _ _ (sound_cast inner is context row)
-        (λ operand expressions rest stopped. held_as (λ front behind spelled. (OneCast (operand_cast operand spelled), refl)) refl stopped)
-        (λ operand levels behind rest read. sound_operations_from inner loosest operand levels context behind rest row is read);
-    conditional = λ context row. sound_continued (read_cast inner context row) _ _ (sound_cast inner is context row)
-        (λ operand expressions rest stopped. held_as (λ front behind spelled. OneOperation (OneCast (operand_cast operand spelled))) refl stopped)
-        (λ operand levels behind rest read. sound_conditional_from inner operand levels context behind rest row is read);
-    assignment = λ context row. sound_continued (read_cast inner context row) _ _ (sound_cast inner is context row)
-        (λ operand expressions rest stopped. held_as (λ front behind spelled. OneConditional (OneOperation (OneCast (operand_cast operand spelled)))) refl stopped)
-        (λ operand levels behind rest read. sound_assignment_from inner operand levels context behind rest row is read);
-    expression = λ context row. sound_continued (read_cast inner context row) _ _ (sound_cast inner is context row)
-        (λ operand expressions rest stopped. held_as (λ front behind spelled. OneAssignment (OneConditional (OneOperation (OneCast (operand_cast operand spelled))))) refl stopped)
-        (λ operand levels behind rest read. sound_expression_from inner operand levels context behind rest row is read);
-    specifier = sound_specifier inner is;
-    initializer = sound_initializer inner is;
-    clause = sound_clause inner is;
-    statement = sound_statement inner is;
-    item = sound_item inner is }
+  cast = sound_cast inner is;
+  operation = λ loosest context row. sound_continued (read_cast inner context row) _ _ (sound_cast inner is context row)
+      (λ operand expressions rest stopped. held_as (λ front behind spelled. (OneCast (operand_cast operand spelled), refl)) refl stopped)
+      (λ operand levels behind rest read. sound_operations_from inner loosest operand levels context behind rest row is read);
+  conditional = λ context row. sound_continued (read_cast inner context row) _ _ (sound_cast inner is context row)
+      (λ operand expressions rest stopped. held_as (λ front behind spelled. OneOperation (OneCast (operand_cast operand spelled))) refl stopped)
+      (λ operand levels behind rest read. sound_conditional_from inner operand levels context behind rest row is read);
+  assignment = λ context row. sound_continued (read_cast inner context row) _ _ (sound_cast inner is context row)
+      (λ operand expressions rest stopped. held_as (λ front behind spelled. OneConditional (OneOperation (OneCast (operand_cast operand spelled)))) refl stopped)
+      (λ operand levels behind rest read. sound_assignment_from inner operand levels context behind rest row is read);
+  expression = λ context row. sound_continued (read_cast inner context row) _ _ (sound_cast inner is context row)
+      (λ operand expressions rest stopped. held_as (λ front behind spelled. OneAssignment (OneConditional (OneOperation (OneCast (operand_cast operand spelled))))) refl stopped)
+      (λ operand levels behind rest read. sound_expression_from inner operand levels context behind rest row is read);
+  specifier = sound_specifier inner is;
+  initializer = sound_initializer inner is;
+  clause = sound_clause inner is;
+  statement = sound_statement inner is;
+  item = sound_item inner is;
+}
 
 -- each reader of a level is sound
 pub sound_level : (n : ℕ) → SoundLevel (level n)
 sound_level zero = record {
-    cast = λ context row. sound_nothing; operation = λ loosest context row. sound_nothing; conditional = λ context row. sound_nothing;
-    assignment = λ context row. sound_nothing; expression = λ context row. sound_nothing; specifier = λ context row. sound_nothing;
-    initializer = λ context row. sound_nothing; clause = λ context row. sound_nothing; statement = λ context row. sound_nothing;
-    item = λ context row. sound_nothing }
+  cast = λ context row. sound_nothing;
+  operation = λ loosest context row. sound_nothing;
+  conditional = λ context row. sound_nothing;
+  assignment = λ context row. sound_nothing;
+  expression = λ context row. sound_nothing;
+  specifier = λ context row. sound_nothing;
+  initializer = λ context row. sound_nothing;
+  clause = λ context row. sound_nothing;
+  statement = λ context row. sound_nothing;
+  item = λ context row. sound_nothing;
+}
 sound_level (suc n) = sound_above (level n) (sound_level n)
 
 -- a level reads trees of so many levels
@@ -89,17 +97,18 @@ plain_operation loosest most context row (Read tree count behind rest) is =
 
 sound_at : (inner : Level) → SoundLevel inner → IsSoundLevel inner.most inner
 sound_at inner is = record {
-    bound = refl;
-    cast = λ context row. is_sound operand_phrase operand_levels inner.most context row (inner.cast context row) (is.cast context row);
-    operation = λ loosest context row. plain_operation loosest inner.most context row (inner.operation loosest context row) (is.operation loosest context row);
-    conditional = λ context row. is_sound Conditional expr_levels inner.most context row (inner.conditional context row) (is.conditional context row);
-    assignment = λ context row. is_sound Assignment expr_levels inner.most context row (inner.assignment context row) (is.assignment context row);
-    expression = λ context row. is_sound Expression expr_levels inner.most context row (inner.expression context row) (is.expression context row);
-    specifier = λ context row. is_sound TypeSpecifier spec_levels inner.most context row (inner.specifier context row) (is.specifier context row);
-    initializer = λ context row. is_sound Initializer init_levels inner.most context row (inner.initializer context row) (is.initializer context row);
-    clause = λ context row. is_sound FirstClause stmt_levels inner.most context row (inner.clause context row) (is.clause context row);
-    statement = is.statement;
-    item = is.item }
+  bound = refl;
+  cast = λ context row. is_sound operand_phrase operand_levels inner.most context row (inner.cast context row) (is.cast context row);
+  operation = λ loosest context row. plain_operation loosest inner.most context row (inner.operation loosest context row) (is.operation loosest context row);
+  conditional = λ context row. is_sound Conditional expr_levels inner.most context row (inner.conditional context row) (is.conditional context row);
+  assignment = λ context row. is_sound Assignment expr_levels inner.most context row (inner.assignment context row) (is.assignment context row);
+  expression = λ context row. is_sound Expression expr_levels inner.most context row (inner.expression context row) (is.expression context row);
+  specifier = λ context row. is_sound TypeSpecifier spec_levels inner.most context row (inner.specifier context row) (is.specifier context row);
+  initializer = λ context row. is_sound Initializer init_levels inner.most context row (inner.initializer context row) (is.initializer context row);
+  clause = λ context row. is_sound FirstClause stmt_levels inner.most context row (inner.clause context row) (is.clause context row);
+  statement = is.statement;
+  item = is.item;
+}
 
 -- the bound of a level as the number itself
 bounded : (most : ℕ) (inner : Level) → inner.most ≡ most → IsSoundLevel inner.most inner → IsSoundLevel most inner
@@ -114,4 +123,4 @@ sound_expression n context row = let is = sound n in is.expression context row
 pub sound_block : (n : ℕ) (context : Context) (row : List Terminal) → IsSound CompoundStatement (λ body. joined depth (map stmt_levels body)) n context row (read_block (level n) context row)
 sound_block n context row =
     subst (λ (most : ℕ). IsSound CompoundStatement (λ body. joined depth (map stmt_levels body)) most context row (read_block (level n) context row)) (most_of_level n)
-        (is_sound CompoundStatement (λ body. joined depth (map stmt_levels body)) (level n).most context row (read_block (level n) context row) (sound_block_of (level n) (sound_level n) context row))
+    (is_sound CompoundStatement (λ body. joined depth (map stmt_levels body)) (level n).most context row (read_block (level n) context row) (sound_block_of (level n) (sound_level n) context row))

@@ -17,6 +17,7 @@ pair_of token closing closer found marked = step (is_mark (codes "(") token) (is
   where
     closes : (byte : ℕ) → Some byte ≡ Some closer → IsMark (byte ∷ []) closing
     closes byte same = let is : closer ≡ byte = cc same in subst (λ (n : ℕ). IsMark (n ∷ []) closing) is marked
+
     step : (round square curly : Bool) → is_mark (codes "(") token ≡ round → is_mark (codes "[") token ≡ square → is_mark (codes "{") token ≡ curly
         → (if round then Some 41 else (if square then Some 93 else (if curly then Some 125 else None))) ≡ Some closer → ArePair token closing
     step true square curly one two three same = inl (one, closes 41 same)
@@ -33,19 +34,23 @@ brackets_close [] row rest is = cc is
 brackets_close (closer ∷ others) [] rest is = cc is
 brackets_close (closer ∷ others) (token ∷ row) rest is =
     closing (λ known. brackets_close others row rest known) (λ known. brackets_close (closer ∷ others) row rest known)
-        (λ inner known. brackets_close (inner ∷ (closer ∷ others)) row rest known) (is_mark (closer ∷ []) token) refl is
+    (λ inner known. brackets_close (inner ∷ (closer ∷ others)) row rest known) (is_mark (closer ∷ []) token) refl is
   where
     skipped : Closes (closer ∷ others) row rest → IsTrue (not (is_bracket token)) → Closes (closer ∷ others) (token ∷ row) rest
     skipped (inside, last, more, split, matched, marked, further) none = (token ∷ inside, last, more, split_first refl split, NoBracket token none matched, marked, further)
+
     nested : (inner : ℕ) → closer_of token ≡ Some inner → Closes (inner ∷ (closer ∷ others)) row rest → Closes (closer ∷ others) (token ∷ row) rest
     nested inner found (inside, last, more, split, matched, marked, (between, final, end, next, also, closes, further)) =
         (token ∷ (inside ++ (last ∷ between)), final, end, split_first refl (split_more split (split_first refl next)), InBrackets token last (pair_of token last inner found marked) matched also, closes, further)
+
     between_brackets : Known row rest (closer ∷ others) → (bracket : Bool) → is_bracket token ≡ bracket → (if bracket then None else behind_matched (closer ∷ others) row) ≡ Some rest → Closes (closer ∷ others) (token ∷ row) rest
     between_brackets same_open true one same = cc same
     between_brackets same_open false one same = skipped (same_open same) (ap not one)
+
     opening : Known row rest (closer ∷ others) → ((inner : ℕ) → Known row rest (inner ∷ (closer ∷ others))) → (found : Option ℕ) → closer_of token ≡ found → matched_with (λ inner. behind_matched (inner ∷ (closer ∷ others)) row) (behind_matched (closer ∷ others) row) token found ≡ Some rest → Closes (closer ∷ others) (token ∷ row) rest
     opening same_open more_open (Some inner) found same = nested inner found (more_open inner same)
     opening same_open more_open None found same = between_brackets same_open (is_bracket token) refl same
+
     closing : Known row rest others → Known row rest (closer ∷ others) → ((inner : ℕ) → Known row rest (inner ∷ (closer ∷ others))) → (closes : Bool) → is_mark (closer ∷ []) token ≡ closes
         → (if closes then behind_matched others row else matched_with (λ inner. behind_matched (inner ∷ (closer ∷ others)) row) (behind_matched (closer ∷ others) row) token (closer_of token)) ≡ Some rest → Closes (closer ∷ others) (token ∷ row) rest
     closing fewer_open same_open more_open true marked same = ([], token, row, split_none (token ∷ row), NothingMore, marked, fewer_open same)

@@ -50,7 +50,7 @@ sound_specifiers_with inner context row None is found =
 sound_specifiers_with inner context row (Some storage) is found =
     let word = storage_word row storage found in
     sound_then (inner.specifier context (behind_first row)) _ (is.specifier context (behind_first row)) (λ type levels behind rest read.
-        made (split_first word.1 read.whole) (StorageBefore word.0 word.2 read.spelled) read.same read.fits)
+    made (split_first word.1 read.whole) (StorageBefore word.0 word.2 read.spelled) read.same read.fits)
 
 pub sound_specifiers : (inner : Level) → SoundLevel inner → Reads says_specifiers specifiers_levels inner.most (read_specifiers inner)
 unfolding read_specifiers
@@ -61,26 +61,26 @@ sound_parameter_behind : (inner : Level) (type : TypeSpec) (storage : Storage) (
     → Sound (spelled_as Parameter) param_levels inner.most before whole (parameter_behind inner type levels (length stars) context row)
 sound_parameter_behind inner type storage levels stars front before context row whole middle is split stars_split are spelled same fits =
     sound_first _ row _ _
-        (λ none. sound_then (read_sizes inner (length row + 1) context row) _ (sound_sizes inner (length row + 1) is context row) (λ sizes others behind rest read.
-            made (split_more split (split_more stars_split read.whole)) (UnnamedParameter stars spelled are read.spelled)
-                (larger same read.same ∙ sym (levels_parameter type (length stars) None sizes)) (larger_fits fits read.fits)))
-        (λ name more from named. sound_then (read_sizes inner (length more + 1) context more) _ (sound_sizes inner (length more + 1) is context more) (λ sizes others behind rest read.
-            made (split_more split (split_more stars_split (split_first from read.whole))) (NamedParameter stars name spelled are named read.spelled)
-                (larger same read.same ∙ sym (levels_parameter type (length stars) (Some name.bytes) sizes)) (larger_fits fits read.fits)))
+    (λ none. sound_then (read_sizes inner (length row + 1) context row) _ (sound_sizes inner (length row + 1) is context row) (λ sizes others behind rest read.
+    made (split_more split (split_more stars_split read.whole)) (UnnamedParameter stars spelled are read.spelled)
+    (larger same read.same ∙ sym (levels_parameter type (length stars) None sizes)) (larger_fits fits read.fits)))
+    (λ name more from named. sound_then (read_sizes inner (length more + 1) context more) _ (sound_sizes inner (length more + 1) is context more) (λ sizes others behind rest read.
+    made (split_more split (split_more stars_split (split_first from read.whole))) (NamedParameter stars name spelled are named read.spelled)
+    (larger same read.same ∙ sym (levels_parameter type (length stars) (Some name.bytes) sizes)) (larger_fits fits read.fits)))
 
 pub sound_parameter : (inner : Level) → SoundLevel inner → Reads (spelled_as Parameter) param_levels inner.most (read_parameter inner)
 unfolding read_parameter
 sound_parameter inner is context row =
     sound_then (read_specifiers inner context row) _ (sound_specifiers inner is context row) (λ specifiers levels behind rest read.
-        let stars = stars_of rest in
-        subst (λ (n : ℕ). Sound (spelled_as Parameter) param_levels inner.most context row (parameter_behind inner specifiers.spec levels n behind (behind_stars rest))) stars.counted
-            (sound_parameter_behind inner specifiers.spec specifiers.storage levels stars.stars read.front context behind (behind_stars rest) row rest is read.whole stars.split stars.are read.spelled read.same read.fits))
+    let stars = stars_of rest in
+    subst (λ (n : ℕ). Sound (spelled_as Parameter) param_levels inner.most context row (parameter_behind inner specifiers.spec levels n behind (behind_stars rest))) stars.counted
+    (sound_parameter_behind inner specifiers.spec specifiers.storage levels stars.stars read.front context behind (behind_stars rest) row rest is read.whole stars.split stars.are read.spelled read.same read.fits))
 
 sound_parameter_list : (inner : Level) (count : ℕ) → SoundLevel inner → Reads (spelled_as Parameters) (levels_of_all param_levels) inner.most (read_list never (read_parameter inner) count)
 sound_parameter_list inner count is =
     sound_list (spelled_as Parameter) (spelled_as Parameters) param_levels inner.most never (read_parameter inner) count (sound_parameter inner is)
-        (λ param before behind front rest spelled. OneParameter spelled)
-        (λ param params comma before middle behind front others between rest spelled marked more. MoreParameters comma spelled marked more)
+    (λ param before behind front rest spelled. OneParameter spelled)
+    (λ param params comma before middle behind front others between rest spelled marked more. MoreParameters comma spelled marked more)
 
 -- the parameters behind any name of a function
 abbrev says_parameters : List Param → Context → List Terminal → Context → List Terminal → Type 0
@@ -108,32 +108,32 @@ pub sound_parameters : (inner : Level) → SoundLevel inner → Reads says_param
 unfolding read_parameters
 sound_parameters inner is context row =
     sound_if (has_mark (codes ")") row) _ _
-        (λ closes.
-            let closing = first_of (is_mark (codes ")")) row closes in
-            made (split_last closing.1) (λ stars name opening are named opens. NoParameters stars name opening closing.0 are named opens closing.2) refl (omega arith))
-        (λ some. sound_if (is_void_alone row) _ _
-            (λ alone.
-                let word = void_alone row alone in
-                let closing = first_of (is_mark (codes ")")) (behind_first row) word.3 in
-                made (split_first word.1 (split_last closing.1)) (λ stars name opening are named opens. VoidParameters stars name opening word.0 closing.0 are named opens word.2 closing.2) refl (omega arith))
-            (λ given. sound_then (read_list never (read_parameter inner) (length row + 1) (inside context) row) _ (sound_parameter_list inner (length row + 1) is (inside context) row) (λ params levels behind rest read.
-                sound_first _ rest _ _ (λ none. sound_nothing) (λ closing others from marked.
-                    made (split_more read.whole (split_last from))
-                        (λ stars name opening are named opens. WithParameters stars name opening closing are named opens (no_void row read.front rest others closing read.whole from marked given) read.spelled marked)
-                        read.same read.fits))))
+    (λ closes.
+    let closing = first_of (is_mark (codes ")")) row closes in
+    made (split_last closing.1) (λ stars name opening are named opens. NoParameters stars name opening closing.0 are named opens closing.2) refl (omega arith))
+    (λ some. sound_if (is_void_alone row) _ _
+    (λ alone.
+    let word = void_alone row alone in
+    let closing = first_of (is_mark (codes ")")) (behind_first row) word.3 in
+    made (split_first word.1 (split_last closing.1)) (λ stars name opening are named opens. VoidParameters stars name opening word.0 closing.0 are named opens word.2 closing.2) refl (omega arith))
+    (λ given. sound_then (read_list never (read_parameter inner) (length row + 1) (inside context) row) _ (sound_parameter_list inner (length row + 1) is (inside context) row) (λ params levels behind rest read.
+    sound_first _ rest _ _ (λ none. sound_nothing) (λ closing others from marked.
+    made (split_more read.whole (split_last from))
+    (λ stars name opening are named opens. WithParameters stars name opening closing are named opens (no_void row read.front rest others closing read.whole from marked given) read.spelled marked)
+    read.same read.fits))))
 
 sound_object_behind : (inner : Level) (typedef : Bool) (name : Terminal) (stars : List Terminal) (before : Context) (row whole middle : List Terminal)
     → SoundLevel inner → Splits whole stars middle → middle ≡ name ∷ row → AreStars stars → IsName name
     → Sound (spelled_as (Declarator typedef)) declared_levels inner.most before whole (object_behind inner typedef name (length stars) before row)
 sound_object_behind inner typedef name stars before row whole middle is split from are named =
     sound_then (read_sizes inner (length row + 1) before row) _ (sound_sizes inner (length row + 1) is before row) (λ sizes levels behind rest read.
-        sound_first _ rest _ _
-            (λ none. made (split_more split (split_first from read.whole)) (ObjectDeclarator stars name are named read.spelled) (read.same ∙ sym (levels_object name (length stars) sizes)) read.fits)
-            (λ mark others next marked. sound_then (inner.initializer (declaring behind name.bytes typedef) others) _ (is.initializer (declaring behind name.bytes typedef) others) (λ init inits last more read_init.
-                made (split_more split (split_first from (split_more read.whole (split_first next read_init.whole))))
-                    (InitializedDeclarator stars name mark are named read.spelled marked read_init.spelled)
-                    (larger read.same read_init.same ∙ sym (levels_initialized name (length stars) sizes init))
-                    (larger_fits read.fits read_init.fits))))
+    sound_first _ rest _ _
+    (λ none. made (split_more split (split_first from read.whole)) (ObjectDeclarator stars name are named read.spelled) (read.same ∙ sym (levels_object name (length stars) sizes)) read.fits)
+    (λ mark others next marked. sound_then (inner.initializer (declaring behind name.bytes typedef) others) _ (is.initializer (declaring behind name.bytes typedef) others) (λ init inits last more read_init.
+    made (split_more split (split_first from (split_more read.whole (split_first next read_init.whole))))
+    (InitializedDeclarator stars name mark are named read.spelled marked read_init.spelled)
+    (larger read.same read_init.same ∙ sym (levels_initialized name (length stars) sizes init))
+    (larger_fits read.fits read_init.fits))))
 
 sound_function_behind : (inner : Level) (typedef : Bool) (name opening : Terminal) (stars : List Terminal) (before : Context) (row whole middle rest : List Terminal)
     → SoundLevel inner → Splits whole stars middle → middle ≡ name ∷ rest → rest ≡ opening ∷ row → AreStars stars → IsName name → IsMark (codes "(") opening
@@ -143,71 +143,71 @@ sound_function_behind inner typedef name opening stars before row whole middle r
     let spelled = read.spelled stars name opening are named marked in
     let kept : left within.scope ≡ before.scope = scopes_kept (FunctionDeclarator name.bytes (function name (length stars) params)) before within (stars ++ (name ∷ (opening ∷ read.front))) spelled in
     subst (λ (scope : List Names). Sound (spelled_as (Declarator typedef)) declared_levels inner.most before whole (Read (function name (length stars) params) levels (declaring (scoped within scope) name.bytes typedef) more)) (sym kept)
-        (made (split_more split (split_first from (split_first next read.whole))) (DeclaratorOfFunction spelled) (read.same ∙ sym (levels_function name (length stars) params)) read.fits)
+    (made (split_more split (split_first from (split_first next read.whole))) (DeclaratorOfFunction spelled) (read.same ∙ sym (levels_function name (length stars) params)) read.fits)
 
 pub sound_declarator : (inner : Level) (typedef : Bool) → SoundLevel inner → Reads (spelled_as (Declarator typedef)) declared_levels inner.most (read_declarator inner typedef)
 unfolding read_declarator
 sound_declarator inner typedef is context row =
     let stars = stars_of row in
     sound_first _ (behind_stars row) _ _ (λ none. sound_nothing) (λ name rest from named.
-        sound_first _ rest _ _
-            (λ plain. subst (λ (n : ℕ). Sound (spelled_as (Declarator typedef)) declared_levels inner.most context row (object_behind inner typedef name n context rest)) stars.counted
-                (sound_object_behind inner typedef name stars.stars context rest row (behind_stars row) is stars.split from stars.are named))
-            (λ opening others next marked. sound_then (read_parameters inner context others) _ (sound_parameters inner is context others) (λ params levels within more read.
-                subst (λ (n : ℕ). Sound (spelled_as (Declarator typedef)) declared_levels inner.most context row (Read (function name n params) levels (declaring (leaving within) name.bytes typedef) more)) stars.counted
-                    (sound_function_behind inner typedef name opening stars.stars context others row (behind_stars row) rest is stars.split from next stars.are named marked params levels within more read))))
+    sound_first _ rest _ _
+    (λ plain. subst (λ (n : ℕ). Sound (spelled_as (Declarator typedef)) declared_levels inner.most context row (object_behind inner typedef name n context rest)) stars.counted
+    (sound_object_behind inner typedef name stars.stars context rest row (behind_stars row) is stars.split from stars.are named))
+    (λ opening others next marked. sound_then (read_parameters inner context others) _ (sound_parameters inner is context others) (λ params levels within more read.
+    subst (λ (n : ℕ). Sound (spelled_as (Declarator typedef)) declared_levels inner.most context row (Read (function name n params) levels (declaring (leaving within) name.bytes typedef) more)) stars.counted
+    (sound_function_behind inner typedef name opening stars.stars context others row (behind_stars row) rest is stars.split from next stars.are named marked params levels within more read))))
 
 sound_declarators : (inner : Level) (typedef : Bool) (count : ℕ) → SoundLevel inner → Reads (spelled_as (Declarators typedef)) (levels_of_all declared_levels) inner.most (read_list never (read_declarator inner typedef) count)
 sound_declarators inner typedef count is =
     sound_list (spelled_as (Declarator typedef)) (spelled_as (Declarators typedef)) declared_levels inner.most never (read_declarator inner typedef) count (sound_declarator inner typedef is)
-        (λ name before behind front rest spelled. OneDeclarator spelled)
-        (λ name names comma before middle behind front others between rest spelled marked more. MoreDeclarators comma spelled marked more)
+    (λ name before behind front rest spelled. OneDeclarator spelled)
+    (λ name names comma before middle behind front others between rest spelled marked more. MoreDeclarators comma spelled marked more)
 
 pub sound_declaration : (inner : Level) → SoundLevel inner → Reads (spelled_as Declaration) decl_levels inner.most (read_declaration inner)
 unfolding read_declaration
 sound_declaration inner is context row =
     sound_then (read_specifiers inner context row) _ (sound_specifiers inner is context row) (λ specifiers levels behind rest read.
-        sound_first _ rest _ _
-            (λ some. sound_then (read_list never (read_declarator inner (declares_typedef specifiers.storage)) (length rest + 1) behind rest) _ (sound_declarators inner (declares_typedef specifiers.storage) (length rest + 1) is behind rest) (λ names others last more read_names.
-                sound_first _ more _ _ (λ none. sound_nothing) (λ semicolon end from marked.
-                    made (split_more read.whole (split_more read_names.whole (split_last from))) (WithDeclarators semicolon read.spelled read_names.spelled marked)
-                        (larger read.same read_names.same ∙ sym (levels_declaration specifiers.storage specifiers.spec names)) (larger_fits read.fits read_names.fits))))
-            (λ semicolon end from marked. made (split_more read.whole (split_last from)) (NoDeclarator semicolon read.spelled marked)
-                (read.same ∙ sym (levels_type_declaration specifiers.storage specifiers.spec)) read.fits))
+    sound_first _ rest _ _
+    (λ some. sound_then (read_list never (read_declarator inner (declares_typedef specifiers.storage)) (length rest + 1) behind rest) _ (sound_declarators inner (declares_typedef specifiers.storage) (length rest + 1) is behind rest) (λ names others last more read_names.
+    sound_first _ more _ _ (λ none. sound_nothing) (λ semicolon end from marked.
+    made (split_more read.whole (split_more read_names.whole (split_last from))) (WithDeclarators semicolon read.spelled read_names.spelled marked)
+    (larger read.same read_names.same ∙ sym (levels_declaration specifiers.storage specifiers.spec names)) (larger_fits read.fits read_names.fits))))
+    (λ semicolon end from marked. made (split_more read.whole (split_last from)) (NoDeclarator semicolon read.spelled marked)
+    (read.same ∙ sym (levels_type_declaration specifiers.storage specifiers.spec)) read.fits))
 
 -- initialisers
 pub sound_part : (inner : Level) → SoundLevel inner → Reads (spelled_as DesignatedInitializer) init_part_levels inner.most (read_part inner)
 unfolding read_part
 sound_part inner is context row =
     sound_first _ row _ _
-        (λ none. sound_then (inner.initializer context row) _ (is.initializer context row) (λ init levels behind rest read.
-            made read.whole (NextPart read.spelled) (read.same ∙ sym (levels_initializer None init)) read.fits))
-        (λ dot others from dotted. sound_first _ others _ _ (λ none. sound_nothing) (λ name more next named. sound_first _ more _ _ (λ none. sound_nothing) (λ mark end last marked.
-            sound_then (inner.initializer context end) _ (is.initializer context end) (λ init levels behind rest read.
-                made (split_first from (split_first next (split_first last read.whole))) (MemberPart dot name mark dotted named marked read.spelled)
-                    (read.same ∙ sym (levels_initializer (Some name.bytes) init)) read.fits))))
+    (λ none. sound_then (inner.initializer context row) _ (is.initializer context row) (λ init levels behind rest read.
+    made read.whole (NextPart read.spelled) (read.same ∙ sym (levels_initializer None init)) read.fits))
+    (λ dot others from dotted. sound_first _ others _ _ (λ none. sound_nothing) (λ name more next named. sound_first _ more _ _ (λ none. sound_nothing) (λ mark end last marked.
+    sound_then (inner.initializer context end) _ (is.initializer context end) (λ init levels behind rest read.
+    made (split_first from (split_first next (split_first last read.whole))) (MemberPart dot name mark dotted named marked read.spelled)
+    (read.same ∙ sym (levels_initializer (Some name.bytes) init)) read.fits))))
 
 sound_parts : (inner : Level) (count : ℕ) → SoundLevel inner → Reads (spelled_as Initializers) (levels_of_all init_part_levels) inner.most (read_list closes_braces (read_part inner) count)
 sound_parts inner count is =
     sound_list (spelled_as DesignatedInitializer) (spelled_as Initializers) init_part_levels inner.most closes_braces (read_part inner) count (sound_part inner is)
-        (λ part before behind front rest spelled. OneInitializer spelled)
-        (λ part parts comma before middle behind front others between rest spelled marked more. MoreInitializers comma spelled marked more)
+    (λ part before behind front rest spelled. OneInitializer spelled)
+    (λ part parts comma before middle behind front others between rest spelled marked more. MoreInitializers comma spelled marked more)
 
 sound_in_braces : (inner : Level) (context : Context) (opening : Terminal) (row whole : List Terminal) → SoundLevel inner → whole ≡ opening ∷ row → IsMark (codes "{") opening
     → Sound (spelled_as Initializer) init_levels (inner.most + 1) context whole (in_braces inner context row)
 sound_in_braces inner context opening row whole is from marked =
     sound_first _ row _ _
-        (λ some. sound_then (read_list closes_braces (read_part inner) (length row + 1) context row) _ (sound_parts inner (length row + 1) is context row) (λ parts levels behind rest read.
-            let comma = comma_of_row rest in
-            sound_first _ (behind_comma rest) _ _ (λ none. sound_nothing) (λ closing others next closes.
-                made (split_first from (split_more read.whole (split_more comma.split (split_last next)))) (InBraces comma.last opening closing marked read.spelled comma.is closes)
-                    (one_more read.same ∙ sym (levels_braces parts)) (one_more_fits read.fits))))
-        (λ closing others next closes. made (split_first from (split_last next)) (EmptyBraces opening closing marked closes) (sym levels_empty_braces) (omega arith))
+    (λ some. sound_then (read_list closes_braces (read_part inner) (length row + 1) context row) _ (sound_parts inner (length row + 1) is context row) (λ parts levels behind rest read.
+    let comma = comma_of_row rest in
+    sound_first _ (behind_comma rest) _ _ (λ none. sound_nothing) (λ closing others next closes.
+    made (split_first from (split_more read.whole (split_more comma.split (split_last next)))) (InBraces comma.last opening closing marked read.spelled comma.is closes)
+    (one_more read.same ∙ sym (levels_braces parts)) (one_more_fits read.fits))))
+    (λ closing others next closes. made (split_first from (split_last next)) (EmptyBraces opening closing marked closes) (sym levels_empty_braces) (omega arith))
 
 pub sound_initializer : (inner : Level) → SoundLevel inner → Reads (spelled_as Initializer) init_levels (inner.most + 1) (read_initializer inner)
 unfolding read_initializer
 sound_initializer inner is context row =
     sound_first _ row _ _
-        (λ none. sound_then (inner.assignment context row) _ (is.assignment context row) (λ value levels behind rest read.
-            made read.whole (InitializedTo read.spelled) (one_more read.same ∙ sym (levels_value value)) (one_more_fits read.fits)))
-        (λ opening others from marked. sound_in_braces inner context opening others row is from marked)
+    (λ none. sound_then (inner.assignment context row) _ (is.assignment context row) (λ value levels behind rest read.
+    made read.whole (InitializedTo read.spelled) (one_more read.same ∙ sym (levels_value value)) (one_more_fits read.fits)))
+    (λ opening others from marked. sound_in_braces inner context opening others row is from marked)

@@ -24,40 +24,40 @@ pub sound_list : {A : Type 0} (says : A → Context → List Terminal → Contex
     → Reads says levels most item
     → ((tree : A) (before behind : Context) (front rest : List Terminal) → says tree before front behind rest → tells (tree ∷ []) before front behind rest)
     → ((tree : A) (trees : List A) (comma : Terminal) (before middle behind : Context) (front others between rest : List Terminal) → says tree before front middle between → IsMark (codes ",") comma → tells trees middle others behind rest
-        → tells (tree ∷ trees) before (front ++ (comma ∷ others)) behind rest)
+    → tells (tree ∷ trees) before (front ++ (comma ∷ others)) behind rest)
     → Reads tells (levels_of_all levels) most (read_list closes item count)
 unfolding read_list
 sound_list says tells levels most closes item zero is one more context row = sound_nothing
 sound_list says tells levels most closes item (suc count) is one more context row =
     sound_then (item context row) _ (is context row) (λ tree deep behind rest read.
-        sound_if (has_mark (codes ",") rest && not (closes (behind_first rest))) _ _
-            (λ goes.
-                let comma = first_of (is_mark (codes ",")) rest (and-left (has_mark (codes ",") rest) (not (closes (behind_first rest))) goes) in
-                sound_prepended tree deep (read_list closes item count behind (behind_first rest)) (sound_list says tells levels most closes item count is one more behind (behind_first rest)) (λ trees others last end read_others.
-                    made (split_more read.whole (split_first comma.1 read_others.whole))
-                        (more tree trees comma.0 context behind last read.front read_others.front rest end read.spelled comma.2 read_others.spelled)
-                        (larger read.same read_others.same)
-                        (larger_fits read.fits read_others.fits)))
-            (λ ends. made read.whole (one tree context behind read.front rest read.spelled) (read.same ∙ sym (joined_one (levels tree))) read.fits))
+    sound_if (has_mark (codes ",") rest && not (closes (behind_first rest))) _ _
+    (λ goes.
+    let comma = first_of (is_mark (codes ",")) rest (and-left (has_mark (codes ",") rest) (not (closes (behind_first rest))) goes) in
+    sound_prepended tree deep (read_list closes item count behind (behind_first rest)) (sound_list says tells levels most closes item count is one more behind (behind_first rest)) (λ trees others last end read_others.
+    made (split_more read.whole (split_first comma.1 read_others.whole))
+    (more tree trees comma.0 context behind last read.front read_others.front rest end read.spelled comma.2 read_others.spelled)
+    (larger read.same read_others.same)
+    (larger_fits read.fits read_others.fits)))
+    (λ ends. made read.whole (one tree context behind read.front rest read.spelled) (read.same ∙ sym (joined_one (levels tree))) read.fits))
 
 pub sound_until_brace : {A : Type 0} (says : A → Context → List Terminal → Context → List Terminal → Type 0) (tells : List A → Context → List Terminal → Context → List Terminal → Type 0) (levels : A → ℕ) (most : ℕ)
     (item : Reader A) (count : ℕ)
     → Reads says levels most item
     → ((before : Context) (row : List Terminal) → has_mark (codes "}") row ≡ true → tells [] before [] before row)
     → ((tree : A) (trees : List A) (before middle behind : Context) (front others between rest : List Terminal) → says tree before front middle between → tells trees middle others behind rest
-        → tells (tree ∷ trees) before (front ++ others) behind rest)
+    → tells (tree ∷ trees) before (front ++ others) behind rest)
     → Reads tells (levels_of_all levels) most (read_until_brace item count)
 unfolding read_until_brace
 sound_until_brace says tells levels most item zero is none more context row = sound_nothing
 sound_until_brace says tells levels most item (suc count) is none more context row =
     sound_if (has_mark (codes "}") row) _ _
-        (λ ends. made (split_none row) (none context row ends) refl (omega arith))
-        (λ goes. sound_then (item context row) _ (is context row) (λ tree deep behind rest read.
-            sound_prepended tree deep (read_until_brace item count behind rest) (sound_until_brace says tells levels most item count is none more behind rest) (λ trees others last end read_others.
-                made (split_more read.whole read_others.whole)
-                    (more tree trees context behind last read.front read_others.front rest end read.spelled read_others.spelled)
-                    (larger read.same read_others.same)
-                    (larger_fits read.fits read_others.fits))))
+    (λ ends. made (split_none row) (none context row ends) refl (omega arith))
+    (λ goes. sound_then (item context row) _ (is context row) (λ tree deep behind rest read.
+    sound_prepended tree deep (read_until_brace item count behind rest) (sound_until_brace says tells levels most item count is none more behind rest) (λ trees others last end read_others.
+    made (split_more read.whole read_others.whole)
+    (more tree trees context behind last read.front read_others.front rest end read.spelled read_others.spelled)
+    (larger read.same read_others.same)
+    (larger_fits read.fits read_others.fits))))
 
 -- the stars at the front of a row
 pub record Stars (row : List Terminal) : Type 0 where
@@ -73,8 +73,11 @@ length_taken (suc count) (first ∷ others) inside = let more = length_taken cou
 
 pub stars_of : (row : List Terminal) → Stars row
 stars_of row = record {
-    stars = take (star_count row) row; split = split_taken (star_count row) row; are = stars_are_stars row;
-    counted = length_taken (star_count row) row (stars_within row) }
+  stars = take (star_count row) row;
+  split = split_taken (star_count row) row;
+  are = stars_are_stars row;
+  counted = length_taken (star_count row) row (stars_within row);
+}
 
 -- the tag at the front of a row
 pub record Tag (row : List Terminal) : Type 0 where

@@ -63,16 +63,16 @@ sound_index : (go : Expr → ℕ → Reader Operand) (inner : Level) (base : Exp
 sound_index go inner base levels before context mark row whole is marked inside known next =
     let stops = stopped_there (inner.most + 1) before whole base levels context (mark ∷ row) known in
     sound_else (inner.expression context row) _ _ (is.expression context row) stops (λ index others behind rest read.
-        sound_first _ rest _ _ (λ none. stops) (λ closing more from closes.
-            next (numbered behind mark.place (Index base index)) (1 + max levels others) (counted behind) more
-                (got (split_more known.whole (split_first refl (split_more read.whole (split_last from)))) (IndexOperator mark closing known.spelled marked read.spelled closes)
-                    (one_more (larger known.same read.same) ∙ sym (levels_index behind.expressions mark.place base index)) (one_more_fits (larger_fits inside read.fits)))))
+    sound_first _ rest _ _ (λ none. stops) (λ closing more from closes.
+    next (numbered behind mark.place (Index base index)) (1 + max levels others) (counted behind) more
+    (got (split_more known.whole (split_first refl (split_more read.whole (split_last from)))) (IndexOperator mark closing known.spelled marked read.spelled closes)
+    (one_more (larger known.same read.same) ∙ sym (levels_index behind.expressions mark.place base index)) (one_more_fits (larger_fits inside read.fits)))))
 
 sound_arguments : (inner : Level) (count : ℕ) → SoundLevel inner → Reads (spelled_as Arguments) (levels_of_all expr_levels) inner.most (read_list never inner.assignment count)
 sound_arguments inner count is =
     sound_list (spelled_as Assignment) (spelled_as Arguments) expr_levels inner.most never inner.assignment count is.assignment
-        (λ expr before behind front rest spelled. OneArgument spelled)
-        (λ expr exprs comma before middle behind front others between rest spelled marked more. MoreArguments comma spelled marked more)
+    (λ expr before behind front rest spelled. OneArgument spelled)
+    (λ expr exprs comma before middle behind front others between rest spelled marked more. MoreArguments comma spelled marked more)
 
 sound_call : (go : Expr → ℕ → Reader Operand) (inner : Level) (base : Expr) (levels : ℕ) (before context : Context) (mark : Terminal) (row whole : List Terminal)
     → SoundLevel inner → IsMark (codes "(") mark → levels ≤ inner.most
@@ -82,16 +82,16 @@ sound_call : (go : Expr → ℕ → Reader Operand) (inner : Level) (base : Expr
 sound_call go inner base levels before context mark row whole is marked inside known next =
     let stops = stopped_there (inner.most + 1) before whole base levels context (mark ∷ row) known in
     sound_first _ row _ _
-        (λ some. sound_if (begins_with_typedef context.scope row) _ _ (λ typed. stops)
-            (λ plain. sound_else (read_list never inner.assignment (length row + 1) context row) _ _ (sound_arguments inner (length row + 1) is context row) stops (λ arguments others behind rest read.
-                sound_first _ rest _ _ (λ none. stops) (λ closing more from closes.
-                    next (numbered behind (first_word_place known.front) (Call base arguments)) (1 + max levels others) (counted behind) more
-                        (got (split_more known.whole (split_first refl (split_more read.whole (split_last from))))
-                            (CallOperator mark closing known.spelled marked (no_type context.scope row read.front rest read.whole plain) read.spelled closes)
-                            (one_more (larger known.same read.same) ∙ sym (levels_call behind.expressions (first_word_place known.front) base arguments)) (one_more_fits (larger_fits inside read.fits)))))))
-        (λ closing more from closes. next (numbered context (first_word_place known.front) (Call base [])) (1 + levels) (counted context) more
-            (got (split_more known.whole (split_first refl (split_last from))) (CallOfNothing mark closing known.spelled marked closes)
-                (one_more known.same ∙ sym (levels_call_of_nothing context.expressions (first_word_place known.front) base)) (one_more_fits inside)))
+    (λ some. sound_if (begins_with_typedef context.scope row) _ _ (λ typed. stops)
+    (λ plain. sound_else (read_list never inner.assignment (length row + 1) context row) _ _ (sound_arguments inner (length row + 1) is context row) stops (λ arguments others behind rest read.
+    sound_first _ rest _ _ (λ none. stops) (λ closing more from closes.
+    next (numbered behind (first_word_place known.front) (Call base arguments)) (1 + max levels others) (counted behind) more
+    (got (split_more known.whole (split_first refl (split_more read.whole (split_last from))))
+    (CallOperator mark closing known.spelled marked (no_type context.scope row read.front rest read.whole plain) read.spelled closes)
+    (one_more (larger known.same read.same) ∙ sym (levels_call behind.expressions (first_word_place known.front) base arguments)) (one_more_fits (larger_fits inside read.fits)))))))
+    (λ closing more from closes. next (numbered context (first_word_place known.front) (Call base [])) (1 + levels) (counted context) more
+    (got (split_more known.whole (split_first refl (split_last from))) (CallOfNothing mark closing known.spelled marked closes)
+    (one_more known.same ∙ sym (levels_call_of_nothing context.expressions (first_word_place known.front) base)) (one_more_fits inside)))
 
 sound_member : (go : Expr → ℕ → Reader Operand) (inner : Level) (through : Bool) (base : Expr) (levels : ℕ) (before context : Context) (mark : Terminal) (row whole : List Terminal)
     → IsMember through mark → levels ≤ inner.most
@@ -100,9 +100,9 @@ sound_member : (go : Expr → ℕ → Reader Operand) (inner : Level) (through :
     → OperandSound (inner.most + 1) before whole (member_behind go through base levels context mark row)
 sound_member go inner through base levels before context mark row whole marked inside known next =
     sound_first _ row _ _ (λ none. stopped_there (inner.most + 1) before whole base levels context (mark ∷ row) known) (λ name more from named.
-        next (numbered context mark.place (Member base name.bytes through)) (1 + levels) (counted context) more
-            (got (split_more known.whole (split_first refl (split_last from))) (MemberOperator mark name known.spelled marked named)
-                (one_more known.same ∙ sym (levels_member context.expressions mark.place base name.bytes through)) (one_more_fits inside)))
+    next (numbered context mark.place (Member base name.bytes through)) (1 + levels) (counted context) more
+    (got (split_more known.whole (split_first refl (split_last from))) (MemberOperator mark name known.spelled marked named)
+    (one_more known.same ∙ sym (levels_member context.expressions mark.place base name.bytes through)) (one_more_fits inside)))
 
 -- what goes on with an operand behind it
 abbrev PostfixBegins : Terminal → PostfixStart → Type 0
@@ -120,12 +120,13 @@ postfix_begins : (token : Terminal) → PostfixBegins token (postfix_start token
 unfolding postfix_start
 postfix_begins token =
     choose_postfix (PostfixBegins token) (is_mark (codes "[") token) _ _ (λ is. is)
-        (choose_postfix (PostfixBegins token) (is_mark (codes "(") token) _ _ (λ is. is)
-            (members (mark_row member_rows token) refl))
+    (choose_postfix (PostfixBegins token) (is_mark (codes "(") token) _ _ (λ is. is)
+    (members (mark_row member_rows token) refl))
   where
     counts : (found : Option Bool) → mark_row count_rows token ≡ found → PostfixBegins token (count_start found)
     counts None is = tt
     counts (Some up) is = is
+
     members : (found : Option Bool) → mark_row member_rows token ≡ found → PostfixBegins token (member_start found token)
     members None is = counts (mark_row count_rows token) refl
     members (Some through) is = is
@@ -140,12 +141,12 @@ sound_postfix_with go inner base levels before context mark row whole postfix.In
 sound_postfix_with go inner base levels before context mark row whole postfix.Call is marked inside known next =
     let front : front_of whole (mark ∷ row) ≡ known.front = ap (λ (all : List Terminal). front_of all (mark ∷ row)) known.whole.is ∙ front_of_both known.front (mark ∷ row) in
     subst (λ (front : List Terminal). OperandSound (inner.most + 1) before whole (call_behind go inner (first_word_place front) base levels context mark row)) (sym front)
-        (sound_call go inner base levels before context mark row whole is marked (inside refl) known next)
+    (sound_call go inner base levels before context mark row whole is marked (inside refl) known next)
 sound_postfix_with go inner base levels before context mark row whole (postfix.Member through) is marked inside known next =
     sound_member go inner through base levels before context mark row whole marked (inside refl) known next
 sound_postfix_with go inner base levels before context mark row whole (postfix.Count up) is marked inside known next =
     next (numbered context mark.place (Count up true base)) (1 + levels) (counted context) row
-        (got (split_more known.whole (split_last refl)) (CountBehind mark known.spelled marked) (one_more known.same ∙ sym (levels_count context.expressions mark.place up true base)) (one_more_fits (inside refl)))
+    (got (split_more known.whole (split_last refl)) (CountBehind mark known.spelled marked) (one_more known.same ∙ sym (levels_count context.expressions mark.place up true base)) (one_more_fits (inside refl)))
 sound_postfix_with go inner base levels before context mark row whole postfix.Other is marked inside known next =
     made known.whole (OnePostfix known.spelled) known.same known.fits
 
@@ -162,10 +163,10 @@ sound_postfixes inner zero base levels before context row whole is known = made 
 sound_postfixes inner (suc count) base levels before context [] whole is known = made known.whole (OnePostfix known.spelled) known.same known.fits
 sound_postfixes inner (suc count) base levels before context (mark ∷ row) whole is known =
     sound_if (goes_on (postfix_start mark) && not (nat_le levels inner.most)) _ _
-        (λ over. stopped_there (inner.most + 1) before whole base levels context (mark ∷ row) known)
-        (λ inside. sound_postfix_with (read_postfixes inner whole count) inner base levels before context mark row whole (postfix_start mark) is (postfix_begins mark)
-            (λ goes. le_of (not_over (goes_on (postfix_start mark)) (nat_le levels inner.most) inside goes)) known
-            (λ next others behind rest more. sound_postfixes inner count next others before behind rest whole is more))
+    (λ over. stopped_there (inner.most + 1) before whole base levels context (mark ∷ row) known)
+    (λ inside. sound_postfix_with (read_postfixes inner whole count) inner base levels before context mark row whole (postfix_start mark) is (postfix_begins mark)
+    (λ goes. le_of (not_over (goes_on (postfix_start mark)) (nat_le levels inner.most) inside goes)) known
+    (λ next others behind rest more. sound_postfixes inner count next others before behind rest whole is more))
 
 -- a primary expression and the operators behind it
 sound_from_primary : (inner : Level) (base : Expr) (levels : ℕ) (before context : Context) (row whole : List Terminal)
@@ -179,20 +180,20 @@ unfolding read_path
 sound_path inner zero is context row = sound_nothing
 sound_path inner (suc count) is context row =
     sound_if (has_mark (codes ".") row) _ _
-        (λ dotted.
-            let dot = first_of (is_mark (codes ".")) row dotted in
-            sound_first _ (behind_first row) _ _ (λ none. sound_nothing) (λ name rest from named.
-                sound_prepended (NamedPart name.bytes) 0 (read_path inner count context rest) (sound_path inner count is context rest) (λ parts others behind more read.
-                    made (split_first dot.1 (split_first from read.whole)) (PathToMember dot.0 name dot.2 named read.spelled) (larger (sym (levels_named_part name.bytes)) read.same) (larger_fits (omega arith) read.fits))))
-        (λ no_dot. sound_if (has_mark (codes "[") row) _ _
-            (λ opened.
-                let opening = first_of (is_mark (codes "[")) row opened in
-                sound_then (inner.conditional context (behind_first row)) _ (is.conditional context (behind_first row)) (λ index levels behind rest read.
-                    sound_first _ rest _ _ (λ none. sound_nothing) (λ closing others from closes.
-                        sound_prepended (At index) levels (read_path inner count behind others) (sound_path inner count is behind others) (λ parts more last end read_parts.
-                            made (split_first opening.1 (split_more read.whole (split_first from read_parts.whole))) (PathToItem opening.0 closing opening.2 read.spelled closes read_parts.spelled)
-                                (larger (read.same ∙ sym (levels_at index)) read_parts.same) (larger_fits read.fits read_parts.fits)))))
-            (λ ends. made (split_none row) NoMoreMembers refl (omega arith)))
+    (λ dotted.
+    let dot = first_of (is_mark (codes ".")) row dotted in
+    sound_first _ (behind_first row) _ _ (λ none. sound_nothing) (λ name rest from named.
+    sound_prepended (NamedPart name.bytes) 0 (read_path inner count context rest) (sound_path inner count is context rest) (λ parts others behind more read.
+    made (split_first dot.1 (split_first from read.whole)) (PathToMember dot.0 name dot.2 named read.spelled) (larger (sym (levels_named_part name.bytes)) read.same) (larger_fits (omega arith) read.fits))))
+    (λ no_dot. sound_if (has_mark (codes "[") row) _ _
+    (λ opened.
+    let opening = first_of (is_mark (codes "[")) row opened in
+    sound_then (inner.conditional context (behind_first row)) _ (is.conditional context (behind_first row)) (λ index levels behind rest read.
+    sound_first _ rest _ _ (λ none. sound_nothing) (λ closing others from closes.
+    sound_prepended (At index) levels (read_path inner count behind others) (sound_path inner count is behind others) (λ parts more last end read_parts.
+    made (split_first opening.1 (split_more read.whole (split_first from read_parts.whole))) (PathToItem opening.0 closing opening.2 read.spelled closes read_parts.spelled)
+    (larger (read.same ∙ sym (levels_at index)) read_parts.same) (larger_fits read.fits read_parts.fits)))))
+    (λ ends. made (split_none row) NoMoreMembers refl (omega arith)))
 
 -- operands behind a mark or a word
 abbrev says_cast : Operand → Context → List Terminal → Context → List Terminal → Type 0
@@ -223,31 +224,31 @@ sound_prefixed : (says : Operand → Context → List Terminal → Context → L
     → OperandSound (most + 1) context (first ∷ row) (prefixed outcome place wrapped)
 sound_prefixed says most context first row outcome place wrapped is make deep =
     sound_right outcome _ _ _ is sound_nothing
-        (λ operand behind front rest split spelled fits. held (counted behind) (split_first refl split) (make operand front [] behind spelled) (fits_tree (sym (deep behind.expressions operand.expr)) (one_more_fits fits)))
-        (λ operand levels behind rest read. made (split_first refl read.whole) (make operand read.front rest behind read.spelled) (one_more read.same ∙ sym (deep behind.expressions operand.expr)) (one_more_fits read.fits))
+    (λ operand behind front rest split spelled fits. held (counted behind) (split_first refl split) (make operand front [] behind spelled) (fits_tree (sym (deep behind.expressions operand.expr)) (one_more_fits fits)))
+    (λ operand levels behind rest read. made (split_first refl read.whole) (make operand read.front rest behind read.spelled) (one_more read.same ∙ sym (deep behind.expressions operand.expr)) (one_more_fits read.fits))
 
 -- behind an open bracket
 sound_statement_expression : (inner : Level) (context : Context) (first : Terminal) (row : List Terminal) → SoundLevel inner → IsMark (codes "(") first
     → OperandSound (inner.most + 1) context (first ∷ row) (statement_expression inner context first row)
 sound_statement_expression inner context first row is marked =
     sound_then (read_block inner context row) _ (sound_block inner is context row) (λ body levels behind rest read.
-        sound_first _ rest _ _ (λ none. sound_nothing) (λ closing others from closes.
-            sound_from_primary inner (numbered behind first.place (Inner body)) (1 + levels) context (counted behind) others (first ∷ row) is
-                (got (split_first refl (split_more read.whole (split_last from))) (StatementExpression first closing marked read.spelled closes)
-                    (one_more read.same ∙ sym (levels_inner behind.expressions first.place body)) (one_more_fits read.fits))))
+    sound_first _ rest _ _ (λ none. sound_nothing) (λ closing others from closes.
+    sound_from_primary inner (numbered behind first.place (Inner body)) (1 + levels) context (counted behind) others (first ∷ row) is
+    (got (split_first refl (split_more read.whole (split_last from))) (StatementExpression first closing marked read.spelled closes)
+    (one_more read.same ∙ sym (levels_inner behind.expressions first.place body)) (one_more_fits read.fits))))
 
 sound_cast_to : (inner : Level) (context : Context) (first : Terminal) (row : List Terminal) → SoundLevel inner → IsMark (codes "(") first
     → OperandSound (inner.most + 1) context (first ∷ row) (read_cast_to inner context first row)
 sound_cast_to inner context first row is marked =
     sound_then (read_type_name inner context row) _ (sound_type_name inner is context row) (λ to levels behind rest read.
-        sound_first _ rest _ _ (λ none. sound_nothing) (λ closing others from closes.
-            sound_right (inner.cast behind others) _ _ _ (is.cast behind others) sound_nothing
-                (λ operand last front end split spelled fits.
-                    held (counted last) (split_first refl (split_more read.whole (split_first from split))) (CastOperator first closing marked read.spelled closes (operand_cast operand spelled))
-                        (fits_tree (sym (levels_cast last.expressions first.place to operand.expr)) (one_more_fits (larger_fits (fits_tree read.same read.fits) fits))))
-                (λ operand more last end read_cast.
-                    made (split_first refl (split_more read.whole (split_first from read_cast.whole))) (CastOperator first closing marked read.spelled closes (operand_cast operand read_cast.spelled))
-                        (one_more (larger read.same read_cast.same) ∙ sym (levels_cast last.expressions first.place to operand.expr)) (one_more_fits (larger_fits read.fits read_cast.fits)))))
+    sound_first _ rest _ _ (λ none. sound_nothing) (λ closing others from closes.
+    sound_right (inner.cast behind others) _ _ _ (is.cast behind others) sound_nothing
+    (λ operand last front end split spelled fits.
+    held (counted last) (split_first refl (split_more read.whole (split_first from split))) (CastOperator first closing marked read.spelled closes (operand_cast operand spelled))
+    (fits_tree (sym (levels_cast last.expressions first.place to operand.expr)) (one_more_fits (larger_fits (fits_tree read.same read.fits) fits))))
+    (λ operand more last end read_cast.
+    made (split_first refl (split_more read.whole (split_first from read_cast.whole))) (CastOperator first closing marked read.spelled closes (operand_cast operand read_cast.spelled))
+    (one_more (larger read.same read_cast.same) ∙ sym (levels_cast last.expressions first.place to operand.expr)) (one_more_fits (larger_fits read.fits read_cast.fits)))))
 
 sound_bracket : (inner : Level) (context : Context) (first : Terminal) (row : List Terminal) → SoundLevel inner → IsMark (codes "(") first
     → OperandSound (inner.most + 1) context (first ∷ row) (read_bracket inner context first row)
@@ -260,30 +261,30 @@ sound_size_of : (inner : Level) (context : Context) (word : Terminal) (row : Lis
 unfolding read_size_of
 sound_size_of inner context word row is worded =
     sound_if (begins_type_in_brackets context row) _ _
-        (λ typed.
-            let opening = first_of (is_mark (codes "(")) row (and-left (has_mark (codes "(") row) (has_first (begins_type context.scope) (behind_first row)) typed) in
-            sound_then (read_type_name inner context (behind_first row)) _ (sound_type_name inner is context (behind_first row)) (λ to levels behind rest read.
-                sound_first _ rest _ _ (λ none. sound_nothing) (λ closing others from closes.
-                    made (split_first refl (split_first opening.1 (split_more read.whole (split_last from)))) (SizeOfTypeName word opening.0 closing worded opening.2 read.spelled closes)
-                        (one_more read.same ∙ sym (levels_size_of_type behind.expressions word.place to)) (one_more_fits read.fits))))
-        (λ plain. sound_prefixed says_unary inner.most context word row (unary_alone (inner.cast context row)) word.place SizeOf (sound_alone inner.most context row (inner.cast context row) (is.cast context row))
-            (λ operand front rest behind spelled. SizeOfExpression word worded spelled) (λ number expr. levels_size_of number word.place expr))
+    (λ typed.
+    let opening = first_of (is_mark (codes "(")) row (and-left (has_mark (codes "(") row) (has_first (begins_type context.scope) (behind_first row)) typed) in
+    sound_then (read_type_name inner context (behind_first row)) _ (sound_type_name inner is context (behind_first row)) (λ to levels behind rest read.
+    sound_first _ rest _ _ (λ none. sound_nothing) (λ closing others from closes.
+    made (split_first refl (split_first opening.1 (split_more read.whole (split_last from)))) (SizeOfTypeName word opening.0 closing worded opening.2 read.spelled closes)
+    (one_more read.same ∙ sym (levels_size_of_type behind.expressions word.place to)) (one_more_fits read.fits))))
+    (λ plain. sound_prefixed says_unary inner.most context word row (unary_alone (inner.cast context row)) word.place SizeOf (sound_alone inner.most context row (inner.cast context row) (is.cast context row))
+    (λ operand front rest behind spelled. SizeOfExpression word worded spelled) (λ number expr. levels_size_of number word.place expr))
 
 sound_offset_of : (inner : Level) (context : Context) (word : Terminal) (row : List Terminal) → SoundLevel inner → IsWord (codes "__builtin_offsetof") word
     → OperandSound (inner.most + 1) context (word ∷ row) (read_offset_of inner context word row)
 unfolding read_offset_of
 sound_offset_of inner context word row is worded =
     sound_first _ row _ _ (λ none. sound_nothing) (λ opening one from marked.
-        sound_then (read_type_name inner context one) _ (sound_type_name inner is context one) (λ to levels behind two read.
-            sound_first _ two _ _ (λ none. sound_nothing) (λ comma three second commas.
-                sound_first _ three _ _ (λ none. sound_nothing) (λ name four third named.
-                    sound_then (read_path inner (length four + 1) behind four) _ (sound_path inner (length four + 1) is behind four) (λ path others last five read_parts.
-                        sound_first _ five _ _ (λ none. sound_nothing) (λ closing end fourth closes.
-                            sound_from_primary inner (numbered last word.place (OffsetOf to (NamedPart name.bytes ∷ path))) (1 + max levels others) context (counted last) end (word ∷ row) is
-                                (got (split_first refl (split_first from (split_more read.whole (split_first second (split_first third (split_more read_parts.whole (split_last fourth)))))))
-                                    (OffsetOfMember word opening comma name closing worded marked read.spelled commas named read_parts.spelled closes)
-                                    (one_more (larger read.same read_parts.same) ∙ sym (levels_offset_of last.expressions word.place to name.bytes path))
-                                    (one_more_fits (larger_fits read.fits read_parts.fits)))))))))
+    sound_then (read_type_name inner context one) _ (sound_type_name inner is context one) (λ to levels behind two read.
+    sound_first _ two _ _ (λ none. sound_nothing) (λ comma three second commas.
+    sound_first _ three _ _ (λ none. sound_nothing) (λ name four third named.
+    sound_then (read_path inner (length four + 1) behind four) _ (sound_path inner (length four + 1) is behind four) (λ path others last five read_parts.
+    sound_first _ five _ _ (λ none. sound_nothing) (λ closing end fourth closes.
+    sound_from_primary inner (numbered last word.place (OffsetOf to (NamedPart name.bytes ∷ path))) (1 + max levels others) context (counted last) end (word ∷ row) is
+    (got (split_first refl (split_first from (split_more read.whole (split_first second (split_first third (split_more read_parts.whole (split_last fourth)))))))
+    (OffsetOfMember word opening comma name closing worded marked read.spelled commas named read_parts.spelled closes)
+    (one_more (larger read.same read_parts.same) ∙ sym (levels_offset_of last.expressions word.place to name.bytes path))
+    (one_more_fits (larger_fits read.fits read_parts.fits)))))))))
 
 sound_failed : (inner : Level) (context : Context) (word opening : Terminal) (row others : List Terminal) (rest : Option (List Terminal)) → SoundLevel inner
     → IsWord (codes "__assert_fail") word → row ≡ opening ∷ others → IsMark (codes "(") opening → behind_matched (41 ∷ []) others ≡ rest
@@ -294,8 +295,8 @@ sound_failed inner context word opening row others (Some rest) is worded from ma
     step : Closes (41 ∷ []) others rest → OperandSound (inner.most + 1) context (word ∷ row) (failed_assertion inner context word (word ∷ row) (Some rest))
     step (inside, closing, more, split, matched, closes, ends) =
         sound_from_primary inner (numbered context word.place AssertFail) 1 context (counted context) rest (word ∷ row) is
-            (got (split_first refl (split_first from (split_more split (split_last (ap (λ (all : List Terminal). closing ∷ all) ends))))) (FailedAssertion word opening closing worded marked matched closes)
-                (sym (levels_assert_fail context.expressions word.place)) (omega arith))
+        (got (split_first refl (split_first from (split_more split (split_last (ap (λ (all : List Terminal). closing ∷ all) ends))))) (FailedAssertion word opening closing worded marked matched closes)
+        (sym (levels_assert_fail context.expressions word.place)) (omega arith))
 
 sound_assert_fail : (inner : Level) (context : Context) (word : Terminal) (row : List Terminal) → SoundLevel inner → IsWord (codes "__assert_fail") word
     → OperandSound (inner.most + 1) context (word ∷ row) (read_assert_fail inner context word row)
@@ -333,16 +334,17 @@ operand_begins : (token : Terminal) → OperandBegins token (operand_start token
 unfolding operand_start
 operand_begins token =
     choose_operand (OperandBegins token) (is_name token) _ _ (λ is. is)
-        (choose_operand (OperandBegins token) (is_constant token) _ _ (λ is. constant_is token is)
-            (choose_operand (OperandBegins token) (is_mark (codes "(") token) _ _ (λ is. is)
-                (choose_operand (OperandBegins token) (is_word (codes "sizeof") token) _ _ (λ is. is)
-                    (choose_operand (OperandBegins token) (is_word (codes "__builtin_offsetof") token) _ _ (λ is. is)
-                        (choose_operand (OperandBegins token) (is_word (codes "__assert_fail") token) _ _ (λ is. is)
-                            (unary (mark_row unary_rows token) refl))))))
+    (choose_operand (OperandBegins token) (is_constant token) _ _ (λ is. constant_is token is)
+    (choose_operand (OperandBegins token) (is_mark (codes "(") token) _ _ (λ is. is)
+    (choose_operand (OperandBegins token) (is_word (codes "sizeof") token) _ _ (λ is. is)
+    (choose_operand (OperandBegins token) (is_word (codes "__builtin_offsetof") token) _ _ (λ is. is)
+    (choose_operand (OperandBegins token) (is_word (codes "__assert_fail") token) _ _ (λ is. is)
+    (unary (mark_row unary_rows token) refl))))))
   where
     counts : (found : Option Bool) → mark_row count_rows token ≡ found → OperandBegins token (counting_start found)
     counts None is = tt
     counts (Some up) is = is
+
     unary : (found : Option UnaryOp) → mark_row unary_rows token ≡ found → OperandBegins token (unary_start found token)
     unary None is = counts (mark_row count_rows token) refl
     unary (Some op) is = is
@@ -352,19 +354,19 @@ sound_plain_with : (inner : Level) (context : Context) (first : Terminal) (row :
 sound_plain_with inner context first row start.Bracket is begins = sound_bracket inner context first row is begins
 sound_plain_with inner context first row (start.Count up) is begins =
     sound_prefixed says_unary inner.most context first row (unary_alone (inner.cast context row)) first.place (Count up false) (sound_alone inner.most context row (inner.cast context row) (is.cast context row))
-        (λ operand front rest behind spelled. CountBefore first begins spelled) (λ number expr. levels_count number first.place up false expr)
+    (λ operand front rest behind spelled. CountBefore first begins spelled) (λ number expr. levels_count number first.place up false expr)
 sound_plain_with inner context first row (start.Unary op) is begins =
     sound_prefixed says_cast inner.most context first row (inner.cast context row) first.place (Unary op) (sound_as_cast inner.most context row (inner.cast context row) (is.cast context row))
-        (λ operand front rest behind spelled. UnaryOperator first begins spelled) (λ number expr. levels_unary number first.place op expr)
+    (λ operand front rest behind spelled. UnaryOperator first begins spelled) (λ number expr. levels_unary number first.place op expr)
 sound_plain_with inner context first row start.SizeOf is begins = sound_size_of inner context first row is begins
 sound_plain_with inner context first row start.OffsetOf is begins = sound_offset_of inner context first row is begins
 sound_plain_with inner context first row start.AssertFail is begins = sound_assert_fail inner context first row is begins
 sound_plain_with inner context first row start.Name is begins =
     sound_from_primary inner (numbered context first.place (Name first.bytes)) 1 context (counted context) row (first ∷ row) is
-        (got (split_last refl) (OneName first begins) (sym (levels_name context.expressions first.place first.bytes)) (omega arith))
+    (got (split_last refl) (OneName first begins) (sym (levels_name context.expressions first.place first.bytes)) (omega arith))
 sound_plain_with inner context first row start.Constant is begins =
     sound_from_primary inner (numbered context first.place (Constant first.bytes)) 1 context (counted context) row (first ∷ row) is
-        (got (split_last refl) (OneConstant first begins) (sym (levels_constant context.expressions first.place first.bytes)) (omega arith))
+    (got (split_last refl) (OneConstant first begins) (sym (levels_constant context.expressions first.place first.bytes)) (omega arith))
 sound_plain_with inner context first row start.Other is begins = sound_nothing
 
 sound_plain : (inner : Level) → SoundLevel inner → Reads says_operand operand_levels (inner.most + 1) (read_plain inner)
@@ -386,15 +388,16 @@ sound_closed : (inner : Level) (context : Context) (first : Terminal) (row : Lis
     → OperandSound (inner.most + 1) context (first ∷ row) (closed inner (first ∷ row) outcome)
 sound_closed inner context first row outcome is opened known =
     sound_then outcome _ known (λ operand levels behind rest read.
-        sound_then (expression_from inner operand levels behind rest) _ (sound_expression_from inner operand levels context behind rest row is read) (λ expr others last more read_all.
-            sound_first _ more _ _ (λ none. sound_nothing) (λ closing end from closes.
-                sound_from_primary inner expr others context last end (first ∷ row) is
-                    (got (split_first refl (split_more read_all.whole (split_last from)))
-                        (Bracketed first closing marked (no_type context.scope row read_all.front more read_all.whole plain) read_all.spelled closes)
-                        read_all.same read_all.fits))))
+    sound_then (expression_from inner operand levels behind rest) _ (sound_expression_from inner operand levels context behind rest row is read) (λ expr others last more read_all.
+    sound_first _ more _ _ (λ none. sound_nothing) (λ closing end from closes.
+    sound_from_primary inner expr others context last end (first ∷ row) is
+    (got (split_first refl (split_more read_all.whole (split_last from)))
+    (Bracketed first closing marked (no_type context.scope row read_all.front more read_all.whole plain) read_all.spelled closes)
+    read_all.same read_all.fits))))
   where
     marked : is_mark (codes "(") first ≡ true
     marked = and-left (is_mark (codes "(") first) (has_first (λ token. not (is_mark (codes "{") token) && not (begins_type context.scope token)) row) opened
+
     plain : begins_with_typedef context.scope row ≡ false
     plain = no_type_opened context.scope row (and-right (is_mark (codes "(") first) (has_first (λ token. not (is_mark (codes "{") token) && not (begins_type context.scope token)) row) opened)
 
@@ -403,5 +406,5 @@ unfolding read_cast
 sound_cast inner is context [] = sound_nothing
 sound_cast inner is context (first ∷ row) =
     sound_if (opens context first row) _ _
-        (λ opened. sound_closed inner context first row (read_cast inner context row) is opened (sound_cast inner is context row))
-        (λ plain. sound_plain inner is context (first ∷ row))
+    (λ opened. sound_closed inner context first row (read_cast inner context row) is opened (sound_cast inner is context row))
+    (λ plain. sound_plain inner is context (first ∷ row))

@@ -57,28 +57,29 @@ sound_binary_with : (go : Expr → ℕ → Reader Expr) (inner : Level) (loosest
     → mark_row binary_rows mark ≡ entry
     → Got (says_left loosest) expr_levels (inner.most + 1) before whole left levels context (mark ∷ row)
     → ((next : Expr) (others : ℕ) (behind : Context) (rest : List Terminal) → length rest ≤ length row → Got (says_left loosest) expr_levels (inner.most + 1) before whole next others behind rest
-        → Sound (says_operation loosest) expr_levels (inner.most + 1) before whole (go next others behind rest))
+    → Sound (says_operation loosest) expr_levels (inner.most + 1) before whole (go next others behind rest))
     → Sound (says_operation loosest) expr_levels (inner.most + 1) before whole (binary_with go inner loosest left levels context mark row entry)
 sound_binary_with go inner loosest left levels before context mark row whole None is found known next =
     made known.whole (known.spelled.0, ap (is_no_looser loosest) found) known.same known.fits
 sound_binary_with go inner loosest left levels before context mark row whole (Some entry) is found known next =
     sound_if (nat_le loosest entry.0) _ _
-        (λ tight. sound_if (nat_le levels inner.most) _ _
-            (λ inside. sound_right (inner.operation (entry.0 + 1) context row) _ _ _ (is.operation (entry.0 + 1) context row) stops
-                (λ right behind front rest split spelled fits.
-                    held (counted behind) (split_more known.whole (split_first refl split))
-                        (BinaryOperator mark (le_of tight) (known.spelled.1 mark row entry refl found) found spelled.0, refl)
-                        (fits_tree (sym (levels_binary behind.expressions mark.place entry.1 left right)) (one_more_fits (larger_fits (fits_tree known.same (le_of inside)) fits))))
-                (λ right others behind rest read.
-                    next (numbered behind mark.place (Binary entry.1 left right)) (1 + max levels others) (counted behind) rest
-                        (omega (arith, split_length read.whole))
-                        (got (split_more known.whole (split_first refl read.whole))
-                            (BinaryOperator mark (le_of tight) (known.spelled.1 mark row entry refl found) found read.spelled.0,
-                                (λ more ones other first row_of_it. BinaryOperator mark (next_is_looser entry.0 rest more ones other read.spelled.1 first row_of_it) (known.spelled.1 mark row entry refl found) found read.spelled.0))
-                            (one_more (larger known.same read.same) ∙ sym (levels_binary behind.expressions mark.place entry.1 left right))
-                            (one_more_fits (larger_fits (le_of inside) read.fits)))))
-            (λ outside. stops))
-        (λ loose. made known.whole (known.spelled.0, ap (is_no_looser loosest) found ∙ loose) known.same known.fits)
+    (λ tight. sound_if (nat_le levels inner.most) _ _
+    (λ inside. sound_right (inner.operation (entry.0 + 1) context row) _ _ _ (is.operation (entry.0 + 1) context row) stops
+    (λ right behind front rest split spelled fits.
+    held (counted behind) (split_more known.whole (split_first refl split))
+    (BinaryOperator mark (le_of tight) (known.spelled.1 mark row entry refl found) found spelled.0, refl)
+    (fits_tree (sym (levels_binary behind.expressions mark.place entry.1 left right)) (one_more_fits (larger_fits (fits_tree known.same (le_of inside)) fits))))
+    (λ right others behind rest read.
+    next (numbered behind mark.place (Binary entry.1 left right)) (1 + max levels others) (counted behind) rest
+    (omega (arith, split_length read.whole))
+    (got (split_more known.whole (split_first refl read.whole)) (
+      BinaryOperator mark (le_of tight) (known.spelled.1 mark row entry refl found) found read.spelled.0,
+      (λ more ones other first row_of_it. BinaryOperator mark (next_is_looser entry.0 rest more ones other read.spelled.1 first row_of_it) (known.spelled.1 mark row entry refl found) found read.spelled.0),
+    )
+    (one_more (larger known.same read.same) ∙ sym (levels_binary behind.expressions mark.place entry.1 left right))
+    (one_more_fits (larger_fits (le_of inside) read.fits)))))
+    (λ outside. stops))
+    (λ loose. made known.whole (known.spelled.0, ap (is_no_looser loosest) found ∙ loose) known.same known.fits)
   where
     stops : Sound (says_operation loosest) expr_levels (inner.most + 1) before whole (Stopped left context.expressions (mark ∷ row))
     stops = held context known.whole (known.spelled.0, refl) (fits_tree known.same known.fits)
@@ -92,7 +93,7 @@ sound_operations inner loosest zero left levels before context row whole is turn
 sound_operations inner loosest (suc count) left levels before context [] whole is turns known = made known.whole (known.spelled.0, refl) known.same known.fits
 sound_operations inner loosest (suc count) left levels before context (mark ∷ row) whole is turns known =
     sound_binary_with (read_operations inner loosest count) inner loosest left levels before context mark row whole (mark_row binary_rows mark) is refl known
-        (λ next others behind rest fewer more. sound_operations inner loosest count next others before behind rest whole is (omega (arith, turns, fewer)) more)
+    (λ next others behind rest fewer more. sound_operations inner loosest count next others before behind rest whole is (omega (arith, turns, fewer)) more)
 
 pub sound_operations_from : (inner : Level) (loosest : ℕ) (operand : Operand) (levels : ℕ) (before context : Context) (row whole : List Terminal)
     → SoundLevel inner → Got says_operand operand_levels (inner.most + 1) before whole operand levels context row
@@ -100,7 +101,7 @@ pub sound_operations_from : (inner : Level) (loosest : ℕ) (operand : Operand) 
 sound_operations_from inner loosest operand levels before context row whole is known =
     let cast = operand_cast operand known.spelled in
     sound_operations inner loosest (length row + 1) operand.expr levels before context row whole is (omega arith)
-        (got known.whole (OneCast cast, (λ mark others entry first found. OneCast cast)) known.same known.fits)
+    (got known.whole (OneCast cast, (λ mark others entry first found. OneCast cast)) known.same known.fits)
 
 pub sound_choice : (inner : Level) (test : Expr) (levels : ℕ) (before context : Context) (row whole : List Terminal)
     → SoundLevel inner → Got (says_operation 0) expr_levels (inner.most + 1) before whole test levels context row
@@ -109,22 +110,22 @@ unfolding read_choice
 sound_choice inner test levels before context [] whole is known = made known.whole (OneOperation known.spelled.0) known.same known.fits
 sound_choice inner test levels before context (mark ∷ row) whole is known =
     sound_if (is_mark (codes "?") mark) _ _
-        (λ question. sound_if (nat_le levels inner.most) _ _
-            (λ inside. sound_else (inner.expression context row) _ _ (is.expression context row) stops (λ one ones first rest read.
-                sound_first _ rest _ _ (λ other. stops) (λ colon others from marked.
-                    sound_right (inner.conditional first others) _ _ _ (is.conditional first others) stops
-                        (λ other behind front last split spelled fits.
-                            held (counted behind) (split_more known.whole (split_first refl (split_more read.whole (split_first from split))))
-                                (ConditionalOperator mark colon known.spelled.0 question read.spelled marked spelled)
-                                (fits_tree (sym (levels_choose behind.expressions mark.place test one other))
-                                    (one_more_fits (larger_fits (fits_tree known.same (le_of inside)) (larger_fits (fits_tree read.same read.fits) fits)))))
-                        (λ other twos behind more last.
-                            made (split_more known.whole (split_first refl (split_more read.whole (split_first from last.whole))))
-                                (ConditionalOperator mark colon known.spelled.0 question read.spelled marked last.spelled)
-                                (one_more (larger known.same (larger read.same last.same)) ∙ sym (levels_choose behind.expressions mark.place test one other))
-                                (one_more_fits (larger_fits (le_of inside) (larger_fits read.fits last.fits)))))))
-            (λ outside. stops))
-        (λ none. made known.whole (OneOperation known.spelled.0) known.same known.fits)
+    (λ question. sound_if (nat_le levels inner.most) _ _
+    (λ inside. sound_else (inner.expression context row) _ _ (is.expression context row) stops (λ one ones first rest read.
+    sound_first _ rest _ _ (λ other. stops) (λ colon others from marked.
+    sound_right (inner.conditional first others) _ _ _ (is.conditional first others) stops
+    (λ other behind front last split spelled fits.
+    held (counted behind) (split_more known.whole (split_first refl (split_more read.whole (split_first from split))))
+    (ConditionalOperator mark colon known.spelled.0 question read.spelled marked spelled)
+    (fits_tree (sym (levels_choose behind.expressions mark.place test one other))
+    (one_more_fits (larger_fits (fits_tree known.same (le_of inside)) (larger_fits (fits_tree read.same read.fits) fits)))))
+    (λ other twos behind more last.
+    made (split_more known.whole (split_first refl (split_more read.whole (split_first from last.whole))))
+    (ConditionalOperator mark colon known.spelled.0 question read.spelled marked last.spelled)
+    (one_more (larger known.same (larger read.same last.same)) ∙ sym (levels_choose behind.expressions mark.place test one other))
+    (one_more_fits (larger_fits (le_of inside) (larger_fits read.fits last.fits)))))))
+    (λ outside. stops))
+    (λ none. made known.whole (OneOperation known.spelled.0) known.same known.fits)
   where
     stops : Sound (spelled_as Conditional) expr_levels (inner.most + 1) before whole (Stopped test context.expressions (mark ∷ row))
     stops = held context known.whole (OneOperation known.spelled.0) (fits_tree known.same known.fits)
@@ -142,8 +143,8 @@ pub sound_conditional_from : (inner : Level) (operand : Operand) (levels : ℕ) 
     → Sound (spelled_as Conditional) expr_levels (inner.most + 1) before whole (conditional_from inner operand levels context row)
 sound_conditional_from inner operand levels before context row whole is known =
     sound_continued (operations_from inner 0 operand levels context row) _ _ (sound_operations_from inner 0 operand levels before context row whole is known)
-        (λ tree expressions rest stopped. held_as (λ front behind spelled. OneOperation spelled.0) refl stopped)
-        (λ test tests behind rest read. sound_choice inner test tests before behind rest whole is read)
+    (λ tree expressions rest stopped. held_as (λ front behind spelled. OneOperation spelled.0) refl stopped)
+    (λ test tests behind rest read. sound_choice inner test tests before behind rest whole is read)
 
 -- a conditional as an assignment
 pub as_assignment : {most : ℕ} {before : Context} {row : List Terminal} (outcome : Outcome Expr) → Sound (spelled_as Conditional) expr_levels most before row outcome → Sound (spelled_as Assignment) expr_levels most before row outcome
@@ -158,19 +159,19 @@ sound_assignment_with inner operand levels before context mark row whole None is
     as_assignment (conditional_from inner operand levels context (mark ∷ row)) (sound_conditional_from inner operand levels before context (mark ∷ row) whole is known)
 sound_assignment_with inner operand levels before context mark row whole (Some op) is found known =
     sound_if operand.unary _ _
-        (λ unary. sound_if (nat_le levels inner.most) _ _
-            (λ inside. sound_right (inner.assignment context row) _ _ _ (is.assignment context row) stops
-                (λ right behind front rest split spelled fits.
-                    held (counted behind) (split_more known.whole (split_first refl split))
-                        (AssignmentOperator mark (operand_unary operand unary known.spelled) found spelled)
-                        (fits_tree (sym (levels_assign behind.expressions mark.place op operand.expr right)) (one_more_fits (larger_fits (fits_tree known.same (le_of inside)) fits))))
-                (λ right others behind rest read.
-                    made (split_more known.whole (split_first refl read.whole))
-                        (AssignmentOperator mark (operand_unary operand unary known.spelled) found read.spelled)
-                        (one_more (larger known.same read.same) ∙ sym (levels_assign behind.expressions mark.place op operand.expr right))
-                        (one_more_fits (larger_fits (le_of inside) read.fits))))
-            (λ outside. stops))
-        (λ cast. as_assignment (conditional_from inner operand levels context (mark ∷ row)) (sound_conditional_from inner operand levels before context (mark ∷ row) whole is known))
+    (λ unary. sound_if (nat_le levels inner.most) _ _
+    (λ inside. sound_right (inner.assignment context row) _ _ _ (is.assignment context row) stops
+    (λ right behind front rest split spelled fits.
+    held (counted behind) (split_more known.whole (split_first refl split))
+    (AssignmentOperator mark (operand_unary operand unary known.spelled) found spelled)
+    (fits_tree (sym (levels_assign behind.expressions mark.place op operand.expr right)) (one_more_fits (larger_fits (fits_tree known.same (le_of inside)) fits))))
+    (λ right others behind rest read.
+    made (split_more known.whole (split_first refl read.whole))
+    (AssignmentOperator mark (operand_unary operand unary known.spelled) found read.spelled)
+    (one_more (larger known.same read.same) ∙ sym (levels_assign behind.expressions mark.place op operand.expr right))
+    (one_more_fits (larger_fits (le_of inside) read.fits))))
+    (λ outside. stops))
+    (λ cast. as_assignment (conditional_from inner operand levels context (mark ∷ row)) (sound_conditional_from inner operand levels before context (mark ∷ row) whole is known))
   where
     stops : Sound (spelled_as Assignment) expr_levels (inner.most + 1) before whole (Stopped operand.expr context.expressions (mark ∷ row))
     stops = held context known.whole (OneConditional (OneOperation (OneCast (operand_cast operand known.spelled)))) (fits_tree known.same known.fits)
@@ -192,20 +193,20 @@ sound_commas inner zero left levels before context row whole is known = sound_go
 sound_commas inner (suc count) left levels before context [] whole is known = sound_got known
 sound_commas inner (suc count) left levels before context (mark ∷ row) whole is known =
     sound_if (is_mark (codes ",") mark) _ _
-        (λ comma. sound_if (nat_le levels inner.most) _ _
-            (λ inside. sound_right (inner.assignment context row) _ _ _ (is.assignment context row) stops
-                (λ right behind front rest split spelled fits.
-                    held (counted behind) (split_more known.whole (split_first refl split))
-                        (CommaOperator mark known.spelled comma spelled)
-                        (fits_tree (sym (levels_binary behind.expressions mark.place Comma left right)) (one_more_fits (larger_fits (fits_tree known.same (le_of inside)) fits))))
-                (λ right others behind rest read.
-                    sound_commas inner count (numbered behind mark.place (Binary Comma left right)) (1 + max levels others) before (counted behind) rest whole is
-                        (got (split_more known.whole (split_first refl read.whole))
-                            (CommaOperator mark known.spelled comma read.spelled)
-                            (one_more (larger known.same read.same) ∙ sym (levels_binary behind.expressions mark.place Comma left right))
-                            (one_more_fits (larger_fits (le_of inside) read.fits)))))
-            (λ outside. stops))
-        (λ none. sound_got known)
+    (λ comma. sound_if (nat_le levels inner.most) _ _
+    (λ inside. sound_right (inner.assignment context row) _ _ _ (is.assignment context row) stops
+    (λ right behind front rest split spelled fits.
+    held (counted behind) (split_more known.whole (split_first refl split))
+    (CommaOperator mark known.spelled comma spelled)
+    (fits_tree (sym (levels_binary behind.expressions mark.place Comma left right)) (one_more_fits (larger_fits (fits_tree known.same (le_of inside)) fits))))
+    (λ right others behind rest read.
+    sound_commas inner count (numbered behind mark.place (Binary Comma left right)) (1 + max levels others) before (counted behind) rest whole is
+    (got (split_more known.whole (split_first refl read.whole))
+    (CommaOperator mark known.spelled comma read.spelled)
+    (one_more (larger known.same read.same) ∙ sym (levels_binary behind.expressions mark.place Comma left right))
+    (one_more_fits (larger_fits (le_of inside) read.fits)))))
+    (λ outside. stops))
+    (λ none. sound_got known)
   where
     stops : Sound (spelled_as Expression) expr_levels (inner.most + 1) before whole (Stopped left context.expressions (mark ∷ row))
     stops = held context known.whole known.spelled (fits_tree known.same known.fits)
@@ -215,6 +216,6 @@ pub sound_expression_from : (inner : Level) (operand : Operand) (levels : ℕ) (
     → Sound (spelled_as Expression) expr_levels (inner.most + 1) before whole (expression_from inner operand levels context row)
 sound_expression_from inner operand levels before context row whole is known =
     sound_continued (assignment_from inner operand levels context row) _ _ (sound_assignment_from inner operand levels before context row whole is known)
-        (λ tree expressions rest stopped. held_as (λ front behind spelled. OneAssignment spelled) refl stopped)
-        (λ left others behind rest read. sound_commas inner (length rest + 1) left others before behind rest whole is
-            (got read.whole (OneAssignment read.spelled) read.same read.fits))
+    (λ tree expressions rest stopped. held_as (λ front behind spelled. OneAssignment spelled) refl stopped)
+    (λ left others behind rest read. sound_commas inner (length rest + 1) left others before behind rest whole is
+    (got read.whole (OneAssignment read.spelled) read.same read.fits))

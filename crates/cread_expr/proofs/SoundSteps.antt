@@ -115,14 +115,14 @@ pub sound_right : {A B : Type 0} {says : A → Context → List Terminal → Con
     → Sound says levels most before row outcome
     → Sound tells deep bound start from without
     → ((tree : A) (behind : Context) (front rest : List Terminal) → Splits row front rest → says tree before front behind [] → levels tree ≤ most
-        → Sound tells deep bound start from (Stopped (whole tree behind.expressions) (behind.expressions + 1) rest))
+    → Sound tells deep bound start from (Stopped (whole tree behind.expressions) (behind.expressions + 1) rest))
     → ((tree : A) (count : ℕ) (behind : Context) (rest : List Terminal) → Got says levels most before row tree count behind rest → Sound tells deep bound start from (go tree count behind rest))
     → Sound tells deep bound start from (with_right outcome without whole go)
 sound_right Nothing without whole go is other stops next = other
 sound_right {tells} {deep} {bound} {start} {from} (Stopped tree expressions rest) without whole go is other stops next =
     let known = is.is in
     subst (λ (n : ℕ). Sound tells deep bound start from (Stopped (whole tree n) (n + 1) rest)) known.counts
-        (stops tree known.behind known.front rest known.whole known.spelled known.fits)
+    (stops tree known.behind known.front rest known.whole known.spelled known.fits)
 sound_right (Read tree count behind rest) without whole go is other stops next = next tree count behind rest is.is
 
 pub sound_else : {A B : Type 0} {says : A → Context → List Terminal → Context → List Terminal → Type 0} {levels : A → ℕ} {most : ℕ} {before : Context} {row : List Terminal}

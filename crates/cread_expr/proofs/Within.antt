@@ -44,58 +44,58 @@ use Rattle.cread_expr.proofs.WithinSteps.{Leaves, Keeps, KeepsLevel, keep_then, 
 keep_size_behind : (others : Reader (List (Option Expr))) (inner : Level) → Keeps others → KeepsLevel inner → Keeps (size_behind others inner)
 keep_size_behind others inner go is most context row inside =
     keep_if most (has_mark (codes "]") row) _ _
-        (keep_prepended most None 0 (others context (behind_first row)) (go most context (behind_first row) (fewer_behind most row inside)))
-        (keep_then most (inner.conditional context row) _ (is.conditional most context row inside) (λ size levels behind rest within.
-            keep_first most _ rest _ _ within tt (λ closing more fewer. keep_prepended most (Some size) levels (others behind more) (go most behind more fewer))))
+    (keep_prepended most None 0 (others context (behind_first row)) (go most context (behind_first row) (fewer_behind most row inside)))
+    (keep_then most (inner.conditional context row) _ (is.conditional most context row inside) (λ size levels behind rest within.
+    keep_first most _ rest _ _ within tt (λ closing more fewer. keep_prepended most (Some size) levels (others behind more) (go most behind more fewer))))
 
 pub keep_sizes : (inner : Level) (count : ℕ) → KeepsLevel inner → Keeps (read_sizes inner count)
 unfolding read_sizes
 keep_sizes inner zero is most context row inside = tt
 keep_sizes inner (suc count) is most context row inside =
     keep_if most (has_mark (codes "[") row) _ _
-        (keep_size_behind (read_sizes inner count) inner (keep_sizes inner count is) is most context (behind_first row) (fewer_behind most row inside))
-        inside
+    (keep_size_behind (read_sizes inner count) inner (keep_sizes inner count is) is most context (behind_first row) (fewer_behind most row inside))
+    inside
 
 pub keep_type_name : (inner : Level) → KeepsLevel inner → Keeps (read_type_name inner)
 unfolding read_type_name
 keep_type_name inner is most context row inside =
     keep_then most (inner.specifier context row) _ (is.specifier most context row inside) (λ type levels behind rest within.
-        keep_then most (read_sizes inner (length (behind_stars rest) + 1) behind (behind_stars rest)) _
-            (keep_sizes inner (length (behind_stars rest) + 1) is most behind (behind_stars rest) (fewer_dropped most (star_count rest) rest within))
-            (λ sizes others last more fewer. fewer))
+    keep_then most (read_sizes inner (length (behind_stars rest) + 1) behind (behind_stars rest)) _
+    (keep_sizes inner (length (behind_stars rest) + 1) is most behind (behind_stars rest) (fewer_dropped most (star_count rest) rest within))
+    (λ sizes others last more fewer. fewer))
 
 keep_bits_behind : (inner : Level) (name : Terminal) (stars : ℕ) (sizes : List (Option Expr)) (levels : ℕ) → KeepsLevel inner → Keeps (bits_behind inner name stars sizes levels)
 keep_bits_behind inner name stars sizes levels is most context row inside =
     keep_if most (has_mark (codes ":") row) _ _
-        (keep_then most (inner.conditional context (behind_first row)) _ (is.conditional most context (behind_first row) (fewer_behind most row inside)) (λ bits others last more fewer. fewer))
-        inside
+    (keep_then most (inner.conditional context (behind_first row)) _ (is.conditional most context (behind_first row) (fewer_behind most row inside)) (λ bits others last more fewer. fewer))
+    inside
 
 keep_named_field : (inner : Level) (stars : ℕ) → KeepsLevel inner → Keeps (named_field inner stars)
 keep_named_field inner stars is most context row inside =
     keep_first most _ row _ _ inside tt (λ name rest within.
-        keep_then most (read_sizes inner (length rest + 1) context rest) _ (keep_sizes inner (length rest + 1) is most context rest within) (λ sizes levels behind others fewer.
-            keep_if most (list_all is_some sizes) _ _ (keep_bits_behind inner name stars sizes levels is most behind others fewer) tt))
+    keep_then most (read_sizes inner (length rest + 1) context rest) _ (keep_sizes inner (length rest + 1) is most context rest within) (λ sizes levels behind others fewer.
+    keep_if most (list_all is_some sizes) _ _ (keep_bits_behind inner name stars sizes levels is most behind others fewer) tt))
 
 pub keep_field : (inner : Level) → KeepsLevel inner → Keeps (read_field inner)
 unfolding read_field
 keep_field inner is most context row inside =
     keep_first most _ row _ _ inside (keep_named_field inner (star_count row) is most context (behind_stars row) (fewer_dropped most (star_count row) row inside)) (λ colon rest within.
-        keep_then most (inner.conditional context rest) _ (is.conditional most context rest within) (λ bits levels behind others fewer. fewer))
+    keep_then most (inner.conditional context rest) _ (is.conditional most context rest within) (λ bits levels behind others fewer. fewer))
 
 pub keep_fields : (inner : Level) → KeepsLevel inner → Keeps (read_fields inner)
 unfolding read_fields
 keep_fields inner is most context row inside =
     keep_then most (inner.specifier context row) _ (is.specifier most context row inside) (λ type levels behind rest within.
-        keep_then most (read_list never (read_field inner) (length rest + 1) behind rest) _
-            (keep_list never (read_field inner) (length rest + 1) (keep_field inner is) most behind rest within)
-            (λ names others last more fewer. keep_first most _ more _ _ fewer tt (λ semicolon end ends. ends)))
+    keep_then most (read_list never (read_field inner) (length rest + 1) behind rest) _
+    (keep_list never (read_field inner) (length rest + 1) (keep_field inner is) most behind rest within)
+    (λ names others last more fewer. keep_first most _ more _ _ fewer tt (λ semicolon end ends. ends)))
 
 pub keep_enumerator : (inner : Level) → KeepsLevel inner → Keeps (read_enumerator inner)
 unfolding read_enumerator
 keep_enumerator inner is most context row inside =
     keep_first most _ row _ _ inside tt (λ name rest within.
-        keep_first most _ rest _ _ within within (λ mark others fewer.
-            keep_then most (inner.conditional context others) _ (is.conditional most context others fewer) (λ value levels behind more last. last)))
+    keep_first most _ rest _ _ within within (λ mark others fewer.
+    keep_then most (inner.conditional context others) _ (is.conditional most context others fewer) (λ value levels behind more last. last)))
 
 fewer_comma : (most : ℕ) (row : List Terminal) → length row ≤ most → length (behind_comma row) ≤ most
 fewer_comma most row inside = step (has_mark (codes ",") row)
@@ -120,28 +120,28 @@ unfolding read_struct
 keep_struct inner is most context row inside =
     let tag = fewer_tag most row inside in
     keep_if most (has_mark (codes "{") (behind_tag row)) _ _
-        (keep_then most (read_until_brace (read_fields inner) (length (behind_tag row)) context (behind_first (behind_tag row))) _
-            (keep_until_brace (read_fields inner) (length (behind_tag row)) (keep_fields inner is) most context (behind_first (behind_tag row)) (fewer_behind most (behind_tag row) tag))
-            (λ declarations levels behind rest within. fewer_behind most rest within))
-        (keep_by_tag (λ name. Struct name None) (tag_at row) most context (behind_tag row) tag)
+    (keep_then most (read_until_brace (read_fields inner) (length (behind_tag row)) context (behind_first (behind_tag row))) _
+    (keep_until_brace (read_fields inner) (length (behind_tag row)) (keep_fields inner is) most context (behind_first (behind_tag row)) (fewer_behind most (behind_tag row) tag))
+    (λ declarations levels behind rest within. fewer_behind most rest within))
+    (keep_by_tag (λ name. Struct name None) (tag_at row) most context (behind_tag row) tag)
 
 pub keep_enum : (inner : Level) → KeepsLevel inner → Keeps (read_enum inner)
 unfolding read_enum
 keep_enum inner is most context row inside =
     let tag = fewer_tag most row inside in
     keep_if most (has_mark (codes "{") (behind_tag row)) _ _
-        (keep_then most (read_list closes_braces (read_enumerator inner) (length (behind_tag row)) context (behind_first (behind_tag row))) _
-            (keep_list closes_braces (read_enumerator inner) (length (behind_tag row)) (keep_enumerator inner is) most context (behind_first (behind_tag row)) (fewer_behind most (behind_tag row) tag))
-            (λ values levels behind rest within. keep_first most _ (behind_comma rest) _ _ (fewer_comma most rest within) tt (λ closing others fewer. fewer)))
-        (keep_by_tag (λ name. Enum name None) (tag_at row) most context (behind_tag row) tag)
+    (keep_then most (read_list closes_braces (read_enumerator inner) (length (behind_tag row)) context (behind_first (behind_tag row))) _
+    (keep_list closes_braces (read_enumerator inner) (length (behind_tag row)) (keep_enumerator inner is) most context (behind_first (behind_tag row)) (fewer_behind most (behind_tag row) tag))
+    (λ values levels behind rest within. keep_first most _ (behind_comma rest) _ _ (fewer_comma most rest within) tt (λ closing others fewer. fewer)))
+    (keep_by_tag (λ name. Enum name None) (tag_at row) most context (behind_tag row) tag)
 
 keep_type_of : (inner : Level) → KeepsLevel inner → Keeps (type_of inner)
 keep_type_of inner is most context row inside =
     keep_if most (has_first (begins_type context.scope) row) _ _
-        (keep_then most (read_type_name inner context row) _ (keep_type_name inner is most context row inside) (λ to levels behind rest within.
-            keep_first most _ rest _ _ within tt (λ closing others fewer. fewer)))
-        (keep_then most (inner.expression context row) _ (is.expression most context row inside) (λ expr levels behind rest within.
-            keep_first most _ rest _ _ within tt (λ closing others fewer. fewer)))
+    (keep_then most (read_type_name inner context row) _ (keep_type_name inner is most context row inside) (λ to levels behind rest within.
+    keep_first most _ rest _ _ within tt (λ closing others fewer. fewer)))
+    (keep_then most (inner.expression context row) _ (is.expression most context row inside) (λ expr levels behind rest within.
+    keep_first most _ rest _ _ within tt (λ closing others fewer. fewer)))
 
 keep_of_basic : (basic : Option BasicType) → Keeps (of_basic basic)
 keep_of_basic None most context row inside = tt
@@ -180,83 +180,83 @@ keep_specifiers inner is most context row inside = keep_specifiers_with inner mo
 keep_parameter_behind : (inner : Level) (type : TypeSpec) (levels stars : ℕ) → KeepsLevel inner → Keeps (parameter_behind inner type levels stars)
 keep_parameter_behind inner type levels stars is most context row inside =
     keep_first most _ row _ _ inside
-        (keep_then most (read_sizes inner (length row + 1) context row) _ (keep_sizes inner (length row + 1) is most context row inside) (λ sizes others behind rest within. within))
-        (λ name more fewer. keep_then most (read_sizes inner (length more + 1) context more) _ (keep_sizes inner (length more + 1) is most context more fewer) (λ sizes others behind rest within. within))
+    (keep_then most (read_sizes inner (length row + 1) context row) _ (keep_sizes inner (length row + 1) is most context row inside) (λ sizes others behind rest within. within))
+    (λ name more fewer. keep_then most (read_sizes inner (length more + 1) context more) _ (keep_sizes inner (length more + 1) is most context more fewer) (λ sizes others behind rest within. within))
 
 pub keep_parameter : (inner : Level) → KeepsLevel inner → Keeps (read_parameter inner)
 unfolding read_parameter
 keep_parameter inner is most context row inside =
     keep_then most (read_specifiers inner context row) _ (keep_specifiers inner is most context row inside) (λ specifiers levels behind rest within.
-        keep_parameter_behind inner specifiers.spec levels (star_count rest) is most behind (behind_stars rest) (fewer_dropped most (star_count rest) rest within))
+    keep_parameter_behind inner specifiers.spec levels (star_count rest) is most behind (behind_stars rest) (fewer_dropped most (star_count rest) rest within))
 
 pub keep_parameters : (inner : Level) → KeepsLevel inner → Keeps (read_parameters inner)
 unfolding read_parameters
 keep_parameters inner is most context row whole =
     keep_if most (has_mark (codes ")") row) _ _ (fewer_behind most row whole)
-        (keep_if most (is_void_alone row) _ _ (fewer_behind most (behind_first row) (fewer_behind most row whole))
-            (keep_then most (read_list never (read_parameter inner) (length row + 1) (inside context) row) _
-                (keep_list never (read_parameter inner) (length row + 1) (keep_parameter inner is) most (inside context) row whole)
-                (λ params levels behind rest within. keep_first most _ rest _ _ within tt (λ closing others fewer. fewer))))
+    (keep_if most (is_void_alone row) _ _ (fewer_behind most (behind_first row) (fewer_behind most row whole))
+    (keep_then most (read_list never (read_parameter inner) (length row + 1) (inside context) row) _
+    (keep_list never (read_parameter inner) (length row + 1) (keep_parameter inner is) most (inside context) row whole)
+    (λ params levels behind rest within. keep_first most _ rest _ _ within tt (λ closing others fewer. fewer))))
 
 keep_object_behind : (inner : Level) (typedef : Bool) (name : Terminal) (stars : ℕ) → KeepsLevel inner → Keeps (object_behind inner typedef name stars)
 keep_object_behind inner typedef name stars is most context row inside =
     keep_then most (read_sizes inner (length row + 1) context row) _ (keep_sizes inner (length row + 1) is most context row inside) (λ sizes levels behind rest within.
-        keep_first most _ rest _ _ within within (λ mark others fewer.
-            keep_then most (inner.initializer (declaring behind name.bytes typedef) others) _ (is.initializer most (declaring behind name.bytes typedef) others fewer) (λ init inits last more end. end)))
+    keep_first most _ rest _ _ within within (λ mark others fewer.
+    keep_then most (inner.initializer (declaring behind name.bytes typedef) others) _ (is.initializer most (declaring behind name.bytes typedef) others fewer) (λ init inits last more end. end)))
 
 pub keep_declarator : (inner : Level) (typedef : Bool) → KeepsLevel inner → Keeps (read_declarator inner typedef)
 unfolding read_declarator
 keep_declarator inner typedef is most context row inside =
     keep_first most _ (behind_stars row) _ _ (fewer_dropped most (star_count row) row inside) tt (λ name rest within.
-        keep_first most _ rest _ _ within (keep_object_behind inner typedef name (star_count row) is most context rest within) (λ opening others fewer.
-            keep_then most (read_parameters inner context others) _ (keep_parameters inner is most context others fewer) (λ params levels last more end. end)))
+    keep_first most _ rest _ _ within (keep_object_behind inner typedef name (star_count row) is most context rest within) (λ opening others fewer.
+    keep_then most (read_parameters inner context others) _ (keep_parameters inner is most context others fewer) (λ params levels last more end. end)))
 
 pub keep_declaration : (inner : Level) → KeepsLevel inner → Keeps (read_declaration inner)
 unfolding read_declaration
 keep_declaration inner is most context row inside =
     keep_then most (read_specifiers inner context row) _ (keep_specifiers inner is most context row inside) (λ specifiers levels behind rest within.
-        keep_first most _ rest _ _ within
-            (keep_then most (read_list never (read_declarator inner (declares_typedef specifiers.storage)) (length rest + 1) behind rest) _
-                (keep_list never (read_declarator inner (declares_typedef specifiers.storage)) (length rest + 1) (keep_declarator inner (declares_typedef specifiers.storage) is) most behind rest within)
-                (λ names others last more fewer. keep_first most _ more _ _ fewer tt (λ semicolon end ends. ends)))
-            (λ semicolon end ends. ends))
+    keep_first most _ rest _ _ within
+    (keep_then most (read_list never (read_declarator inner (declares_typedef specifiers.storage)) (length rest + 1) behind rest) _
+    (keep_list never (read_declarator inner (declares_typedef specifiers.storage)) (length rest + 1) (keep_declarator inner (declares_typedef specifiers.storage) is) most behind rest within)
+    (λ names others last more fewer. keep_first most _ more _ _ fewer tt (λ semicolon end ends. ends)))
+    (λ semicolon end ends. ends))
 
 pub keep_part : (inner : Level) → KeepsLevel inner → Keeps (read_part inner)
 unfolding read_part
 keep_part inner is most context row inside =
     keep_first most _ row _ _ inside
-        (keep_then most (inner.initializer context row) _ (is.initializer most context row inside) (λ init levels behind rest within. within))
-        (λ dot others fewer. keep_first most _ others _ _ fewer tt (λ name more less. keep_first most _ more _ _ less tt (λ mark end ends.
-            keep_then most (inner.initializer context end) _ (is.initializer most context end ends) (λ init levels behind rest within. within))))
+    (keep_then most (inner.initializer context row) _ (is.initializer most context row inside) (λ init levels behind rest within. within))
+    (λ dot others fewer. keep_first most _ others _ _ fewer tt (λ name more less. keep_first most _ more _ _ less tt (λ mark end ends.
+    keep_then most (inner.initializer context end) _ (is.initializer most context end ends) (λ init levels behind rest within. within))))
 
 keep_in_braces : (inner : Level) → KeepsLevel inner → Keeps (in_braces inner)
 keep_in_braces inner is most context row inside =
     keep_first most _ row _ _ inside
-        (keep_then most (read_list closes_braces (read_part inner) (length row + 1) context row) _
-            (keep_list closes_braces (read_part inner) (length row + 1) (keep_part inner is) most context row inside)
-            (λ parts levels behind rest within. keep_first most _ (behind_comma rest) _ _ (fewer_comma most rest within) tt (λ closing others fewer. fewer)))
-        (λ closing others fewer. fewer)
+    (keep_then most (read_list closes_braces (read_part inner) (length row + 1) context row) _
+    (keep_list closes_braces (read_part inner) (length row + 1) (keep_part inner is) most context row inside)
+    (λ parts levels behind rest within. keep_first most _ (behind_comma rest) _ _ (fewer_comma most rest within) tt (λ closing others fewer. fewer)))
+    (λ closing others fewer. fewer)
 
 pub keep_initializer : (inner : Level) → KeepsLevel inner → Keeps (read_initializer inner)
 unfolding read_initializer
 keep_initializer inner is most context row inside =
     keep_first most _ row _ _ inside
-        (keep_then most (inner.assignment context row) _ (is.assignment most context row inside) (λ value levels behind rest within. within))
-        (λ opening others fewer. keep_in_braces inner is most context others fewer)
+    (keep_then most (inner.assignment context row) _ (is.assignment most context row inside) (λ value levels behind rest within. within))
+    (λ opening others fewer. keep_in_braces inner is most context others fewer)
 
 -- statements
 pub keep_block : (inner : Level) → KeepsLevel inner → Keeps (read_block inner)
 unfolding read_block
 keep_block inner is most context row inside =
     keep_first most _ row _ _ inside tt (λ opening others fewer.
-        keep_then most (read_until_brace inner.item (length others + 1) _ others) _
-            (keep_until_brace inner.item (length others + 1) is.item most _ others fewer) (λ body levels within rest ends. fewer_behind most rest ends))
+    keep_then most (read_until_brace inner.item (length others + 1) _ others) _
+    (keep_until_brace inner.item (length others + 1) is.item most _ others fewer) (λ body levels within rest ends. fewer_behind most rest ends))
 
 pub keep_maybe : (inner : Level) (ends : Terminal → Bool) → KeepsLevel inner → Keeps (read_maybe inner ends)
 unfolding read_maybe
 keep_maybe inner ends is most context row inside =
     keep_if most (has_first ends row) _ _ inside
-        (keep_then most (inner.expression context row) _ (is.expression most context row inside) (λ expr levels behind rest within. within))
+    (keep_then most (inner.expression context row) _ (is.expression most context row inside) (λ expr levels behind rest within. within))
 
 keep_declared_statement : (inner : Level) → KeepsLevel inner → Keeps (declared_statement inner)
 keep_declared_statement inner is most context row inside =
@@ -265,13 +265,13 @@ keep_declared_statement inner is most context row inside =
 keep_expression_statement : (inner : Level) → KeepsLevel inner → Keeps (expression_statement inner)
 keep_expression_statement inner is most context row inside =
     keep_then most (inner.expression context row) _ (is.expression most context row inside) (λ expr levels behind rest within.
-        keep_first most _ rest _ _ within tt (λ semicolon others fewer. fewer))
+    keep_first most _ rest _ _ within tt (λ semicolon others fewer. fewer))
 
 pub keep_clause : (inner : Level) → KeepsLevel inner → Keeps (read_clause inner)
 unfolding read_clause
 keep_clause inner is most context row inside =
     keep_if most (has_first (begins_declaration context.scope) row) _ _ (keep_declared_statement inner is most context row inside)
-        (keep_first most _ row _ _ inside (keep_expression_statement inner is most context row inside) (λ semicolon others fewer. fewer))
+    (keep_first most _ row _ _ inside (keep_expression_statement inner is most context row inside) (λ semicolon others fewer. fewer))
 
 keep_untyped : (inner : Level) → KeepsLevel inner → Keeps (untyped inner)
 keep_untyped inner is most context row inside = keep_if most (begins_with_typedef context.scope row) _ _ tt (is.expression most context row inside)
@@ -279,50 +279,50 @@ keep_untyped inner is most context row inside = keep_if most (begins_with_typede
 keep_otherwise : (inner : Level) (place : Place) (test : Expr) (tests : ℕ) (one : Stmt) (ones : ℕ) → KeepsLevel inner → Keeps (otherwise_behind inner place test tests one ones)
 keep_otherwise inner place test tests one ones is most context row inside =
     keep_first most _ row _ _ inside inside (λ otherwise others fewer.
-        keep_then most (inner.statement context others) _ (is.statement most context others fewer) (λ other twos behind rest within. within))
+    keep_then most (inner.statement context others) _ (is.statement most context others fewer) (λ other twos behind rest within. within))
 
 keep_if_statement : (inner : Level) (place : Place) → KeepsLevel inner → Keeps (read_if inner place)
 unfolding read_if
 keep_if_statement inner place is most context row inside =
     keep_first most _ row _ _ inside tt (λ opening others fewer.
-        keep_then most (untyped inner context others) _ (keep_untyped inner is most context others fewer) (λ test tests behind rest within.
-            keep_first most _ rest _ _ within tt (λ closing more less.
-                keep_then most (inner.statement behind more) _ (is.statement most behind more less) (λ one ones last end ends. keep_otherwise inner place test tests one ones is most last end ends))))
+    keep_then most (untyped inner context others) _ (keep_untyped inner is most context others fewer) (λ test tests behind rest within.
+    keep_first most _ rest _ _ within tt (λ closing more less.
+    keep_then most (inner.statement behind more) _ (is.statement most behind more less) (λ one ones last end ends. keep_otherwise inner place test tests one ones is most last end ends))))
 
 keep_while_statement : (inner : Level) (place : Place) → KeepsLevel inner → Keeps (read_while inner place)
 unfolding read_while
 keep_while_statement inner place is most context row inside =
     keep_first most _ row _ _ inside tt (λ opening others fewer.
-        keep_then most (untyped inner context others) _ (keep_untyped inner is most context others fewer) (λ test tests behind rest within.
-            keep_first most _ rest _ _ within tt (λ closing more less.
-                keep_then most (inner.statement behind more) _ (is.statement most behind more less) (λ body levels last end ends. ends))))
+    keep_then most (untyped inner context others) _ (keep_untyped inner is most context others fewer) (λ test tests behind rest within.
+    keep_first most _ rest _ _ within tt (λ closing more less.
+    keep_then most (inner.statement behind more) _ (is.statement most behind more less) (λ body levels last end ends. ends))))
 
 keep_do_statement : (inner : Level) (place : Place) → KeepsLevel inner → Keeps (read_do inner place)
 unfolding read_do
 keep_do_statement inner place is most context row inside =
     keep_then most (inner.statement context row) _ (is.statement most context row inside) (λ body levels behind rest within.
-        keep_first most _ rest _ _ within tt (λ while others fewer.
-            keep_first most _ others _ _ fewer tt (λ opening more less.
-                keep_then most (untyped inner behind more) _ (keep_untyped inner is most behind more less) (λ test tests last end ends.
-                    keep_first most _ end _ _ ends tt (λ closing finals almost.
-                        keep_first most _ finals _ _ almost tt (λ semicolon final done. done))))))
+    keep_first most _ rest _ _ within tt (λ while others fewer.
+    keep_first most _ others _ _ fewer tt (λ opening more less.
+    keep_then most (untyped inner behind more) _ (keep_untyped inner is most behind more less) (λ test tests last end ends.
+    keep_first most _ end _ _ ends tt (λ closing finals almost.
+    keep_first most _ finals _ _ almost tt (λ semicolon final done. done))))))
 
 keep_for_statement : (inner : Level) (place : Place) → KeepsLevel inner → Keeps (read_for inner place)
 unfolding read_for
 keep_for_statement inner place is most context row inside =
     keep_first most _ row _ _ inside tt (λ opening others fewer.
-        keep_then most (inner.clause _ others) _ (is.clause most _ others fewer) (λ first firsts one rest within.
-            keep_then most (read_maybe inner (is_mark (codes ";")) one rest) _ (keep_maybe inner (is_mark (codes ";")) is most one rest within) (λ test tests two more less.
-                keep_first most _ more _ _ less tt (λ semicolon end ends.
-                    keep_then most (read_maybe inner (is_mark (codes ")")) two end) _ (keep_maybe inner (is_mark (codes ")")) is most two end ends) (λ next nexts three finals almost.
-                        keep_first most _ finals _ _ almost tt (λ closing final nearly.
-                            keep_then most (inner.statement three final) _ (is.statement most three final nearly) (λ body levels last over done. done)))))))
+    keep_then most (inner.clause _ others) _ (is.clause most _ others fewer) (λ first firsts one rest within.
+    keep_then most (read_maybe inner (is_mark (codes ";")) one rest) _ (keep_maybe inner (is_mark (codes ";")) is most one rest within) (λ test tests two more less.
+    keep_first most _ more _ _ less tt (λ semicolon end ends.
+    keep_then most (read_maybe inner (is_mark (codes ")")) two end) _ (keep_maybe inner (is_mark (codes ")")) is most two end ends) (λ next nexts three finals almost.
+    keep_first most _ finals _ _ almost tt (λ closing final nearly.
+    keep_then most (inner.statement three final) _ (is.statement most three final nearly) (λ body levels last over done. done)))))))
 
 keep_return_statement : (inner : Level) (place : Place) → KeepsLevel inner → Keeps (read_return inner place)
 unfolding read_return
 keep_return_statement inner place is most context row inside =
     keep_then most (read_maybe inner (is_mark (codes ";")) context row) _ (keep_maybe inner (is_mark (codes ";")) is most context row inside) (λ value levels behind rest within.
-        keep_first most _ rest _ _ within tt (λ semicolon others fewer. fewer))
+    keep_first most _ rest _ _ within tt (λ semicolon others fewer. fewer))
 
 keep_statement_with : (inner : Level) (most : ℕ) (context : Context) (first : Terminal) (row : List Terminal) (start : StatementStart) → KeepsLevel inner → length (first ∷ row) ≤ most → Leaves (statement_with inner context first row start) most
 keep_statement_with inner most context first row statement.Block is inside =
@@ -348,8 +348,8 @@ keep_statement inner is most context [] inside = tt
 keep_statement inner is most context (first ∷ []) inside = keep_unlabeled inner is most context (first ∷ []) inside
 keep_statement inner is most context (first ∷ (second ∷ row)) inside =
     keep_if most (begins_with_label context.scope (first ∷ (second ∷ row))) _ _
-        (keep_statement inner is most context row (fewer_others most second row (fewer_others most first (second ∷ row) inside)))
-        (keep_unlabeled inner is most context (first ∷ (second ∷ row)) inside)
+    (keep_statement inner is most context row (fewer_others most second row (fewer_others most first (second ∷ row) inside)))
+    (keep_unlabeled inner is most context (first ∷ (second ∷ row)) inside)
 
 pub keep_item : (inner : Level) → KeepsLevel inner → Keeps (read_item inner)
 unfolding read_item
@@ -362,11 +362,11 @@ keep_binary_with : (go : Expr → ℕ → Reader Expr) (inner : Level) (loosest 
 keep_binary_with go inner loosest left levels most context mark row None next is inside = inside
 keep_binary_with go inner loosest left levels most context mark row (Some entry) next is inside =
     keep_if most (nat_le loosest entry.0) _ _
-        (keep_if most (nat_le levels inner.most) _ _
-            (keep_right most (inner.operation (entry.0 + 1) context row) _ _ _ (is.operation (entry.0 + 1) most context row (fewer_others most mark row inside)) inside
-                (λ right others behind rest within. next _ _ most _ rest within))
-            inside)
-        inside
+    (keep_if most (nat_le levels inner.most) _ _
+    (keep_right most (inner.operation (entry.0 + 1) context row) _ _ _ (is.operation (entry.0 + 1) most context row (fewer_others most mark row inside)) inside
+    (λ right others behind rest within. next _ _ most _ rest within))
+    inside)
+    inside
 
 pub keep_operations : (inner : Level) (loosest count : ℕ) (left : Expr) (levels : ℕ) → KeepsLevel inner → Keeps (read_operations inner loosest count left levels)
 unfolding read_operations
@@ -374,7 +374,7 @@ keep_operations inner loosest zero left levels is most context row inside = insi
 keep_operations inner loosest (suc count) left levels is most context [] inside = inside
 keep_operations inner loosest (suc count) left levels is most context (mark ∷ row) inside =
     keep_binary_with (read_operations inner loosest count) inner loosest left levels most context mark row (mark_row binary_rows mark)
-        (λ next others. keep_operations inner loosest count next others is) is inside
+    (λ next others. keep_operations inner loosest count next others is) is inside
 
 pub keep_operations_from : (inner : Level) (loosest : ℕ) (operand : Operand) (levels : ℕ) → KeepsLevel inner → Keeps (operations_from inner loosest operand levels)
 keep_operations_from inner loosest operand levels is most context row inside =
@@ -385,27 +385,27 @@ unfolding read_choice
 keep_choice inner test levels is most context [] inside = inside
 keep_choice inner test levels is most context (mark ∷ row) inside =
     keep_if most (is_mark (codes "?") mark) _ _
-        (keep_if most (nat_le levels inner.most) _ _
-            (keep_else most (inner.expression context row) _ _ (is.expression most context row (fewer_others most mark row inside)) inside (λ one ones first rest within.
-                keep_first most _ rest _ _ within inside (λ colon others fewer.
-                    keep_right most (inner.conditional first others) _ _ _ (is.conditional most first others fewer) inside (λ other twos behind more less. less))))
-            inside)
-        inside
+    (keep_if most (nat_le levels inner.most) _ _
+    (keep_else most (inner.expression context row) _ _ (is.expression most context row (fewer_others most mark row inside)) inside (λ one ones first rest within.
+    keep_first most _ rest _ _ within inside (λ colon others fewer.
+    keep_right most (inner.conditional first others) _ _ _ (is.conditional most first others fewer) inside (λ other twos behind more less. less))))
+    inside)
+    inside
 
 pub keep_conditional_from : (inner : Level) (operand : Operand) (levels : ℕ) → KeepsLevel inner → Keeps (conditional_from inner operand levels)
 keep_conditional_from inner operand levels is most context row inside =
     keep_continued most (operations_from inner 0 operand levels context row) _ _ (keep_operations_from inner 0 operand levels is most context row inside)
-        (λ test tests behind rest within. keep_choice inner test tests is most behind rest within)
+    (λ test tests behind rest within. keep_choice inner test tests is most behind rest within)
 
 keep_assignment_with : (inner : Level) (operand : Operand) (levels most : ℕ) (context : Context) (mark : Terminal) (row : List Terminal) (op : Option (Option BinaryOp))
     → KeepsLevel inner → length (mark ∷ row) ≤ most → Leaves (assignment_with inner operand levels context mark row op) most
 keep_assignment_with inner operand levels most context mark row None is inside = keep_conditional_from inner operand levels is most context (mark ∷ row) inside
 keep_assignment_with inner operand levels most context mark row (Some op) is inside =
     keep_if most operand.unary _ _
-        (keep_if most (nat_le levels inner.most) _ _
-            (keep_right most (inner.assignment context row) _ _ _ (is.assignment most context row (fewer_others most mark row inside)) inside (λ right others behind rest within. within))
-            inside)
-        (keep_conditional_from inner operand levels is most context (mark ∷ row) inside)
+    (keep_if most (nat_le levels inner.most) _ _
+    (keep_right most (inner.assignment context row) _ _ _ (is.assignment most context row (fewer_others most mark row inside)) inside (λ right others behind rest within. within))
+    inside)
+    (keep_conditional_from inner operand levels is most context (mark ∷ row) inside)
 
 pub keep_assignment_from : (inner : Level) (operand : Operand) (levels : ℕ) → KeepsLevel inner → Keeps (assignment_from inner operand levels)
 unfolding assignment_from
@@ -418,30 +418,30 @@ keep_commas inner zero left levels is most context row inside = inside
 keep_commas inner (suc count) left levels is most context [] inside = inside
 keep_commas inner (suc count) left levels is most context (mark ∷ row) inside =
     keep_if most (is_mark (codes ",") mark) _ _
-        (keep_if most (nat_le levels inner.most) _ _
-            (keep_right most (inner.assignment context row) _ _ _ (is.assignment most context row (fewer_others most mark row inside)) inside
-                (λ right others behind rest within. keep_commas inner count _ _ is most _ rest within))
-            inside)
-        inside
+    (keep_if most (nat_le levels inner.most) _ _
+    (keep_right most (inner.assignment context row) _ _ _ (is.assignment most context row (fewer_others most mark row inside)) inside
+    (λ right others behind rest within. keep_commas inner count _ _ is most _ rest within))
+    inside)
+    inside
 
 pub keep_expression_from : (inner : Level) (operand : Operand) (levels : ℕ) → KeepsLevel inner → Keeps (expression_from inner operand levels)
 keep_expression_from inner operand levels is most context row inside =
     keep_continued most (assignment_from inner operand levels context row) _ _ (keep_assignment_from inner operand levels is most context row inside)
-        (λ left others behind rest within. keep_commas inner (length rest + 1) left others is most behind rest within)
+    (λ left others behind rest within. keep_commas inner (length rest + 1) left others is most behind rest within)
 
 -- operands
 keep_postfix_with : (go : Expr → ℕ → Reader Operand) (inner : Level) (start : List Terminal) (base : Expr) (levels most : ℕ) (context : Context) (mark : Terminal) (row : List Terminal) (begins : PostfixStart)
     → ((next : Expr) (others : ℕ) → Keeps (go next others)) → KeepsLevel inner → length (mark ∷ row) ≤ most → Leaves (postfix_with go inner start base levels context mark row begins) most
 keep_postfix_with go inner start base levels most context mark row postfix.Index next is inside =
     keep_else most (inner.expression context row) _ _ (is.expression most context row (fewer_others most mark row inside)) inside (λ index others behind rest within.
-        keep_first most _ rest _ _ within inside (λ closing more fewer. next _ _ most _ more fewer))
+    keep_first most _ rest _ _ within inside (λ closing more fewer. next _ _ most _ more fewer))
 keep_postfix_with go inner start base levels most context mark row postfix.Call next is inside =
     keep_first most _ row _ _ (fewer_others most mark row inside)
-        (keep_if most (begins_with_typedef context.scope row) _ _ inside
-            (keep_else most (read_list never inner.assignment (length row + 1) context row) _ _
-                (keep_list never inner.assignment (length row + 1) is.assignment most context row (fewer_others most mark row inside)) inside
-                (λ arguments others behind rest within. keep_first most _ rest _ _ within inside (λ closing more fewer. next _ _ most _ more fewer))))
-        (λ closing more fewer. next _ _ most _ more fewer)
+    (keep_if most (begins_with_typedef context.scope row) _ _ inside
+    (keep_else most (read_list never inner.assignment (length row + 1) context row) _ _
+    (keep_list never inner.assignment (length row + 1) is.assignment most context row (fewer_others most mark row inside)) inside
+    (λ arguments others behind rest within. keep_first most _ rest _ _ within inside (λ closing more fewer. next _ _ most _ more fewer))))
+    (λ closing more fewer. next _ _ most _ more fewer)
 keep_postfix_with go inner start base levels most context mark row (postfix.Member through) next is inside =
     keep_first most _ row _ _ (fewer_others most mark row inside) inside (λ name more fewer. next _ _ most _ more fewer)
 keep_postfix_with go inner start base levels most context mark row (postfix.Count up) next is inside = next _ _ most _ row (fewer_others most mark row inside)
@@ -453,8 +453,8 @@ keep_postfixes inner start zero base levels is most context row inside = inside
 keep_postfixes inner start (suc count) base levels is most context [] inside = inside
 keep_postfixes inner start (suc count) base levels is most context (mark ∷ row) inside =
     keep_if most (goes_on (postfix_start mark) && not (nat_le levels inner.most)) _ _ inside
-        (keep_postfix_with (read_postfixes inner start count) inner start base levels most context mark row (postfix_start mark)
-            (λ next others. keep_postfixes inner start count next others is) is inside)
+    (keep_postfix_with (read_postfixes inner start count) inner start base levels most context mark row (postfix_start mark)
+    (λ next others. keep_postfixes inner start count next others is) is inside)
 
 pub keep_postfixes_from : (inner : Level) (start : List Terminal) (base : Expr) (levels : ℕ) → KeepsLevel inner → Keeps (postfixes_from inner start base levels)
 keep_postfixes_from inner start base levels is most context row inside = keep_postfixes inner start (length row + 1) base levels is most context row inside
@@ -464,13 +464,13 @@ unfolding read_path
 keep_path inner zero is most context row inside = tt
 keep_path inner (suc count) is most context row inside =
     keep_if most (has_mark (codes ".") row) _ _
-        (keep_first most _ (behind_first row) _ _ (fewer_behind most row inside) tt (λ name rest within.
-            keep_prepended most _ 0 (read_path inner count context rest) (keep_path inner count is most context rest within)))
-        (keep_if most (has_mark (codes "[") row) _ _
-            (keep_then most (inner.conditional context (behind_first row)) _ (is.conditional most context (behind_first row) (fewer_behind most row inside)) (λ index levels behind rest within.
-                keep_first most _ rest _ _ within tt (λ closing others fewer.
-                    keep_prepended most _ levels (read_path inner count behind others) (keep_path inner count is most behind others fewer))))
-            inside)
+    (keep_first most _ (behind_first row) _ _ (fewer_behind most row inside) tt (λ name rest within.
+    keep_prepended most _ 0 (read_path inner count context rest) (keep_path inner count is most context rest within)))
+    (keep_if most (has_mark (codes "[") row) _ _
+    (keep_then most (inner.conditional context (behind_first row)) _ (is.conditional most context (behind_first row) (fewer_behind most row inside)) (λ index levels behind rest within.
+    keep_first most _ rest _ _ within tt (λ closing others fewer.
+    keep_prepended most _ levels (read_path inner count behind others) (keep_path inner count is most behind others fewer))))
+    inside)
 
 keep_prefixed : (most : ℕ) (outcome : Outcome Operand) (place : Place) (wrapped : Expr → ExprForm) → Leaves outcome most → Leaves (prefixed outcome place wrapped) most
 keep_prefixed most outcome place wrapped is = keep_right most outcome _ _ _ is tt (λ operand levels behind rest within. within)
@@ -483,13 +483,13 @@ keep_alone most (Read operand levels behind rest) is = keep_if most operand.unar
 keep_statement_expression : (inner : Level) (most : ℕ) (context : Context) (opening : Terminal) (row : List Terminal) → KeepsLevel inner → length row ≤ most → Leaves (statement_expression inner context opening row) most
 keep_statement_expression inner most context opening row is inside =
     keep_then most (read_block inner context row) _ (keep_block inner is most context row inside) (λ body levels behind rest within.
-        keep_first most _ rest _ _ within tt (λ closing others fewer. keep_postfixes_from inner (opening ∷ row) _ _ is most _ others fewer))
+    keep_first most _ rest _ _ within tt (λ closing others fewer. keep_postfixes_from inner (opening ∷ row) _ _ is most _ others fewer))
 
 keep_cast_to : (inner : Level) (most : ℕ) (context : Context) (opening : Terminal) (row : List Terminal) → KeepsLevel inner → length row ≤ most → Leaves (read_cast_to inner context opening row) most
 keep_cast_to inner most context opening row is inside =
     keep_then most (read_type_name inner context row) _ (keep_type_name inner is most context row inside) (λ to levels behind rest within.
-        keep_first most _ rest _ _ within tt (λ closing others fewer.
-            keep_right most (inner.cast behind others) _ _ _ (is.cast most behind others fewer) tt (λ operand more last end ends. ends)))
+    keep_first most _ rest _ _ within tt (λ closing others fewer.
+    keep_right most (inner.cast behind others) _ _ _ (is.cast most behind others fewer) tt (λ operand more last end ends. ends)))
 
 keep_bracket : (inner : Level) (most : ℕ) (context : Context) (opening : Terminal) (row : List Terminal) → KeepsLevel inner → length row ≤ most → Leaves (read_bracket inner context opening row) most
 unfolding read_bracket
@@ -500,19 +500,19 @@ keep_size_of : (inner : Level) (most : ℕ) (context : Context) (word : Terminal
 unfolding read_size_of
 keep_size_of inner most context word row is inside =
     keep_if most (begins_type_in_brackets context row) _ _
-        (keep_then most (read_type_name inner context (behind_first row)) _ (keep_type_name inner is most context (behind_first row) (fewer_behind most row inside)) (λ to levels behind rest within.
-            keep_first most _ rest _ _ within tt (λ closing others fewer. fewer)))
-        (keep_prefixed most (unary_alone (inner.cast context row)) _ _ (keep_alone most (inner.cast context row) (is.cast most context row inside)))
+    (keep_then most (read_type_name inner context (behind_first row)) _ (keep_type_name inner is most context (behind_first row) (fewer_behind most row inside)) (λ to levels behind rest within.
+    keep_first most _ rest _ _ within tt (λ closing others fewer. fewer)))
+    (keep_prefixed most (unary_alone (inner.cast context row)) _ _ (keep_alone most (inner.cast context row) (is.cast most context row inside)))
 
 keep_offset_of : (inner : Level) (most : ℕ) (context : Context) (word : Terminal) (row : List Terminal) → KeepsLevel inner → length row ≤ most → Leaves (read_offset_of inner context word row) most
 unfolding read_offset_of
 keep_offset_of inner most context word row is inside =
     keep_first most _ row _ _ inside tt (λ opening one fewer.
-        keep_then most (read_type_name inner context one) _ (keep_type_name inner is most context one fewer) (λ to levels behind two within.
-            keep_first most _ two _ _ within tt (λ comma three less.
-                keep_first most _ three _ _ less tt (λ name four lesser.
-                    keep_then most (read_path inner (length four + 1) behind four) _ (keep_path inner (length four + 1) is most behind four lesser) (λ path others last five ends.
-                        keep_first most _ five _ _ ends tt (λ closing end done. keep_postfixes_from inner (word ∷ row) _ _ is most _ end done))))))
+    keep_then most (read_type_name inner context one) _ (keep_type_name inner is most context one fewer) (λ to levels behind two within.
+    keep_first most _ two _ _ within tt (λ comma three less.
+    keep_first most _ three _ _ less tt (λ name four lesser.
+    keep_then most (read_path inner (length four + 1) behind four) _ (keep_path inner (length four + 1) is most behind four lesser) (λ path others last five ends.
+    keep_first most _ five _ _ ends tt (λ closing end done. keep_postfixes_from inner (word ∷ row) _ _ is most _ end done))))))
 
 -- what is behind matched brackets is not longer than the row
 abbrev OptionLeaves : Option (List Terminal) → ℕ → Type 0
@@ -525,15 +525,17 @@ keep_matched most [] row fits = fits
 keep_matched most (closer ∷ others) [] fits = tt
 keep_matched most (closer ∷ others) (token ∷ row) fits =
     closing _ _ (is_mark (closer ∷ []) token) (keep_matched most others row (fewer_others most token row fits))
-        (opening _ _ (closer_of token) (λ next. keep_matched most (next ∷ (closer ∷ others)) row (fewer_others most token row fits))
-            (keep_matched most (closer ∷ others) row (fewer_others most token row fits)))
+    (opening _ _ (closer_of token) (λ next. keep_matched most (next ∷ (closer ∷ others)) row (fewer_others most token row fits))
+    (keep_matched most (closer ∷ others) row (fewer_others most token row fits)))
   where
     between : (on : Option (List Terminal)) (test : Bool) → OptionLeaves on most → OptionLeaves (if test then None else on) most
     between on true is = tt
     between on false is = is
+
     opening : (opened : ℕ → Option (List Terminal)) (on : Option (List Terminal)) (next : Option ℕ) → ((next : ℕ) → OptionLeaves (opened next) most) → OptionLeaves on most → OptionLeaves (matched_with opened on token next) most
     opening opened on (Some next) each is = each next
     opening opened on None each is = between on (is_bracket token) is
+
     closing : (one other : Option (List Terminal)) (test : Bool) → OptionLeaves one most → OptionLeaves other most → OptionLeaves (if test then one else other) most
     closing one other true is or_is = is
     closing one other false is or_is = or_is
@@ -546,7 +548,7 @@ keep_assert_fail : (inner : Level) (most : ℕ) (context : Context) (word : Term
 unfolding read_assert_fail
 keep_assert_fail inner most context word row is inside =
     keep_first most _ row _ _ inside tt (λ opening others fewer.
-        keep_failed_assertion inner most context word (word ∷ row) (behind_matched (41 ∷ []) others) is (keep_matched most (41 ∷ []) others fewer))
+    keep_failed_assertion inner most context word (word ∷ row) (behind_matched (41 ∷ []) others) is (keep_matched most (41 ∷ []) others fewer))
 
 keep_plain_with : (inner : Level) (most : ℕ) (context : Context) (first : Terminal) (row : List Terminal) (start : OperandStart) → KeepsLevel inner → length row ≤ most → Leaves (plain_with inner context first row start) most
 keep_plain_with inner most context first row operand.Bracket is inside = keep_bracket inner most context first row is inside
@@ -568,41 +570,49 @@ keep_plain inner is most context (first ∷ row) inside = keep_plain_with inner 
 keep_closed : (inner : Level) (most : ℕ) (start : List Terminal) (outcome : Outcome Operand) → KeepsLevel inner → Leaves outcome most → Leaves (closed inner start outcome) most
 keep_closed inner most start outcome is inside =
     keep_then most outcome _ inside (λ operand levels behind rest within.
-        keep_then most (expression_from inner operand levels behind rest) _ (keep_expression_from inner operand levels is most behind rest within) (λ expr others last more fewer.
-            keep_first most _ more _ _ fewer tt (λ closing end less. keep_postfixes_from inner start expr others is most last end less)))
+    keep_then most (expression_from inner operand levels behind rest) _ (keep_expression_from inner operand levels is most behind rest within) (λ expr others last more fewer.
+    keep_first most _ more _ _ fewer tt (λ closing end less. keep_postfixes_from inner start expr others is most last end less)))
 
 pub keep_cast : (inner : Level) → KeepsLevel inner → Keeps (read_cast inner)
 unfolding read_cast
 keep_cast inner is most context [] inside = tt
 keep_cast inner is most context (first ∷ row) inside =
     keep_if most (opens context first row) _ _
-        (keep_closed inner most (first ∷ row) (read_cast inner context row) is (keep_cast inner is most context row (fewer_others most first row inside)))
-        (keep_plain inner is most context (first ∷ row) inside)
+    (keep_closed inner most (first ∷ row) (read_cast inner context row) is (keep_cast inner is most context row (fewer_others most first row inside)))
+    (keep_plain inner is most context (first ∷ row) inside)
 
 -- levels
 keep_above : (inner : Level) → KeepsLevel inner → KeepsLevel (level_above inner)
 keep_above inner is = record {
-    cast = keep_cast inner is;
-    operation = λ loosest most context row inside. keep_continued most (read_cast inner context row) _ _ (keep_cast inner is most context row inside)
-        (λ operand levels behind rest within. keep_operations_from inner loosest operand levels is most behind rest within);
-    conditional = λ most context row inside. keep_continued most (read_cast inner context row) _ _ (keep_cast inner is most context row inside)
-        (λ operand levels behind rest within. keep_conditional_from inner operand levels is most behind rest within);
-    assignment = λ most context row inside. keep_continued most (read_cast inner context row) _ _ (keep_cast inner is most context row inside)
-        (λ operand levels behind rest within. keep_assignment_from inner operand levels is most behind rest within);
-    expression = λ most context row inside. keep_continued most (read_cast inner context row) _ _ (keep_cast inner is most context row inside)
-        (λ operand levels behind rest within. keep_expression_from inner operand levels is most behind rest within);
-    specifier = keep_specifier inner is;
-    initializer = keep_initializer inner is;
-    clause = keep_clause inner is;
-    statement = keep_statement inner is;
-    item = keep_item inner is }
+  cast = keep_cast inner is;
+  operation = λ loosest most context row inside. keep_continued most (read_cast inner context row) _ _ (keep_cast inner is most context row inside)
+      (λ operand levels behind rest within. keep_operations_from inner loosest operand levels is most behind rest within);
+  conditional = λ most context row inside. keep_continued most (read_cast inner context row) _ _ (keep_cast inner is most context row inside)
+      (λ operand levels behind rest within. keep_conditional_from inner operand levels is most behind rest within);
+  assignment = λ most context row inside. keep_continued most (read_cast inner context row) _ _ (keep_cast inner is most context row inside)
+      (λ operand levels behind rest within. keep_assignment_from inner operand levels is most behind rest within);
+  expression = λ most context row inside. keep_continued most (read_cast inner context row) _ _ (keep_cast inner is most context row inside)
+      (λ operand levels behind rest within. keep_expression_from inner operand levels is most behind rest within);
+  specifier = keep_specifier inner is;
+  initializer = keep_initializer inner is;
+  clause = keep_clause inner is;
+  statement = keep_statement inner is;
+  item = keep_item inner is;
+}
 
 pub keep_level : (n : ℕ) → KeepsLevel (level n)
 keep_level zero = record {
-    cast = λ most context row inside. tt; operation = λ loosest most context row inside. tt; conditional = λ most context row inside. tt;
-    assignment = λ most context row inside. tt; expression = λ most context row inside. tt; specifier = λ most context row inside. tt;
-    initializer = λ most context row inside. tt; clause = λ most context row inside. tt; statement = λ most context row inside. tt;
-    item = λ most context row inside. tt }
+  cast = λ most context row inside. tt;
+  operation = λ loosest most context row inside. tt;
+  conditional = λ most context row inside. tt;
+  assignment = λ most context row inside. tt;
+  expression = λ most context row inside. tt;
+  specifier = λ most context row inside. tt;
+  initializer = λ most context row inside. tt;
+  clause = λ most context row inside. tt;
+  statement = λ most context row inside. tt;
+  item = λ most context row inside. tt;
+}
 keep_level (suc n) = keep_above (level n) (keep_level n)
 
 same : (row : List Terminal) → length row ≤ length row
@@ -621,13 +631,14 @@ pub within : (n : ℕ) → IsWithinLevel (level n)
 within n =
     let is = keep_level n in
     record {
-        cast = within_row (level n).cast is.cast;
-        operation = λ loosest. within_row ((level n).operation loosest) (is.operation loosest);
-        conditional = within_row (level n).conditional is.conditional;
-        assignment = within_row (level n).assignment is.assignment;
-        expression = within_row (level n).expression is.expression;
-        specifier = within_row (level n).specifier is.specifier;
-        initializer = within_row (level n).initializer is.initializer;
-        clause = within_row (level n).clause is.clause;
-        statement = within_row (level n).statement is.statement;
-        item = within_row (level n).item is.item }
+      cast = within_row (level n).cast is.cast;
+      operation = λ loosest. within_row ((level n).operation loosest) (is.operation loosest);
+      conditional = within_row (level n).conditional is.conditional;
+      assignment = within_row (level n).assignment is.assignment;
+      expression = within_row (level n).expression is.expression;
+      specifier = within_row (level n).specifier is.specifier;
+      initializer = within_row (level n).initializer is.initializer;
+      clause = within_row (level n).clause is.clause;
+      statement = within_row (level n).statement is.statement;
+      item = within_row (level n).item is.item;
+    }

@@ -79,18 +79,18 @@ unfolding read_list
 keep_list closes item zero is most context row inside = tt
 keep_list closes item (suc count) is most context row inside =
     keep_then most (item context row) _ (is most context row inside) (λ tree levels behind rest within.
-        keep_if most (has_mark (codes ",") rest && not (closes (behind_first rest))) _ _
-            (keep_prepended most tree levels (read_list closes item count behind (behind_first rest))
-                (keep_list closes item count is most behind (behind_first rest) (fewer_behind most rest within)))
-            within)
+    keep_if most (has_mark (codes ",") rest && not (closes (behind_first rest))) _ _
+    (keep_prepended most tree levels (read_list closes item count behind (behind_first rest))
+    (keep_list closes item count is most behind (behind_first rest) (fewer_behind most rest within)))
+    within)
 
 pub keep_until_brace : {A : Type 0} (item : Reader A) (count : ℕ) → Keeps item → Keeps (read_until_brace item count)
 unfolding read_until_brace
 keep_until_brace item zero is most context row inside = tt
 keep_until_brace item (suc count) is most context row inside =
     keep_if most (has_mark (codes "}") row) _ _ inside
-        (keep_then most (item context row) _ (is most context row inside) (λ tree levels behind rest within.
-            keep_prepended most tree levels (read_until_brace item count behind rest) (keep_until_brace item count is most behind rest within)))
+    (keep_then most (item context row) _ (is most context row inside) (λ tree levels behind rest within.
+    keep_prepended most tree levels (read_until_brace item count behind rest) (keep_until_brace item count is most behind rest within)))
 
 -- each reader of the level keeps within its row
 pub record KeepsLevel (inner : Level) : Type 0 where

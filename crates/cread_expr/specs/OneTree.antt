@@ -1,9 +1,5 @@
 -- That a row of tokens has one tree, where the same names are in scope and as many expressions end before it.
 use Rattle.std.specs.Prelude.{◌≡◌, Bool, List}
-use Rattle.cbase.specs.declared.tree.decl.Decl.{Decl}
-use Rattle.cbase.specs.declared.tree.decl.TypeName.{TypeName}
-use Rattle.cbase.specs.declared.tree.expr.Expr.{Expr}
-use Rattle.cbase.specs.declared.tree.stmt.Stmt.{Stmt}
 use Rattle.cread_expr.specs.Grammar.{Spells}
 use Rattle.cread_expr.specs.Phrases.{Phrase, Context, Expression, NameOfType, Declaration, Statement, CompoundStatement}
 use Rattle.cread_expr.specs.Terminals.{Terminal}

@@ -1,10 +1,9 @@
 -- What a reader gives at the front of a row: nothing, or a tree with its levels, what stands before the rest, and the
 -- rest; or a tree behind which the reading stopped, since a token goes on with it and what follows that token does
 -- not. Of such a tree it is known how many expressions end before the rest, and not which names are in scope there.
-use Rattle.std.specs.Prelude.{ℕ, ◌+◌, Bool, true, false, ◌&&◌, not, if◌then◌else◌, List, [], ◌∷◌, Option, None, Some, codes, length}
-use Rattle.cread_expr.specs.Firsts.{begins_type, begins_declaration}
+use Rattle.std.specs.Prelude.{ℕ, ◌+◌, Bool, false, if◌then◌else◌, List, [], ◌∷◌}
 use Rattle.cread_expr.specs.Phrases.{Context}
-use Rattle.cread_expr.specs.Terminals.{Terminal, is_mark, is_word, is_name}
+use Rattle.cread_expr.specs.Terminals.{Terminal, is_mark}
 
 pub data Outcome (A : Type 0) : Type 0 where
   Nothing : Outcome A

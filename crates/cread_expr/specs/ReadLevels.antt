@@ -1,11 +1,10 @@
 -- What is read where trees may have so many levels, as one value; and lists of what is read.
-use Rattle.std.specs.Prelude.{ℕ, zero, suc, ◌+◌, max, Bool, true, false, ◌&&◌, not, if◌then◌else◌, List, [], ◌∷◌, Option, None, Some, codes, length}
+use Rattle.std.specs.Prelude.{ℕ, zero, suc, max, Bool, ◌&&◌, not, if◌then◌else◌, List, [], ◌∷◌, codes}
 use Rattle.cbase.specs.declared.tree.expr.Expr.{Expr}
 use Rattle.cbase.specs.declared.tree.init.Init.{Init}
 use Rattle.cbase.specs.declared.tree.spec.TypeSpec.{TypeSpec}
 use Rattle.cbase.specs.declared.tree.stmt.Stmt.{Stmt}
 use Rattle.cread_expr.specs.Outcomes.{Outcome, Nothing, Stopped, Read, Reader, then_read, has_mark, behind_first}
-use Rattle.cread_expr.specs.Phrases.{Context}
 use Rattle.cread_expr.specs.Terminals.{Terminal}
 use Rattle.cread_expr.specs.declared.reading.operand.Operand.{Operand}
 
@@ -29,9 +28,18 @@ read_nothing context row = Nothing
 -- no tree has no level
 abbrev pub no_level : Level
 no_level = record {
-    most = 0; cast = read_nothing; operation = λ loosest. read_nothing; conditional = read_nothing; assignment = read_nothing;
-    expression = read_nothing; specifier = read_nothing; initializer = read_nothing; clause = read_nothing;
-    statement = read_nothing; item = read_nothing }
+  most = 0;
+  cast = read_nothing;
+  operation = λ loosest. read_nothing;
+  conditional = read_nothing;
+  assignment = read_nothing;
+  expression = read_nothing;
+  specifier = read_nothing;
+  initializer = read_nothing;
+  clause = read_nothing;
+  statement = read_nothing;
+  item = read_nothing;
+}
 
 -- a list with one more item before it
 abbrev pub prepended : {A : Type 0} → A → ℕ → Outcome (List A) → Outcome (List A)
@@ -45,9 +53,9 @@ unfoldable pub read_list : {A : Type 0} → (List Terminal → Bool) → Reader 
 read_list closes item zero context row = Nothing
 read_list closes item (suc count) context row =
     then_read (item context row) (λ tree levels behind rest.
-        if has_mark (codes ",") rest && not (closes (behind_first rest))
-        then prepended tree levels (read_list closes item count behind (behind_first rest))
-        else Read (tree ∷ []) levels behind rest)
+    if has_mark (codes ",") rest && not (closes (behind_first rest))
+    then prepended tree levels (read_list closes item count behind (behind_first rest))
+    else Read (tree ∷ []) levels behind rest)
 
 -- items up to a `}`
 unfoldable pub read_until_brace : {A : Type 0} → Reader A → ℕ → Reader (List A)

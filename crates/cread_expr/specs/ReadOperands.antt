@@ -1,25 +1,23 @@
 -- Operands: what stands between binary operators (C11 6.5.1 to 6.5.4). `inner` reads what stands in them, with one level
 -- less.
-use Rattle.std.specs.Prelude.{ℕ, zero, suc, ◌+◌, max, nat_le, Bool, true, false, ◌&&◌, not, if◌then◌else◌, List, [], ◌∷◌, map, length, Option, None, Some, codes}
+use Rattle.std.specs.Prelude.{ℕ, zero, suc, ◌+◌, max, nat_le, Bool, true, false, ◌&&◌, not, if◌then◌else◌, List, [], ◌∷◌, length, Option, None, Some, codes}
 use Rattle.cbase.specs.declared.place.Place.{Place}
-use Rattle.cbase.specs.declared.tree.decl.TypeName.{TypeName}
 use Rattle.cbase.specs.declared.tree.expr.Expr.{Expr}
 use Rattle.cbase.specs.declared.tree.expr.ExprForm.{ExprForm}
 use Rattle.cbase.specs.declared.tree.expr.ExprForm.TheVariants.{Name, Constant, Unary, Count, Cast, SizeOf, SizeOfType, OffsetOf, Index, Member, Call, Inner, AssertFail}
 use Rattle.cbase.specs.declared.tree.expr.Part.{Part}
 use Rattle.cbase.specs.declared.tree.expr.Part.TheVariants.{Member as NamedPart, At}
-use Rattle.cbase.specs.declared.tree.operators.UnaryOp.{UnaryOp}
 use Rattle.cread_expr.specs.Brackets.{is_bracket}
 use Rattle.cread_expr.specs.Firsts.{begins_type}
 use Rattle.cread_expr.specs.FrontOf.{front_of}
-use Rattle.cread_expr.specs.Outcomes.{Outcome, Nothing, Stopped, Read, Reader, then_read, or_else, continued, with_right, after_first, after_mark, has_mark, has_first, behind_first}
+use Rattle.cread_expr.specs.Outcomes.{Outcome, Nothing, Stopped, Read, Reader, then_read, or_else, with_right, after_first, after_mark, has_mark, has_first, behind_first}
 use Rattle.cread_expr.specs.Phrases.{Context, counted, numbered}
 use Rattle.cread_expr.specs.ReadLevels.{Level, prepended, read_list}
 use Rattle.cread_expr.specs.ReadOperators.{expression_of, expression_from}
 use Rattle.cread_expr.specs.ReadStarts.{operand_start, postfix_start}
 use Rattle.cread_expr.specs.ReadStatements.{read_block}
 use Rattle.cread_expr.specs.ReadTypes.{read_type_name, never}
-use Rattle.cread_expr.specs.Terminals.{Terminal, is_mark, is_word, is_name, begins_with_typedef, first_word_place}
+use Rattle.cread_expr.specs.Terminals.{Terminal, is_mark, is_name, begins_with_typedef, first_word_place}
 use Rattle.cread_expr.specs.declared.reading.operand.Operand.{Operand}
 use Rattle.cread_expr.specs.declared.reading.starts.OperandStart.{OperandStart}
 use Rattle.cread_expr.specs.declared.reading.starts.OperandStart.TheVariants as start
@@ -53,22 +51,22 @@ stopped_operand base context mark row = Stopped (unary_operand base) context.exp
 abbrev pub index_behind : (Expr → ℕ → Reader Operand) → Level → Expr → ℕ → Context → Terminal → List Terminal → Outcome Operand
 index_behind go inner base levels context mark row =
     or_else (inner.expression context row) (stopped_operand base context mark row) (λ index others behind rest.
-        after_mark (codes "]") rest (stopped_operand base context mark row) (λ closing more.
-            go (numbered behind mark.place (Index base index)) (1 + max levels others) (counted behind) more))
+    after_mark (codes "]") rest (stopped_operand base context mark row) (λ closing more.
+    go (numbered behind mark.place (Index base index)) (1 + max levels others) (counted behind) more))
 
 abbrev pub call_behind : (Expr → ℕ → Reader Operand) → Level → Place → Expr → ℕ → Context → Terminal → List Terminal → Outcome Operand
 call_behind go inner place base levels context mark row =
     after_mark (codes ")") row
     (if begins_with_typedef context.scope row then stopped_operand base context mark row
     else or_else (read_list never inner.assignment (length row + 1) context row) (stopped_operand base context mark row) (λ arguments others behind rest.
-        after_mark (codes ")") rest (stopped_operand base context mark row) (λ closing more.
-            go (numbered behind place (Call base arguments)) (1 + max levels others) (counted behind) more)))
+    after_mark (codes ")") rest (stopped_operand base context mark row) (λ closing more.
+    go (numbered behind place (Call base arguments)) (1 + max levels others) (counted behind) more)))
     (λ closing more. go (numbered context place (Call base [])) (1 + levels) (counted context) more)
 
 abbrev pub member_behind : (Expr → ℕ → Reader Operand) → Bool → Expr → ℕ → Context → Terminal → List Terminal → Outcome Operand
 member_behind go through base levels context mark row =
     after_first is_name row (stopped_operand base context mark row) (λ name more.
-        go (numbered context mark.place (Member base name.bytes through)) (1 + levels) (counted context) more)
+    go (numbered context mark.place (Member base name.bytes through)) (1 + levels) (counted context) more)
 
 abbrev pub postfix_with : (Expr → ℕ → Reader Operand) → Level → List Terminal → Expr → ℕ → Context → Terminal → List Terminal → PostfixStart → Outcome Operand
 postfix_with go inner start base levels context mark row postfix.Index = index_behind go inner base levels context mark row
@@ -103,7 +101,7 @@ read_path inner (suc count) context row =
     then after_first is_name (behind_first row) Nothing (λ name rest. prepended (NamedPart name.bytes) 0 (read_path inner count context rest))
     else (if has_mark (codes "[") row
     then then_read (inner.conditional context (behind_first row)) (λ index levels behind rest.
-        after_mark (codes "]") rest Nothing (λ closing others. prepended (At index) levels (read_path inner count behind others)))
+    after_mark (codes "]") rest Nothing (λ closing others. prepended (At index) levels (read_path inner count behind others)))
     else Read [] 0 context row)
 
 -- the byte of the bracket that closes an opening one
@@ -130,16 +128,16 @@ behind_matched (closer ∷ others) (token ∷ row) =
 abbrev pub statement_expression : Level → Context → Terminal → List Terminal → Outcome Operand
 statement_expression inner context opening row =
     then_read (read_block inner context row) (λ body levels behind rest.
-        after_mark (codes ")") rest Nothing (λ closing others.
-            postfixes_from inner (opening ∷ row) (numbered behind opening.place (Inner body)) (1 + levels) (counted behind) others))
+    after_mark (codes ")") rest Nothing (λ closing others.
+    postfixes_from inner (opening ∷ row) (numbered behind opening.place (Inner body)) (1 + levels) (counted behind) others))
 
 abbrev pub read_cast_to : Level → Context → Terminal → List Terminal → Outcome Operand
 read_cast_to inner context opening row =
     then_read (read_type_name inner context row) (λ to levels behind rest.
-        after_mark (codes ")") rest Nothing (λ closing others.
-            with_right (inner.cast behind others) Nothing
-            (λ operand number. cast_operand (expression_of number opening.place (Cast to operand.expr)))
-            (λ operand more last end. Read (cast_operand (numbered last opening.place (Cast to operand.expr))) (1 + max levels more) (counted last) end)))
+    after_mark (codes ")") rest Nothing (λ closing others.
+    with_right (inner.cast behind others) Nothing
+    (λ operand number. cast_operand (expression_of number opening.place (Cast to operand.expr)))
+    (λ operand more last end. Read (cast_operand (numbered last opening.place (Cast to operand.expr))) (1 + max levels more) (counted last) end)))
 
 unfoldable pub read_bracket : Level → Context → Terminal → List Terminal → Outcome Operand
 read_bracket inner context opening row =
@@ -153,19 +151,19 @@ unfoldable pub read_size_of : Level → Context → Terminal → List Terminal �
 read_size_of inner context word row =
     if begins_type_in_brackets context row
     then then_read (read_type_name inner context (behind_first row)) (λ to levels behind rest.
-        after_mark (codes ")") rest Nothing (λ closing others.
-            Read (unary_operand (numbered behind word.place (SizeOfType to))) (1 + levels) (counted behind) others))
+    after_mark (codes ")") rest Nothing (λ closing others.
+    Read (unary_operand (numbered behind word.place (SizeOfType to))) (1 + levels) (counted behind) others))
     else prefixed (unary_alone (inner.cast context row)) word.place SizeOf
 
 unfoldable pub read_offset_of : Level → Context → Terminal → List Terminal → Outcome Operand
 read_offset_of inner context word row =
     after_mark (codes "(") row Nothing (λ opening one.
-        then_read (read_type_name inner context one) (λ to levels behind two.
-            after_mark (codes ",") two Nothing (λ comma three.
-                after_first is_name three Nothing (λ name four.
-                    then_read (read_path inner (length four + 1) behind four) (λ path others last five.
-                        after_mark (codes ")") five Nothing (λ closing end.
-                            postfixes_from inner (word ∷ row) (numbered last word.place (OffsetOf to (NamedPart name.bytes ∷ path))) (1 + max levels others) (counted last) end))))))
+    then_read (read_type_name inner context one) (λ to levels behind two.
+    after_mark (codes ",") two Nothing (λ comma three.
+    after_first is_name three Nothing (λ name four.
+    then_read (read_path inner (length four + 1) behind four) (λ path others last five.
+    after_mark (codes ")") five Nothing (λ closing end.
+    postfixes_from inner (word ∷ row) (numbered last word.place (OffsetOf to (NamedPart name.bytes ∷ path))) (1 + max levels others) (counted last) end))))))
 
 abbrev pub failed_assertion : Level → Context → Terminal → List Terminal → Option (List Terminal) → Outcome Operand
 failed_assertion inner context word start None = Nothing
@@ -201,8 +199,8 @@ opens context first row = is_mark (codes "(") first && has_first (λ token. not 
 abbrev pub closed : Level → List Terminal → Outcome Operand → Outcome Operand
 closed inner start outcome =
     then_read outcome (λ operand levels behind rest.
-        then_read (expression_from inner operand levels behind rest) (λ expr others last more.
-            after_mark (codes ")") more Nothing (λ closing end. postfixes_from inner start expr others last end)))
+    then_read (expression_from inner operand levels behind rest) (λ expr others last more.
+    after_mark (codes ")") more Nothing (λ closing end. postfixes_from inner start expr others last end)))
 
 -- an operand (C11 6.5.4)
 unfoldable pub read_cast : Level → Reader Operand

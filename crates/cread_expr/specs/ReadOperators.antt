@@ -1,6 +1,6 @@
 -- Operators behind an operand that is read (C11 6.5.5 to 6.5.17): `inner` reads what stands to the right of them, with
 -- one level less. An operand to the left has to have one level less, too.
-use Rattle.std.specs.Prelude.{ℕ, zero, suc, ◌+◌, max, nat_le, Bool, true, false, ◌&&◌, if◌then◌else◌, List, [], ◌∷◌, length, Option, None, Some, codes}
+use Rattle.std.specs.Prelude.{ℕ, zero, suc, ◌+◌, max, nat_le, if◌then◌else◌, List, [], ◌∷◌, length, Option, None, Some, codes}
 use Rattle.cbase.specs.declared.place.Place.{Place}
 use Rattle.cbase.specs.declared.tree.expr.Expr.{Expr}
 use Rattle.cbase.specs.declared.tree.expr.ExprForm.{ExprForm}
@@ -8,7 +8,7 @@ use Rattle.cbase.specs.declared.tree.expr.ExprForm.TheVariants.{Binary, Assign, 
 use Rattle.cbase.specs.declared.tree.operators.BinaryOp.{BinaryOp}
 use Rattle.cbase.specs.declared.tree.operators.BinaryOp.TheVariants.{Comma}
 use Rattle.cread_expr.specs.Operators.{mark_row, binary_rows, assignment_rows}
-use Rattle.cread_expr.specs.Outcomes.{Outcome, Nothing, Stopped, Read, Reader, continued, or_else, with_right, after_mark}
+use Rattle.cread_expr.specs.Outcomes.{Outcome, Stopped, Read, Reader, continued, or_else, with_right, after_mark}
 use Rattle.cread_expr.specs.Phrases.{Context, counted, numbered}
 use Rattle.cread_expr.specs.ReadLevels.{Level}
 use Rattle.cread_expr.specs.Terminals.{Terminal, is_mark}
@@ -34,10 +34,10 @@ binary_with go inner loosest left levels context mark row None = Read left level
 binary_with go inner loosest left levels context mark row (Some entry) =
     if nat_le loosest entry.0
     then (if nat_le levels inner.most
-        then with_right (inner.operation (entry.0 + 1) context row) (stopped left context mark row)
-            (λ right number. expression_of number mark.place (Binary entry.1 left right))
-            (λ right others behind rest. go (numbered behind mark.place (Binary entry.1 left right)) (1 + max levels others) (counted behind) rest)
-        else stopped left context mark row)
+    then with_right (inner.operation (entry.0 + 1) context row) (stopped left context mark row)
+    (λ right number. expression_of number mark.place (Binary entry.1 left right))
+    (λ right others behind rest. go (numbered behind mark.place (Binary entry.1 left right)) (1 + max levels others) (counted behind) rest)
+    else stopped left context mark row)
     else Read left levels context (mark ∷ row)
 
 unfoldable pub read_operations : Level → ℕ → ℕ → Expr → ℕ → Reader Expr
@@ -56,12 +56,12 @@ read_choice inner test levels context [] = Read test levels context []
 read_choice inner test levels context (mark ∷ row) =
     if is_mark (codes "?") mark
     then (if nat_le levels inner.most
-        then (or_else (inner.expression context row) (stopped test context mark row) (λ one ones first rest.
-            after_mark (codes ":") rest (stopped test context mark row) (λ colon others.
-            with_right (inner.conditional first others) (stopped test context mark row)
-            (λ other number. expression_of number mark.place (Choose test one other))
-            (λ other twos behind more. Read (numbered behind mark.place (Choose test one other)) (1 + max levels (max ones twos)) (counted behind) more))))
-        else stopped test context mark row)
+    then (or_else (inner.expression context row) (stopped test context mark row) (λ one ones first rest.
+    after_mark (codes ":") rest (stopped test context mark row) (λ colon others.
+    with_right (inner.conditional first others) (stopped test context mark row)
+    (λ other number. expression_of number mark.place (Choose test one other))
+    (λ other twos behind more. Read (numbered behind mark.place (Choose test one other)) (1 + max levels (max ones twos)) (counted behind) more))))
+    else stopped test context mark row)
     else Read test levels context (mark ∷ row)
 
 abbrev pub conditional_from : Level → Operand → ℕ → Reader Expr
@@ -74,10 +74,10 @@ assignment_with inner operand levels context mark row None = conditional_from in
 assignment_with inner operand levels context mark row (Some op) =
     if operand.unary
     then (if nat_le levels inner.most
-        then with_right (inner.assignment context row) (stopped operand.expr context mark row)
-            (λ right number. expression_of number mark.place (Assign op operand.expr right))
-            (λ right others behind rest. Read (numbered behind mark.place (Assign op operand.expr right)) (1 + max levels others) (counted behind) rest)
-        else stopped operand.expr context mark row)
+    then with_right (inner.assignment context row) (stopped operand.expr context mark row)
+    (λ right number. expression_of number mark.place (Assign op operand.expr right))
+    (λ right others behind rest. Read (numbered behind mark.place (Assign op operand.expr right)) (1 + max levels others) (counted behind) rest)
+    else stopped operand.expr context mark row)
     else conditional_from inner operand levels context (mark ∷ row)
 
 unfoldable pub assignment_from : Level → Operand → ℕ → Reader Expr
@@ -91,10 +91,10 @@ read_commas inner (suc count) left levels context [] = Read left levels context 
 read_commas inner (suc count) left levels context (mark ∷ row) =
     if is_mark (codes ",") mark
     then (if nat_le levels inner.most
-        then with_right (inner.assignment context row) (stopped left context mark row)
-            (λ right number. expression_of number mark.place (Binary Comma left right))
-            (λ right others behind rest. read_commas inner count (numbered behind mark.place (Binary Comma left right)) (1 + max levels others) (counted behind) rest)
-        else stopped left context mark row)
+    then with_right (inner.assignment context row) (stopped left context mark row)
+    (λ right number. expression_of number mark.place (Binary Comma left right))
+    (λ right others behind rest. read_commas inner count (numbered behind mark.place (Binary Comma left right)) (1 + max levels others) (counted behind) rest)
+    else stopped left context mark row)
     else Read left levels context (mark ∷ row)
 
 abbrev pub expression_from : Level → Operand → ℕ → Reader Expr

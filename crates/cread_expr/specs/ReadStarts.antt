@@ -1,10 +1,9 @@
 -- What the first tokens of a row are read as.
-use Rattle.std.specs.Prelude.{ℕ, Bool, true, false, ◌&&◌, not, if◌then◌else◌, List, [], ◌∷◌, Option, None, Some, codes}
+use Rattle.std.specs.Prelude.{ℕ, Bool, true, false, if◌then◌else◌, List, Option, None, Some, codes}
 use Rattle.ctokens.specs.declared.token.TokenKind.{TokenKind}
-use Rattle.ctokens.specs.declared.token.TokenKind.TheVariants.{Word, Number, Letter, Quoted, Mark}
+use Rattle.ctokens.specs.declared.token.TokenKind.TheVariants.{Number, Letter}
 use Rattle.cbase.specs.declared.tree.operators.UnaryOp.{UnaryOp}
 use Rattle.cread_expr.specs.ConstantParts.{is_integer}
-use Rattle.cread_expr.specs.Firsts.{begins_type}
 use Rattle.cread_expr.specs.FrontReadings.{is_basic_word}
 use Rattle.cread_expr.specs.Operators.{mark_row, unary_rows, count_rows, member_rows}
 use Rattle.cread_expr.specs.Scope.{Names}

@@ -1,5 +1,5 @@
 -- Types (C11 6.7.2, 6.7.7): `level` reads what stands in them.
-use Rattle.std.specs.Prelude.{ℕ, zero, suc, ◌+◌, max, Bool, true, false, ◌&&◌, if◌then◌else◌, List, [], ◌∷◌, map, take, drop, length, Option, None, Some, is_some, codes}
+use Rattle.std.specs.Prelude.{ℕ, zero, suc, ◌+◌, max, Bool, false, if◌then◌else◌, List, [], ◌∷◌, map, take, drop, length, Option, None, Some, is_some, codes}
 use Rattle.std.specs.List.{list_all, prefix_len}
 use Rattle.cbase.specs.declared.tree.decl.TypeName.{TypeName}
 use Rattle.cbase.specs.declared.tree.expr.Expr.{Expr}
@@ -12,7 +12,7 @@ use Rattle.cbase.specs.declared.tree.spec.TypeSpec.TheVariants.{Basic, Named, St
 use Rattle.cread_expr.specs.Firsts.{begins_type}
 use Rattle.cread_expr.specs.FrontReadings.{is_basic_word}
 use Rattle.cread_expr.specs.Grammar.{declaring}
-use Rattle.cread_expr.specs.Outcomes.{Outcome, Nothing, Stopped, Read, Reader, then_read, after_first, after_mark, has_mark, has_first, behind_first}
+use Rattle.cread_expr.specs.Outcomes.{Outcome, Nothing, Read, Reader, then_read, after_first, after_mark, has_mark, has_first, behind_first}
 use Rattle.cread_expr.specs.Phrases.{Context}
 use Rattle.cread_expr.specs.ReadLevels.{Level, prepended, read_list, read_until_brace}
 use Rattle.cread_expr.specs.ReadStarts.{type_start}
@@ -34,7 +34,7 @@ abbrev pub size_behind : Reader (List (Option Expr)) → Level → Reader (List 
 size_behind others level context row =
     if has_mark (codes "]") row then prepended None 0 (others context (behind_first row))
     else then_read (level.conditional context row) (λ size levels behind rest.
-        after_mark (codes "]") rest Nothing (λ closing more. prepended (Some size) levels (others behind more)))
+    after_mark (codes "]") rest Nothing (λ closing more. prepended (Some size) levels (others behind more)))
 
 unfoldable pub read_sizes : Level → ℕ → Reader (List (Option Expr))
 read_sizes level zero context row = Nothing
@@ -45,28 +45,28 @@ read_sizes level (suc count) context row =
 unfoldable pub read_type_name : Level → Reader TypeName
 read_type_name level context row =
     then_read (level.specifier context row) (λ type levels behind rest.
-        then_read (read_sizes level (length (behind_stars rest) + 1) behind (behind_stars rest)) (λ sizes others last more.
-            Read (type_name type (star_count rest) sizes) (max levels others) last more))
+    then_read (read_sizes level (length (behind_stars rest) + 1) behind (behind_stars rest)) (λ sizes others last more.
+    Read (type_name type (star_count rest) sizes) (max levels others) last more))
 
 -- a field, with the bits that it takes (C11 6.7.2.1)
 abbrev pub bits_behind : Level → Terminal → ℕ → List (Option Expr) → ℕ → Reader FieldName
 bits_behind level name stars sizes levels context row =
     if has_mark (codes ":") row
     then then_read (level.conditional context (behind_first row)) (λ bits others last more.
-        Read (field name.place (Some name.bytes) stars sizes (Some bits)) (max levels others) last more)
+    Read (field name.place (Some name.bytes) stars sizes (Some bits)) (max levels others) last more)
     else Read (field name.place (Some name.bytes) stars sizes None) levels context row
 
 abbrev pub named_field : Level → ℕ → Reader FieldName
 named_field level stars context row =
     after_first is_name row Nothing (λ name rest.
-        then_read (read_sizes level (length rest + 1) context rest) (λ sizes levels behind others.
-            if list_all is_some sizes then bits_behind level name stars sizes levels behind others else Nothing))
+    then_read (read_sizes level (length rest + 1) context rest) (λ sizes levels behind others.
+    if list_all is_some sizes then bits_behind level name stars sizes levels behind others else Nothing))
 
 unfoldable pub read_field : Level → Reader FieldName
 read_field level context row =
     after_first (is_mark (codes ":")) row (named_field level (star_count row) context (behind_stars row)) (λ colon rest.
-        then_read (level.conditional context rest) (λ bits levels behind others.
-            Read (field colon.place None 0 [] (Some bits)) levels behind others))
+    then_read (level.conditional context rest) (λ bits levels behind others.
+    Read (field colon.place None 0 [] (Some bits)) levels behind others))
 
 abbrev pub never : List Terminal → Bool
 never row = false
@@ -74,16 +74,16 @@ never row = false
 unfoldable pub read_fields : Level → Reader FieldDecl
 read_fields level context row =
     then_read (level.specifier context row) (λ type levels behind rest.
-        then_read (read_list never (read_field level) (length rest + 1) behind rest) (λ names others last more.
-            after_mark (codes ";") more Nothing (λ semicolon end. Read (fields type names) (max levels others) last end)))
+    then_read (read_list never (read_field level) (length rest + 1) behind rest) (λ names others last more.
+    after_mark (codes ";") more Nothing (λ semicolon end. Read (fields type names) (max levels others) last end)))
 
 -- an enumeration constant (C11 6.7.2.2)
 unfoldable pub read_enumerator : Level → Reader Enumerator
 read_enumerator level context row =
     after_first is_name row Nothing (λ name rest.
-        after_mark (codes "=") rest (Read (enumerator name None) 0 (declaring context name.bytes false) rest) (λ mark others.
-            then_read (level.conditional context others) (λ value levels behind more.
-                Read (enumerator name (Some value)) levels (declaring behind name.bytes false) more)))
+    after_mark (codes "=") rest (Read (enumerator name None) 0 (declaring context name.bytes false) rest) (λ mark others.
+    then_read (level.conditional context others) (λ value levels behind more.
+    Read (enumerator name (Some value)) levels (declaring behind name.bytes false) more)))
 
 -- a list in braces is closed by a `}`, before which a comma may stand
 abbrev pub closes_braces : List Terminal → Bool
@@ -108,14 +108,14 @@ unfoldable pub read_struct : Level → Reader TypeSpec
 read_struct inner context row =
     if has_mark (codes "{") (behind_tag row)
     then then_read (read_until_brace (read_fields inner) (length (behind_tag row)) context (behind_first (behind_tag row))) (λ declarations levels behind rest.
-        Read (Struct (tag_at row) (Some declarations)) (1 + levels) behind (behind_first rest))
+    Read (Struct (tag_at row) (Some declarations)) (1 + levels) behind (behind_first rest))
     else by_tag (λ name. Struct name None) (tag_at row) context (behind_tag row)
 
 unfoldable pub read_enum : Level → Reader TypeSpec
 read_enum inner context row =
     if has_mark (codes "{") (behind_tag row)
     then then_read (read_list closes_braces (read_enumerator inner) (length (behind_tag row)) context (behind_first (behind_tag row))) (λ values levels behind rest.
-        after_mark (codes "}") (behind_comma rest) Nothing (λ closing others. Read (Enum (tag_at row) (Some values)) (1 + levels) behind others))
+    after_mark (codes "}") (behind_comma rest) Nothing (λ closing others. Read (Enum (tag_at row) (Some values)) (1 + levels) behind others))
     else by_tag (λ name. Enum name None) (tag_at row) context (behind_tag row)
 
 -- `typeof` (a GNU form)
@@ -123,9 +123,9 @@ abbrev pub type_of : Level → Reader TypeSpec
 type_of inner context row =
     if has_first (begins_type context.scope) row
     then then_read (read_type_name inner context row) (λ to levels behind rest.
-        after_mark (codes ")") rest Nothing (λ closing others. Read (OfType to) (1 + levels) behind others))
+    after_mark (codes ")") rest Nothing (λ closing others. Read (OfType to) (1 + levels) behind others))
     else then_read (inner.expression context row) (λ expr levels behind rest.
-        after_mark (codes ")") rest Nothing (λ closing others. Read (OfExpr expr) (1 + levels) behind others))
+    after_mark (codes ")") rest Nothing (λ closing others. Read (OfExpr expr) (1 + levels) behind others))
 
 abbrev pub of_basic : Option BasicType → Reader TypeSpec
 of_basic None context rest = Nothing

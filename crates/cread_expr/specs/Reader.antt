@@ -1,30 +1,28 @@
 -- The reader of expressions, types and statements of at most so many levels, as one recursion over the levels.
-use Rattle.std.specs.Prelude.{ℕ, zero, suc, ◌+◌, List, Option, length}
-use Rattle.cbase.specs.declared.tree.expr.Expr.{Expr}
-use Rattle.cread_expr.specs.Outcomes.{Outcome, Reader, continued}
-use Rattle.cread_expr.specs.Phrases.{Context}
+use Rattle.std.specs.Prelude.{ℕ, zero, suc, ◌+◌}
+use Rattle.cread_expr.specs.Outcomes.{continued}
 use Rattle.cread_expr.specs.ReadDeclarations.{read_initializer}
 use Rattle.cread_expr.specs.ReadLevels.{Level, no_level}
 use Rattle.cread_expr.specs.ReadOperands.{read_cast}
 use Rattle.cread_expr.specs.ReadOperators.{expr_of, operations_from, conditional_from, assignment_from, expression_from}
 use Rattle.cread_expr.specs.ReadStatements.{read_clause, read_statement, read_item}
 use Rattle.cread_expr.specs.ReadTypes.{read_specifier}
-use Rattle.cread_expr.specs.Terminals.{Terminal}
 
 -- one level more than the inner one
 abbrev pub level_above : Level → Level
 level_above inner = record {
-    most = inner.most + 1;
-    cast = read_cast inner;
-    operation = λ loosest context row. continued (read_cast inner context row) expr_of (operations_from inner loosest);
-    conditional = λ context row. continued (read_cast inner context row) expr_of (conditional_from inner);
-    assignment = λ context row. continued (read_cast inner context row) expr_of (assignment_from inner);
-    expression = λ context row. continued (read_cast inner context row) expr_of (expression_from inner);
-    specifier = read_specifier inner;
-    initializer = read_initializer inner;
-    clause = read_clause inner;
-    statement = read_statement inner;
-    item = read_item inner }
+  most = inner.most + 1;
+  cast = read_cast inner;
+  operation = λ loosest context row. continued (read_cast inner context row) expr_of (operations_from inner loosest);
+  conditional = λ context row. continued (read_cast inner context row) expr_of (conditional_from inner);
+  assignment = λ context row. continued (read_cast inner context row) expr_of (assignment_from inner);
+  expression = λ context row. continued (read_cast inner context row) expr_of (expression_from inner);
+  specifier = read_specifier inner;
+  initializer = read_initializer inner;
+  clause = read_clause inner;
+  statement = read_statement inner;
+  item = read_item inner;
+}
 
 -- the readers of trees of at most so many levels
 abbrev pub level : ℕ → Level

@@ -60,5 +60,4 @@ pub fn labels_are_told_apart()
 #[tactic(auto, using(crate::proofs::Exact::one_tree))]
 pub fn each_row_has_one_tree()
     ensures { EachHasOneTree }
-{
-}
+{}

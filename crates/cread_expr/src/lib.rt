@@ -22,9 +22,8 @@ mod texts;
 mod words;
 
 pub use laws::{
-    each_row_has_one_tree,
-    declared_names_are_found, first_tokens, labels_are_told_apart, numbers_go_up, scopes_are_kept,
-    types_are_told_apart,
+    declared_names_are_found, each_row_has_one_tree, first_tokens, labels_are_told_apart,
+    numbers_go_up, scopes_are_kept, types_are_told_apart,
 };
 pub use rows::{rows_of_expressions, rows_of_statements, rows_of_texts};
 pub use scope::Scope;

@@ -16,8 +16,8 @@ entries_same [] (y ∷ ys) same = absurd same
 entries_same (x ∷ xs) [] same = absurd same
 entries_same (x ∷ xs) (y ∷ ys) same =
     let first : shown y ≡ shown x =
-        ap (λ (bytes : List ℕ). let entry : List ℕ × Bool = (bytes, y.1) in entry) (each_same x.0.items y.0.items same.0.0.0)
-        ∙ ap (λ (typedef : Bool). let entry : List ℕ × Bool = (x.0.items, typedef) in entry) same.0.1 in
+    ap (λ (bytes : List ℕ). let entry : List ℕ × Bool = (bytes, y.1) in entry) (each_same x.0.items y.0.items same.0.0.0)
+    ∙ ap (λ (typedef : Bool). let entry : List ℕ × Bool = (x.0.items, typedef) in entry) same.0.1 in
     ap (λ (entry : List ℕ × Bool). entry ∷ map shown ys) first ∙ ap (λ (entries : List (List ℕ × Bool)). shown x ∷ entries) (entries_same xs ys same.1)
 
 pub returns : goal.returns
