@@ -55,3 +55,13 @@ pub mod SoundStatements
 pub mod SoundBrackets
 pub mod SoundOperands
 pub mod Sound
+pub mod TextRowsRead
+pub mod BinaryRowsRead
+pub mod FrontRowsRead
+pub mod OperandRowsRead
+pub mod CastRowsRead
+pub mod TypeRowsRead
+pub mod InnerRowsRead
+pub mod DeclarationRowsRead
+pub mod StatementRowsRead
+pub mod ScopeRowsRead

@@ -110,7 +110,7 @@ pub record IsSpelled {A : Type 0} (phrase : A → Phrase) (levels : A → ℕ) (
   pub fronts : Fronts (phrase tree) before row behind rest
   pub small : levels tree ≤ most
 
-spelled_left : {A : Type 0} (phrase : A → Phrase) (levels : A → ℕ) (most : ℕ) (before : Context) (row : List Terminal) (outcome : Outcome A) (tree : A) (rest : List Terminal)
+pub spelled_left : {A : Type 0} (phrase : A → Phrase) (levels : A → ℕ) (most : ℕ) (before : Context) (row : List Terminal) (outcome : Outcome A) (tree : A) (rest : List Terminal)
     → IsSound phrase levels most before row outcome → Leaves outcome tree rest → IsSpelled phrase levels most before row tree rest
 spelled_left phrase levels most before row Nothing tree rest sound leaves = absurd leaves
 spelled_left phrase levels most before row (Stopped found expressions end) tree rest sound leaves =
@@ -157,14 +157,14 @@ found_there phrase levels most t scope at end tree numbered begins spelled =
         subst (λ place. IsReadAt t scope at (place.at + 1) (phrase tree)) (sym taken) (read_there t scope at (phrase tree) spelled.behind first front (drop end (terminals t)) numbered whole spells)
 
 -- an outcome that is a tree, or goes further, leaves no more than what stands behind the tree
-goes_less : (expr : Expr) (levels : ℕ) (after : Context) (rest : List Terminal) (outcome : Outcome Expr) (tree : Expr) (end : List Terminal)
+pub goes_less : (expr : Expr) (levels : ℕ) (after : Context) (rest : List Terminal) (outcome : Outcome Expr) (tree : Expr) (end : List Terminal)
     → Goes goes_on_expression expr levels after rest outcome → Leaves outcome tree end → length end ≤ length rest
 goes_less expr levels after rest outcome tree end (inl same) leaves =
     let left : (expr ≡ tree) × (rest ≡ end) = subst (λ o. Leaves o tree end) same leaves in
     omega (arith, ap length (left.1))
 goes_less expr levels after rest outcome tree end (inr further) leaves = leaves_less outcome tree end rest leaves further.1
 
-goes_some : (expr : Expr) (levels : ℕ) (after : Context) (rest : List Terminal) (outcome : Outcome Expr) → Goes goes_on_expression expr levels after rest outcome → outcome ≡ Nothing → ⊥
+pub goes_some : (expr : Expr) (levels : ℕ) (after : Context) (rest : List Terminal) (outcome : Outcome Expr) → Goes goes_on_expression expr levels after rest outcome → outcome ≡ Nothing → ⊥
 goes_some expr levels after rest outcome (inl same) none = let clash : Read expr levels after rest ≡ Nothing = sym same ∙ none in cc clash
 goes_some expr levels after rest outcome (inr further) none = subst (λ o. Reaches o rest) none further.1
 

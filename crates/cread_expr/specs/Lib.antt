@@ -27,5 +27,15 @@ pub mod Scope
 pub mod Starts
 pub mod Terminals
 pub mod TokenReadings
+pub mod TextRows
 pub mod Trees
 pub mod TypeWords
+pub mod BinaryRows
+pub mod FrontRows
+pub mod OperandRows
+pub mod CastRows
+pub mod TypeRows
+pub mod InnerRows
+pub mod DeclarationRows
+pub mod StatementRows
+pub mod ScopeRows

@@ -15,6 +15,7 @@ mod reading;
 mod rows;
 mod scope;
 mod stars;
+mod tables;
 mod tag;
 mod terminal;
 mod terminals;
@@ -27,6 +28,7 @@ pub use laws::{
 };
 pub use rows::{rows_of_expressions, rows_of_statements, rows_of_texts};
 pub use scope::Scope;
+pub use tables::{tables_of_blocks, tables_of_expressions};
 
 #[cfg(test)]
 mod tests;
