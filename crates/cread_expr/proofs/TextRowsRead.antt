@@ -1,17 +1,16 @@
 -- What the reader leaves of a row of a table says what the row begins with.
-use Rattle.std.proofs.Common.{◌≡◌, ℕ, zero, suc, ◌+◌, ◌≤◌, ◌⊎◌, inl, inr, Bool, true, List, [], ◌∷◌, ◌++◌, take, drop, length, refl, ap, sym, ◌∙◌, subst, arith, nat_le, Option, None, Some, IsTrue}
+use Rattle.std.proofs.Common.{◌≡◌, ℕ, zero, suc, ◌+◌, ◌≤◌, true, List, [], ◌∷◌, ◌++◌, take, drop, length, refl, ap, sym, ◌∙◌, subst, arith, nat_le, Option, None, Some}
 use Rattle.std.proofs.lemmas.Bool.{leb-true}
-use Rattle.std.proofs.lemmas.List.{length-append}
 use Rattle.cbase.specs.declared.tree.expr.Expr.{Expr}
 use Rattle.cbase.specs.declared.tree.stmt.Stmt.{Stmt}
 use Rattle.ctrees.specs.Levels.{expr_levels}
 use Rattle.cread_expr.proofs.Exact.{expressions_complete, expressions_sound, blocks_complete, blocks_sound}
 use Rattle.cread_expr.proofs.Fronts.{front_of_both}
-use Rattle.cread_expr.proofs.Reached.{Fronts, IsSound, Goes, Reaches, goes_on_expression}
+use Rattle.cread_expr.proofs.Reached.{IsSound, Goes, goes_on_expression}
 use Rattle.cread_expr.proofs.ReadAt.{Leaves, IsSpelled, spelled_left, goes_less, goes_some}
 use Rattle.cread_expr.specs.FrontOf.{front_of}
 use Rattle.cread_expr.specs.Grammar.{Spells}
-use Rattle.cread_expr.specs.Outcomes.{Outcome, Nothing, Stopped, Read}
+use Rattle.cread_expr.specs.Outcomes.{Outcome, Nothing, Read}
 use Rattle.cread_expr.specs.Phrases.{Context, Expression, CompoundStatement}
 use Rattle.cread_expr.specs.ReadStatements.{read_block}
 use Rattle.cread_expr.specs.Reader.{level}
@@ -49,17 +48,18 @@ no_longer : (most : ℕ) (scope : List Names) (row : List Terminal) (outcome : O
 no_longer most scope row outcome tree taken inside is leaves other count behind within spells small =
     let goes = expressions_complete most other (at_first scope) behind (take count row) (drop count row) spells small in
     let there : Goes goes_on_expression other (expr_levels other) behind (drop count row) outcome =
-        subst (Goes goes_on_expression other (expr_levels other) behind (drop count row))
-        (ap (λ (xs : List Terminal). (level most).expression (at_first scope) xs) (take_and_drop count row) ∙ sym is) goes in
+    subst (Goes goes_on_expression other (expr_levels other) behind (drop count row))
+    (ap (λ (xs : List Terminal). (level most).expression (at_first scope) xs) (take_and_drop count row) ∙ sym is) goes in
     let less = goes_less other (expr_levels other) behind (drop count row) outcome tree (drop taken row) there leaves in
     omega (arith, less, left_over taken row inside, left_over count row within)
 
 -- the reader's answer is the longest expression
 pub longest_front : (scope : List Names) (row : List Terminal) (tree : Expr) (taken : ℕ) → nat_le taken (length row) ≡ true
     → Leaves ((level few_levels).expression (at_first scope) row) tree (drop taken row) → IsLongestFront scope row tree taken
-longest_front scope row tree taken inside leaves =
-    (expression_front few_levels scope row ((level few_levels).expression (at_first scope) row) tree taken (expressions_sound few_levels (at_first scope) row) leaves,
-     no_longer few_levels scope row ((level few_levels).expression (at_first scope) row) tree taken (leb-true taken (length row) inside) refl leaves)
+longest_front scope row tree taken inside leaves = (
+  expression_front few_levels scope row ((level few_levels).expression (at_first scope) row) tree taken (expressions_sound few_levels (at_first scope) row) leaves,
+  no_longer few_levels scope row ((level few_levels).expression (at_first scope) row) tree taken (leb-true taken (length row) inside) refl leaves,
+)
 
 no_front : (most : ℕ) (scope : List Names) (row : List Terminal) → (level most).expression (at_first scope) row ≡ Nothing
     → (other : Expr) (count : ℕ) (behind : Context) → count ≤ length row → Spells (Expression other) (at_first scope) (take count row) behind → expr_levels other ≤ most → ⊥
@@ -90,22 +90,23 @@ no_longer_block : (most : ℕ) (scope : List Names) (row : List Terminal) (outco
 no_longer_block most scope row outcome body taken inside is leaves other count behind within spells small =
     let read = blocks_complete most other (at_first scope) behind (take count row) (drop count row) spells small in
     let there : outcome ≡ Read other (block_levels other) behind (drop count row) =
-        is ∙ (ap (λ (xs : List Terminal). read_block (level most) (at_first scope) xs) (sym (take_and_drop count row)) ∙ read) in
+    is ∙ (ap (λ (xs : List Terminal). read_block (level most) (at_first scope) xs) (sym (take_and_drop count row)) ∙ read) in
     let less = block_rest outcome body other (block_levels other) behind (drop taken row) (drop count row) there leaves in
     omega (arith, less, left_over taken row inside, left_over count row within)
 
 pub only_block : (scope : List Names) (row : List Terminal) (body : List Stmt) (taken : ℕ) → nat_le taken (length row) ≡ true
     → Leaves (read_block (level few_levels) (at_first scope) row) body (drop taken row) → IsOnlyBlock scope row body taken
-only_block scope row body taken inside leaves =
-    (block_front few_levels scope row (read_block (level few_levels) (at_first scope) row) body taken (blocks_sound few_levels (at_first scope) row) leaves,
-     no_longer_block few_levels scope row (read_block (level few_levels) (at_first scope) row) body taken (leb-true taken (length row) inside) refl leaves)
+only_block scope row body taken inside leaves = (
+  block_front few_levels scope row (read_block (level few_levels) (at_first scope) row) body taken (blocks_sound few_levels (at_first scope) row) leaves,
+  no_longer_block few_levels scope row (read_block (level few_levels) (at_first scope) row) body taken (leb-true taken (length row) inside) refl leaves,
+)
 
 no_block_front : (most : ℕ) (scope : List Names) (row : List Terminal) → read_block (level most) (at_first scope) row ≡ Nothing
     → (other : List Stmt) (count : ℕ) (behind : Context) → count ≤ length row → Spells (CompoundStatement other) (at_first scope) (take count row) behind → block_levels other ≤ most → ⊥
 no_block_front most scope row nothing other count behind within spells small =
     let read = blocks_complete most other (at_first scope) behind (take count row) (drop count row) spells small in
     let clash : Nothing ≡ Read other (block_levels other) behind (drop count row) =
-        sym nothing ∙ (ap (λ (xs : List Terminal). read_block (level most) (at_first scope) xs) (sym (take_and_drop count row)) ∙ read) in
+    sym nothing ∙ (ap (λ (xs : List Terminal). read_block (level most) (at_first scope) xs) (sym (take_and_drop count row)) ∙ read) in
     cc clash
 
 pub begins_no_block : (scope : List Names) (row : List Terminal) → read_block (level few_levels) (at_first scope) row ≡ Nothing → BeginsNoBlock scope row

@@ -1,6 +1,6 @@
 -- Rows of tokens as texts, in which a blank stands between each token and the next, and what is spelled at their front
 -- by an expression or a block of at most twelve levels.
-use Rattle.std.specs.Prelude.{ℕ, ◌+◌, ◌≤◌, Bool, true, false, ◌&&◌, ◌||◌, if◌then◌else◌, List, [], ◌∷◌, map, take, length, nat_eq, nat_le, Option, None, Some}
+use Rattle.std.specs.Prelude.{ℕ, ◌+◌, ◌≤◌, Bool, true, ◌&&◌, ◌||◌, if◌then◌else◌, List, [], ◌∷◌, map, take, length, nat_eq, nat_le, Option, None, Some}
 use Rattle.cbase.specs.declared.tree.expr.Expr.{Expr}
 use Rattle.cbase.specs.declared.tree.stmt.Stmt.{Stmt}
 use Rattle.ctokens.specs.Bytes.{is_digit}
