@@ -146,7 +146,7 @@ declarators_begin : (typedef : Bool) (names : List Declared) (before after : Con
 declarators_begin typedef names before after xs (OneDeclarator {name} one) = declarator_begins typedef name before after xs one
 declarators_begin typedef names before after xs (MoreDeclarators {middle} {xs = ws} {ys} {name} comma one mark more) = begins-append begins_declarator ws (comma ∷ ys) (declarator_begins typedef name before middle ws one)
 
-declarator_no_specifiers : (token : Terminal) → begins_declarator token ≡ true → goes_on_specifiers token ≡ false
+pub declarator_no_specifiers : (token : Terminal) → begins_declarator token ≡ true → goes_on_specifiers token ≡ false
 declarator_no_specifiers token is = declarator_apart goes_on_specifiers (λ t star. by_mark goes_on_specifiers (codes "*") t star refl) name_no_specifiers token is
 
 declarator_no_semicolon : (token : Terminal) → begins_declarator token ≡ true → is_mark (codes ";") token ≡ false
@@ -283,7 +283,7 @@ complete_void_parameters before stars name opening word closing p1 p2 p3 p4 p5 n
     (go_true _ p3 (go_read _ (go_false _ (word_is_no_mark (codes "void") (codes ")") word p4) (go_true _ (and-both p4 p5) refl)) (read_levels _ (declaring (leaving (inside before)) name.bytes typedef) rest (sym (levels_function name (length stars) [])))))
 
 -- a row in which no `)` stands behind the word `void` at its front
-abbrev goes_behind_void : List Terminal → Bool
+abbrev pub goes_behind_void : List Terminal → Bool
 goes_behind_void [] = true
 goes_behind_void (only ∷ []) = true
 goes_behind_void (front ∷ (second ∷ others)) = not (is_word (codes "void") front && is_mark (codes ")") second)
@@ -305,7 +305,7 @@ void_append (only ∷ []) [] fine none some = refl
 void_append (only ∷ []) (next ∷ ys) fine none some = no_mark_second (is_word (codes "void") only) (is_mark (codes ")") next) none
 void_append (front ∷ (second ∷ xs)) ys fine none some = fine
 
-begins_some : (test : Terminal → Bool) (xs : List Terminal) → Begins test xs → Begins (λ t. true) xs
+pub begins_some : (test : Terminal → Bool) (xs : List Terminal) → Begins test xs → Begins (λ t. true) xs
 begins_some test [] begins = begins
 begins_some test (token ∷ xs) begins = refl
 
@@ -366,7 +366,7 @@ parameter_begins : (param : Param) (before after : Context) (xs : List Terminal)
 parameter_begins param before after xs (NamedParameter {xs = ws} {ys} stars name specifiers are is sizes) = begins-append (begins_declaration before.scope) ws (stars ++ (name ∷ ys)) (first specifiers)
 parameter_begins param before after xs (UnnamedParameter {xs = ws} {ys} stars specifiers are sizes) = begins-append (begins_declaration before.scope) ws (stars ++ ys) (first specifiers)
 
-parameters_begin : (params : List Param) (before after : Context) (xs : List Terminal) → Spells (Parameters params) before xs after → Begins (begins_declaration before.scope) xs
+pub parameters_begin : (params : List Param) (before after : Context) (xs : List Terminal) → Spells (Parameters params) before xs after → Begins (begins_declaration before.scope) xs
 parameters_begin params before after xs (OneParameter {param} one) = parameter_begins param before after xs one
 parameters_begin params before after xs (MoreParameters {middle} {xs = ws} {ys} {param} comma one mark more) = begins-append (begins_declaration before.scope) ws (comma ∷ ys) (parameter_begins param before middle ws one)
 
@@ -376,12 +376,12 @@ parameter_void param before after xs (NamedParameter {middle} {xs = ws} {ys} {st
 parameter_void param before after xs (UnnamedParameter {middle} {xs = ws} {ys} {storage} {type} {sizes} stars specifiers are given) =
     void_append ws (stars ++ ys) (specifiers_void storage type before middle ws specifiers) (stars_first (is_mark (codes ")")) stars ys closing_no_star are (sizes_alone (is_mark (codes ")")) sizes middle after ys given (λ t is. by_mark (is_mark (codes ")")) (codes "[") t is refl))) (begins_some (begins_declaration before.scope) ws (first specifiers))
 
-parameters_void : (params : List Param) (before after : Context) (xs : List Terminal) → Spells (Parameters params) before xs after → goes_behind_void xs ≡ true
+pub parameters_void : (params : List Param) (before after : Context) (xs : List Terminal) → Spells (Parameters params) before xs after → goes_behind_void xs ≡ true
 parameters_void params before after xs (OneParameter {param} one) = parameter_void param before after xs one
 parameters_void params before after xs (MoreParameters {middle} {xs = ws} {ys} {param} comma one mark more) =
     void_append ws (comma ∷ ys) (parameter_void param before middle ws one) (other_mark (codes ",") (codes ")") comma refl mark) (begins_some (begins_declaration before.scope) ws (parameter_begins param before middle ws one))
 
-no_void_alone : (xs rest : List Terminal) → Begins (λ t. true) xs → IsTrue (not (is_void xs)) → goes_behind_void xs ≡ true → is_void_alone (xs ++ rest) ≡ false
+pub no_void_alone : (xs rest : List Terminal) → Begins (λ t. true) xs → IsTrue (not (is_void xs)) → goes_behind_void xs ≡ true → is_void_alone (xs ++ rest) ≡ false
 no_void_alone [] rest some many fine = absurd some
 no_void_alone (only ∷ []) rest some many fine = ap (λ (b : Bool). b && has_mark (codes ")") rest) (is_not (is_word (codes "void") only) many)
 no_void_alone (front ∷ (second ∷ xs)) rest some many fine = is_not (is_word (codes "void") front && is_mark (codes ")") second) fine
