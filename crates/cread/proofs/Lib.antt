@@ -1,1 +1,4 @@
 pub mod Complete
+pub mod Sound
+pub mod TextItemsRead
+pub mod ItemRowsRead

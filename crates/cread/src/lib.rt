@@ -2,5 +2,7 @@
 #![tactic(auto)]
 
 mod laws;
+mod tables;
 
 pub use laws::each_row_is_one_item;
+pub use tables::table_of_items;

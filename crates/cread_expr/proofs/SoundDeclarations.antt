@@ -25,10 +25,10 @@ use Rattle.cread_expr.specs.Trees.{function}
 use Rattle.cread_expr.specs.TypeWords.{IsStorage, declares_typedef}
 use Rattle.cread_expr.specs.declared.reading.specifiers.Specifiers.{Specifiers as ReadSpecifiers}
 
-abbrev says_specifiers : ReadSpecifiers → Context → List Terminal → Context → List Terminal → Type 0
+abbrev pub says_specifiers : ReadSpecifiers → Context → List Terminal → Context → List Terminal → Type 0
 says_specifiers read before front behind rest = Spells (Specifiers read.storage read.spec) before front behind
 
-abbrev specifiers_levels : ReadSpecifiers → ℕ
+abbrev pub specifiers_levels : ReadSpecifiers → ℕ
 specifiers_levels read = spec_levels read.spec
 
 storage_word : (row : List Terminal) (storage : Storage) → storage_at row ≡ Some storage → (word : Terminal) × (row ≡ word ∷ behind_first row) × IsStorage storage word
@@ -83,7 +83,7 @@ sound_parameter_list inner count is =
     (λ param params comma before middle behind front others between rest spelled marked more. MoreParameters comma spelled marked more)
 
 -- the parameters behind any name of a function
-abbrev says_parameters : List Param → Context → List Terminal → Context → List Terminal → Type 0
+abbrev pub says_parameters : List Param → Context → List Terminal → Context → List Terminal → Type 0
 says_parameters params before front behind rest =
     (stars : List Terminal) (name opening : Terminal) → AreStars stars → IsName name → IsMark (codes "(") opening
     → Spells (FunctionDeclarator name.bytes (function name (length stars) params)) before (stars ++ (name ∷ (opening ∷ front))) behind

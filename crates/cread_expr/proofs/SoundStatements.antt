@@ -42,7 +42,7 @@ first_place_is test row [] rest split begins = absurd begins
 first_place_is test row (first ∷ others) rest split begins = ap first_place split.is
 
 -- blocks
-abbrev says_body : List Stmt → Context → List Terminal → Context → List Terminal → Type 0
+abbrev pub says_body : List Stmt → Context → List Terminal → Context → List Terminal → Type 0
 says_body body before front behind rest = Spells (BlockItems body) before front behind × (has_mark (codes "}") rest ≡ true)
 
 next_item : (stmt : Stmt) (others : List Stmt) (before middle behind : Context) (front fronts between : List Terminal) → says_item stmt before front middle between → Spells (BlockItems others) middle fronts behind → Spells (BlockItems (stmt ∷ others)) before (front ++ fronts) behind
@@ -50,7 +50,7 @@ next_item stmt others before middle behind front fronts between (inl (decl, same
     subst (λ (stmt : Stmt). Spells (BlockItems (stmt ∷ others)) before (front ++ fronts) behind) (sym same) (NextDeclaration spelled more)
 next_item stmt others before middle behind front fronts between (inr (dangling, spelled)) more = NextStatement spelled more
 
-sound_items : (inner : Level) (count : ℕ) → SoundLevel inner → Reads says_body (levels_of_all stmt_levels) inner.most (read_until_brace inner.item count)
+pub sound_items : (inner : Level) (count : ℕ) → SoundLevel inner → Reads says_body (levels_of_all stmt_levels) inner.most (read_until_brace inner.item count)
 sound_items inner count is =
     sound_until_brace says_item says_body stmt_levels inner.most inner.item count is.item
     (λ before row ends. (NoMoreItems, ends))

@@ -1,0 +1,33 @@
+-- Items as texts, in which a blank stands between each token and the next, and what they spell with at most twelve levels.
+use Rattle.std.specs.Prelude.{◌≤◌, ℕ, List, [], ◌∷◌, Option, None, Some}
+use Rattle.cbase.specs.declared.tree.item.Item.{Item}
+use Rattle.ctrees.specs.Levels.{item_levels}
+use Rattle.cread_expr.specs.Phrases.{Context}
+use Rattle.cread_expr.specs.Readings.{at_first}
+use Rattle.cread_expr.specs.Scope.{Names}
+use Rattle.cread_expr.specs.Terminals.{Terminal}
+use Rattle.cread_expr.specs.TextRows.{few_levels, row_of_text, typedefs}
+use Rattle.cread.specs.Items.{SpellsItem}
+
+-- a text, the typedefs that are in scope, and the item that it spells, if it spells one
+pub record ItemRow : Type 0 where
+  pub text : List ℕ
+  pub names : List (List ℕ)
+  pub expected : Option Item
+
+abbrev pub IsNoItem : List Names → List Terminal → Type 0
+IsNoItem scope row = (item : Item) (behind : Context) → SpellsItem item (at_first scope) row behind → item_levels item ≤ few_levels → ⊥
+
+abbrev pub IsItem : List Names → List Terminal → Option Item → Type 0
+IsItem scope row None = IsNoItem scope row
+IsItem scope row (Some item) = (behind : Context) × SpellsItem item (at_first scope) row behind
+
+abbrev pub HaveItems : List ItemRow → Type 0
+HaveItems [] = Unit {0}
+HaveItems (row ∷ rows) = IsItem (typedefs row.names) (row_of_text row.text) row.expected × HaveItems rows
+
+abbrev pub spelled : List ℕ → List (List ℕ) → Item → ItemRow
+spelled text names item = record { text = text; names = names; expected = Some item }
+
+abbrev pub missed : List ℕ → List (List ℕ) → ItemRow
+missed text names = record { text = text; names = names; expected = None }

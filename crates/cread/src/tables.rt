@@ -1,0 +1,9 @@
+//! A table of short texts, each with the item that it spells.
+
+ghost use Rattle.cread.specs.ItemRows.{ItemRows};
+
+/// Texts that spell an item of a file, each with its tree, and texts that spell none of at most twelve levels (C11 6.9).
+#[tactic(auto, using(crate::proofs::ItemRowsRead::item_rows))]
+pub fn table_of_items()
+    ensures { ItemRows }
+{}
