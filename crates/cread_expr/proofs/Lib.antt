@@ -3,6 +3,7 @@ pub mod CompletingOutcomes
 pub mod CompletingParts
 pub mod CompletingTokens
 pub mod CompleteDeclarations
+pub mod CompleteInitializers
 pub mod CompleteStatements
 pub mod CompleteTypes
 pub mod Contexts
@@ -27,6 +28,7 @@ pub mod ReadAt
 pub mod OneTree
 pub mod WithinSteps
 pub mod Within
+pub mod WithinDeclarations
 pub mod SoundSteps
 pub mod SoundSays
 pub mod SoundOperators
