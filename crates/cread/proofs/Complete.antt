@@ -10,27 +10,27 @@ use Rattle.cbase.specs.declared.tree.spec.TypeSpec.{TypeSpec}
 use Rattle.cbase.specs.declared.tree.stmt.Stmt.{Stmt}
 use Rattle.ctrees.specs.Weight.{joined}
 use Rattle.ctrees.specs.Levels.{depth, declared_levels, item_levels, spec_levels, stmt_levels}
-use Rattle.cread_expr.proofs.Complete.{complete}
-use Rattle.cread_expr.proofs.CompleteDeclarations.{no_void_alone, parameters_void, parameters_begin, begins_some, declarator_no_specifiers}
-use Rattle.cread_expr.proofs.CompletingOutcomes.{go_true, go_false, go_read, row_of_two, row_of_three}
-use Rattle.cread_expr.proofs.CompletingParts.{read_levels, ends_known, declaration_row_no_mark}
-use Rattle.cread_expr.proofs.CompletingTokens.{stars_front, begins_apart, stars_and_name, begins_declarator}
-use Rattle.cread_expr.proofs.Firsts.{first}
-use Rattle.cread_expr.proofs.Fronts.{drop_front}
-use Rattle.cread_expr.proofs.Reached.{goes_on_list, goes_on_parameter, goes_on_specifiers}
-use Rattle.cread_expr.proofs.TokenKinds.{name_is_no_mark, word_is_no_mark, other_mark}
-use Rattle.cread_expr.proofs.TreeLevels.{levels_function}
-use Rattle.cread_expr.proofs.Truth.{and-both}
-use Rattle.cread_expr.specs.Firsts.{Begins, begins_declaration}
-use Rattle.cread_expr.specs.Grammar.{Spells, NoDeclarator, WithDeclarators, NoParameters, VoidParameters, WithParameters, inside}
-use Rattle.cread_expr.specs.Outcomes.{Outcome, Nothing, Stopped, Read, then_read, has_mark, after_mark}
-use Rattle.cread_expr.specs.Phrases.{Context, Specifiers, Declaration, FunctionDeclarator, BlockItems, Parameters}
-use Rattle.cread_expr.specs.ReadDeclarations.{read_parameters, read_declaration}
-use Rattle.cread_expr.specs.ReadLevels.{Level}
-use Rattle.cread_expr.specs.Reader.{level}
-use Rattle.cread_expr.specs.Terminals.{Terminal, is_mark, IsMark, IsName, AreStars}
-use Rattle.cread_expr.specs.Trees.{function}
-use Rattle.cread_expr.specs.TypeWords.{declares_typedef}
+use Rattle.cgrammar.proofs.Complete.{complete}
+use Rattle.cgrammar.proofs.CompleteDeclarations.{no_void_alone, parameters_void, parameters_begin, begins_some, declarator_no_specifiers}
+use Rattle.cgrammar.proofs.CompletingOutcomes.{go_true, go_false, go_read, row_of_two, row_of_three}
+use Rattle.cgrammar.proofs.CompletingParts.{read_levels, ends_known, declaration_row_no_mark}
+use Rattle.cgrammar.proofs.CompletingTokens.{stars_front, begins_apart, stars_and_name, begins_declarator}
+use Rattle.cgrammar.proofs.Firsts.{first}
+use Rattle.cgrammar.proofs.Fronts.{drop_front}
+use Rattle.cgrammar.proofs.Reached.{goes_on_list, goes_on_parameter, goes_on_specifiers}
+use Rattle.cgrammar.proofs.TokenKinds.{name_is_no_mark, word_is_no_mark, other_mark}
+use Rattle.cgrammar.proofs.TreeLevels.{levels_function}
+use Rattle.cgrammar.proofs.Truth.{and-both}
+use Rattle.cgrammar.specs.Firsts.{Begins, begins_declaration}
+use Rattle.cgrammar.specs.Grammar.{Spells, NoDeclarator, WithDeclarators, NoParameters, VoidParameters, WithParameters, inside}
+use Rattle.cgrammar.specs.Outcomes.{Outcome, Nothing, Stopped, Read, then_read, has_mark, after_mark}
+use Rattle.cgrammar.specs.Phrases.{Context, Specifiers, Declaration, FunctionDeclarator, BlockItems, Parameters}
+use Rattle.cgrammar.specs.ReadDeclarations.{read_parameters, read_declaration}
+use Rattle.cgrammar.specs.ReadLevels.{Level}
+use Rattle.cgrammar.specs.Reader.{level}
+use Rattle.cgrammar.specs.Terminals.{Terminal, is_mark, IsMark, IsName, AreStars}
+use Rattle.cgrammar.specs.Trees.{function}
+use Rattle.cgrammar.specs.TypeWords.{declares_typedef}
 use Rattle.cread.specs.Items.{SpellsItem, EmptyItem, DeclarationItem, FunctionDefinition, in_body, out_of}
 use Rattle.cread.specs.OneItem.{IsOneItem}
 use Rattle.cread.specs.ReadItem.{Head, head_of, read_head, read_function, ends_with_brace, read_external}

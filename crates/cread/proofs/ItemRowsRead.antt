@@ -2,13 +2,13 @@
 use Rattle.std.proofs.Common.{refl}
 use Rattle.ctokens.specs.Symbol.{keyword_symbol, name_symbol, passed_symbol}
 use Rattle.cread.proofs.TextItemsRead.{have_items}
-use Rattle.cread_expr.specs.ReadLevels.{read_list, read_until_brace}
-use Rattle.cread_expr.specs.ReadOperators.{read_operations, read_choice, assignment_from, read_commas}
-use Rattle.cread_expr.specs.ReadOperands.{read_cast, read_plain, read_postfixes, read_path, behind_matched, read_bracket, read_size_of, read_offset_of, read_assert_fail}
-use Rattle.cread_expr.specs.ReadTypes.{read_sizes, read_type_name, read_field, read_fields, read_enumerator, read_struct, read_enum, read_specifier}
-use Rattle.cread_expr.specs.ReadDeclarations.{read_specifiers, read_parameter, read_parameters, read_declarator, read_declaration, read_part, read_initializer}
-use Rattle.cread_expr.specs.ReadStatements.{read_block, read_maybe, read_clause, read_if, read_while, read_do, read_for, read_return, read_unlabeled, read_statement, read_item}
-use Rattle.cread_expr.specs.ReadStarts.{operand_start, postfix_start, type_start, statement_start}
+use Rattle.cgrammar.specs.ReadLevels.{read_list, read_until_brace}
+use Rattle.cgrammar.specs.ReadOperators.{read_operations, read_choice, assignment_from, read_commas}
+use Rattle.cgrammar.specs.ReadOperands.{read_cast, read_plain, read_postfixes, read_path, behind_matched, read_bracket, read_size_of, read_offset_of, read_assert_fail}
+use Rattle.cgrammar.specs.ReadTypes.{read_sizes, read_type_name, read_field, read_fields, read_enumerator, read_struct, read_enum, read_specifier}
+use Rattle.cgrammar.specs.ReadDeclarations.{read_specifiers, read_parameter, read_parameters, read_declarator, read_declaration, read_part, read_initializer}
+use Rattle.cgrammar.specs.ReadStatements.{read_block, read_maybe, read_clause, read_if, read_while, read_do, read_for, read_return, read_unlabeled, read_statement, read_item}
+use Rattle.cgrammar.specs.ReadStarts.{operand_start, postfix_start, type_start, statement_start}
 use Rattle.cread.specs.ItemRows.{item_table, ItemRows}
 use Rattle.cread.specs.ReadItem.{read_head, read_function, read_external}
 

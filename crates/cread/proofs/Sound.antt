@@ -2,23 +2,23 @@
 use Rattle.std.proofs.Common.{ℕ, ◌+◌, refl, sym, ◌∙◌, subst, List, length, codes, arith}
 use Rattle.cbase.specs.declared.tree.item.Item.{Item}
 use Rattle.ctrees.specs.Levels.{declared_levels, item_levels}
-use Rattle.cread_expr.proofs.Sound.{sound_level, most_of_level}
-use Rattle.cread_expr.proofs.SoundDeclarations.{sound_specifiers, sound_parameters, sound_declaration}
-use Rattle.cread_expr.proofs.SoundLists.{stars_of}
-use Rattle.cread_expr.proofs.SoundSays.{SoundLevel}
-use Rattle.cread_expr.proofs.SoundStatements.{sound_items}
-use Rattle.cread_expr.proofs.SoundSteps.{Sound, Reads, made, sound_nothing, sound_then, sound_if, sound_first, first_of, split_first, split_last, split_more, larger, larger_fits}
-use Rattle.cread_expr.proofs.TreeLevels.{levels_function}
-use Rattle.cread_expr.specs.Grammar.{Spells}
-use Rattle.cread_expr.specs.Outcomes.{Read, has_mark}
-use Rattle.cread_expr.specs.Phrases.{Context, FunctionDeclarator}
-use Rattle.cread_expr.specs.ReadDeclarations.{read_specifiers, read_parameters, read_declaration}
-use Rattle.cread_expr.specs.ReadLevels.{Level, read_until_brace}
-use Rattle.cread_expr.specs.ReadTypes.{behind_stars}
-use Rattle.cread_expr.specs.Reader.{level}
-use Rattle.cread_expr.specs.Terminals.{Terminal, is_mark}
-use Rattle.cread_expr.specs.Trees.{function}
-use Rattle.cread_expr.specs.TypeWords.{declares_typedef}
+use Rattle.cgrammar.proofs.Sound.{sound_level, most_of_level}
+use Rattle.cgrammar.proofs.SoundDeclarations.{sound_specifiers, sound_parameters, sound_declaration}
+use Rattle.cgrammar.proofs.SoundLists.{stars_of}
+use Rattle.cgrammar.proofs.SoundSays.{SoundLevel}
+use Rattle.cgrammar.proofs.SoundStatements.{sound_items}
+use Rattle.cgrammar.proofs.SoundSteps.{Sound, Reads, made, sound_nothing, sound_then, sound_if, sound_first, first_of, split_first, split_last, split_more, larger, larger_fits}
+use Rattle.cgrammar.proofs.TreeLevels.{levels_function}
+use Rattle.cgrammar.specs.Grammar.{Spells}
+use Rattle.cgrammar.specs.Outcomes.{Read, has_mark}
+use Rattle.cgrammar.specs.Phrases.{Context, FunctionDeclarator}
+use Rattle.cgrammar.specs.ReadDeclarations.{read_specifiers, read_parameters, read_declaration}
+use Rattle.cgrammar.specs.ReadLevels.{Level, read_until_brace}
+use Rattle.cgrammar.specs.ReadTypes.{behind_stars}
+use Rattle.cgrammar.specs.Reader.{level}
+use Rattle.cgrammar.specs.Terminals.{Terminal, is_mark}
+use Rattle.cgrammar.specs.Trees.{function}
+use Rattle.cgrammar.specs.TypeWords.{declares_typedef}
 use Rattle.cread.specs.Items.{SpellsItem, EmptyItem, DeclarationItem, FunctionDefinition, in_body}
 use Rattle.cread.specs.ReadItem.{Head, head_of, read_head, read_function, ends_with_brace, read_external}
 

@@ -2,14 +2,14 @@
 use Rattle.std.proofs.Common.{◌≡◌, ℕ, ◌≤◌, refl, ap, sym, ◌∙◌, subst, List, [], ◌∷◌, ◌++◌, Option, None, Some}
 use Rattle.cbase.specs.declared.tree.item.Item.{Item}
 use Rattle.ctrees.specs.Levels.{item_levels}
-use Rattle.cread_expr.proofs.SoundSteps.{Sound, Got}
-use Rattle.cread_expr.specs.Outcomes.{Outcome, Nothing, Stopped, Read}
-use Rattle.cread_expr.specs.Phrases.{Context}
-use Rattle.cread_expr.specs.Reader.{level}
-use Rattle.cread_expr.specs.Readings.{at_first}
-use Rattle.cread_expr.specs.Scope.{Names}
-use Rattle.cread_expr.specs.Terminals.{Terminal}
-use Rattle.cread_expr.specs.TextRows.{few_levels, row_of_text, typedefs}
+use Rattle.cgrammar.proofs.SoundSteps.{Sound, Got}
+use Rattle.cgrammar.specs.Outcomes.{Outcome, Nothing, Stopped, Read}
+use Rattle.cgrammar.specs.Phrases.{Context}
+use Rattle.cgrammar.specs.Reader.{level}
+use Rattle.cgrammar.specs.Readings.{at_first}
+use Rattle.cgrammar.specs.Scope.{Names}
+use Rattle.cgrammar.specs.Terminals.{Terminal}
+use Rattle.cgrammar.specs.TextRows.{few_levels, row_of_text, typedefs}
 use Rattle.cread.proofs.Complete.{complete_item}
 use Rattle.cread.proofs.Sound.{says_external, sound_item}
 use Rattle.cread.specs.Items.{SpellsItem}

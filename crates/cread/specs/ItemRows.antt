@@ -10,9 +10,9 @@ use Rattle.cbase.specs.declared.tree.spec.BasicType.TheVariants.{Void, Integer}
 use Rattle.cbase.specs.declared.tree.spec.Rank.TheVariants.{Char, Int, LongLong}
 use Rattle.cbase.specs.declared.tree.spec.TypeSpec.TheVariants.{Basic, Named, Struct, Enum}
 use Rattle.cbase.specs.declared.tree.stmt.StmtForm.TheVariants.{Declare, Eval, Block, If, While, Do, For, Break, Return}
-use Rattle.cread_expr.specs.Rows.{at, node, word}
+use Rattle.cgrammar.specs.Rows.{at, node, word}
 use Rattle.cread.specs.TextItems.{ItemRow, spelled, missed, HaveItems}
-use Rattle.cread_expr.specs.Trees.{object, function, field, fields, enumerator, parameter, type_name, declaration, initializer, statement}
+use Rattle.cgrammar.specs.Trees.{object, function, field, fields, enumerator, parameter, type_name, declaration, initializer, statement}
 
 abbrev pub item_table : List ItemRow
 item_table =

@@ -9,11 +9,11 @@ use Rattle.cbase.specs.declared.tree.item.Item.{Item}
 use Rattle.cbase.specs.declared.tree.item.Item.TheVariants.{Empty, Declare, Function}
 use Rattle.cbase.specs.declared.tree.spec.TypeSpec.{TypeSpec}
 use Rattle.cbase.specs.declared.tree.stmt.Stmt.{Stmt}
-use Rattle.cread_expr.specs.Grammar.{Spells}
-use Rattle.cread_expr.specs.Phrases.{Context, Specifiers, Declaration, FunctionDeclarator, BlockItems, scoped}
-use Rattle.cread_expr.specs.Scope.{Names, declared_in, left}
-use Rattle.cread_expr.specs.Terminals.{Terminal, IsMark}
-use Rattle.cread_expr.specs.TypeWords.{declares_typedef}
+use Rattle.cgrammar.specs.Grammar.{Spells}
+use Rattle.cgrammar.specs.Phrases.{Context, Specifiers, Declaration, FunctionDeclarator, BlockItems, scoped}
+use Rattle.cgrammar.specs.Scope.{Names, declared_in, left}
+use Rattle.cgrammar.specs.Terminals.{Terminal, IsMark}
+use Rattle.cgrammar.specs.TypeWords.{declares_typedef}
 
 -- a name is declared in the scope around the innermost one
 abbrev pub declared_around : List ℕ → Bool → List Names → List Names

@@ -1,8 +1,8 @@
 -- That a row of tokens is one item.
 use Rattle.std.specs.Prelude.{◌≡◌, List}
 use Rattle.cbase.specs.declared.tree.item.Item.{Item}
-use Rattle.cread_expr.specs.Phrases.{Context}
-use Rattle.cread_expr.specs.Terminals.{Terminal}
+use Rattle.cgrammar.specs.Phrases.{Context}
+use Rattle.cgrammar.specs.Terminals.{Terminal}
 use Rattle.cread.specs.Items.{SpellsItem}
 
 -- two items of one row, where the same names are in scope and as many expressions end before it, are equal, and so is

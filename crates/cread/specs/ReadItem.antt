@@ -3,13 +3,13 @@ use Rattle.std.specs.Prelude.{ℕ, ◌+◌, max, Bool, false, if◌then◌else�
 use Rattle.cbase.specs.declared.tree.decl.Declared.{Declared}
 use Rattle.cbase.specs.declared.tree.item.Item.{Item}
 use Rattle.cbase.specs.declared.tree.item.Item.TheVariants.{Empty, Declare, Function}
-use Rattle.cread_expr.specs.Outcomes.{Nothing, Read, Reader, then_read, after_first, after_mark, has_mark, behind_first}
-use Rattle.cread_expr.specs.ReadDeclarations.{read_specifiers, read_parameters, read_declaration}
-use Rattle.cread_expr.specs.ReadLevels.{Level, read_until_brace}
-use Rattle.cread_expr.specs.ReadTypes.{star_count, behind_stars}
-use Rattle.cread_expr.specs.Terminals.{Terminal, is_mark, is_name}
-use Rattle.cread_expr.specs.Trees.{function}
-use Rattle.cread_expr.specs.TypeWords.{declares_typedef}
+use Rattle.cgrammar.specs.Outcomes.{Nothing, Read, Reader, then_read, after_first, after_mark, has_mark, behind_first}
+use Rattle.cgrammar.specs.ReadDeclarations.{read_specifiers, read_parameters, read_declaration}
+use Rattle.cgrammar.specs.ReadLevels.{Level, read_until_brace}
+use Rattle.cgrammar.specs.ReadTypes.{star_count, behind_stars}
+use Rattle.cgrammar.specs.Terminals.{Terminal, is_mark, is_name}
+use Rattle.cgrammar.specs.Trees.{function}
+use Rattle.cgrammar.specs.TypeWords.{declares_typedef}
 use Rattle.cread.specs.Items.{in_body, out_of}
 
 -- a function's declarator with its name; behind it the scope of the parameters is still entered

@@ -2,11 +2,11 @@
 use Rattle.std.specs.Prelude.{◌≤◌, ℕ, List, [], ◌∷◌, Option, None, Some}
 use Rattle.cbase.specs.declared.tree.item.Item.{Item}
 use Rattle.ctrees.specs.Levels.{item_levels}
-use Rattle.cread_expr.specs.Phrases.{Context}
-use Rattle.cread_expr.specs.Readings.{at_first}
-use Rattle.cread_expr.specs.Scope.{Names}
-use Rattle.cread_expr.specs.Terminals.{Terminal}
-use Rattle.cread_expr.specs.TextRows.{few_levels, row_of_text, typedefs}
+use Rattle.cgrammar.specs.Phrases.{Context}
+use Rattle.cgrammar.specs.Readings.{at_first}
+use Rattle.cgrammar.specs.Scope.{Names}
+use Rattle.cgrammar.specs.Terminals.{Terminal}
+use Rattle.cgrammar.specs.TextRows.{few_levels, row_of_text, typedefs}
 use Rattle.cread.specs.Items.{SpellsItem}
 
 -- a text, the typedefs that are in scope, and the item that it spells, if it spells one

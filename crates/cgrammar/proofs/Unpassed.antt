@@ -1,0 +1,15 @@
+-- A token that is passed over leaves nothing in the row of a text.
+use Rattle.std.proofs.Common.{◌≡◌, ℕ, zero, suc, ◌+◌, ◌<◌, Bool, true, List, [], ◌∷◌, map, drop, length, get_or, ap, arith, if◌then◌else◌}
+use Rattle.ctokens.specs.declared.token.Token.{Token}
+use Rattle.cgrammar.specs.Terminals.{terminal_of, unpassed}
+
+pub unpassed_behind : (text : List ℕ) (passed : List Bool) (list : List Token) (index : ℕ) (other : Bool) → index < length passed → index < length list
+    → get_or passed index other ≡ true
+    → unpassed (drop index passed) (map (terminal_of text) (drop index list)) ≡ unpassed (drop (index + 1) passed) (map (terminal_of text) (drop (index + 1) list))
+unpassed_behind text [] list index other inside within is = absurd (omega (arith, inside))
+unpassed_behind text (first ∷ passed) [] index other inside within is = absurd (omega (arith, within))
+unpassed_behind text (first ∷ passed) (token ∷ list) zero other inside within is =
+    ap (λ (b : Bool). if b then unpassed passed (map (terminal_of text) list) else terminal_of text token ∷ unpassed passed (map (terminal_of text) list)) is
+unpassed_behind text (first ∷ passed) (token ∷ list) (suc index) other inside within is =
+    let next : suc index + 1 ≡ suc (index + 1) = omega arith in
+    rw next (unpassed_behind text passed list index other (omega (arith, inside)) (omega (arith, within)) is)

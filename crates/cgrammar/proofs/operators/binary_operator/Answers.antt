@@ -1,0 +1,7 @@
+use Rattle.std.proofs.Common.{◌∙◌, ap, map}
+use Rattle.cgrammar.specs.Operators.{row_of}
+use Rattle.cgrammar.specs.CodeTables.{row_read}
+use Rattle.cgrammar.proofs.operators.binary_operator.Goals as goal
+
+pub returns : goal.returns
+returns c = c.row_of.ensures ∙ ap (λ rows. row_of c.args.mark.now (map row_read rows)) c.as_slice.ensures

@@ -1,0 +1,6 @@
+use Rattle.std.proofs.Common.{◌≡◌, ◌++◌, map, drop}
+use Rattle.cgrammar.specs.Terminals.{terminal_of, unpassed}
+use Rattle.cgrammar.proofs.terminals.unpassed.Given as goal
+
+abbrev pub invariant-loop-index : goal.invariant-loop-index
+invariant-loop-index l = l.row.items ++ unpassed (drop l.index l.passed) (map (terminal_of l.text) (drop l.index l.list)) ≡ unpassed l.passed (map (terminal_of l.text) l.list)

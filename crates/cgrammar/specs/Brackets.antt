@@ -1,0 +1,20 @@
+-- Rows in which brackets are matched by kind.
+use Rattle.std.specs.Prelude.{Bool, ◌||◌, not, IsTrue, ◌⊎◌, List, [], ◌∷◌, ◌++◌, codes}
+use Rattle.cgrammar.specs.Terminals.{Terminal, is_mark, IsMark}
+
+abbrev pub is_bracket : Terminal → Bool
+is_bracket token =
+    is_mark (codes "(") token || is_mark (codes ")") token || is_mark (codes "[") token
+    || is_mark (codes "]") token || is_mark (codes "{") token || is_mark (codes "}") token
+
+-- brackets of one kind
+abbrev pub ArePair : Terminal → Terminal → Type 0
+ArePair opening closing =
+    (IsMark (codes "(") opening × IsMark (codes ")") closing)
+    ⊎ ((IsMark (codes "[") opening × IsMark (codes "]") closing) ⊎ (IsMark (codes "{") opening × IsMark (codes "}") closing))
+
+pub data AreMatched : List Terminal → Type 0 where
+  NothingMore : AreMatched []
+  NoBracket : {rest : List Terminal} (token : Terminal) → IsTrue (not (is_bracket token)) → AreMatched rest → AreMatched (token ∷ rest)
+  InBrackets : {inside rest : List Terminal} (opening closing : Terminal) → ArePair opening closing → AreMatched inside → AreMatched rest
+      → AreMatched (opening ∷ (inside ++ (closing ∷ rest)))

@@ -1,0 +1,45 @@
+//! Which expressions, types, declarations, statements and blocks the tokens of a text spell, and their trees.
+//!
+//! It knows the grammar and which names are typedefs, and no types of expressions.
+#![tactic(auto)]
+
+mod basic;
+mod basic_words;
+mod constants;
+mod label;
+mod laws;
+mod name;
+mod names;
+mod operators;
+mod reading;
+mod rows;
+mod scope;
+mod stars;
+mod tables;
+mod tag;
+mod terminal;
+mod terminals;
+mod texts;
+mod words;
+
+pub use basic_words::{BasicWords, basic_words};
+pub use label::begins_with_label;
+pub use laws::{
+    declared_names_are_found, each_row_has_one_tree, first_tokens, labels_are_told_apart,
+    numbers_go_up, scopes_are_kept, types_are_told_apart,
+};
+pub use reading::operand::Operand;
+pub use reading::specifiers::Specifiers;
+pub use reading::starts::{
+    OperandStart, PostfixStart, StatementStart, TypeStart, begins_declaration, begins_type,
+    operand_start, postfix_start, statement_start, type_start,
+};
+pub use rows::{rows_of_expressions, rows_of_statements, rows_of_texts};
+pub use scope::Scope;
+pub use stars::stars_length;
+pub use tables::{tables_of_blocks, tables_of_expressions};
+pub use terminal::{Terminal, terminal_of};
+pub use terminals::terminals;
+
+#[cfg(test)]
+mod tests;

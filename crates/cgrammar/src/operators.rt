@@ -1,0 +1,105 @@
+ghost use Rattle.std.specs.Prelude.{◌≡◌, map};
+ghost use Rattle.cgrammar.specs.Operators.{row_of, unary_rows, count_rows, member_rows, binary_rows, assignment_rows};
+ghost use Rattle.cgrammar.specs.CodeTables.{row_read};
+
+use cbase::{BinaryOp, UnaryOp};
+
+/// The prefix operators.
+const UNARY: [(&'static str, UnaryOp); 6] = [
+    ("&", UnaryOp::Address),
+    ("*", UnaryOp::Follow),
+    ("+", UnaryOp::Plus),
+    ("-", UnaryOp::Minus),
+    ("~", UnaryOp::Flip),
+    ("!", UnaryOp::Not),
+];
+
+/// `++` and `--`, with whether they count up.
+const COUNT: [(&'static str, bool); 2] = [("++", true), ("--", false)];
+
+/// `.` and `->`, with whether they go through a pointer.
+const MEMBER: [(&'static str, bool); 2] = [(".", false), ("->", true)];
+
+/// The binary operators with their levels, the loosest first.
+const BINARY: [(&'static str, (u8, BinaryOp)); 18] = [
+    ("||", (0, BinaryOp::Either)),
+    ("&&", (1, BinaryOp::Both)),
+    ("|", (2, BinaryOp::Or)),
+    ("^", (3, BinaryOp::Xor)),
+    ("&", (4, BinaryOp::And)),
+    ("==", (5, BinaryOp::Equal)),
+    ("!=", (5, BinaryOp::NotEqual)),
+    ("<", (6, BinaryOp::Less)),
+    (">", (6, BinaryOp::Greater)),
+    ("<=", (6, BinaryOp::LessEqual)),
+    (">=", (6, BinaryOp::GreaterEqual)),
+    ("<<", (7, BinaryOp::Left)),
+    (">>", (7, BinaryOp::Right)),
+    ("+", (8, BinaryOp::Add)),
+    ("-", (8, BinaryOp::Sub)),
+    ("*", (9, BinaryOp::Mul)),
+    ("/", (9, BinaryOp::Div)),
+    ("%", (9, BinaryOp::Rem)),
+];
+
+/// The assignment operators, with what is done before the store.
+const ASSIGNMENT: [(&'static str, Option<BinaryOp>); 11] = [
+    ("=", None),
+    ("*=", Some(BinaryOp::Mul)),
+    ("/=", Some(BinaryOp::Div)),
+    ("%=", Some(BinaryOp::Rem)),
+    ("+=", Some(BinaryOp::Add)),
+    ("-=", Some(BinaryOp::Sub)),
+    ("<<=", Some(BinaryOp::Left)),
+    (">>=", Some(BinaryOp::Right)),
+    ("&=", Some(BinaryOp::And)),
+    ("^=", Some(BinaryOp::Xor)),
+    ("|=", Some(BinaryOp::Or)),
+];
+
+/// What a table says of a mark with these bytes.
+fn row_of<T: Copy>(rows: &[(&str, T)], bytes: &[u8]) -> Option<T>
+    ensures { result ≡ row_of bytes.now (map row_read rows.now) }
+{
+    for row in rows {
+        if row.0.as_bytes() == bytes {
+            return Some(row.1);
+        }
+    }
+    None
+}
+
+/// The prefix operator that a mark is (C11 6.5.3.2, 6.5.3.3).
+pub fn unary_operator(mark: &[u8]) -> Option<UnaryOp>
+    ensures { result ≡ row_of mark.now unary_rows }
+{
+    row_of(UNARY.as_slice(), mark)
+}
+
+/// Whether a mark counts up or down (C11 6.5.2.4, 6.5.3.1).
+pub fn count_operator(mark: &[u8]) -> Option<bool>
+    ensures { result ≡ row_of mark.now count_rows }
+{
+    row_of(COUNT.as_slice(), mark)
+}
+
+/// Whether a mark goes to a member through a pointer (C11 6.5.2.3).
+pub fn member_operator(mark: &[u8]) -> Option<bool>
+    ensures { result ≡ row_of mark.now member_rows }
+{
+    row_of(MEMBER.as_slice(), mark)
+}
+
+/// The binary operator that a mark is, with its level, 0 for the loosest (C11 6.5.5 to 6.5.14).
+pub fn binary_operator(mark: &[u8]) -> Option<(u8, BinaryOp)>
+    ensures { result ≡ row_of mark.now binary_rows }
+{
+    row_of(BINARY.as_slice(), mark)
+}
+
+/// What the assignment operator that a mark is does before its store (C11 6.5.16).
+pub fn assignment_operator(mark: &[u8]) -> Option<Option<BinaryOp>>
+    ensures { result ≡ row_of mark.now assignment_rows }
+{
+    row_of(ASSIGNMENT.as_slice(), mark)
+}

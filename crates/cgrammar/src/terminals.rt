@@ -1,0 +1,45 @@
+ghost use Rattle.std.specs.Prelude.{◌≡◌, ◌<◌, ◌≤◌, length, map, IfOk};
+ghost use Rattle.std.specs.List.{All};
+ghost use Rattle.ctokens.specs.Passed.{LieInText};
+ghost use Rattle.ctokens.specs.declared.token.Token.{Token};
+ghost use Rattle.cgrammar.specs.Terminals.{terminal_of, terminals, unpassed};
+
+use crate::terminal::{Terminal, terminal_of};
+use cbase::NoMemory;
+use ctokens::{Token, Tokens, passed_over};
+use std::alloc::Global;
+
+/// The tokens of a text that are not passed over, in order.
+pub fn terminals<'a>(alloc: Global, t: &'a Tokens) -> Result<Vec<Terminal<'a>>, NoMemory>
+    requires { LieInText t.now }
+    ensures { IfOk result (λ row. row.items ≡ terminals t.now) }
+{
+    let passed = passed_over(alloc, t)?;
+    unpassed(
+        alloc,
+        t.text.as_slice(),
+        t.list.as_slice(),
+        passed.as_slice(),
+    )
+}
+
+/// The tokens of which it is not said that they are passed over.
+fn unpassed<'a>(
+    alloc: Global,
+    text: &'a [u8],
+    list: &[Token],
+    passed: &[bool],
+) -> Result<Vec<Terminal<'a>>, NoMemory>
+    requires ranges { All (λ (token : Token). (token.from < token.to) × (token.to ≤ length text.now)) list.now }
+    requires same { length passed.now ≡ length list.now }
+    ensures { IfOk result (λ row. row.items ≡ unpassed passed.now (map (terminal_of text.now) list.now)) }
+{
+    let mut row = Vec::new(alloc);
+    for (index, token) in list.iter().enumerate() {
+        if passed[index] {
+            continue;
+        }
+        row.push(terminal_of(text, *token))?;
+    }
+    Ok(row)
+}

@@ -1,7 +1,0 @@
-use Rattle.std.proofs.Common.{◌≡◌, ◌+◌, ◌≤◌, map, drop}
-use Rattle.cread_expr.specs.TypeWords.{times}
-use Rattle.cread_expr.specs.CodeTables.{text_read}
-use Rattle.cread_expr.proofs.basic.times_in.Given as goal
-
-abbrev pub invariant-loop-text : goal.invariant-loop-text
-invariant-loop-text l = (l.count + times l.word (map text_read (drop l.text-index l.texts)) ≡ times l.word (map text_read l.texts)) × (l.count ≤ l.text-index)

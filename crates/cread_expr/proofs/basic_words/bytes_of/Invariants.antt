@@ -1,7 +1,0 @@
-use Rattle.std.proofs.Common.{◌≡◌, map, take}
-use Rattle.cread_expr.specs.CodeTables.{text_read}
-use Rattle.cread_expr.specs.Terminals.{bytes_of}
-use Rattle.cread_expr.proofs.basic_words.bytes_of.Given as goal
-
-abbrev pub invariant-loop-token : goal.invariant-loop-token
-invariant-loop-token l = map text_read l.all.items ≡ map bytes_of (take l.token-index l.row)

@@ -1,6 +1,0 @@
-use Rattle.std.proofs.Common.{◌∙◌}
-use Rattle.cread_expr.proofs.Scopes.{found-map}
-use Rattle.cread_expr.proofs.names.found_in.Goals as goal
-
-pub returns : goal.returns
-returns c = c.copied.ensures ∙ (c.get.ensures.value ∙ found-map (λ v. v.items) c.args.name.now c.args.table.now.entries)

@@ -1,7 +1,0 @@
-use Rattle.std.proofs.Common.{◌∙◌, ap, map}
-use Rattle.cread_expr.specs.Operators.{row_of}
-use Rattle.cread_expr.specs.CodeTables.{row_read}
-use Rattle.cread_expr.proofs.operators.assignment_operator.Goals as goal
-
-pub returns : goal.returns
-returns c = c.row_of.ensures ∙ ap (λ rows. row_of c.args.mark.now (map row_read rows)) c.as_slice.ensures
