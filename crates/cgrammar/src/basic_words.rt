@@ -28,7 +28,7 @@ pub struct BasicWords {
 
 /// The longest row of words of basic types at the front of the row, with the type that they spell (C11 6.7.2). Each
 /// basic type that is spelled at the front of the row lies in these words.
-pub fn basic_words(alloc: Global, row: &[Terminal<'_>]) -> Result<BasicWords, NoMemory>
+pub fn read_basic_words(alloc: Global, row: &[Terminal<'_>]) -> Result<BasicWords, NoMemory>
     ensures words { IfOk result (λ read. read.count ≡ prefix_len is_basic_word row.now) }
     ensures inside { IfOk result (λ read. read.count ≤ length row.now) }
     ensures same { IfOk result (λ read. read.basic ≡ basic_of basic_rows (map bytes_of (take read.count row.now))) }

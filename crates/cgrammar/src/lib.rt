@@ -22,7 +22,7 @@ mod terminals;
 mod texts;
 mod words;
 
-pub use basic_words::{BasicWords, basic_words};
+pub use basic_words::{BasicWords, read_basic_words};
 pub use label::begins_with_label;
 pub use laws::{
     declared_names_are_found, each_row_has_one_tree, first_tokens, labels_are_told_apart,
@@ -39,7 +39,7 @@ pub use scope::Scope;
 pub use stars::stars_length;
 pub use tables::{tables_of_blocks, tables_of_expressions};
 pub use terminal::{Terminal, terminal_of};
-pub use terminals::terminals;
+pub use terminals::row_of;
 
 #[cfg(test)]
 mod tests;

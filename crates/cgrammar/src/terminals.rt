@@ -10,7 +10,7 @@ use ctokens::{Token, Tokens, passed_over};
 use std::alloc::Global;
 
 /// The tokens of a text that are not passed over, in order.
-pub fn terminals<'a>(alloc: Global, t: &'a Tokens) -> Result<Vec<Terminal<'a>>, NoMemory>
+pub fn row_of<'a>(alloc: Global, t: &'a Tokens) -> Result<Vec<Terminal<'a>>, NoMemory>
     requires { LieInText t.now }
     ensures { IfOk result (λ row. row.items ≡ terminals t.now) }
 {

@@ -3,7 +3,7 @@ ghost use Rattle.ctokens.specs.Passed.{LieInText};
 
 use super::Scope;
 use crate::basic::basic_type;
-use crate::basic_words::basic_words;
+use crate::basic_words::read_basic_words;
 use crate::constants::is_integer;
 use crate::label::begins_with_label;
 use crate::name::name;
@@ -12,7 +12,7 @@ use crate::operators::{
 };
 use crate::stars::stars;
 use crate::tag::tag;
-use crate::terminals::terminals;
+use crate::terminals::row_of;
 use cbase::{BasicType, BinaryOp, List, NoMemory, Place, Rank, Storage, Text, UnaryOp};
 use ctokens::{Token, TokenKind, Tokens};
 use std::alloc::Global;
@@ -68,7 +68,7 @@ fn fronts_of_rows(rt: HostRuntime) -> Result<(), Fail> {
     let mut scope = Scope::new(alloc)?;
     scope.declare(alloc, b"t", true)?;
     let t = cut(alloc, b"x : struct s long unsigned int static")?;
-    let row = terminals(alloc, &t)?;
+    let row = row_of(alloc, &t)?;
     if let [_, _, behind @ ..] = row.as_slice() {
         assert!(rt; begins_with_label(&scope, row.as_slice()));
         assert!(rt; !begins_with_label(&scope, behind));
@@ -77,7 +77,7 @@ fn fronts_of_rows(rt: HostRuntime) -> Result<(), Fail> {
         assert!(rt; tag(b"struct", behind) == Some(b"s".as_slice()));
         assert!(rt; tag(b"enum", behind).is_none());
         if let [_, _, words @ ..] = behind {
-            let read = basic_words(alloc, words)?;
+            let read = read_basic_words(alloc, words)?;
             assert!(rt; read.count == 3);
             let long = BasicType::Integer {
                 rank: Rank::Long,
@@ -98,7 +98,7 @@ fn tokens_of_a_text(rt: HostRuntime) -> Result<(), Fail> {
     let mut scope = Scope::new(alloc)?;
     scope.declare(alloc, b"t", true)?;
     let t = cut(alloc, b"const __signed__ t * * _Float32 x")?;
-    let row = terminals(alloc, &t)?;
+    let row = row_of(alloc, &t)?;
     assert!(rt; row.len() == 6);
     if let [signed, name, behind @ ..] = row.as_slice() {
         assert!(rt; signed.is_word(b"signed") && signed.is_any_word() && !signed.is_name());

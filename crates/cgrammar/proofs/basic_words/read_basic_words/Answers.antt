@@ -2,7 +2,7 @@ use Rattle.std.proofs.Common.{◌∙◌, ap, arith, map, List, ℕ}
 use Rattle.cgrammar.specs.CodeTables.{text_read}
 use Rattle.cgrammar.specs.TypeWords.{basic_of, basic_rows}
 use Rattle.cgrammar.proofs.BasicRows.{basic_exact, basic_covered}
-use Rattle.cgrammar.proofs.basic_words.basic_words.Goals as goal
+use Rattle.cgrammar.proofs.basic_words.read_basic_words.Goals as goal
 
 pub returns-clause-same : goal.returns-clause-same
 returns-clause-same c =
