@@ -1,0 +1,43 @@
+use cbase::{
+    Boxed, Decl, Declared, Enumerator, Expr, FieldDecl, FieldName, Init, InitPart, List, Param,
+    Part, Stmt, TypeName, TypeSpec,
+};
+
+/// A tree, or a list of trees, that other trees may be made of.
+#[derive(Drop)]
+pub enum Piece {
+    /// An expression.
+    Expr(Boxed<Expr>),
+    /// The arguments of a call.
+    Arguments(List<Expr>),
+    /// The members and indices of `__builtin_offsetof`.
+    Path(List<Part>),
+    /// A type.
+    Type(TypeSpec),
+    /// Sizes of arrays, which may be left out.
+    Sizes(List<Option<Expr>>),
+    /// The name of a type.
+    TypeName(TypeName),
+    /// The declarators of fields.
+    FieldNames(List<FieldName>),
+    /// Declarations of fields.
+    Fields(List<FieldDecl>),
+    /// Enumerators.
+    Enumerators(List<Enumerator>),
+    /// Parameters.
+    Parameters(List<Param>),
+    /// Declarators.
+    Declarators(List<Declared>),
+    /// A declaration.
+    Declaration(Decl),
+    /// An initialiser.
+    Init(Init),
+    /// The parts of an initialiser in braces.
+    Parts(List<InitPart>),
+    /// An expression that may be left out.
+    Maybe(Option<Expr>),
+    /// A statement.
+    Statement(Boxed<Stmt>),
+    /// Statements.
+    Statements(List<Stmt>),
+}

@@ -1,0 +1,9 @@
+pub mod DeclarationSteps
+pub mod Nests
+pub mod OperandSteps
+pub mod OperatorSteps
+pub mod ReadingSteps
+pub mod State
+pub mod StatementSteps
+pub mod Steps
+pub mod TypeSteps

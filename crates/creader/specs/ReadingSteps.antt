@@ -1,0 +1,32 @@
+-- The reader of expressions, types and statements of at most so many levels, as what it does: one recursion over the
+-- levels.
+use Rattle.std.specs.Prelude.{ℕ, zero, suc}
+use Rattle.creader.specs.DeclarationSteps.{initializer}
+use Rattle.creader.specs.OperandSteps.{cast}
+use Rattle.creader.specs.OperatorSteps.{all_operations, conditional_from, assignment_from, expression_from}
+use Rattle.creader.specs.State.{State, lost}
+use Rattle.creader.specs.StatementSteps.{clause, statement, item}
+use Rattle.creader.specs.Steps.{Inner}
+use Rattle.creader.specs.TypeSteps.{specifier}
+use Rattle.creader.specs.declared.wanted.Wanted.{Wanted}
+use Rattle.creader.specs.declared.wanted.Wanted.TheVariants as wanted
+
+abbrev pub reads_with : Inner → Wanted → State → State
+reads_with inner wanted.Cast s = cast inner s
+reads_with inner (wanted.Operation loosest) s = all_operations inner loosest (cast inner s)
+reads_with inner wanted.Conditional s = conditional_from inner (cast inner s)
+reads_with inner wanted.Assignment s = assignment_from inner (cast inner s)
+reads_with inner wanted.Expression s = expression_from inner (cast inner s)
+reads_with inner wanted.Specifier s = specifier inner s
+reads_with inner wanted.Initializer s = initializer inner s
+reads_with inner wanted.Clause s = clause inner s
+reads_with inner wanted.Statement s = statement inner s
+reads_with inner wanted.Item s = item inner s
+
+-- the readers of trees of at most so many levels
+pub reads : ℕ → Wanted → State → State
+reads zero wanted s = lost s
+reads (suc most) wanted s = reads_with (record { most = most; reads = reads most }) wanted s
+
+abbrev pub inner_at : ℕ → Inner
+inner_at most = record { most = most; reads = reads most }
