@@ -1,6 +1,6 @@
 -- Tokens between two places of a row.
 use Rattle.std.specs.Prelude.{◌≡◌, ℕ, ◌-◌, ◌≤◌, List, [], take, drop, length}
-use Rattle.std.proofs.Common.{◌∙◌, ap, arith, length-drop, add-zero}
+use Rattle.std.proofs.Common.{◌∙◌, ap, arith, length-drop}
 use Rattle.std.proofs.lemmas.List.{drop_all, take_all}
 use Rattle.creader.specs.State.{State, rest, skipped}
 

@@ -1,10 +1,10 @@
 -- The kinds of lists that are read part by part, each as what it does.
 use Rattle.std.specs.Prelude.{Bool, List, ◌&&◌, not, codes}
 use Rattle.cgrammar.specs.Outcomes.{has_mark, behind_first}
-use Rattle.cgrammar.specs.ReadTypes.{never, closes_braces}
+use Rattle.cgrammar.specs.ReadTypes.{never}
 use Rattle.cgrammar.specs.Terminals.{Terminal}
 use Rattle.creader.specs.OperandSteps.{argument}
-use Rattle.creader.specs.State.{State, rest}
+use Rattle.creader.specs.State.{State}
 use Rattle.creader.specs.Steps.{Inner, parts_behind}
 use Rattle.creader.specs.declared.listed.Listed.{Listed}
 use Rattle.creader.specs.declared.listed.Listed.TheVariants.{Argument}

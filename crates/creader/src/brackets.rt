@@ -6,7 +6,7 @@ ghost use Rattle.creader.specs.State.{rest};
 
 use crate::closers::matched_length;
 use crate::grammar::Grammar;
-use crate::reader::Reader;
+use crate::reader::{Reader, behind};
 use crate::wanted::Wanted;
 use cbase::NoMemory;
 use cgrammar::{Scope, Terminal, begins_type};
@@ -37,13 +37,13 @@ impl<'a> Reader<'a> {
 }
 
 /// How many brackets around expressions the row begins with.
-fn opened(scope: &Scope, row: &[Terminal<'_>]) -> usize
+fn opened<'a>(scope: &Scope, row: &'a [Terminal<'a>]) -> usize
     ensures count { result ≡ opened scope.now row.now }
     ensures inside { result ≤ length row.now }
 {
     let mut count = 0;
     'tokens: while count < row.len() {
-        if !opens(scope, &row[count..]) {
+        if !opens(scope, behind(row, count)) {
             return count;
         }
         count += 1;
@@ -81,7 +81,12 @@ impl<F: Fn(&mut Reader<'_>, u32, Wanted) -> Result<(), NoMemory>> Grammar<F> {
     }
 
     /// So many brackets, the innermost first. The outermost begins at the token `first`.
-    fn all_closed(&self, reader: &mut Reader<'_>, first: usize, count: usize) -> Result<(), NoMemory>
+    fn all_closed(
+        &self,
+        reader: &mut Reader<'_>,
+        first: usize,
+        count: usize,
+    ) -> Result<(), NoMemory>
         requires nests { Nests self.now.depth (F.pre self.now.inner) (F.post self.now.inner) }
         requires fits { first + count < 2 ^ 64 }
         ensures { OnOk result (reader.new ≡ all_closed (inner_at self.now.depth) first count reader.old) }

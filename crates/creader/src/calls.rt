@@ -18,7 +18,8 @@ impl<'a> Reader<'a> {
 /// The tokens from one number up to another.
 #[tactic(auto, using(crate::proofs::Fronts::none_between, crate::proofs::Fronts::none_behind, crate::proofs::Fronts::all_behind))]
 fn between<'a>(row: &'a [Terminal<'a>], first: usize, end: usize) -> &'a [Terminal<'a>]
-    ensures { result.now ≡ take (end - first) (drop first row.now) }
+    ensures is { result.now ≡ take (end - first) (drop first row.now) }
+    ensures inside { length result.now ≤ length row.now - first }
 {
     if end <= first || row.len() <= first {
         return &[];
@@ -31,6 +32,7 @@ fn between<'a>(row: &'a [Terminal<'a>], first: usize, end: usize) -> &'a [Termin
 
 /// The number of the first word among tokens of which the first has the number `first`, or that number.
 fn first_word(first: usize, front: &[Terminal<'_>]) -> usize
+    requires { first + length front.now < 2 ^ 64 }
     ensures { result ≡ first_word first front.now }
 {
     let count = before_word(front);

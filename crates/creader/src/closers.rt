@@ -7,8 +7,12 @@ use cbase::NoMemory;
 use cgrammar::Terminal;
 use std::alloc::Global;
 
-/// How many tokens stand up to the bracket that closes one that is opened before them, where brackets are matched by kind.
-pub fn matched_length(alloc: Global, row: &[Terminal<'_>], closer: u8) -> Result<Option<usize>, NoMemory>
+/// How many tokens stand up to the bracket that closes one that is open before them, where brackets are matched by kind.
+pub fn matched_length(
+    alloc: Global,
+    row: &[Terminal<'_>],
+    closer: u8,
+) -> Result<Option<usize>, NoMemory>
     ensures is { IfOk result (λ found. option_map (λ count. drop count row.now) found ≡ behind_matched (closer ∷ []) row.now) }
     ensures inside { IfOk result (λ found. IfSome found (λ count. count ≤ length row.now)) }
 {
@@ -18,8 +22,8 @@ pub fn matched_length(alloc: Global, row: &[Terminal<'_>], closer: u8) -> Result
     'tokens: while count < row.len() {
         match opened.pop() {
             None => return Ok(Some(count)),
-            Some(closer) => {
-                if !go_over(&mut opened, closer, &row[count])? {
+            Some(innermost) => {
+                if !go_over(&mut opened, innermost, &row[count])? {
                     return Ok(None);
                 }
             }
@@ -32,8 +36,9 @@ pub fn matched_length(alloc: Global, row: &[Terminal<'_>], closer: u8) -> Result
     Ok(None)
 }
 
-/// Goes over a token where the innermost opened bracket is closed by `closer`, and says whether it may stand there. The
+/// Goes over a token where the innermost open bracket is closed by `closer`, and says whether it may stand there. The
 /// last of `opened` is then the innermost.
+#[tactic(auto, using(crate::proofs::Stacks::pushed))]
 fn go_over(opened: &mut Vec<u8>, closer: u8, token: &Terminal<'_>) -> Result<bool, NoMemory>
     ensures { IfOk result (λ may. behind_token closer (reverse opened.old.items) token.now ≡ (if may then Some (reverse opened.new.items) else None)) }
 {

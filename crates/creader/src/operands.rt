@@ -127,7 +127,11 @@ impl<F: Fn(&mut Reader<'_>, u32, Wanted) -> Result<(), NoMemory>> Grammar<F> {
     {
         self.ask(reader, Wanted::Cast)?;
         reader.unary_alone();
-        reader.wrap(Event::Count { up, after: false, at })?;
+        reader.wrap(Event::Count {
+            up,
+            after: false,
+            at,
+        })?;
         reader.as_operand(true);
         Ok(())
     }
@@ -156,7 +160,12 @@ impl<F: Fn(&mut Reader<'_>, u32, Wanted) -> Result<(), NoMemory>> Grammar<F> {
     }
 
     /// An operand that begins with a mark or a word at the token `at`, from behind that on.
-    fn prefixed(&self, reader: &mut Reader<'_>, at: usize, start: OperandStart) -> Result<(), NoMemory>
+    fn prefixed(
+        &self,
+        reader: &mut Reader<'_>,
+        at: usize,
+        start: OperandStart,
+    ) -> Result<(), NoMemory>
         requires { Nests self.now.depth (F.pre self.now.inner) (F.post self.now.inner) }
         ensures { OnOk result (reader.new ≡ prefixed (inner_at self.now.depth) at reader.old start) }
     {

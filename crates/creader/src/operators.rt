@@ -74,7 +74,12 @@ impl<F: Fn(&mut Reader<'_>, u32, Wanted) -> Result<(), NoMemory>> Grammar<F> {
 
     /// What stands behind a `?`, up to the end of what stands behind the `:`.
     #[tactic(auto, unfolding(crate::specs::OperatorSteps::choice_behind))]
-    fn choice_behind(&self, reader: &mut Reader<'_>, point: Point, at: usize) -> Result<(), NoMemory>
+    fn choice_behind(
+        &self,
+        reader: &mut Reader<'_>,
+        point: Point,
+        at: usize,
+    ) -> Result<(), NoMemory>
         requires { Nests self.now.depth (F.pre self.now.inner) (F.post self.now.inner) }
         ensures { OnOk result (reader.new ≡ choice_behind (inner_at self.now.depth) point at reader.old) }
     {
@@ -132,7 +137,11 @@ impl<F: Fn(&mut Reader<'_>, u32, Wanted) -> Result<(), NoMemory>> Grammar<F> {
     }
 
     /// The assignment operator that stands there with its right operand, behind a unary expression.
-    fn assignment_behind(&self, reader: &mut Reader<'_>, op: Option<BinaryOp>) -> Result<(), NoMemory>
+    fn assignment_behind(
+        &self,
+        reader: &mut Reader<'_>,
+        op: Option<BinaryOp>,
+    ) -> Result<(), NoMemory>
         requires nests { Nests self.now.depth (F.pre self.now.inner) (F.post self.now.inner) }
         requires there { 1 ≤ length (rest reader.old) }
         ensures { OnOk result (reader.new ≡ assignment_with (inner_at self.now.depth) reader.old (Some op)) }

@@ -97,7 +97,12 @@ impl<F: Fn(&mut Reader<'_>, u32, Wanted) -> Result<(), NoMemory>> Grammar<F> {
     }
 
     /// One operator behind an operand that begins at the token `first`.
-    fn postfix_with(&self, reader: &mut Reader<'_>, first: usize, start: PostfixStart) -> Result<(), NoMemory>
+    fn postfix_with(
+        &self,
+        reader: &mut Reader<'_>,
+        first: usize,
+        start: PostfixStart,
+    ) -> Result<(), NoMemory>
         requires nests { Nests self.now.depth (F.pre self.now.inner) (F.post self.now.inner) }
         requires there { IsTrue (goes_on start) → 1 ≤ length (rest reader.old) }
         ensures { OnOk result (reader.new ≡ postfix_with (inner_at self.now.depth) first reader.old start) }
@@ -120,7 +125,11 @@ impl<F: Fn(&mut Reader<'_>, u32, Wanted) -> Result<(), NoMemory>> Grammar<F> {
             }
             PostfixStart::Count(up) => {
                 reader.skip(1);
-                reader.make(Event::Count { up, after: true, at })
+                reader.make(Event::Count {
+                    up,
+                    after: true,
+                    at,
+                })
             }
             PostfixStart::Other => Ok(()),
         }

@@ -37,15 +37,10 @@ impl<'a> Model for Reader<'a> {
 
 impl<'a> Reader<'a> {
     /// The tokens that are left.
-    #[tactic(auto, using(crate::proofs::Rests::beyond))]
     pub fn rest(&self) -> &'a [Terminal<'a>]
         ensures { result.now ≡ rest self.now }
     {
-        if self.at < self.row.len() {
-            &self.row[self.at..]
-        } else {
-            &[]
-        }
+        behind(self.row, self.at)
     }
 
     /// How many tokens are left.
@@ -141,5 +136,17 @@ impl<'a> Reader<'a> {
         ensures inside { result ≤ length (rest self.now) }
     {
         stars_length(self.rest())
+    }
+}
+
+/// The tokens of a row behind so many.
+#[tactic(auto, using(crate::proofs::Rests::beyond))]
+pub fn behind<'a>(row: &'a [Terminal<'a>], count: usize) -> &'a [Terminal<'a>]
+    ensures { result.now ≡ drop count row.now }
+{
+    if count < row.len() {
+        &row[count..]
+    } else {
+        &[]
     }
 }

@@ -1,4 +1,4 @@
-use Rattle.std.proofs.Common.{refl, arith, rules}
+use Rattle.std.proofs.Common.{refl, ◌∙◌, arith, rules}
 use Rattle.creader.specs.ListSteps.{part_of, closes_of, part_turn}
 use Rattle.creader.specs.Steps.{parts}
 use Rattle.creader.specs.ReadingSteps.{inner_at}
@@ -13,7 +13,7 @@ returns-then-not-branch g c =
 pub returns-then-left-eq0 : goal.returns-then-left-eq0
 unfolding parts
 returns-then-left-eq0 g c =
-    last (parts (closes_of c.args.listed) (part_of (inner_at c.args.self.now.depth) c.args.listed)) (part_turn (inner_at c.args.self.now.depth) c.args.listed) (λ n s. refl) c.turns.left c.turns.reader c.part_turn.new.reader _ c.in_ok-part_turn.field-0 c.in_ok-part_turn.ensures (search rules) c.if-left-eq0.true c.turns.invariant
+    c.lose.ensures ∙ last (parts (closes_of c.args.listed) (part_of (inner_at c.args.self.now.depth) c.args.listed)) (part_turn (inner_at c.args.self.now.depth) c.args.listed) (λ n s. refl) c.turns.left c.turns.reader c.part_turn.new.reader _ c.in_ok-part_turn.field-0 c.in_ok-part_turn.ensures (search rules) c.if-left-eq0.true c.turns.invariant
 
 pub turns-preserved : goal.turns-preserved
 unfolding parts

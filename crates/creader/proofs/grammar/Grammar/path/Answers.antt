@@ -1,4 +1,4 @@
-use Rattle.std.proofs.Common.{refl, arith, rules}
+use Rattle.std.proofs.Common.{refl, ◌∙◌, arith, rules}
 use Rattle.creader.specs.OperandSteps.{path, path_turn}
 use Rattle.creader.specs.ReadingSteps.{inner_at}
 use Rattle.creader.proofs.Turns.{ends, last, goes_on}
@@ -12,7 +12,7 @@ returns-then-not-branch g c =
 pub returns-then-left-eq0 : goal.returns-then-left-eq0
 unfolding path
 returns-then-left-eq0 g c =
-    last (path (inner_at c.args.self.now.depth)) (path_turn (inner_at c.args.self.now.depth)) (λ n s. refl) c.turns.left c.turns.reader c.path_turn.new.reader _ c.in_ok-path_turn.field-0 c.in_ok-path_turn.ensures (search rules) c.if-left-eq0.true c.turns.invariant
+    c.lose.ensures ∙ last (path (inner_at c.args.self.now.depth)) (path_turn (inner_at c.args.self.now.depth)) (λ n s. refl) c.turns.left c.turns.reader c.path_turn.new.reader _ c.in_ok-path_turn.field-0 c.in_ok-path_turn.ensures (search rules) c.if-left-eq0.true c.turns.invariant
 
 pub turns-preserved : goal.turns-preserved
 unfolding path
