@@ -1,1 +1,3 @@
+pub mod LabelRows
+pub mod Readings
 pub mod Rests

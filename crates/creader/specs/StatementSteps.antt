@@ -44,12 +44,16 @@ evaluated first s = make (event.Eval first (s.at - 1)) s
 unfoldable pub expression_statement : Inner → State → State
 expression_statement inner s = evaluated s.at (mark (codes ";") (write event.OneExpression (ask_whole inner wanted.Expression s)))
 
+-- a `;` alone
+abbrev pub empty_statement : State → State
+empty_statement s = make (event.Eval s.at s.at) (write event.NoExpression (skipped 1 s))
+
 -- a declaration, or an expression that may be left out with its `;` (C11 6.8.3, 6.8.5.3)
 unfoldable pub clause : Inner → State → State
 clause inner s =
     if goes s
     then (if has_first (begins_declaration s.scope) (rest s) then declared_statement inner s
-    else (if has_mark (codes ";") (rest s) then make (event.Eval s.at s.at) (write event.NoExpression (skipped 1 s))
+    else (if has_mark (codes ";") (rest s) then empty_statement s
     else expression_statement inner s))
     else s
 
@@ -139,7 +143,7 @@ unfoldable pub unlabeled : Inner → State → State
 unlabeled inner s = if goes s then unlabeled_with inner s (statement_first (rest s)) else s
 
 -- how many tokens the labels take that a row begins with, each with its `:` (C11 6.8.1); they leave no trace
-pub labels_length : List Names → List Terminal → ℕ
+unfoldable pub labels_length : List Names → List Terminal → ℕ
 labels_length scope [] = 0
 labels_length scope (first ∷ []) = 0
 labels_length scope (first ∷ (second ∷ row)) = if begins_with_label scope (first ∷ (second ∷ row)) then 2 + labels_length scope row else 0
