@@ -1,3 +1,4 @@
 pub mod LabelRows
 pub mod Readings
 pub mod Rests
+pub mod Turns

@@ -1,4 +1,6 @@
+pub mod BraceSteps
 pub mod DeclarationSteps
+pub mod ListSteps
 pub mod Nests
 pub mod OperandSteps
 pub mod OperatorSteps

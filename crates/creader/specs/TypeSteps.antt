@@ -17,30 +17,30 @@ use Rattle.creader.specs.State.{State, rest, goes, skipped, lost}
 use Rattle.creader.specs.Steps.{Inner, mark, ask_whole, write, make, declare, all_parts, until_brace}
 use Rattle.creader.specs.declared.wanted.Wanted.TheVariants as wanted
 
--- A size of an array, behind its `[`, which may be left out where sizes are open (C11 6.7.6.2).
+-- A size of an array, behind its `[`, which may be left out where sizes are optional (C11 6.7.6.2).
 abbrev pub open_size : Bool → State → State
-open_size open s = if open then write event.OpenSize (skipped 1 s) else lost s
+open_size optional s = if optional then write event.OpenSize (skipped 1 s) else lost s
 
 unfoldable pub size_behind : Inner → Bool → State → State
-size_behind inner open s =
-    if has_mark (codes "]") (rest s) then open_size open s
+size_behind inner optional s =
+    if has_mark (codes "]") (rest s) then open_size optional s
     else write event.Size (mark (codes "]") (ask_whole inner wanted.Conditional s))
 
 abbrev pub sizes_with : (State → State) → Inner → Bool → State → State
-sizes_with go inner open s = if has_mark (codes "[") (rest s) then go (size_behind inner open (skipped 1 s)) else s
+sizes_with go inner optional s = if has_mark (codes "[") (rest s) then go (size_behind inner optional (skipped 1 s)) else s
 
 abbrev pub size_turn : Inner → Bool → (State → State) → State → State
-size_turn inner open go s = if goes s then sizes_with go inner open s else s
+size_turn inner optional go s = if goes s then sizes_with go inner optional s else s
 
 unfoldable pub sizes : Inner → Bool → ℕ → State → State
-sizes inner open zero s = lost s
-sizes inner open (suc count) s = size_turn inner open (sizes inner open count) s
+sizes inner optional zero s = lost s
+sizes inner optional (suc count) s = size_turn inner optional (sizes inner optional count) s
 
 abbrev pub sizes_from : Inner → Bool → State → State
-sizes_from inner open s = sizes inner open (length (rest s) + 1) s
+sizes_from inner optional s = sizes inner optional (length (rest s) + 1) s
 
 unfoldable pub all_sizes : Inner → Bool → State → State
-all_sizes inner open s = sizes_from inner open (write event.NoSizes s)
+all_sizes inner optional s = sizes_from inner optional (write event.NoSizes s)
 
 -- a name of a type, from behind the type on (C11 6.7.7)
 abbrev pub type_name_with : Inner → ℕ → State → State

@@ -4,11 +4,35 @@
 //! It knows how a row of tokens is gone through. It makes no trees, and does not know which rows the grammar spells.
 #![tactic(auto)]
 
+mod blocks;
+mod braced;
+mod braces;
+mod branches;
+mod clauses;
+mod declarations;
+mod declarators;
+mod enums;
+mod fields;
 mod grammar;
+mod initializers;
+mod labels;
+mod levels;
+mod listed;
+mod lists;
+mod parameters;
+mod pending;
 mod point;
 mod reader;
+mod reading;
+mod sizes;
+mod specifiers;
+mod statement_ends;
+mod statements;
 mod status;
 mod steps;
+mod structs;
+mod type_names;
+mod types;
 mod wanted;
 
 pub use grammar::Grammar;
