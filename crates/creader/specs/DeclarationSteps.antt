@@ -9,7 +9,7 @@ use Rattle.cgrammar.specs.ReadTypes.{star_count, never, closes_braces}
 use Rattle.cgrammar.specs.Terminals.{Terminal, is_name}
 use Rattle.cgrammar.specs.TypeWords.{declares_typedef}
 use Rattle.creader.specs.State.{State, rest, goes, skipped, lost}
-use Rattle.creader.specs.Steps.{Inner, mark, ask_whole, write, make, declare, enter, leave, all_parts}
+use Rattle.creader.specs.Steps.{Inner, mark, ask_whole, write, make, declare, enter, leave, parts_behind, all_parts}
 use Rattle.creader.specs.TypeSteps.{all_sizes, over_comma}
 use Rattle.creader.specs.declared.wanted.Wanted.TheVariants as wanted
 
@@ -97,6 +97,10 @@ declarator_named inner typedef stars s =
 unfoldable pub declarator : Inner → Bool → State → State
 declarator inner typedef s =
     if goes s then declarator_named inner typedef (star_count (rest s)) (skipped (star_count (rest s)) s) else s
+
+-- a declarator with the comma behind it
+abbrev pub declarator_turn : Inner → Bool → (State → State) → State → State
+declarator_turn inner typedef go s = parts_behind never go (declarator inner typedef s)
 
 unfoldable pub declarators : Inner → Bool → State → State
 declarators inner typedef s = all_parts never (declarator inner typedef) s

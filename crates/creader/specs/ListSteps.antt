@@ -3,13 +3,13 @@ use Rattle.std.specs.Prelude.{Bool, List, ◌&&◌, not, codes}
 use Rattle.cgrammar.specs.Outcomes.{has_mark, behind_first}
 use Rattle.cgrammar.specs.ReadTypes.{never, closes_braces}
 use Rattle.cgrammar.specs.Terminals.{Terminal}
-use Rattle.creader.specs.DeclarationSteps.{parameter, declarator, init_part}
+use Rattle.creader.specs.DeclarationSteps.{parameter, init_part}
 use Rattle.creader.specs.OperandSteps.{argument}
 use Rattle.creader.specs.State.{State, rest}
 use Rattle.creader.specs.Steps.{Inner, parts_behind}
 use Rattle.creader.specs.TypeSteps.{field_name, enumerator}
 use Rattle.creader.specs.declared.listed.Listed.{Listed}
-use Rattle.creader.specs.declared.listed.Listed.TheVariants.{Argument, FieldName, Enumerator, Parameter, Declarator, InitPart}
+use Rattle.creader.specs.declared.listed.Listed.TheVariants.{Argument, FieldName, Enumerator, Parameter, InitPart}
 
 -- a part
 abbrev pub part_of : Inner → Listed → State → State
@@ -17,7 +17,6 @@ part_of inner Argument s = argument inner s
 part_of inner FieldName s = field_name inner s
 part_of inner Enumerator s = enumerator inner s
 part_of inner Parameter s = parameter inner s
-part_of inner (Declarator typedef) s = declarator inner typedef s
 part_of inner InitPart s = init_part inner s
 
 -- where a comma stands behind which the list is closed
@@ -26,7 +25,6 @@ closes_of Argument row = never row
 closes_of FieldName row = never row
 closes_of Enumerator row = closes_braces row
 closes_of Parameter row = never row
-closes_of (Declarator typedef) row = never row
 closes_of InitPart row = closes_braces row
 
 -- a comma behind a part, and one more part behind that

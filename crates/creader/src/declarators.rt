@@ -1,10 +1,10 @@
-ghost use Rattle.std.specs.Prelude.{◌≡◌, OnOk};
+ghost use Rattle.std.specs.Prelude.{◌≡◌, IfOk, OnOk, if◌then◌else◌};
 ghost use Rattle.creader.specs.Nests.{Nests};
 ghost use Rattle.creader.specs.ReadingSteps.{inner_at};
-ghost use Rattle.creader.specs.DeclarationSteps.{object_initialized, object_behind, function_behind, declarator_behind, declarator_named, declarator, declarators};
+ghost use Rattle.creader.specs.State.{State};
+ghost use Rattle.creader.specs.DeclarationSteps.{declarator_turn, object_initialized, object_behind, function_behind, declarator_behind, declarator_named, declarator, declarators};
 
 use crate::grammar::Grammar;
-use crate::listed::Listed;
 use crate::reader::Reader;
 use crate::wanted::Wanted;
 use cbase::NoMemory;
@@ -91,12 +91,38 @@ impl<F: Fn(&mut Reader<'_>, u32, Wanted) -> Result<(), NoMemory>> Grammar<F> {
         self.declarator_named(reader, typedef, stars)
     }
 
-    /// Reads the declarators of a declaration.
+    /// Reads the declarators of a declaration (C11 6.7).
     #[tactic(auto, unfolding(crate::specs::DeclarationSteps::declarators))]
     pub fn declarators(&self, reader: &mut Reader<'_>, typedef: bool) -> Result<(), NoMemory>
         requires { Nests self.now.depth (F.pre self.now.inner) (F.post self.now.inner) }
         ensures { OnOk result (reader.new ≡ declarators (inner_at self.now.depth) typedef reader.old) }
     {
-        self.parts(reader, Listed::Declarator { typedef })
+        let mut left = reader.left();
+        'turns: loop {
+            if !self.declarator_turn(reader, typedef)? {
+                return Ok(());
+            }
+            if left == 0 {
+                reader.lose();
+                return Ok(());
+            }
+            left -= 1;
+        }
+    }
+
+    /// Reads a declarator with the comma behind it, and tells whether one more follows.
+    fn declarator_turn(&self, reader: &mut Reader<'_>, typedef: bool) -> Result<bool, NoMemory>
+        requires { Nests self.now.depth (F.pre self.now.inner) (F.post self.now.inner) }
+        ensures { IfOk result (λ again. (go : State → State) → declarator_turn (inner_at self.now.depth) typedef go reader.old ≡ (if again then go reader.new else reader.new)) }
+    {
+        self.declarator(reader, typedef)?;
+        if !reader.goes() {
+            return Ok(false);
+        }
+        if !reader.has_mark(b",") {
+            return Ok(false);
+        }
+        reader.skip(1);
+        Ok(true)
     }
 }

@@ -9,11 +9,6 @@ pub enum Listed {
     Enumerator,
     /// The parameters of a function (C11 6.7.6.3).
     Parameter,
-    /// The declarators of a declaration (C11 6.7).
-    Declarator {
-        /// Whether it declares typedefs.
-        typedef: bool,
-    },
     /// The parts of an initialiser in braces (C11 6.7.9).
     InitPart,
 }

@@ -34,7 +34,6 @@ fn closes(listed: Listed, row: &[Terminal<'_>]) -> bool
         Listed::FieldName => false,
         Listed::Enumerator => closes_braces(row),
         Listed::Parameter => false,
-        Listed::Declarator { .. } => false,
         Listed::InitPart => closes_braces(row),
     }
 }
@@ -94,7 +93,6 @@ impl<F: Fn(&mut Reader<'_>, u32, Wanted) -> Result<(), NoMemory>> Grammar<F> {
             Listed::FieldName => self.field_name(reader),
             Listed::Enumerator => self.enumerator(reader),
             Listed::Parameter => self.parameter(reader),
-            Listed::Declarator { typedef } => self.declarator(reader, typedef),
             Listed::InitPart => self.init_part(reader),
         }
     }

@@ -5,6 +5,7 @@ ghost use Rattle.creader.specs.State.{rest};
 ghost use Rattle.creader.specs.StatementSteps.{other_statement, statement_with, statement_first, unlabeled, statement, item};
 
 use crate::grammar::Grammar;
+use crate::labels::labels_length;
 use crate::reader::Reader;
 use crate::wanted::Wanted;
 use cbase::NoMemory;
