@@ -1,5 +1,6 @@
 -- Labels at the front of a row, one by one.
-use Rattle.std.proofs.Common.{◌≡◌, ℕ, Bool, true, false, ◌+◌, ◌≤◌, List, [], ◌∷◌, drop, length, refl, sym, ap, ◌∙◌, arith}
+use Rattle.std.proofs.Common.{◌≡◌, ℕ, Bool, true, false, if◌then◌else◌, ◌+◌, ◌≤◌, List, [], ◌∷◌, drop, length, length-drop, refl, sym, ap, ◌∙◌, arith}
+use Rattle.std.proofs.lemmas.List.{drop-drop}
 use Rattle.cgrammar.specs.FrontReadings.{begins_with_label}
 use Rattle.cgrammar.specs.Scope.{Names}
 use Rattle.cgrammar.specs.Terminals.{Terminal}
@@ -29,3 +30,13 @@ unfolding labels_length
 labels_none scope [] is = refl
 labels_none scope (first ∷ []) is = refl
 labels_none scope (first ∷ (second ∷ row)) is = label_away (begins_with_label scope (first ∷ (second ∷ row))) (2 + labels_length scope row) is
+
+-- the labels behind some tokens of a row, one by one
+pub labels_behind : (scope : List Names) (row : List Terminal) (count : ℕ) → begins_with_label scope (drop count row) ≡ true
+    → labels_length scope (drop count row) ≡ 2 + labels_length scope (drop (count + 2) row)
+labels_behind scope row count is =
+    labels_front scope (drop count row) is ∙ ap (λ (more : List Terminal). 2 + labels_length scope more) (drop-drop 2 count row)
+
+pub labels_there : (scope : List Names) (row : List Terminal) (count : ℕ) → begins_with_label scope (drop count row) ≡ true → count ≤ length row
+    → count + 2 ≤ length row
+labels_there scope row count is inside = omega (arith, labels_inside scope (drop count row) is, length-drop count row)

@@ -1,12 +1,12 @@
 -- Declarations (C11 6.7) and initialisers (C11 6.7.9).
-use Rattle.std.specs.Prelude.{ℕ, ◌+◌, Bool, false, true, ◌&&◌, if◌then◌else◌, Option, None, Some, is_some, codes}
+use Rattle.std.specs.Prelude.{ℕ, Bool, false, true, ◌&&◌, if◌then◌else◌, Option, None, Some, is_some, codes}
 use Rattle.cbase.specs.declared.tree.decl.Storage.{Storage}
 use Rattle.cbase.specs.declared.tree.decl.Storage.TheVariants.{Plain}
 use Rattle.cbuild.specs.declared.event.Event.TheVariants as event
 use Rattle.cgrammar.specs.Outcomes.{has_mark, has_first}
 use Rattle.cgrammar.specs.ReadDeclarations.{storage_at, is_void_alone}
 use Rattle.cgrammar.specs.ReadTypes.{star_count, never, closes_braces}
-use Rattle.cgrammar.specs.Terminals.{Terminal, is_name}
+use Rattle.cgrammar.specs.Terminals.{is_name}
 use Rattle.cgrammar.specs.TypeWords.{declares_typedef}
 use Rattle.creader.specs.State.{State, rest, goes, skipped, lost}
 use Rattle.creader.specs.Steps.{Inner, mark, ask_whole, write, make, declare, enter, leave, parts_behind, all_parts}

@@ -1,4 +1,5 @@
 pub mod BraceSteps
+pub mod Closers
 pub mod DeclarationSteps
 pub mod ListSteps
 pub mod Nests

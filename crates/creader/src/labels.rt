@@ -17,7 +17,7 @@ fn has_label(scope: &Scope, row: &[Terminal<'_>]) -> bool
 }
 
 /// How many tokens the labels take that the row begins with, each with its `:` (C11 6.8.1).
-#[tactic(auto, using(crate::proofs::LabelRows::labels_front, crate::proofs::LabelRows::labels_inside, crate::proofs::LabelRows::labels_none))]
+#[tactic(auto, using(crate::proofs::LabelRows::labels_behind, crate::proofs::LabelRows::labels_there, crate::proofs::LabelRows::labels_none))]
 pub fn labels_length(scope: &Scope, row: &[Terminal<'_>]) -> usize
     ensures count { result ≡ labels_length scope.now row.now }
     ensures inside { result ≤ length row.now }

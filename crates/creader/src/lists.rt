@@ -1,4 +1,5 @@
 ghost use Rattle.std.specs.Prelude.{◌≡◌, ◌≤◌, IfOk, IsTrue, OnOk, if◌then◌else◌, length};
+ghost use Rattle.cgrammar.specs.ReadTypes.{closes_braces};
 ghost use Rattle.creader.specs.ListSteps.{part_of, part_turn, closes_of, more_of};
 ghost use Rattle.creader.specs.Nests.{Nests};
 ghost use Rattle.creader.specs.ReadingSteps.{inner_at};

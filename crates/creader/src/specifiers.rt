@@ -3,7 +3,7 @@ ghost use Rattle.cgrammar.specs.ReadDeclarations.{storage_at};
 ghost use Rattle.creader.specs.Nests.{Nests};
 ghost use Rattle.creader.specs.ReadingSteps.{inner_at};
 ghost use Rattle.creader.specs.State.{rest};
-ghost use Rattle.creader.specs.DeclarationSteps.{over_storage, specifiers_with, specifiers, storage_with, storage_read};
+ghost use Rattle.creader.specs.DeclarationSteps.{over_storage, specifiers_with, specifiers, storage_with, storage_read, storage_or_plain};
 
 use crate::grammar::Grammar;
 use crate::reader::Reader;
@@ -37,7 +37,7 @@ impl<'a> Reader<'a> {
 
 impl<F: Fn(&mut Reader<'_>, u32, Wanted) -> Result<(), NoMemory>> Grammar<F> {
     /// Reads a type with a storage word before or behind it, or none, and gives the storage class (C11 6.7).
-    #[tactic(auto, unfolding(crate::specs::DeclarationSteps::specifiers, crate::specs::DeclarationSteps::storage_read))]
+    #[tactic(auto, using(crate::proofs::Storages::storage_stays), unfolding(crate::specs::DeclarationSteps::specifiers, crate::specs::DeclarationSteps::storage_read))]
     pub fn specifiers(&self, reader: &mut Reader<'_>) -> Result<Storage, NoMemory>
         requires { Nests self.now.depth (F.pre self.now.inner) (F.post self.now.inner) }
         ensures read { OnOk result (reader.new ≡ specifiers (inner_at self.now.depth) reader.old) }
@@ -45,7 +45,7 @@ impl<F: Fn(&mut Reader<'_>, u32, Wanted) -> Result<(), NoMemory>> Grammar<F> {
     {
         let first = reader.storage();
         if !reader.goes() {
-            return Ok(first.unwrap_or(Storage::Plain));
+            return Ok(storage_or_plain(first));
         }
         match first {
             None => self.unmarked(reader),
@@ -64,8 +64,18 @@ impl<F: Fn(&mut Reader<'_>, u32, Wanted) -> Result<(), NoMemory>> Grammar<F> {
         ensures storage { IfOk result (λ storage. storage ≡ storage_with (inner_at self.now.depth) reader.old None) }
     {
         self.ask_whole(reader, Wanted::Specifier)?;
-        let storage = reader.storage().unwrap_or(Storage::Plain);
+        let storage = storage_or_plain(reader.storage());
         reader.over_storage()?;
         Ok(storage)
+    }
+}
+
+/// The storage class of a declaration with that storage word, or with none.
+fn storage_or_plain(word: Option<Storage>) -> Storage
+    ensures { result ≡ storage_or_plain word }
+{
+    match word {
+        None => Storage::Plain,
+        Some(storage) => storage,
     }
 }
