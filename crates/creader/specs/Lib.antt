@@ -1,3 +1,4 @@
+pub mod BraceSteps
 pub mod Closers
 pub mod DeclarationSteps
 pub mod ListSteps

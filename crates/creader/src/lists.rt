@@ -1,4 +1,5 @@
 ghost use Rattle.std.specs.Prelude.{◌≡◌, ◌≤◌, IfOk, IsTrue, OnOk, if◌then◌else◌, length};
+ghost use Rattle.cgrammar.specs.ReadTypes.{closes_braces};
 ghost use Rattle.creader.specs.ListSteps.{part_of, part_turn, closes_of, more_of};
 ghost use Rattle.creader.specs.Nests.{Nests};
 ghost use Rattle.creader.specs.ReadingSteps.{inner_at};
@@ -31,6 +32,20 @@ fn closes(listed: Listed, row: &[Terminal<'_>]) -> bool
 {
     match listed {
         Listed::Argument => false,
+        Listed::FieldName => false,
+        Listed::Enumerator => closes_braces(row),
+        Listed::Parameter => false,
+        Listed::InitPart => closes_braces(row),
+    }
+}
+
+/// Whether the row begins with the `}` of a list in braces.
+fn closes_braces(row: &[Terminal<'_>]) -> bool
+    ensures { result ≡ closes_braces row.now }
+{
+    match row {
+        [] => false,
+        [first, ..] => first.is_mark(b"}"),
     }
 }
 
@@ -76,6 +91,10 @@ impl<F: Fn(&mut Reader<'_>, u32, Wanted) -> Result<(), NoMemory>> Grammar<F> {
     {
         match listed {
             Listed::Argument => self.argument(reader),
+            Listed::FieldName => self.field_name(reader),
+            Listed::Enumerator => self.enumerator(reader),
+            Listed::Parameter => self.parameter(reader),
+            Listed::InitPart => self.init_part(reader),
         }
     }
 }
