@@ -4,7 +4,7 @@ pub mod Matching
 pub mod Opening
 pub mod Readings
 pub mod Rests
+pub mod RestsWritten
 pub mod Stacks
 pub mod Storages
 pub mod Turns
-pub mod Written

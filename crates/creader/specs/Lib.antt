@@ -10,3 +10,4 @@ pub mod State
 pub mod StatementSteps
 pub mod Steps
 pub mod TypeSteps
+pub mod Writings

@@ -1,7 +1,7 @@
 -- The kinds of lists that are read part by part, each as what it does.
 use Rattle.std.specs.Prelude.{Bool, List, ◌&&◌, not, codes}
 use Rattle.cgrammar.specs.Outcomes.{has_mark, behind_first}
-use Rattle.cgrammar.specs.ReadTypes.{never}
+use Rattle.cgrammar.specs.ReadTypes.{never, closes_braces}
 use Rattle.cgrammar.specs.Terminals.{Terminal}
 use Rattle.creader.specs.DeclarationSteps.{parameter, init_part}
 use Rattle.creader.specs.OperandSteps.{argument}

@@ -14,7 +14,7 @@ use cbase::Storage;
 
 impl<'a> Reader<'a> {
     /// Reads the `;` of a declaration of no names.
-    #[tactic(auto, using(crate::proofs::Written::there_written))]
+    #[tactic(auto, using(crate::proofs::RestsWritten::there_written))]
     fn declaration_of_none(&mut self, storage: Storage) -> Result<(), NoMemory>
         requires { 1 ≤ length (rest self.old) }
         ensures { OnOk result (self.new ≡ declaration_of_none storage self.old) }

@@ -13,7 +13,7 @@ use cbuild::Event;
 
 impl<'a> Reader<'a> {
     /// Reads the `}` of an initialiser without parts.
-    #[tactic(auto, using(crate::proofs::Written::there_written))]
+    #[tactic(auto, using(crate::proofs::RestsWritten::there_written))]
     fn empty_braces(&mut self) -> Result<(), NoMemory>
         requires { 1 ≤ length (rest self.old) }
         ensures { OnOk result (self.new ≡ empty_braces self.old) }

@@ -41,11 +41,14 @@ mod structs;
 mod type_names;
 mod types;
 mod wanted;
+mod written;
 
 pub use braced::Braced;
 pub use grammar::Grammar;
 pub use listed::Listed;
 pub use point::Point;
 pub use reader::Reader;
+pub use reading::{read, read_block, read_expression};
 pub use status::Status;
 pub use wanted::Wanted;
+pub use written::Written;

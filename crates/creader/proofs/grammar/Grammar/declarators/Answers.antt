@@ -1,4 +1,4 @@
-use Rattle.std.proofs.Common.{refl, arith, rules}
+use Rattle.std.proofs.Common.{◌∙◌, refl, arith, rules}
 use Rattle.cgrammar.specs.ReadTypes.{never}
 use Rattle.creader.specs.DeclarationSteps.{declarator, declarators, declarator_turn}
 use Rattle.creader.specs.Steps.{parts}
@@ -14,7 +14,7 @@ returns-then-not-branch g c =
 pub returns-then-left-eq0 : goal.returns-then-left-eq0
 unfolding parts declarators
 returns-then-left-eq0 g c =
-    last (parts never (declarator (inner_at c.args.self.now.depth) c.args.typedef)) (declarator_turn (inner_at c.args.self.now.depth) c.args.typedef) (λ n s. refl) c.turns.left c.turns.reader c.declarator_turn.new.reader _ c.in_ok-declarator_turn.field-0 c.in_ok-declarator_turn.ensures (search rules) c.if-left-eq0.true c.turns.invariant
+    c.lose.ensures ∙ last (parts never (declarator (inner_at c.args.self.now.depth) c.args.typedef)) (declarator_turn (inner_at c.args.self.now.depth) c.args.typedef) (λ n s. refl) c.turns.left c.turns.reader c.declarator_turn.new.reader _ c.in_ok-declarator_turn.field-0 c.in_ok-declarator_turn.ensures (search rules) c.if-left-eq0.true c.turns.invariant
 
 pub turns-preserved : goal.turns-preserved
 unfolding parts declarators

@@ -1,4 +1,4 @@
-use Rattle.std.proofs.Common.{refl, arith, rules}
+use Rattle.std.proofs.Common.{◌∙◌, refl, arith, rules}
 use Rattle.creader.specs.TypeSteps.{sizes, size_turn}
 use Rattle.creader.specs.ReadingSteps.{inner_at}
 use Rattle.creader.proofs.Turns.{ends, last, goes_on}
@@ -12,7 +12,7 @@ returns-then-not-branch g c =
 pub returns-then-left-eq0 : goal.returns-then-left-eq0
 unfolding sizes
 returns-then-left-eq0 g c =
-    last (sizes (inner_at c.args.self.now.depth) c.args.optional) (size_turn (inner_at c.args.self.now.depth) c.args.optional) (λ n s. refl) c.turns.left c.turns.reader c.size_turn.new.reader _ c.in_ok-size_turn.field-0 c.in_ok-size_turn.ensures (search rules) c.if-left-eq0.true c.turns.invariant
+    c.lose.ensures ∙ last (sizes (inner_at c.args.self.now.depth) c.args.optional) (size_turn (inner_at c.args.self.now.depth) c.args.optional) (λ n s. refl) c.turns.left c.turns.reader c.size_turn.new.reader _ c.in_ok-size_turn.field-0 c.in_ok-size_turn.ensures (search rules) c.if-left-eq0.true c.turns.invariant
 
 pub turns-preserved : goal.turns-preserved
 unfolding sizes

@@ -1,4 +1,4 @@
-use Rattle.std.proofs.Common.{refl, arith, rules}
+use Rattle.std.proofs.Common.{◌∙◌, refl, arith, rules}
 use Rattle.creader.specs.BraceSteps.{member_of, brace_turn}
 use Rattle.creader.specs.Steps.{parts_until_brace}
 use Rattle.creader.specs.ReadingSteps.{inner_at}
@@ -13,7 +13,7 @@ returns-then-not-branch g c =
 pub returns-then-left-eq0 : goal.returns-then-left-eq0
 unfolding parts_until_brace
 returns-then-left-eq0 g c =
-    last (parts_until_brace (member_of (inner_at c.args.self.now.depth) c.args.braced)) (brace_turn (inner_at c.args.self.now.depth) c.args.braced) (λ n s. refl) c.turns.left c.turns.reader c.brace_turn.new.reader _ c.in_ok-brace_turn.field-0 c.in_ok-brace_turn.ensures (search rules) c.if-left-eq0.true c.turns.invariant
+    c.lose.ensures ∙ last (parts_until_brace (member_of (inner_at c.args.self.now.depth) c.args.braced)) (brace_turn (inner_at c.args.self.now.depth) c.args.braced) (λ n s. refl) c.turns.left c.turns.reader c.brace_turn.new.reader _ c.in_ok-brace_turn.field-0 c.in_ok-brace_turn.ensures (search rules) c.if-left-eq0.true c.turns.invariant
 
 pub turns-preserved : goal.turns-preserved
 unfolding parts_until_brace
