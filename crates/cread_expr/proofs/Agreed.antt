@@ -50,12 +50,12 @@ pub record Halted (s t : State) (below above : Pieces) (before after : ℕ) (oth
   pub status : t.status ≡ Stopped
   pub left : rest t ≡ others
 
-pub record Ended (s t : State) (below above : Pieces) (base levels before : ℕ) (behind : Context) (others : List Terminal) : Type 0 where
+pub record Ended (s t : State) (below above : Pieces) (base deep before : ℕ) (behind : Context) (others : List Terminal) : Type 0 where
   pub went : Went s t below above before behind.expressions
   pub status : t.status ≡ Going
   pub left : rest t ≡ others
   pub scope : t.scope ≡ behind.scope
-  pub levels : t.levels ≡ max base levels
+  pub levels : t.levels ≡ max base deep
   pub on : s.at ≤ t.at
   pub inside : t.at ≤ length t.row
 
