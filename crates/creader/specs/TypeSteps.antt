@@ -26,7 +26,7 @@ size_behind inner open s =
 abbrev pub sizes_with : (State → State) → Inner → Bool → State → State
 sizes_with go inner open s = if has_mark (codes "[") (rest s) then go (size_behind inner open (skipped 1 s)) else s
 
-pub sizes : Inner → Bool → ℕ → State → State
+unfoldable pub sizes : Inner → Bool → ℕ → State → State
 sizes inner open zero s = lost s
 sizes inner open (suc count) s = if goes s then sizes_with (sizes inner open count) inner open s else s
 
