@@ -148,6 +148,6 @@ abbrev pub built_next : List Terminal → Event → Option Workshop → Option W
 built_next row event None = None
 built_next row event (Some workshop) = built row event workshop.count workshop.pieces
 
-pub built_all : List Terminal → List Event → Option Workshop → Option Workshop
+unfoldable pub built_all : List Terminal → List Event → Option Workshop → Option Workshop
 built_all row [] workshop = workshop
 built_all row (event ∷ events) workshop = built_all row events (built_next row event workshop)

@@ -74,7 +74,7 @@ postfix_with inner first s postfix.Other = s
 unfoldable pub postfix_at : Inner → ℕ → State → State
 postfix_at inner first s = if nat_le s.levels inner.most then postfix_with inner first s (postfix_first (rest s)) else stopped s
 
-pub postfixes : Inner → ℕ → ℕ → State → State
+unfoldable pub postfixes : Inner → ℕ → ℕ → State → State
 postfixes inner first zero s = s
 postfixes inner first (suc count) s =
     if goes s && goes_on (postfix_first (rest s)) then postfixes inner first count (postfix_at inner first s) else s
@@ -95,7 +95,7 @@ path_with go inner s =
     if has_mark (codes ".") (rest s) then go (path_member (skipped 1 s))
     else (if has_mark (codes "[") (rest s) then go (path_index inner (skipped 1 s)) else s)
 
-pub path : Inner → ℕ → State → State
+unfoldable pub path : Inner → ℕ → State → State
 path inner zero s = lost s
 path inner (suc count) s = if goes s then path_with (path inner count) inner s else s
 
@@ -171,7 +171,7 @@ abbrev pub opens : List Names → Terminal → List Terminal → Bool
 opens scope first row = is_mark (codes "(") first && has_first (begins_expression scope) row
 
 -- how many of them the row begins with
-pub opened : List Names → List Terminal → ℕ
+unfoldable pub opened : List Names → List Terminal → ℕ
 opened scope [] = 0
 opened scope (first ∷ row) = if opens scope first row then 1 + opened scope row else 0
 
@@ -180,7 +180,7 @@ unfoldable pub closed : Inner → ℕ → State → State
 closed inner first s = postfixes_from inner first (mark (codes ")") (whole (expression_from inner (whole s))))
 
 -- so many brackets, the innermost first; the outermost begins at the token `first`
-pub all_closed : Inner → ℕ → ℕ → State → State
+unfoldable pub all_closed : Inner → ℕ → ℕ → State → State
 all_closed inner first zero s = s
 all_closed inner first (suc count) s = all_closed inner first count (closed inner (first + count) s)
 

@@ -21,7 +21,7 @@ operation_with go inner loosest s (Some entry) =
     else s
 
 -- binary operators, each to the left
-pub operations : Inner → ℕ → ℕ → State → State
+unfoldable pub operations : Inner → ℕ → ℕ → State → State
 operations inner loosest zero s = s
 operations inner loosest (suc count) s =
     if goes s then operation_with (operations inner loosest count) inner loosest s (first_row binary_rows (rest s)) else s
@@ -66,7 +66,7 @@ comma_with go inner s =
     then go (ask_right inner wanted.Assignment (point_of s) (event.Binary Comma s.at) (skipped 1 s))
     else stopped s
 
-pub commas : Inner → ℕ → State → State
+unfoldable pub commas : Inner → ℕ → State → State
 commas inner zero s = s
 commas inner (suc count) s = if goes s && has_mark (codes ",") (rest s) then comma_with (commas inner count) inner s else s
 

@@ -24,7 +24,7 @@ reads_with inner wanted.Statement s = statement inner s
 reads_with inner wanted.Item s = item inner s
 
 -- the readers of trees of at most so many levels
-pub reads : ℕ → Wanted → State → State
+unfoldable pub reads : ℕ → Wanted → State → State
 reads zero wanted s = lost s
 reads (suc most) wanted s = reads_with (record { most = most; reads = reads most }) wanted s
 

@@ -139,7 +139,7 @@ unfoldable pub unlabeled : Inner → State → State
 unlabeled inner s = if goes s then unlabeled_with inner s (statement_first (rest s)) else s
 
 -- how many tokens the labels take that a row begins with, each with its `:` (C11 6.8.1); they leave no trace
-pub labels_length : List Names → List Terminal → ℕ
+unfoldable pub labels_length : List Names → List Terminal → ℕ
 labels_length scope [] = 0
 labels_length scope (first ∷ []) = 0
 labels_length scope (first ∷ (second ∷ row)) = if begins_with_label scope (first ∷ (second ∷ row)) then 2 + labels_length scope row else 0

@@ -104,7 +104,7 @@ abbrev pub parts_behind : (List Terminal → Bool) → (State → State) → Sta
 parts_behind closes go s =
     if goes s && (has_mark (codes ",") (rest s) && not (closes (behind_first (rest s)))) then go (skipped 1 s) else s
 
-pub parts : (List Terminal → Bool) → (State → State) → ℕ → State → State
+unfoldable pub parts : (List Terminal → Bool) → (State → State) → ℕ → State → State
 parts closes part zero s = lost s
 parts closes part (suc count) s = parts_behind closes (parts closes part count) (part s)
 
@@ -116,7 +116,7 @@ all_parts closes part s = parts closes part (length (rest s) + 1) s
 abbrev pub until_brace_with : (State → State) → State → State
 until_brace_with go s = if goes s then (if has_mark (codes "}") (rest s) then skipped 1 s else go s) else s
 
-pub parts_until_brace : (State → State) → ℕ → State → State
+unfoldable pub parts_until_brace : (State → State) → ℕ → State → State
 parts_until_brace part zero s = lost s
 parts_until_brace part (suc count) s = until_brace_with (λ state. parts_until_brace part count (part state)) s
 

@@ -26,7 +26,7 @@ size_behind inner optional s =
 abbrev pub sizes_with : (State → State) → Inner → Bool → State → State
 sizes_with go inner optional s = if has_mark (codes "[") (rest s) then go (size_behind inner optional (skipped 1 s)) else s
 
-pub sizes : Inner → Bool → ℕ → State → State
+unfoldable pub sizes : Inner → Bool → ℕ → State → State
 sizes inner optional zero s = lost s
 sizes inner optional (suc count) s = if goes s then sizes_with (sizes inner optional count) inner optional s else s
 
