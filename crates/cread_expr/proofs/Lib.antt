@@ -1,1 +1,5 @@
 pub mod Agreed
+pub mod AgreedSteps
+pub mod AgreedRules
+pub mod AgreedBack
+pub mod AgreedLists
