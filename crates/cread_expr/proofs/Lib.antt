@@ -1,5 +1,7 @@
 pub mod Agreed
-pub mod AgreedSteps
-pub mod AgreedRules
 pub mod AgreedBack
 pub mod AgreedLists
+pub mod AgreedPlaces
+pub mod AgreedRules
+pub mod AgreedStatements
+pub mod AgreedSteps
