@@ -5,3 +5,5 @@ pub mod AgreedPlaces
 pub mod AgreedRules
 pub mod AgreedStatements
 pub mod AgreedSteps
+pub mod AgreedStatementsRules
+pub mod AgreedStatementsLabels
