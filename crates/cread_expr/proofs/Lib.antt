@@ -3,3 +3,4 @@ pub mod AgreedSteps
 pub mod AgreedRules
 pub mod AgreedBack
 pub mod AgreedLists
+pub mod AgreedOperators
