@@ -2,5 +2,6 @@ pub mod Agreed
 pub mod AgreedSteps
 pub mod AgreedRules
 pub mod AgreedBack
+pub mod AgreedEntire
 pub mod AgreedLists
 pub mod AgreedOperators
