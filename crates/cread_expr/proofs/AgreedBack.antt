@@ -16,8 +16,8 @@ use Rattle.creader.specs.declared.status.Status.{Status}
 use Rattle.creader.specs.declared.status.Status.TheVariants.{Going, Stopped, Nothing}
 use Rattle.creader.specs.declared.wanted.Wanted.{Wanted}
 use Rattle.cread_expr.proofs.Agreed.{shop, Pieces, none, Kept, Went, Failed, Halted, Ended, Agreed, Ready, Reads, Follows, Continues, ends, anyhow, context_of}
-use Rattle.cread_expr.proofs.AgreedRules.{agreed_read, agreed_failed, agreed_halted, agreed_at, same_first, from_here, ask_anyhow}
-use Rattle.cread_expr.proofs.AgreedSteps.{kept_same, kept_then, kept_went, kept_ended, failed_then, went_event, if_going, if_idle, if_true, if_false, Still, ready, ended_at, ended_then, halted_then, ended_skip}
+use Rattle.cread_expr.proofs.AgreedRules.{agreed_read, agreed_failed, agreed_lost, agreed_halted, agreed_at, same_first, from_here, ask_anyhow}
+use Rattle.cread_expr.proofs.AgreedSteps.{kept_same, kept_at, kept_over, kept_then, kept_went, kept_ended, failed_then, went_event, if_going, if_idle, if_true, if_false, Still, ready, ended_at, ended_then, halted_then, ended_skip}
 
 -- the tree that is read up to a point is all that is read
 pub agreed_back : {A : Type 0} {s t u : State} {below : Pieces} {above : A → Pieces} {fits : A → State → Type 0} {base levels before : ℕ} {behind : Context} {others : List Terminal} (tree : A)
@@ -51,7 +51,8 @@ pub else_back : {A B : Type 0} {s t v : State} {below lower : Pieces} {upper : A
     → Continues lower upper holds reader steps
     → Still Stopped (back_unless_going point (steps t)) v
     → ((u : State) → Kept t u → Agreed below above fits base before without s (back_at point u))
-    → ((tree : A) (more : ℕ) (behind : Context) (others : List Terminal) → Ended s (back_unless_going point (steps t)) below (λ pieces. upper tree (under pieces)) base (max levels more) before behind others
+    → ((tree : A) (more : ℕ) (behind : Context) (others : List Terminal) → Kept t (back_unless_going point (steps t))
+        → Ended s (back_unless_going point (steps t)) below (λ pieces. upper tree (under pieces)) base (max levels more) before behind others
         → Agreed below above fits base before (go tree more behind others) s v)
     → Agreed below above fits base before (or_else (reader context row) without go) s v
 unfolding back_unless_going
@@ -68,7 +69,8 @@ else_back {A} {B} {s} {t} {v} {below} {lower} {upper} {holds} {above} {fits} {ba
     case outcome.Nothing is = going_back (ap (λ (status : Status). is_going status) is.is.status) is.is.kept
     case (outcome.Stopped tree expressions others) is = going_back (ap (λ (status : Status). is_going status) is.is.0.status) (kept_went is.is.0.went)
     case (outcome.Read tree more behind others) is =
-        next tree more behind others (ended_at (if_going (steps t) (back_at point (steps t)) (steps t) is.is.0.status) (ended_then under far is.is.0))
+        let same : back_unless_going point (steps t) ≡ steps t = if_going (steps t) (back_at point (steps t)) (steps t) is.is.0.status in
+        next tree more behind others (kept_at same (kept_ended is.is.0)) (ended_at same (ended_then under far is.is.0))
 
 -- a mark, or back to a point
 pub mark_back : {B : Type 0} {s t v : State} {below middle : Pieces} {above : B → Pieces} {fits : B → State → Type 0} {base levels before : ℕ} {context : Context}
@@ -76,7 +78,7 @@ pub mark_back : {B : Type 0} {s t v : State} {below middle : Pieces} {above : B 
     → Ended s t below middle base levels before context row
     → Still Stopped (mark_or_back bytes point t) v
     → Agreed below above fits base before without s (back_at point t)
-    → ((first : Terminal) (others : List Terminal) → Ended s (mark_or_back bytes point t) below middle base levels before context others
+    → ((first : Terminal) (others : List Terminal) → Kept t (mark_or_back bytes point t) → Ended s (mark_or_back bytes point t) below middle base levels before context others
         → Agreed below above fits base before (go first others) s v)
     → Agreed below above fits base before (after_mark bytes row without go) s v
 unfolding mark_or_back
@@ -92,7 +94,7 @@ mark_back {B} {s} {t} {v} {below} {middle} {above} {fits} {base} {levels} {befor
         → Agreed below above fits base before (if passes then go first others else without) s v
     tested first others true is far =
         let same : mark_or_back bytes point t ≡ skipped 1 t = if_going _ t t far.status ∙ if_true (has_mark bytes (rest t)) (skipped 1 t) (back_at point t) (same_first (is_mark bytes) far ∙ is) in
-        next first others (ended_at same (ended_skip far))
+        next first others (kept_at same (kept_over t 1)) (ended_at same (ended_skip far))
     tested first others false is far = going_back (first ∷ others) far is
 
     case : (row : List Terminal) → Ended s t below middle base levels before context row → Agreed below above fits base before (after_mark bytes row without go) s v
@@ -146,3 +148,15 @@ right_joined {A} {B} {s} {t} {v} {below} {under} {upper} {above} {levels} {befor
             on = ended.on;
             inside = ended.inside;
           }))
+
+-- what is read behind a tree, where it may be the whole of another one
+pub then_continued : {A B : Type 0} {s t v : State} {below : Pieces} {above : B → Pieces} {holds : A → State → Type 0} {base before : ℕ}
+    (outcome : Outcome A) (tree_of : A → B) (go : A → ℕ → Context → List Terminal → Outcome B)
+    → Agreed below (λ tree. above (tree_of tree)) holds base before outcome s t
+    → Still Nothing t v → Still Stopped t v
+    → ((tree : A) (levels : ℕ) (behind : Context) (others : List Terminal) → Ended s t below (above (tree_of tree)) base levels before behind others → holds tree t
+        → Agreed below above anyhow base before (go tree levels behind others) s v)
+    → Agreed below above anyhow base before (continued outcome tree_of go) s v
+then_continued outcome.Nothing tree_of go is lost_still still next = agreed_lost is.is lost_still
+then_continued (outcome.Stopped tree expressions others) tree_of go is lost_still still next = agreed_at (still.same is.is.0.status) (agreed_halted is.is.0 tt)
+then_continued (outcome.Read tree levels behind others) tree_of go is lost_still still next = next tree levels behind others is.is.0 is.is.1

@@ -61,6 +61,16 @@ pub kept_ended : {s t : State} {below above : Pieces} {base levels before : ℕ}
     → Ended s t below above base levels before behind others → Kept s t
 kept_ended far = kept_went far.went
 
+pub kept_at : {s t u : State} → u ≡ t → Kept s t → Kept s u
+kept_at {s} same kept = subst (λ (v : State). Kept s v) (sym same) kept
+
+-- over tokens nothing is written
+pub kept_skipped : {t u : State} (count : ℕ) → Kept (skipped count t) u → Kept t u
+kept_skipped count kept = record { row = kept.row; added = kept.added; events = kept.events }
+
+pub kept_over : (t : State) (count : ℕ) → Kept t (skipped count t)
+kept_over t count = record { row = refl; added = []; events = sym (append-nil t.events) }
+
 pub failed_then : {s t u : State} → Kept s t → Failed t u → Failed s u
 failed_then kept failed = record { kept = kept_then kept failed.kept; status = failed.status }
 

@@ -1,9 +1,11 @@
 pub mod Agreed
 pub mod AgreedBack
+pub mod AgreedEntire
 pub mod AgreedLists
+pub mod AgreedOperators
 pub mod AgreedPlaces
 pub mod AgreedRules
 pub mod AgreedStatements
-pub mod AgreedSteps
-pub mod AgreedStatementsRules
 pub mod AgreedStatementsLabels
+pub mod AgreedStatementsRules
+pub mod AgreedSteps
