@@ -1,6 +1,7 @@
 pub mod Agreed
 pub mod AgreedBack
 pub mod AgreedEntire
+pub mod AgreedLevels
 pub mod AgreedLists
 pub mod AgreedOperators
 pub mod AgreedPlaces
