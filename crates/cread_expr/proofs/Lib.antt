@@ -10,3 +10,4 @@ pub mod AgreedStatements
 pub mod AgreedStatementsLabels
 pub mod AgreedStatementsRules
 pub mod AgreedSteps
+pub mod Agreement
