@@ -1,22 +1,18 @@
 -- The readers of all levels agree.
-use Rattle.std.proofs.Common.{◌≡◌, ℕ, zero, suc, ◌+◌, refl, ap, arith}
-use Rattle.cgrammar.specs.Outcomes.{Reader}
+use Rattle.std.proofs.Common.{◌≡◌, ℕ, zero, suc, ◌+◌, refl, arith}
 use Rattle.cgrammar.specs.ReadDeclarations.{read_initializer}
 use Rattle.cgrammar.specs.ReadLevels.{Level}
 use Rattle.cgrammar.specs.ReadOperands.{read_cast}
 use Rattle.cgrammar.specs.ReadOperators.{expr_of, operations_from, conditional_from, assignment_from, expression_from}
 use Rattle.cgrammar.specs.ReadTypes.{read_specifier}
-use Rattle.cgrammar.specs.Reader.{level, level_above}
+use Rattle.cgrammar.specs.Reader.{level}
 use Rattle.creader.specs.DeclarationSteps.{initializer}
 use Rattle.creader.specs.OperandSteps.{cast}
-use Rattle.creader.specs.OperatorSteps as steps
-use Rattle.creader.specs.OperatorSteps.{all_operations}
 use Rattle.creader.specs.ReadingSteps.{reads, inner_at}
-use Rattle.creader.specs.State.{State, rest}
+use Rattle.creader.specs.State.{rest}
 use Rattle.creader.specs.Steps.{Inner}
 use Rattle.creader.specs.TypeSteps.{specifier}
-use Rattle.creader.specs.declared.wanted.Wanted.TheVariants as wanted
-use Rattle.cread_expr.proofs.Agreed.{Reads, anyhow, context_of, expr_piece, operand_piece, operand_fits, type_piece, init_piece, statement_piece, LevelAgrees}
+use Rattle.cread_expr.proofs.Agreed.{Reads, anyhow, context_of, operand_piece, operand_fits, type_piece, init_piece, LevelAgrees}
 use Rattle.cread_expr.proofs.AgreedBack.{then_continued}
 use Rattle.cread_expr.proofs.AgreedLists.{failed_lost}
 use Rattle.cread_expr.proofs.AgreedOperators.{still_operations, still_conditional, still_assignment, still_expression, all_operations_agree, conditional_agrees, assignment_agrees, expression_agrees}

@@ -1,5 +1,5 @@
 -- Statements with and without labels, and what stands in a block (C11 6.8, 6.8.1).
-use Rattle.std.proofs.Common.{◌≡◌, ℕ, ◌+◌, ◌-◌, ◌≤◌, max, Bool, true, false, List, [], ◌∷◌, drop, length, codes, refl, ap, sym, ◌∙◌, subst, arith}
+use Rattle.std.proofs.Common.{◌≡◌, ℕ, ◌+◌, ◌-◌, ◌≤◌, Bool, true, false, List, [], ◌∷◌, drop, length, codes, refl, ap, sym, ◌∙◌, subst, arith}
 use Rattle.std.proofs.lemmas.List.{drop-drop, length-drop}
 use Rattle.std.specs.Prelude.{if◌then◌else◌}
 use Rattle.cbase.specs.declared.place.Place.{Place}
@@ -22,18 +22,18 @@ use Rattle.cgrammar.specs.Terminals.{Terminal, last_place, first_place}
 use Rattle.cgrammar.specs.Trees.{statement as statement_of}
 use Rattle.cgrammar.specs.declared.reading.starts.StatementStart.{StatementStart}
 use Rattle.cgrammar.specs.declared.reading.starts.StatementStart.TheVariants as start
-use Rattle.creader.specs.State.{State, rest, goes, skipped, lost}
-use Rattle.creader.specs.StatementSteps.{block, blocked, block_statement, clause, other_statement, statement_with, statement_first, unlabeled_with, unlabeled, labels_length, statement, item}
+use Rattle.creader.specs.State.{State, rest, skipped}
+use Rattle.creader.specs.StatementSteps.{block, blocked, block_statement, other_statement, statement_with, statement_first, unlabeled_with, unlabeled, labels_length, statement, item}
 use Rattle.creader.specs.Steps.{Inner, make}
-use Rattle.creader.specs.declared.status.Status.TheVariants.{Going, Stopped, Nothing}
-use Rattle.cread_expr.proofs.Agreed.{Pieces, none, shop, Failed, Ended, Agreed, Ready, Reads, ends, context_of, statement_piece, LevelAgrees}
+use Rattle.creader.specs.declared.status.Status.TheVariants.{Going, Stopped}
+use Rattle.cread_expr.proofs.Agreed.{none, shop, Ended, Agreed, Ready, Reads, ends, context_of, statement_piece, LevelAgrees}
 use Rattle.cread_expr.proofs.AgreedEntire.{agreed_then}
 use Rattle.cread_expr.proofs.AgreedLists.{failed_lost}
 use Rattle.cread_expr.proofs.AgreedPlaces.{place_first, last_of_front}
 use Rattle.cread_expr.proofs.AgreedRules.{agreed_failed, agreed_outcome, agreed_goes, agreed_lost, agreed_test, same_first}
 use Rattle.cread_expr.proofs.AgreedStatements.{body_piece, passes, DeclarationAgrees, agreed_ends, block_agrees, clause_agrees}
 use Rattle.cread_expr.proofs.AgreedStatementsRules.{if_agrees, while_agrees, do_agrees, for_agrees, break_agrees, continue_agrees, return_agrees}
-use Rattle.cread_expr.proofs.AgreedSteps.{kept_ended, failed_then, went_then, still_lost, still_make, ready, ended_none, ended_token, ended_make, ended_skip, halted_then}
+use Rattle.cread_expr.proofs.AgreedSteps.{still_lost, still_make, ready, ended_none, ended_token, ended_make, ended_skip}
 
 -- A block as a statement.
 block_statement_agrees : {level : Level} {inner : Inner} → LevelAgrees level inner → (s : State) (before : ℕ) → Ready s → s.levels ≡ 0

@@ -1,10 +1,9 @@
 -- What the steps make at a token of a text is what the grammar has there: the longest expression, or a block.
-use Rattle.std.proofs.Common.{◌≡◌, ℕ, zero, suc, ◌+◌, ◌-◌, ◌≤◌, ◌<◌, Bool, true, false, List, [], ◌∷◌, ◌++◌, drop, take, length, cond, refl, ap, sym, ◌∙◌, subst, arith}
+use Rattle.std.proofs.Common.{◌≡◌, ℕ, ◌+◌, ◌≤◌, Bool, true, false, List, [], ◌∷◌, ◌++◌, drop, take, length, cond, refl, ap, sym, ◌∙◌, subst, arith}
 use Rattle.std.specs.List.{prefix_len}
 use Rattle.cbase.specs.declared.tree.expr.Expr.{Expr}
 use Rattle.cbase.specs.declared.tree.stmt.Stmt.{Stmt}
 use Rattle.cbuild.specs.Building.{built_all}
-use Rattle.cbuild.specs.Workshop.{place_at}
 use Rattle.cbuild.specs.declared.event.Event.{Event}
 use Rattle.cgrammar.proofs.Between.{comes_before}
 use Rattle.cgrammar.proofs.Exact.{expressions_complete, expressions_sound, blocks_complete, blocks_sound}
@@ -23,9 +22,9 @@ use Rattle.creader.specs.declared.status.Status.{Status}
 use Rattle.creader.specs.declared.status.Status.TheVariants.{Going, Stopped, Nothing}
 use Rattle.creader.specs.declared.wanted.Wanted.TheVariants as wanted
 use Rattle.ctokens.specs.declared.token.Tokens.{Tokens}
-use Rattle.cread_expr.proofs.Agreed.{Pieces, none, shop, Agreed, Ready, anyhow, context_of, expr_piece}
+use Rattle.cread_expr.proofs.Agreed.{Pieces, none, shop, Agreed, Ready, context_of, expr_piece}
 use Rattle.cread_expr.proofs.AgreedLevels.{PartsAgree, levels_agree}
-use Rattle.cread_expr.proofs.AgreedStatements.{body_piece, passes, block_agrees}
+use Rattle.cread_expr.proofs.AgreedStatements.{body_piece, block_agrees}
 
 -- a reader at a token of a text, with these names in scope, that has read nothing yet
 pub record StartsAt (t : Tokens) (scope : List Names) (at : ℕ) (s : State) : Type 0 where
