@@ -4,3 +4,4 @@ pub mod AgreedRules
 pub mod AgreedBack
 pub mod AgreedLists
 pub mod AgreedOperators
+pub mod AgreedTypesSizes
