@@ -5,3 +5,4 @@ pub mod AgreedBack
 pub mod AgreedLists
 pub mod AgreedOperators
 pub mod AgreedTypesSizes
+pub mod AgreedTypesFields
