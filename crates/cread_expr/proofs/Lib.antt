@@ -6,3 +6,4 @@ pub mod AgreedLists
 pub mod AgreedOperators
 pub mod AgreedTypesSizes
 pub mod AgreedTypesFields
+pub mod AgreedTypesSpecifiers
