@@ -1,6 +1,7 @@
 pub mod Agreed
 pub mod AgreedBack
 pub mod AgreedEntire
+pub mod AgreedInitializers
 pub mod AgreedLevels
 pub mod AgreedLists
 pub mod AgreedOperators
@@ -10,4 +11,7 @@ pub mod AgreedStatements
 pub mod AgreedStatementsLabels
 pub mod AgreedStatementsRules
 pub mod AgreedSteps
+pub mod AgreedTypesFields
+pub mod AgreedTypesSizes
+pub mod AgreedTypesSpecifiers
 pub mod Agreement
