@@ -1,7 +1,12 @@
 pub mod Agreed
-pub mod AgreedSteps
-pub mod AgreedRules
 pub mod AgreedBack
 pub mod AgreedEntire
 pub mod AgreedLists
 pub mod AgreedOperators
+pub mod AgreedPlaces
+pub mod AgreedPostfixes
+pub mod AgreedRules
+pub mod AgreedStatements
+pub mod AgreedStatementsLabels
+pub mod AgreedStatementsRules
+pub mod AgreedSteps
