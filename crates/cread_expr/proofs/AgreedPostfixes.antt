@@ -136,7 +136,7 @@ index_agrees {level} {inner} {t} {levels} {mark} go on base agrees through next 
     next (numbered behind mark.place (Index base index)) (1 + max levels more) _ (counted behind) end
     (ended_make (event.Index t.at) (λ pieces i. shop (behind.expressions + 1) (piece.Expr (numbered behind (ended_token far i).place (Index base index)) ∷ pieces)) behind_closing)))
 
-member_agrees : {level : Level} {inner : Inner} {s t : State} {levels before : ℕ} {context : Context} {mark : Terminal} {row : List Terminal} (go : Expr → ℕ → Reader Operand) (on : State → State) (base : Expr) (arrow : Bool)
+member_agrees : {s t : State} {levels before : ℕ} {context : Context} {mark : Terminal} {row : List Terminal} (go : Expr → ℕ → Reader Operand) (on : State → State) (base : Expr) (arrow : Bool)
     → ((u v : State) → Still Stopped u v → Still Stopped u (on v))
     → ((next : Expr) (more : ℕ) (u : State) (behind : Context) (others : List Terminal) → Ended s u none (expr_piece next) 0 more before behind others
         → Agreed none operand_piece (unary_is true) 0 before (go next more behind others) s (on u))
