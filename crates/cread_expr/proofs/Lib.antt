@@ -10,3 +10,6 @@ pub mod AgreedStatements
 pub mod AgreedStatementsLabels
 pub mod AgreedStatementsRules
 pub mod AgreedSteps
+pub mod AgreedPaths
+pub mod AgreedOperands
+pub mod AgreedBrackets
