@@ -1,11 +1,15 @@
 pub mod Agreed
 pub mod AgreedBack
+pub mod AgreedBrackets
 pub mod AgreedEntire
 pub mod AgreedInitializers
 pub mod AgreedLevels
 pub mod AgreedLists
+pub mod AgreedOperands
 pub mod AgreedOperators
+pub mod AgreedPaths
 pub mod AgreedPlaces
+pub mod AgreedPostfixes
 pub mod AgreedRules
 pub mod AgreedStatements
 pub mod AgreedStatementsLabels
