@@ -1,32 +1,23 @@
 -- The readers of all levels agree.
 use Rattle.std.proofs.Common.{◌≡◌, ℕ, zero, suc, ◌+◌, refl, arith}
-use Rattle.cgrammar.specs.ReadDeclarations.{read_initializer}
 use Rattle.cgrammar.specs.ReadLevels.{Level}
-use Rattle.cgrammar.specs.ReadOperands.{read_cast}
-use Rattle.cgrammar.specs.ReadOperators.{expr_of, operations_from, conditional_from, assignment_from, expression_from}
-use Rattle.cgrammar.specs.ReadTypes.{read_specifier}
-use Rattle.cgrammar.specs.Reader.{level}
-use Rattle.creader.specs.DeclarationSteps.{initializer}
-use Rattle.creader.specs.OperandSteps.{cast}
+use Rattle.cgrammar.specs.Reader.{level, level_above}
 use Rattle.creader.specs.ReadingSteps.{reads, inner_at}
-use Rattle.creader.specs.State.{rest}
 use Rattle.creader.specs.Steps.{Inner}
-use Rattle.creader.specs.TypeSteps.{specifier}
-use Rattle.cread_expr.proofs.Agreed.{Reads, anyhow, context_of, operand_piece, operand_fits, type_piece, init_piece, LevelAgrees}
-use Rattle.cread_expr.proofs.AgreedBack.{then_continued}
+use Rattle.cread_expr.proofs.Agreed.{LevelAgrees}
+use Rattle.cread_expr.proofs.AgreedBrackets.{cast_agrees, operation_reads, conditional_reads, assignment_reads, expression_reads}
+use Rattle.cread_expr.proofs.AgreedInitializers.{initializer_agrees}
 use Rattle.cread_expr.proofs.AgreedLists.{failed_lost}
-use Rattle.cread_expr.proofs.AgreedOperators.{still_operations, still_conditional, still_assignment, still_expression, all_operations_agree, conditional_agrees, assignment_agrees, expression_agrees}
+use Rattle.cread_expr.proofs.AgreedOperands.{PartsAgree}
 use Rattle.cread_expr.proofs.AgreedRules.{agreed_failed}
-use Rattle.cread_expr.proofs.AgreedStatements.{DeclarationAgrees, as_anyhow, clause_agrees}
+use Rattle.cread_expr.proofs.AgreedStatements.{DeclarationAgrees, as_ends, as_anyhow, block_agrees, clause_agrees}
 use Rattle.cread_expr.proofs.AgreedStatementsLabels.{statement_agrees, item_agrees}
-use Rattle.cread_expr.proofs.AgreedSteps.{still_lost, still_stopped}
+use Rattle.cread_expr.proofs.AgreedTypesSizes.{type_name_agrees}
+use Rattle.cread_expr.proofs.AgreedTypesSpecifiers.{specifier_agrees}
 
--- that operands, types, declarations and initialisers agree, where the readers of what stands in them do
-pub record PartsAgree : Type 0 where
-  pub cast : (level : Level) (inner : Inner) → LevelAgrees level inner → Reads operand_piece operand_fits (read_cast level) (cast inner)
-  pub specifier : (level : Level) (inner : Inner) → LevelAgrees level inner → Reads type_piece anyhow (read_specifier level) (specifier inner)
-  pub initializer : (level : Level) (inner : Inner) → LevelAgrees level inner → Reads init_piece anyhow (read_initializer level) (initializer inner)
-  pub declaration : (level : Level) (inner : Inner) → LevelAgrees level inner → DeclarationAgrees level inner
+-- what is left to show: that declarations agree, where the readers of what stands in them do
+abbrev pub DeclarationsAgree : Type 0
+DeclarationsAgree = (level : Level) (inner : Inner) → LevelAgrees level inner → DeclarationAgrees level inner
 
 -- no tree has no level
 none_agrees : LevelAgrees (level 0) (inner_at 0)
@@ -46,39 +37,36 @@ none_agrees = record {
 }
 
 -- one level more
-above_agrees : PartsAgree → (most : ℕ) → LevelAgrees (level most) (inner_at most) → LevelAgrees (level (suc most)) (inner_at (suc most))
+operands_agree : {level : Level} {inner : Inner} → LevelAgrees level inner → PartsAgree level inner
+operands_agree below = record {
+  deeper = below;
+  blocks = λ s before is. as_ends _ (block_agrees below s before is);
+  types = type_name_agrees below;
+}
+
+above_agrees : DeclarationsAgree → (most : ℕ) → LevelAgrees (level most) (inner_at most) → LevelAgrees (level (suc most)) (inner_at (suc most))
 unfolding reads
-above_agrees parts most below =
+above_agrees declares most below =
     let same = below.most in
+    let parts : PartsAgree (level most) (inner_at most) = operands_agree below in
+    let declaration : DeclarationAgrees (level most) (inner_at most) = declares (level most) (inner_at most) below in
     record {
       most = one_more most (level most).most same;
-      cast = parts.cast (level most) (inner_at most) below;
-      operation = λ loosest s before is none_before.
-          then_continued (read_cast (level most) (context_of s before) (rest s)) expr_of (operations_from (level most) loosest) (parts.cast (level most) (inner_at most) below s before is none_before)
-          (still_operations (inner_at most) loosest _ still_lost) (still_operations (inner_at most) loosest _ still_stopped)
-          (λ operand levels behind others far fits. all_operations_agree loosest operand others below far);
-      conditional = λ s before is none_before.
-          then_continued (read_cast (level most) (context_of s before) (rest s)) expr_of (conditional_from (level most)) (parts.cast (level most) (inner_at most) below s before is none_before)
-          (still_conditional (inner_at most) still_lost) (still_conditional (inner_at most) still_stopped)
-          (λ operand levels behind others far fits. conditional_agrees operand others below far);
-      assignment = λ s before is none_before.
-          then_continued (read_cast (level most) (context_of s before) (rest s)) expr_of (assignment_from (level most)) (parts.cast (level most) (inner_at most) below s before is none_before)
-          (still_assignment (inner_at most) still_lost) (still_assignment (inner_at most) still_stopped)
-          (λ operand levels behind others far fits. assignment_agrees operand others below fits far);
-      expression = λ s before is none_before.
-          then_continued (read_cast (level most) (context_of s before) (rest s)) expr_of (expression_from (level most)) (parts.cast (level most) (inner_at most) below s before is none_before)
-          (still_expression (inner_at most) still_lost) (still_expression (inner_at most) still_stopped)
-          (λ operand levels behind others far fits. expression_agrees operand others below fits far);
-      specifier = parts.specifier (level most) (inner_at most) below;
-      initializer = parts.initializer (level most) (inner_at most) below;
-      clause = λ s before is none_before. as_anyhow _ (clause_agrees below (parts.declaration (level most) (inner_at most) below) s before is none_before);
-      statement = λ s before is none_before. as_anyhow _ (statement_agrees below (parts.declaration (level most) (inner_at most) below) s before is none_before);
-      item = λ s before is none_before. as_anyhow _ (item_agrees below (parts.declaration (level most) (inner_at most) below) s before is none_before);
+      cast = cast_agrees parts;
+      operation = λ loosest. operation_reads loosest parts;
+      conditional = conditional_reads parts;
+      assignment = assignment_reads parts;
+      expression = expression_reads parts;
+      specifier = specifier_agrees below;
+      initializer = λ s before is none_before. as_anyhow _ (initializer_agrees below s before is none_before);
+      clause = λ s before is none_before. as_anyhow _ (clause_agrees below declaration s before is none_before);
+      statement = λ s before is none_before. as_anyhow _ (statement_agrees below declaration s before is none_before);
+      item = λ s before is none_before. as_anyhow _ (item_agrees below declaration s before is none_before);
     }
   where
     one_more : (one other : ℕ) → one ≡ other → suc one ≡ other + 1
     one_more one other same = omega (arith, same)
 
-pub levels_agree : PartsAgree → (most : ℕ) → LevelAgrees (level most) (inner_at most)
-levels_agree parts zero = none_agrees
-levels_agree parts (suc most) = above_agrees parts most (levels_agree parts most)
+pub levels_agree : DeclarationsAgree → (most : ℕ) → LevelAgrees (level most) (inner_at most)
+levels_agree declares zero = none_agrees
+levels_agree declares (suc most) = above_agrees declares most (levels_agree declares most)
