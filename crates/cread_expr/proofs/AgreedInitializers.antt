@@ -1,5 +1,5 @@
 -- Initialisers (C11 6.7.9).
-use Rattle.std.proofs.Common.{◌≡◌, ℕ, ◌+◌, max, List, [], ◌∷◌, ◌++◌, length, Option, None, Some, codes, refl, arith}
+use Rattle.std.proofs.Common.{ℕ, ◌+◌, List, [], ◌∷◌, ◌++◌, length, None, Some, codes, refl, arith}
 use Rattle.cbase.specs.declared.tree.init.InitPart.{InitPart}
 use Rattle.cbuild.specs.declared.event.Event.TheVariants as event
 use Rattle.cbuild.specs.declared.piece.Piece.TheVariants as piece

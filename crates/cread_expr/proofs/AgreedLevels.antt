@@ -1,7 +1,7 @@
 -- The readers of all levels agree.
 use Rattle.std.proofs.Common.{◌≡◌, ℕ, zero, suc, ◌+◌, refl, arith}
 use Rattle.cgrammar.specs.ReadLevels.{Level}
-use Rattle.cgrammar.specs.Reader.{level, level_above}
+use Rattle.cgrammar.specs.Reader.{level}
 use Rattle.creader.specs.ReadingSteps.{reads, inner_at}
 use Rattle.creader.specs.Steps.{Inner}
 use Rattle.cread_expr.proofs.Agreed.{LevelAgrees}
