@@ -7,3 +7,6 @@ pub mod AgreedOperators
 pub mod AgreedTypesSizes
 pub mod AgreedTypesFields
 pub mod AgreedTypesSpecifiers
+pub mod AgreedInitializers
+pub mod AgreedDeclarationsParameters
+pub mod AgreedDeclarations
