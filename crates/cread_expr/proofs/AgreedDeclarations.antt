@@ -1,6 +1,5 @@
 -- Declarators and declarations.
-use Rattle.std.proofs.Common.{◌≡◌, ℕ, zero, suc, ◌+◌, ◌-◌, ◌<◌, ◌≤◌, max, Bool, true, false, List, [], ◌∷◌, ◌++◌, drop, length, codes, Option, None, Some, refl, ap, sym, ◌∙◌, arith, length-drop}
-use Rattle.std.specs.Prelude.{if◌then◌else◌}
+use Rattle.std.proofs.Common.{◌≡◌, ℕ, suc, ◌+◌, ◌<◌, max, Bool, true, List, [], ◌∷◌, ◌++◌, drop, length, codes, None, Some, refl, ap, arith, length-drop}
 use Rattle.cbase.specs.declared.tree.decl.Decl.{Decl}
 use Rattle.cbase.specs.declared.tree.decl.Declared.{Declared}
 use Rattle.cbase.specs.declared.tree.decl.Storage.{Storage}
@@ -17,11 +16,11 @@ use Rattle.cgrammar.specs.ReadTypes.{star_count, behind_stars, never}
 use Rattle.cgrammar.specs.Terminals.{Terminal, is_mark, is_name}
 use Rattle.cgrammar.specs.Trees as tree
 use Rattle.cgrammar.specs.TypeWords.{declares_typedef}
-use Rattle.creader.specs.DeclarationSteps.{specifiers, storage_read, parameters, object_behind, declarator_behind, declarator, declarators, declaration_behind, declaration}
-use Rattle.creader.specs.State.{State, rest, goes, skipped, lost}
-use Rattle.creader.specs.Steps.{Inner, mark, ask_whole, write, declare, all_parts}
+use Rattle.creader.specs.DeclarationSteps.{specifiers, parameters, object_behind, declarator_behind, declarator, declarators, declaration_behind, declaration}
+use Rattle.creader.specs.State.{State, rest}
+use Rattle.creader.specs.Steps.{Inner, all_parts}
 use Rattle.creader.specs.TypeSteps.{all_sizes}
-use Rattle.creader.specs.declared.status.Status.TheVariants.{Going, Stopped, Nothing}
+use Rattle.creader.specs.declared.status.Status.TheVariants.{Going, Nothing}
 use Rattle.creader.specs.declared.wanted.Wanted.TheVariants as wanted
 use Rattle.cread_expr.proofs.Agreed.{shop, Pieces, none, Ended, Agreed, Ready, Continues, ends, context_of, LevelAgrees}
 use Rattle.cread_expr.proofs.AgreedLists.{still_parts}
@@ -29,7 +28,7 @@ use Rattle.cread_expr.proofs.AgreedRules.{agreed_read, agreed_at, agreed_goes, i
 use Rattle.cread_expr.proofs.AgreedSteps.{Still, still_lost, still_goes, still_mark, still_write, still_declare, still_leave, ended_levels, ended_part, ended_skip, ended_token, ended_write, ended_leave, ended_declare}
 use Rattle.cread_expr.proofs.AgreedTypesFields.{all_parts_agree}
 use Rattle.cread_expr.proofs.AgreedTypesSizes.{read_ends, lost_here, ended_stars, then_sizes}
-use Rattle.cread_expr.proofs.AgreedDeclarationsParameters.{then_specifiers, parameters_agree, still_parameters}
+use Rattle.cread_expr.proofs.AgreedDeclarationsParameters.{then_specifiers, parameters_agree}
 
 abbrev pub declarators_piece : List Declared → Pieces
 declarators_piece names pieces = piece.Declarators names ∷ pieces
@@ -104,10 +103,10 @@ still_declaration_behind inner storage still = still_goes _ still
 declaration_behind_agrees : {level : Level} {inner : Inner} {s u : State} {base more before : ℕ} {context : Context} (type : TypeSpec) (storage : Storage) (row : List Terminal) → LevelAgrees level inner
     → Ended s u none (λ pieces. piece.Type type ∷ pieces) base more before context row
     → Agreed none declaration_piece (goes_on s) base before
-      (outcome.after_mark (codes ";") row
-      (outcome.then_read (read_list never (read_declarator level (declares_typedef storage)) (length row + 1) context row) (λ names others last end.
-      outcome.after_mark (codes ";") end outcome.Nothing (λ semicolon left. outcome.Read (tree.declaration storage type names) (max more others) last left)))
-      (λ semicolon end. outcome.Read (tree.declaration storage type []) more context end)) s (declaration_behind inner storage u)
+    (outcome.after_mark (codes ";") row
+    (outcome.then_read (read_list never (read_declarator level (declares_typedef storage)) (length row + 1) context row) (λ names others last end.
+    outcome.after_mark (codes ";") end outcome.Nothing (λ semicolon left. outcome.Read (tree.declaration storage type names) (max more others) last left)))
+    (λ semicolon end. outcome.Read (tree.declaration storage type []) more context end)) s (declaration_behind inner storage u)
 unfolding declaration_behind declarators
 declaration_behind_agrees {level} {inner} {s} {u} type storage row agrees far =
     agreed_goes u u far.status

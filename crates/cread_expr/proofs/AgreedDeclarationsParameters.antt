@@ -1,5 +1,5 @@
 -- Types with a storage word, and parameters.
-use Rattle.std.proofs.Common.{◌≡◌, ℕ, zero, suc, ◌+◌, ◌-◌, ◌<◌, ◌≤◌, max, Bool, true, false, ◌&&◌, List, [], ◌∷◌, ◌++◌, length, codes, Option, None, Some, is_some, refl, ap, sym, ◌∙◌, subst, arith}
+use Rattle.std.proofs.Common.{◌≡◌, ℕ, ◌+◌, max, true, false, ◌&&◌, List, [], ◌∷◌, ◌++◌, length, codes, Option, None, Some, is_some, refl, ap, ◌∙◌, subst, arith}
 use Rattle.std.specs.Prelude.{if◌then◌else◌}
 use Rattle.cbase.specs.declared.tree.decl.Param.{Param}
 use Rattle.cbase.specs.declared.tree.decl.Storage.{Storage}
@@ -22,13 +22,13 @@ use Rattle.cgrammar.specs.Trees as tree
 use Rattle.cgrammar.specs.declared.reading.specifiers.Specifiers.{Specifiers}
 use Rattle.creader.specs.DeclarationSteps.{over_storage, specifiers, storage_or_plain, storage_with, storage_read, parameter_behind, parameter_named, parameter, parameters_inside, parameters}
 use Rattle.creader.specs.DeclarationSteps as steps
-use Rattle.creader.specs.State.{State, rest, goes, is_going, skipped, lost}
-use Rattle.creader.specs.Steps.{Inner, mark, ask_whole, write, enter, all_parts}
+use Rattle.creader.specs.State.{State, rest, goes, is_going, skipped}
+use Rattle.creader.specs.Steps.{Inner, write, enter, all_parts}
 use Rattle.creader.specs.declared.status.Status.{Status}
-use Rattle.creader.specs.declared.status.Status.TheVariants.{Going, Stopped, Nothing}
+use Rattle.creader.specs.declared.status.Status.TheVariants.{Nothing}
 use Rattle.creader.specs.declared.wanted.Wanted.TheVariants as wanted
-use Rattle.cread_expr.proofs.Agreed.{shop, Pieces, none, Ended, Agreed, Ready, Follows, Continues, ends, context_of, LevelAgrees}
-use Rattle.cread_expr.proofs.AgreedLists.{still_both, still_parts}
+use Rattle.cread_expr.proofs.Agreed.{shop, Pieces, none, Ended, Agreed, Follows, Continues, ends, context_of, LevelAgrees}
+use Rattle.cread_expr.proofs.AgreedLists.{still_both}
 use Rattle.cread_expr.proofs.AgreedRules.{agreed_at, agreed_outcome, agreed_goes, agreed_test, if_first, then_asked, then_ends, then_mark}
 use Rattle.cread_expr.proofs.AgreedSteps.{if_going, Still, still_lost, still_goes, still_mark, still_write, still_declare, still_enter, ended_at, ended_levels, ended_part, ended_skip, ended_token, ended_write, ended_enter, ended_declare}
 use Rattle.cread_expr.proofs.AgreedTypesFields.{all_parts_agree}
@@ -42,9 +42,9 @@ then_both (outcome.Read tree levels behind others) go more = refl
 
 still_more : {status : Status} {u v w : State} → Still status u v → Still status v w → Still status u w
 still_more {status} {u} {v} {w} one other = record {
-    idle = one.idle;
-    same = λ is. let same : v ≡ u = one.same is in other.same (ap (λ (s : State). s.status) same ∙ is) ∙ same;
-  }
+  idle = one.idle;
+  same = λ is. let same : v ≡ u = one.same is in other.same (ap (λ (s : State). s.status) same ∙ is) ∙ same;
+}
 
 still_over_storage : {u v : State} → Still Nothing u v → Still Nothing u (over_storage v)
 unfolding over_storage
@@ -55,7 +55,7 @@ storage_agrees : {B : Type 0} {s u v : State} {below middle : Pieces} {above : B
     (type : TypeSpec) (more : ℕ) (others : List Terminal) (go : Specifiers → ℕ → Context → List Terminal → Outcome B)
     → Ended s u below middle base levels before behind others
     → ((storage : Storage) (row : List Terminal) → storage_or_plain (storage_at (rest u)) ≡ storage → Ended s (over_storage u) below middle base levels before behind row
-        → Agreed below above fits base before (go (specifiers_of storage type) more behind row) s v)
+    → Agreed below above fits base before (go (specifiers_of storage type) more behind row) s v)
     → Agreed below above fits base before (then_read (storage_behind type more behind others (storage_at others)) go) s v
 unfolding over_storage
 storage_agrees {u = u} type more [] go far next =
@@ -82,8 +82,8 @@ specifiers_with_agree : {level : Level} {inner : Inner} {B : Type 0} {s t v : St
     → (is_some found ≡ true → Ended s (skipped 1 t) below under base levels before context (outcome.behind_first row))
     → Still Nothing (steps.specifiers_with inner t found) v
     → ((type : TypeSpec) (storage : Storage) (more : ℕ) (behind : Context) (others : List Terminal) → storage_with inner t found ≡ storage
-        → Ended s (steps.specifiers_with inner t found) below (λ pieces. piece.Type type ∷ under pieces) base (max levels more) before behind others
-        → Agreed below above fits base before (go (specifiers_of storage type) more behind others) s v)
+    → Ended s (steps.specifiers_with inner t found) below (λ pieces. piece.Type type ∷ under pieces) base (max levels more) before behind others
+    → Agreed below above fits base before (go (specifiers_of storage type) more behind others) s v)
     → Agreed below above fits base before (then_read (reader.specifiers_with level context row found) go) s v
 specifiers_with_agree {level} {inner} {t = t} {under = under} {context = context} row None go agrees far skips still next =
     agreed_outcome (then_both (level.specifier context row) _ go)
@@ -104,8 +104,8 @@ pub then_specifiers : {level : Level} {inner : Inner} {B : Type 0} {s t v : Stat
     → Ended s t below under base levels before context row
     → Still Nothing (specifiers inner t) v
     → ((type : TypeSpec) (storage : Storage) (more : ℕ) (behind : Context) (others : List Terminal) → storage_read inner t ≡ storage
-        → Ended s (specifiers inner t) below (λ pieces. piece.Type type ∷ under pieces) base (max levels more) before behind others
-        → Agreed below above fits base before (go (specifiers_of storage type) more behind others) s v)
+    → Ended s (specifiers inner t) below (λ pieces. piece.Type type ∷ under pieces) base (max levels more) before behind others
+    → Agreed below above fits base before (go (specifiers_of storage type) more behind others) s v)
     → Agreed below above fits base before (then_read (read_specifiers level context row) go) s v
 unfolding read_specifiers specifiers storage_read
 then_specifiers {level} {inner} {B} {s} {t} {v} {below} {under} {above} {fits} {base} {levels} {before} {context} row go agrees far still next =

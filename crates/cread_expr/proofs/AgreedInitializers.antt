@@ -1,11 +1,8 @@
 -- Initialisers.
-use Rattle.std.proofs.Common.{◌≡◌, ℕ, ◌+◌, max, Bool, true, false, List, [], ◌∷◌, ◌++◌, length, codes, Option, None, Some, refl, ap, sym, ◌∙◌, arith}
-use Rattle.std.specs.Prelude.{if◌then◌else◌}
-use Rattle.cbase.specs.declared.tree.init.Init.{Init}
+use Rattle.std.proofs.Common.{ℕ, ◌+◌, List, [], ◌∷◌, ◌++◌, length, codes, None, Some, refl, arith}
 use Rattle.cbase.specs.declared.tree.init.InitPart.{InitPart}
 use Rattle.cbuild.specs.declared.event.Event.TheVariants as event
 use Rattle.cbuild.specs.declared.piece.Piece.TheVariants as piece
-use Rattle.cgrammar.specs.Outcomes as outcome
 use Rattle.cgrammar.specs.Phrases.{Context}
 use Rattle.cgrammar.specs.ReadDeclarations.{read_part, read_initializer}
 use Rattle.cgrammar.specs.ReadDeclarations as reader
@@ -14,13 +11,12 @@ use Rattle.cgrammar.specs.ReadTypes.{closes_braces, behind_comma}
 use Rattle.cgrammar.specs.Terminals.{Terminal, is_mark, is_name}
 use Rattle.cgrammar.specs.Trees as tree
 use Rattle.creader.specs.DeclarationSteps.{member_part, init_part, init_parts, in_braces, initializer}
-use Rattle.creader.specs.State.{State, rest, goes, skipped, lost}
-use Rattle.creader.specs.Steps.{Inner, mark, ask_whole, write, make, all_parts}
-use Rattle.creader.specs.declared.status.Status.TheVariants.{Going, Stopped, Nothing}
+use Rattle.creader.specs.State.{State, rest}
+use Rattle.creader.specs.Steps.{Inner, all_parts}
 use Rattle.creader.specs.declared.wanted.Wanted.TheVariants as wanted
-use Rattle.cread_expr.proofs.Agreed.{shop, Pieces, none, Ended, Agreed, Ready, Reads, Continues, ends, anyhow, context_of, init_piece, LevelAgrees}
+use Rattle.cread_expr.proofs.Agreed.{shop, Pieces, none, Ended, Agreed, Reads, Continues, ends, anyhow, context_of, init_piece, LevelAgrees}
 use Rattle.cread_expr.proofs.AgreedRules.{agreed_goes, if_first, then_asked, then_ends, then_mark}
-use Rattle.cread_expr.proofs.AgreedSteps.{Still, still_lost, still_mark, still_write, still_make, still_ask_whole, ended_levels, ended_part, ended_none, ended_skip, ended_token, ended_write, ended_make}
+use Rattle.cread_expr.proofs.AgreedSteps.{still_lost, still_mark, still_write, still_make, still_ask_whole, ended_levels, ended_part, ended_none, ended_skip, ended_token, ended_write, ended_make}
 use Rattle.cread_expr.proofs.AgreedTypesFields.{all_parts_agree}
 use Rattle.cread_expr.proofs.AgreedTypesSizes.{read_ends, lost_here}
 use Rattle.cread_expr.proofs.AgreedTypesSpecifiers.{still_over_comma, ended_comma, agreed_anyhow}
