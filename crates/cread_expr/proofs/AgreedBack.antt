@@ -1,5 +1,5 @@
 -- Rules that go back: where more does not follow, the tree before it is all that is read.
-use Rattle.std.proofs.Common.{◌≡◌, ℕ, zero, suc, ◌+◌, ◌≤◌, max, Bool, true, false, List, [], ◌∷◌, ◌++◌, drop, take, length, Option, Some, refl, ap, sym, ◌∙◌, subst, arith}
+use Rattle.std.proofs.Common.{◌≡◌, ℕ, ◌+◌, max, Bool, true, false, List, [], ◌∷◌, drop, take, length, refl, ap, ◌∙◌, arith}
 use Rattle.std.proofs.lemmas.List.{take_at}
 use Rattle.std.specs.Prelude.{if◌then◌else◌}
 use Rattle.cbuild.specs.Building.{built}
@@ -9,15 +9,15 @@ use Rattle.cgrammar.specs.Outcomes.{Outcome, Reader, then_read, or_else, with_ri
 use Rattle.cgrammar.specs.Outcomes as outcome
 use Rattle.cgrammar.specs.Phrases.{Context, counted}
 use Rattle.cgrammar.specs.Terminals.{Terminal, is_mark}
-use Rattle.creader.specs.State.{State, rest, is_going, goes, with_status, with_levels, with_event, skipped, lost, stopped, point_of, back_at}
+use Rattle.creader.specs.State.{State, rest, is_going, goes, with_levels, with_event, skipped, stopped, point_of, back_at}
 use Rattle.creader.specs.Steps.{Inner, mark_or_back, back_unless_going, join, joined, ask, ask_right}
 use Rattle.creader.specs.declared.point.Point.{Point}
 use Rattle.creader.specs.declared.status.Status.{Status}
 use Rattle.creader.specs.declared.status.Status.TheVariants.{Going, Stopped, Nothing}
 use Rattle.creader.specs.declared.wanted.Wanted.{Wanted}
-use Rattle.cread_expr.proofs.Agreed.{shop, Pieces, none, Kept, Went, Failed, Halted, Ended, Agreed, Ready, Reads, Follows, Continues, ends, anyhow, context_of}
-use Rattle.cread_expr.proofs.AgreedRules.{agreed_read, agreed_failed, agreed_lost, agreed_halted, agreed_at, same_first, from_here, ask_anyhow}
-use Rattle.cread_expr.proofs.AgreedSteps.{kept_same, kept_at, kept_over, kept_then, kept_went, kept_ended, failed_then, went_event, if_going, if_idle, if_true, if_false, Still, ready, ended_at, ended_then, halted_then, ended_skip}
+use Rattle.cread_expr.proofs.Agreed.{shop, Pieces, none, Kept, Halted, Ended, Agreed, Reads, Continues, anyhow}
+use Rattle.cread_expr.proofs.AgreedRules.{agreed_lost, agreed_halted, agreed_at, same_first, from_here, ask_anyhow}
+use Rattle.cread_expr.proofs.AgreedSteps.{kept_at, kept_over, kept_went, kept_ended, went_event, if_going, if_idle, if_true, if_false, Still, ended_at, ended_then, halted_then, ended_skip}
 
 -- the tree that is read up to a point is all that is read
 pub agreed_back : {A : Type 0} {s t u : State} {below : Pieces} {above : A → Pieces} {fits : A → State → Type 0} {base levels before : ℕ} {behind : Context} {others : List Terminal} (tree : A)

@@ -1,7 +1,6 @@
 -- Operands, with the brackets around expressions that they begin with.
-use Rattle.std.proofs.Common.{◌≡◌, ℕ, zero, suc, ◌+◌, ◌≤◌, max, Bool, true, false, ◌&&◌, not, List, [], ◌∷◌, ◌++◌, drop, length, codes, refl, ap, sym, ◌∙◌, subst, arith}
+use Rattle.std.proofs.Common.{◌≡◌, ℕ, zero, suc, ◌+◌, Bool, true, false, List, [], ◌∷◌, codes, refl, ap, sym, ◌∙◌, subst, arith}
 use Rattle.std.specs.Prelude.{if◌then◌else◌}
-use Rattle.cbase.specs.declared.tree.expr.Expr.{Expr}
 use Rattle.cgrammar.specs.Outcomes.{Outcome, Reader, then_read, continued}
 use Rattle.cgrammar.specs.Outcomes as outcome
 use Rattle.cgrammar.specs.Phrases.{Context}
@@ -11,24 +10,23 @@ use Rattle.cgrammar.specs.ReadOperands as reader
 use Rattle.cgrammar.specs.ReadOperators as reading
 use Rattle.cgrammar.specs.ReadOperators.{expr_of}
 use Rattle.cgrammar.specs.ReadStarts.{operand_start}
-use Rattle.cgrammar.specs.Scope.{Names}
-use Rattle.cgrammar.specs.Terminals.{Terminal, is_mark}
+use Rattle.cgrammar.specs.Terminals.{Terminal}
 use Rattle.cgrammar.specs.declared.reading.operand.Operand.{Operand}
 use Rattle.creader.specs.OperandSteps.{operand_first, plain, opens, opened, closed, all_closed, cast_behind, cast}
 use Rattle.creader.specs.OperandSteps as steps
 use Rattle.creader.specs.OperatorSteps.{all_operations, conditional_from, assignment_from, expression_from}
 use Rattle.creader.specs.State.{State, rest, is_going, goes, skipped, lost}
-use Rattle.creader.specs.Steps.{Inner, mark, whole}
+use Rattle.creader.specs.Steps.{Inner, whole}
 use Rattle.creader.specs.declared.status.Status.{Status}
-use Rattle.creader.specs.declared.status.Status.TheVariants.{Going, Stopped, Nothing}
+use Rattle.creader.specs.declared.status.Status.TheVariants.{Nothing}
 use Rattle.cread_expr.proofs.Agreed.{Pieces, none, Kept, Ended, Agreed, Ready, Reads, context_of, anyhow, LevelAgrees, expr_piece, operand_piece, operand_fits}
 use Rattle.cread_expr.proofs.AgreedBack.{then_continued}
 use Rattle.cread_expr.proofs.AgreedLists.{failed_lost}
 use Rattle.cread_expr.proofs.AgreedOperands.{PartsAgree, operand_agrees}
 use Rattle.cread_expr.proofs.AgreedOperators.{all_operations_agree, conditional_agrees, assignment_agrees, expression_agrees, still_operations, still_conditional, still_assignment, still_expression}
 use Rattle.cread_expr.proofs.AgreedPostfixes.{Begins, still_postfixes_from, postfixes_from_agree}
-use Rattle.cread_expr.proofs.AgreedRules.{agreed_read, agreed_failed, agreed_at, agreed_goes, then_mark}
-use Rattle.cread_expr.proofs.AgreedSteps.{row_at, row_more, row_inside, kept_went, if_going, if_idle, if_true, if_false, Still, still_lost, still_stopped, still_whole, still_mark, ended_at, ended_levels, ended_none}
+use Rattle.cread_expr.proofs.AgreedRules.{agreed_failed, agreed_at, agreed_goes, then_mark}
+use Rattle.cread_expr.proofs.AgreedSteps.{row_at, row_more, row_inside, kept_went, if_going, if_idle, Still, still_lost, still_stopped, still_whole, still_mark, ended_at, ended_none}
 
 -- the row from a token on
 begins_at : (s : State) (first : Terminal) (row : List Terminal) → rest s ≡ first ∷ row → Begins (skipped 1 s) s.at first row

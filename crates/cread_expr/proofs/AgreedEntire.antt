@@ -1,5 +1,5 @@
 -- Readers behind which more has to follow: a tree behind which they stopped is none.
-use Rattle.std.proofs.Common.{◌≡◌, ℕ, ◌+◌, max, Bool, true, false, List, [], ◌∷◌, ◌++◌, refl, ap, sym, ◌∙◌, arith}
+use Rattle.std.proofs.Common.{◌≡◌, ℕ, false, List, refl, ap, sym, ◌∙◌, arith}
 use Rattle.cbuild.specs.Building.{built}
 use Rattle.cbuild.specs.declared.event.Event.{Event}
 use Rattle.cbuild.specs.declared.piece.Piece.{Piece}
@@ -10,11 +10,11 @@ use Rattle.cgrammar.specs.Terminals.{Terminal}
 use Rattle.creader.specs.State.{State, rest, is_going, goes, lost}
 use Rattle.creader.specs.Steps.{Inner, whole, write, ask, ask_whole}
 use Rattle.creader.specs.declared.status.Status.{Status}
-use Rattle.creader.specs.declared.status.Status.TheVariants.{Going, Stopped, Nothing}
+use Rattle.creader.specs.declared.status.Status.TheVariants.{Going, Stopped}
 use Rattle.creader.specs.declared.wanted.Wanted.{Wanted}
-use Rattle.cread_expr.proofs.Agreed.{shop, Pieces, none, Kept, Ended, Agreed, Ready, Reads, Follows, Continues, ends, anyhow, context_of}
-use Rattle.cread_expr.proofs.AgreedRules.{agreed_read, agreed_failed, agreed_lost, agreed_halted, agreed_at, from_here, ask_anyhow}
-use Rattle.cread_expr.proofs.AgreedSteps.{kept_ended, kept_went, failed_then, if_going, if_idle, still_lost, still_write, ended_at, ended_levels, ended_part, ended_then, halted_then, ended_write}
+use Rattle.cread_expr.proofs.Agreed.{shop, Pieces, Kept, Ended, Agreed, Reads, Follows, Continues, ends, anyhow, context_of}
+use Rattle.cread_expr.proofs.AgreedRules.{agreed_read, agreed_failed, agreed_lost, agreed_halted, agreed_at, ask_anyhow}
+use Rattle.cread_expr.proofs.AgreedSteps.{kept_ended, kept_went, failed_then, if_going, if_idle, still_lost, still_write, ended_levels, ended_then, halted_then, ended_write}
 
 abbrev pub entire : {A : Type 0} → Outcome A → Outcome A
 entire outcome.Nothing = outcome.Nothing

@@ -1,5 +1,5 @@
 -- Lists: what is read is put behind what is already done.
-use Rattle.std.proofs.Common.{◌≡◌, ℕ, zero, suc, ◌+◌, ◌≤◌, max, Bool, true, false, ◌&&◌, not, List, [], ◌∷◌, ◌++◌, length, codes, refl, ap, sym, ◌∙◌, subst, arith, append_assoc, append-nil}
+use Rattle.std.proofs.Common.{◌≡◌, ℕ, zero, suc, ◌+◌, max, Bool, true, false, ◌&&◌, not, List, [], ◌∷◌, ◌++◌, length, codes, refl, ap, sym, ◌∙◌, subst, arith, append_assoc, append-nil}
 use Rattle.std.specs.Prelude.{if◌then◌else◌}
 use Rattle.cbuild.specs.Building.{built}
 use Rattle.cbuild.specs.declared.event.Event.{Event}
@@ -10,13 +10,13 @@ use Rattle.cgrammar.specs.Phrases.{Context}
 use Rattle.cgrammar.specs.ReadLevels.{prepended, read_list, read_until_brace}
 use Rattle.cgrammar.specs.Terminals.{Terminal, is_mark}
 use Rattle.creader.specs.State.{State, rest, is_going, goes, skipped, lost}
-use Rattle.creader.specs.Steps.{write, parts_behind, parts, all_parts, until_brace_with, parts_until_brace, until_brace}
+use Rattle.creader.specs.Steps.{write, parts, all_parts, parts_until_brace, until_brace}
 use Rattle.creader.specs.declared.status.Status.{Status}
 use Rattle.creader.specs.declared.status.Status.TheVariants.{Going, Stopped, Nothing}
-use Rattle.cread_expr.proofs.Agreed.{shop, Pieces, none, Follows, Kept, Failed, Ended, Agreed, Ready, Continues, ends, context_of}
-use Rattle.cread_expr.proofs.AgreedEntire.{entire, entirely, entire_then, entirely_ends, agreed_then}
+use Rattle.cread_expr.proofs.Agreed.{shop, Pieces, none, Follows, Failed, Ended, Agreed, Continues, ends, context_of}
+use Rattle.cread_expr.proofs.AgreedEntire.{entirely, entire_then, entirely_ends, agreed_then}
 use Rattle.cread_expr.proofs.AgreedRules.{agreed_read, agreed_failed, agreed_at, agreed_outcome, agreed_goes, agreed_test, same_first, from_here, then_ends}
-use Rattle.cread_expr.proofs.AgreedSteps.{kept_ended, failed_then, if_true, if_false, if_going, Still, still_lost, still_losing, still_goes, ended_levels, ended_part, ended_then, ended_skip, ended_write}
+use Rattle.cread_expr.proofs.AgreedSteps.{kept_ended, failed_then, if_true, if_false, Still, still_lost, still_losing, still_goes, ended_levels, ended_part, ended_then, ended_skip, ended_write}
 
 pub failed_lost : (s : State) → Failed s (lost s)
 failed_lost s = record { kept = record { row = refl; added = []; events = sym (append-nil s.events) }; status = refl }

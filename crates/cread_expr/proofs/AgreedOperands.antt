@@ -1,5 +1,5 @@
 -- Operands that begin with no bracket around an expression.
-use Rattle.std.proofs.Common.{◌≡◌, ℕ, zero, suc, ◌+◌, ◌-◌, ◌≤◌, max, Bool, true, false, ◌&&◌, not, List, [], ◌∷◌, ◌++◌, drop, length, codes, Option, None, Some, refl, ap, sym, ◌∙◌, subst, arith, append-nil}
+use Rattle.std.proofs.Common.{◌≡◌, ℕ, ◌+◌, max, Bool, true, false, ◌&&◌, not, List, [], ◌∷◌, length, codes, Option, None, Some, refl, ap, sym, ◌∙◌, arith, append-nil}
 use Rattle.std.specs.Prelude.{if◌then◌else◌}
 use Rattle.cbase.specs.declared.place.Place.{Place}
 use Rattle.cbase.specs.declared.tree.decl.TypeName.{TypeName}
@@ -22,7 +22,6 @@ use Rattle.cgrammar.specs.ReadLevels.{Level}
 use Rattle.cgrammar.specs.ReadOperands.{unary_operand, cast_operand, prefixed, unary_alone, behind_matched, read_path, statement_expression, read_cast_to, read_bracket, begins_type_in_brackets, read_size_of, read_offset_of, failed_assertion, read_assert_fail, plain_with, read_plain}
 use Rattle.cgrammar.specs.ReadOperands as reader
 use Rattle.cgrammar.specs.ReadOperators.{expression_of}
-use Rattle.cgrammar.specs.ReadStarts.{operand_start}
 use Rattle.cgrammar.specs.ReadStatements.{read_block}
 use Rattle.cgrammar.specs.ReadTypes.{read_type_name}
 use Rattle.cgrammar.specs.Terminals.{Terminal, is_mark, is_name}
@@ -31,19 +30,18 @@ use Rattle.cgrammar.specs.declared.reading.starts.OperandStart.{OperandStart}
 use Rattle.cgrammar.specs.declared.reading.starts.OperandStart.TheVariants as start
 use Rattle.creader.specs.OperandSteps.{as_operand, path, whole_path, offset_path, offset_of, over_to, over_matched, assert_fail, cast_to, bracket, size_of, plain}
 use Rattle.creader.specs.OperandSteps as steps
-use Rattle.creader.specs.State.{State, rest, is_going, is_nothing, goes, with_levels, with_event, skipped, lost}
+use Rattle.creader.specs.State.{State, rest, is_nothing, with_levels, with_event, skipped, lost}
 use Rattle.creader.specs.StatementSteps.{block}
 use Rattle.creader.specs.Steps.{Inner, mark, write, make, wrap, wrapped, ask}
 use Rattle.creader.specs.TypeSteps.{type_name, type_name_behind}
 use Rattle.creader.specs.declared.status.Status.{Status}
 use Rattle.creader.specs.declared.status.Status.TheVariants.{Going, Stopped, Nothing}
 use Rattle.creader.specs.declared.wanted.Wanted.TheVariants as wanted
-use Rattle.cread_expr.proofs.Agreed.{shop, Pieces, none, Kept, Failed, Ended, Agreed, Ready, context_of, Follows, ends, anyhow, LevelAgrees, operand_piece, operand_fits}
-use Rattle.cread_expr.proofs.AgreedLists.{failed_lost}
-use Rattle.cread_expr.proofs.AgreedPaths.{path_piece, still_path, agreed_losing, path_agrees, still_matched, over_matched_to, ended_matched}
+use Rattle.cread_expr.proofs.Agreed.{shop, Pieces, none, Kept, Failed, Ended, Agreed, context_of, Follows, ends, LevelAgrees, operand_piece, operand_fits}
+use Rattle.cread_expr.proofs.AgreedPaths.{path_piece, agreed_losing, path_agrees, still_matched, over_matched_to, ended_matched}
 use Rattle.cread_expr.proofs.AgreedPostfixes.{Begins, unary_is, agreed_operand, still_operand, still_postfixes_from, postfixes_from_agree}
-use Rattle.cread_expr.proofs.AgreedRules.{agreed_read, agreed_failed, agreed_lost, agreed_halted, agreed_at, agreed_goes, agreed_test, same_first, if_first, from_here, ask_follows, then_ends, then_mark}
-use Rattle.cread_expr.proofs.AgreedSteps.{kept_ended, failed_then, went_event, if_going, if_true, if_false, Still, still_lost, still_losing, still_goes, still_ask, still_ask_whole, still_make, still_mark, still_write, still_wrap, ended_at, ended_levels, ended_none, ended_then, halted_then, ended_skip, ended_token, ended_mark, ended_write, ended_make}
+use Rattle.cread_expr.proofs.AgreedRules.{agreed_read, agreed_failed, agreed_halted, agreed_at, agreed_goes, agreed_test, same_first, if_first, from_here, ask_follows, then_ends, then_mark}
+use Rattle.cread_expr.proofs.AgreedSteps.{kept_ended, failed_then, went_event, Still, still_lost, still_goes, still_ask, still_ask_whole, still_make, still_mark, still_wrap, ended_at, ended_levels, ended_then, halted_then, ended_skip, ended_token, ended_write, ended_make}
 
 abbrev pub statements_piece : List Stmt → Pieces
 statements_piece body pieces = piece.Statements body ∷ pieces

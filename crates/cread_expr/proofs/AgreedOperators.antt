@@ -1,8 +1,7 @@
 -- Operators behind an operand that is read.
-use Rattle.std.proofs.Common.{◌≡◌, ℕ, zero, suc, ◌+◌, ◌≤◌, max, Bool, true, false, ◌&&◌, List, [], ◌∷◌, length, nat_le, codes, Option, None, Some, refl, ap, sym, ◌∙◌, arith}
+use Rattle.std.proofs.Common.{◌≡◌, ℕ, zero, suc, ◌+◌, max, ◌&&◌, List, [], ◌∷◌, length, nat_le, codes, Option, None, Some, refl, ap, arith}
 use Rattle.std.specs.Prelude.{if◌then◌else◌}
 use Rattle.cbase.specs.declared.tree.expr.Expr.{Expr}
-use Rattle.cbase.specs.declared.tree.expr.ExprForm.{ExprForm}
 use Rattle.cbase.specs.declared.tree.expr.ExprForm.TheVariants.{Binary, Assign, Choose}
 use Rattle.cbase.specs.declared.tree.operators.BinaryOp.{BinaryOp}
 use Rattle.cbase.specs.declared.tree.operators.BinaryOp.TheVariants.{Comma}
@@ -19,12 +18,12 @@ use Rattle.cgrammar.specs.Terminals.{Terminal, is_mark}
 use Rattle.cgrammar.specs.declared.reading.operand.Operand.{Operand}
 use Rattle.creader.specs.OperatorSteps.{operation_with, operations, all_operations, choice_behind, choice, comma_with, commas, all_commas}
 use Rattle.creader.specs.OperatorSteps as steps
-use Rattle.creader.specs.State.{State, rest, is_going, goes, skipped, stopped, point_of, back_at}
-use Rattle.creader.specs.Steps.{Inner, ask, ask_right, back_unless_going, mark_or_back, first_row}
+use Rattle.creader.specs.State.{State, rest, is_going, goes, skipped, point_of}
+use Rattle.creader.specs.Steps.{Inner, ask, first_row}
 use Rattle.creader.specs.declared.status.Status.{Status}
-use Rattle.creader.specs.declared.status.Status.TheVariants.{Going, Stopped, Nothing}
+use Rattle.creader.specs.declared.status.Status.TheVariants.{Stopped}
 use Rattle.creader.specs.declared.wanted.Wanted.TheVariants as wanted
-use Rattle.cread_expr.proofs.Agreed.{shop, Pieces, none, Kept, Ended, Agreed, anyhow, LevelAgrees}
+use Rattle.cread_expr.proofs.Agreed.{shop, Pieces, Ended, Agreed, anyhow, LevelAgrees}
 use Rattle.cread_expr.proofs.AgreedBack.{agreed_back, agreed_stopped, else_back, mark_back, right_joined, then_continued}
 use Rattle.cread_expr.proofs.AgreedLists.{still_both}
 use Rattle.cread_expr.proofs.AgreedRules.{agreed_read, agreed_at, agreed_goes, agreed_test, same_first, ask_anyhow}

@@ -1,14 +1,12 @@
 -- Members and items of `__builtin_offsetof`, and what is passed over up to the bracket that closes.
-use Rattle.std.proofs.Common.{◌≡◌, ℕ, zero, suc, ◌+◌, ◌-◌, ◌≤◌, max, Bool, true, false, List, [], ◌∷◌, ◌++◌, drop, length, codes, Option, None, Some, refl, ap, sym, ◌∙◌, subst, arith, append-nil, length-append}
+use Rattle.std.proofs.Common.{◌≡◌, ℕ, zero, suc, ◌+◌, ◌-◌, List, [], ◌∷◌, ◌++◌, drop, length, codes, Some, refl, ap, sym, ◌∙◌, subst, arith, append-nil, length-append}
 use Rattle.std.proofs.lemmas.List.{drop_at, append_assoc, drop-drop, length-drop}
 use Rattle.std.specs.Prelude.{if◌then◌else◌}
-use Rattle.cbase.specs.declared.tree.expr.Expr.{Expr}
 use Rattle.cbase.specs.declared.tree.expr.Part.{Part}
 use Rattle.cbase.specs.declared.tree.expr.Part.TheVariants.{Member as NamedPart, At}
 use Rattle.cbuild.specs.declared.event.Event.TheVariants as event
 use Rattle.cbuild.specs.declared.piece.Piece.TheVariants as piece
 use Rattle.cgrammar.proofs.SoundBrackets.{Closes, brackets_close}
-use Rattle.cgrammar.proofs.SoundSteps.{Splits}
 use Rattle.cgrammar.specs.Outcomes.{Outcome, Reader, has_mark, has_first, behind_first, then_read, after_first, after_mark}
 use Rattle.cgrammar.specs.Outcomes as outcome
 use Rattle.cgrammar.specs.Phrases.{Context}
@@ -16,15 +14,15 @@ use Rattle.cgrammar.specs.ReadLevels.{Level, prepended}
 use Rattle.cgrammar.specs.ReadOperands.{behind_matched, read_path}
 use Rattle.cgrammar.specs.Terminals.{Terminal, is_mark, is_name}
 use Rattle.creader.specs.OperandSteps.{path_member, path_index, path_with, path, over_to, over_matched}
-use Rattle.creader.specs.State.{State, rest, is_going, goes, skipped, lost}
-use Rattle.creader.specs.Steps.{Inner, mark, write, ask_whole}
-use Rattle.creader.specs.declared.status.Status.TheVariants.{Going, Stopped, Nothing}
+use Rattle.creader.specs.State.{State, rest, skipped, lost}
+use Rattle.creader.specs.Steps.{Inner}
+use Rattle.creader.specs.declared.status.Status.TheVariants.{Going, Nothing}
 use Rattle.creader.specs.declared.wanted.Wanted.TheVariants as wanted
-use Rattle.cread_expr.proofs.Agreed.{shop, Pieces, none, Kept, Failed, Ended, Agreed, Ready, Continues, ends, anyhow, context_of, LevelAgrees}
+use Rattle.cread_expr.proofs.Agreed.{shop, Pieces, none, Ended, Agreed, Continues, ends, LevelAgrees}
 use Rattle.cread_expr.proofs.AgreedLists.{then_prepended, failed_lost}
 use Rattle.cread_expr.proofs.AgreedPostfixes.{if_under}
 use Rattle.cread_expr.proofs.AgreedRules.{agreed_read, agreed_failed, agreed_at, agreed_goes, agreed_lost, agreed_test, same_first, then_asked, then_mark, if_first}
-use Rattle.cread_expr.proofs.AgreedSteps.{kept_ended, kept_skipped, failed_then, if_true, if_false, if_going, Still, still_lost, still_losing, still_goes, still_mark, still_write, still_ask_whole, ended_levels, ended_part, ended_skip, ended_token, ended_write}
+use Rattle.cread_expr.proofs.AgreedSteps.{kept_ended, failed_then, if_false, if_going, Still, still_lost, still_losing, still_goes, still_mark, still_write, ended_levels, ended_part, ended_skip, ended_token, ended_write}
 
 abbrev pub path_piece : List Part → Pieces
 path_piece parts pieces = piece.Path parts ∷ pieces

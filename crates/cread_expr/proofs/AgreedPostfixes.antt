@@ -1,5 +1,5 @@
 -- Operators behind an operand, each to the left.
-use Rattle.std.proofs.Common.{◌≡◌, ℕ, zero, suc, ◌+◌, ◌<◌, ◌≤◌, max, Bool, true, false, ◌&&◌, not, List, [], ◌∷◌, ◌++◌, drop, length, nat_le, codes, refl, ap, sym, ◌∙◌, arith}
+use Rattle.std.proofs.Common.{◌≡◌, ℕ, zero, suc, ◌+◌, ◌<◌, max, Bool, true, false, ◌&&◌, not, List, [], ◌∷◌, ◌++◌, drop, length, nat_le, codes, refl, ap, sym, ◌∙◌, arith}
 use Rattle.std.specs.Prelude.{if◌then◌else◌}
 use Rattle.cbase.specs.declared.place.Place.{Place}
 use Rattle.cbase.specs.declared.tree.expr.Expr.{Expr}
@@ -15,26 +15,25 @@ use Rattle.cgrammar.specs.ReadLevels.{Level, read_list}
 use Rattle.cgrammar.specs.ReadOperands.{unary_operand, stopped_operand, index_behind, call_behind, member_behind, postfix_with, goes_on, read_postfixes, postfixes_from}
 use Rattle.cgrammar.specs.ReadStarts.{postfix_start}
 use Rattle.cgrammar.specs.ReadTypes.{never}
-use Rattle.cgrammar.specs.Scope.{Names}
 use Rattle.cgrammar.specs.Terminals.{Terminal, is_mark, is_name, begins_with_typedef, first_word_place}
 use Rattle.cgrammar.specs.declared.reading.operand.Operand.{Operand}
 use Rattle.cgrammar.specs.declared.reading.starts.PostfixStart.{PostfixStart}
 use Rattle.cgrammar.specs.declared.reading.starts.PostfixStart.TheVariants as postfix
 use Rattle.creader.specs.OperandSteps.{as_operand, argument, arguments, call_place, postfix_first, postfix_at, postfixes}
 use Rattle.creader.specs.OperandSteps as steps
-use Rattle.creader.specs.State.{State, rest, is_going, is_nothing, goes, with_unary, skipped, stopped, point_of, back_at}
-use Rattle.creader.specs.Steps.{Inner, write, make, ask, ask_whole, back_unless_going, mark_or_back}
+use Rattle.creader.specs.State.{State, rest, is_going, is_nothing, goes, with_unary, skipped, stopped, point_of}
+use Rattle.creader.specs.Steps.{Inner, make, ask, ask_whole, back_unless_going, mark_or_back}
 use Rattle.creader.specs.declared.status.Status.{Status}
 use Rattle.creader.specs.declared.status.Status.TheVariants.{Going, Stopped, Nothing}
 use Rattle.creader.specs.declared.wanted.Wanted.TheVariants as wanted
-use Rattle.cread_expr.proofs.Agreed.{shop, Pieces, none, Kept, Ended, Agreed, Ready, context_of, Follows, ends, anyhow, LevelAgrees, expr_piece, operand_piece, operand_fits}
+use Rattle.cread_expr.proofs.Agreed.{shop, Pieces, none, Ended, Agreed, Ready, context_of, Follows, ends, LevelAgrees, expr_piece, operand_piece, operand_fits}
 use Rattle.cread_expr.proofs.AgreedBack.{agreed_back, agreed_stopped, else_back, mark_back}
 use Rattle.cread_expr.proofs.AgreedEntire.{entirely, entirely_asked, agreed_then, agreed_write}
 use Rattle.cread_expr.proofs.AgreedLists.{still_both, all_parts_follow}
 use Rattle.cread_expr.proofs.AgreedOperators.{same_most}
 use Rattle.cread_expr.proofs.AgreedPlaces.{call_place_is}
-use Rattle.cread_expr.proofs.AgreedRules.{agreed_read, agreed_failed, agreed_halted, agreed_at, agreed_goes, agreed_test, if_first, same_first, from_here, ask_anyhow}
-use Rattle.cread_expr.proofs.AgreedSteps.{if_true, if_false, kept_skipped, kept_over, Still, still_lost, still_stopped, still_goes, still_make, still_mark_or_back, ended_part, ended_levels, ended_skip, ended_token, ended_write, ended_make}
+use Rattle.cread_expr.proofs.AgreedRules.{agreed_read, agreed_failed, agreed_halted, agreed_at, agreed_goes, agreed_test, if_first, from_here, ask_anyhow}
+use Rattle.cread_expr.proofs.AgreedSteps.{if_false, kept_skipped, kept_over, Still, still_stopped, still_goes, still_make, still_mark_or_back, ended_part, ended_skip, ended_token, ended_write, ended_make}
 
 -- an operand begins at that token of the row, before a place
 pub record Begins (s : State) (at : ℕ) (first : Terminal) (row : List Terminal) : Type 0 where

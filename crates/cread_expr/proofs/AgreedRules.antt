@@ -1,23 +1,18 @@
 -- How a rule of the reader agrees: a step of the rule for each part of its definition.
-use Rattle.std.proofs.Common.{◌≡◌, ℕ, zero, suc, ◌+◌, ◌-◌, ◌≤◌, max, Bool, true, false, List, [], ◌∷◌, ◌++◌, drop, take, length, Option, Some, refl, ap, sym, ◌∙◌, subst, arith}
-use Rattle.std.proofs.lemmas.List.{take_at}
+use Rattle.std.proofs.Common.{◌≡◌, ℕ, max, Bool, true, false, List, [], ◌∷◌, refl, ap, sym, ◌∙◌, subst, arith}
 use Rattle.std.specs.Prelude.{if◌then◌else◌}
-use Rattle.cbuild.specs.Building.{built}
-use Rattle.cbuild.specs.declared.event.Event.{Event}
-use Rattle.cbuild.specs.declared.piece.Piece.{Piece}
 use Rattle.cgrammar.specs.Outcomes.{Outcome, Reader, then_read, or_else, with_right, continued, after_first, after_mark, has_first}
 use Rattle.cgrammar.specs.Outcomes as outcome
-use Rattle.cgrammar.specs.Phrases.{Context, counted}
+use Rattle.cgrammar.specs.Phrases.{Context}
 use Rattle.cgrammar.specs.Scope.{Names}
-use Rattle.cgrammar.specs.Terminals.{Terminal, is_mark, is_word, is_name}
-use Rattle.creader.specs.State.{State, rest, is_going, goes, with_status, with_levels, with_event, skipped, lost, stopped, point_of, back_at}
-use Rattle.creader.specs.Steps.{Inner, over, mark, word, mark_or_back, whole, back_unless_going, join, joined, with_deeper, ask, ask_whole, ask_right}
-use Rattle.creader.specs.declared.point.Point.{Point}
+use Rattle.cgrammar.specs.Terminals.{Terminal, is_mark, is_word}
+use Rattle.creader.specs.State.{State, rest, is_going, goes, with_levels, skipped, lost}
+use Rattle.creader.specs.Steps.{Inner, over, mark, word, whole, with_deeper, ask, ask_whole}
 use Rattle.creader.specs.declared.status.Status.{Status}
 use Rattle.creader.specs.declared.status.Status.TheVariants.{Going, Stopped, Nothing}
 use Rattle.creader.specs.declared.wanted.Wanted.{Wanted}
-use Rattle.cread_expr.proofs.Agreed.{shop, Pieces, none, Kept, Went, Failed, Halted, Ended, Agreed, Ready, Reads, Follows, Continues, ends, anyhow, context_of}
-use Rattle.cread_expr.proofs.AgreedSteps.{kept_same, kept_then, kept_went, kept_ended, failed_then, went_event, if_going, if_idle, if_true, if_false, Still, ready, ended_at, ended_then, halted_then, ended_skip, ended_mark, ended_word}
+use Rattle.cread_expr.proofs.Agreed.{Pieces, none, Kept, Went, Failed, Halted, Ended, Agreed, Reads, Follows, Continues, ends, anyhow, context_of}
+use Rattle.cread_expr.proofs.AgreedSteps.{kept_then, kept_went, kept_ended, failed_then, if_going, if_idle, if_true, if_false, Still, ready, ended_at, ended_then, ended_skip}
 
 -- The outcomes.
 pub agreed_read : {A : Type 0} {s t : State} {below : Pieces} {above : A → Pieces} {fits : A → State → Type 0} {base levels before : ℕ} {behind : Context} {others : List Terminal} {tree : A}

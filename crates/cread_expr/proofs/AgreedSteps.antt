@@ -1,17 +1,17 @@
 -- Steps of a reader, and what they leave of what is known of it.
-use Rattle.std.proofs.Common.{◌≡◌, ℕ, zero, suc, ◌+◌, ◌-◌, ◌≤◌, max, Bool, true, false, List, [], ◌∷◌, ◌++◌, drop, take, length, Option, Some, refl, ap, sym, ◌∙◌, subst, arith, append_assoc, append-nil}
-use Rattle.std.proofs.lemmas.List.{length-drop, drop-drop, take_at}
+use Rattle.std.proofs.Common.{◌≡◌, ℕ, zero, suc, ◌+◌, ◌≤◌, max, Bool, true, false, List, [], ◌∷◌, ◌++◌, drop, length, Option, refl, ap, sym, ◌∙◌, subst, arith, append_assoc, append-nil}
+use Rattle.std.proofs.lemmas.List.{length-drop, drop-drop}
 use Rattle.std.specs.Prelude.{if◌then◌else◌, slice_index_or}
 use Rattle.cbuild.specs.Building.{built, built_next, built_all}
 use Rattle.cbuild.specs.Workshop.{Workshop, token_at, bytes_at, no_token}
 use Rattle.cbuild.specs.declared.event.Event.{Event}
 use Rattle.cbuild.specs.declared.piece.Piece.{Piece}
-use Rattle.cgrammar.specs.Outcomes.{Outcome, Reader, has_first}
-use Rattle.cgrammar.specs.Phrases.{Context, counted, scoped}
+use Rattle.cgrammar.specs.Outcomes.{has_first}
+use Rattle.cgrammar.specs.Phrases.{Context, scoped}
 use Rattle.cgrammar.specs.Scope.{Names, entered, left, declared}
 use Rattle.cgrammar.specs.Terminals.{Terminal, is_mark, is_word, is_name}
-use Rattle.creader.specs.State.{State, rest, is_going, goes, with_status, with_levels, with_scope, with_event, skipped, lost, stopped, point_of, back_at}
-use Rattle.creader.specs.Steps.{Inner, over, mark, word, name, mark_or_back, whole, back_unless_going, write, make, wrap, wrapped, join, joined, declare, enter, leave, with_deeper, ask, ask_whole, ask_right}
+use Rattle.creader.specs.State.{State, rest, is_going, goes, with_levels, with_scope, with_event, skipped, lost}
+use Rattle.creader.specs.Steps.{Inner, over, mark, word, name, mark_or_back, whole, write, make, wrap, wrapped, declare, enter, leave, ask, ask_whole, ask_right}
 use Rattle.creader.specs.declared.point.Point.{Point}
 use Rattle.creader.specs.declared.status.Status.{Status}
 use Rattle.creader.specs.declared.status.Status.TheVariants.{Going, Stopped, Nothing}

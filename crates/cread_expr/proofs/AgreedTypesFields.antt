@@ -1,7 +1,5 @@
 -- Fields of structs, and enumerators.
-use Rattle.std.proofs.Common.{◌≡◌, ℕ, zero, suc, ◌+◌, ◌≤◌, max, Bool, true, false, List, [], ◌∷◌, ◌++◌, length, codes, Option, None, Some, is_some, refl, ap, sym, ◌∙◌, subst, arith}
-use Rattle.std.specs.List.{list_all}
-use Rattle.std.specs.Prelude.{if◌then◌else◌}
+use Rattle.std.proofs.Common.{◌≡◌, ℕ, ◌+◌, max, Bool, false, List, [], ◌∷◌, ◌++◌, length, codes, Option, None, Some, refl, arith}
 use Rattle.cbase.specs.declared.tree.expr.Expr.{Expr}
 use Rattle.cbase.specs.declared.tree.spec.Enumerator.{Enumerator}
 use Rattle.cbase.specs.declared.tree.spec.FieldDecl.{FieldDecl}
@@ -17,17 +15,17 @@ use Rattle.cgrammar.specs.ReadTypes.{star_count, behind_stars, never, closes_bra
 use Rattle.cgrammar.specs.ReadTypes as reader
 use Rattle.cgrammar.specs.Terminals.{Terminal, is_mark, is_name}
 use Rattle.cgrammar.specs.Trees as tree
-use Rattle.creader.specs.State.{State, rest, goes, skipped, lost}
-use Rattle.creader.specs.Steps.{Inner, mark, ask_whole, write, declare, all_parts, until_brace}
+use Rattle.creader.specs.State.{State, rest}
+use Rattle.creader.specs.Steps.{Inner, all_parts, until_brace}
 use Rattle.creader.specs.TypeSteps.{all_sizes, field_name, field_names, fields, enumerator, enumerator_behind, all_enumerators, all_fields}
 use Rattle.creader.specs.TypeSteps as steps
-use Rattle.creader.specs.declared.status.Status.TheVariants.{Going, Stopped, Nothing}
+use Rattle.creader.specs.declared.status.Status.TheVariants.{Nothing}
 use Rattle.creader.specs.declared.wanted.Wanted.TheVariants as wanted
-use Rattle.cread_expr.proofs.Agreed.{shop, Pieces, none, Ended, Agreed, Ready, Follows, Continues, ends, context_of, LevelAgrees}
+use Rattle.cread_expr.proofs.Agreed.{shop, Pieces, Ended, Agreed, Continues, ends, LevelAgrees}
 use Rattle.cread_expr.proofs.AgreedLists.{list_agrees, braces_agree, over_brace, still_parts}
 use Rattle.cread_expr.proofs.AgreedRules.{agreed_goes, if_first, then_asked, then_ends, then_mark}
-use Rattle.cread_expr.proofs.AgreedSteps.{Still, still_lost, still_goes, still_mark, still_write, still_declare, still_ask_whole, ended_levels, ended_part, ended_write, ended_token, ended_declare}
-use Rattle.cread_expr.proofs.AgreedTypesSizes.{read_ends, lost_here, ended_stars, if_behind, still_all_sizes, then_closed_sizes}
+use Rattle.cread_expr.proofs.AgreedSteps.{Still, still_lost, still_goes, still_mark, still_write, still_declare, ended_levels, ended_part, ended_write, ended_token, ended_declare}
+use Rattle.cread_expr.proofs.AgreedTypesSizes.{read_ends, lost_here, ended_stars, if_behind, then_closed_sizes}
 
 -- all parts of a list, of which there are no more than tokens
 pub all_parts_agree : {A : Type 0} (list_piece : List A → Pieces) (closes : List Terminal → Bool) (item : Reader A) (part : State → State)

@@ -14,14 +14,13 @@ use Rattle.cgrammar.specs.ReadLevels.{Level, prepended}
 use Rattle.cgrammar.specs.ReadTypes.{star_count, behind_stars, read_sizes, read_type_name}
 use Rattle.cgrammar.specs.ReadTypes as reader
 use Rattle.cgrammar.specs.Terminals.{Terminal, is_mark}
-use Rattle.creader.specs.State.{State, rest, goes, skipped, lost}
+use Rattle.creader.specs.State.{State, rest, skipped, lost}
 use Rattle.creader.specs.Steps.{Inner, mark, ask_whole, write}
 use Rattle.creader.specs.TypeSteps.{sizes, sizes_from, all_sizes, type_name, type_name_behind}
 use Rattle.creader.specs.TypeSteps as steps
-use Rattle.creader.specs.declared.status.Status.{Status}
-use Rattle.creader.specs.declared.status.Status.TheVariants.{Going, Stopped, Nothing}
+use Rattle.creader.specs.declared.status.Status.TheVariants.{Nothing}
 use Rattle.creader.specs.declared.wanted.Wanted.TheVariants as wanted
-use Rattle.cread_expr.proofs.Agreed.{shop, Pieces, none, Ended, Agreed, Ready, Follows, Continues, ends, context_of, LevelAgrees}
+use Rattle.cread_expr.proofs.Agreed.{Pieces, none, Ended, Agreed, Follows, Continues, ends, context_of, LevelAgrees}
 use Rattle.cread_expr.proofs.AgreedLists.{failed_lost, then_prepended}
 use Rattle.cread_expr.proofs.AgreedRules.{agreed_read, agreed_failed, agreed_lost, agreed_at, agreed_outcome, agreed_goes, same_first, if_first, then_asked, then_ends, then_mark}
 use Rattle.cread_expr.proofs.AgreedSteps.{kept_ended, failed_then, if_true, if_false, Still, still_lost, still_losing, still_goes, still_mark, still_write, still_ask_whole, ended_levels, ended_part, ended_skip, ended_write}
@@ -67,7 +66,7 @@ pub if_behind : {B : Type 0} {s t u v : State} {below middle : Pieces} {above : 
     → Ended s t below middle base levels before context row
     → (has_first test row ≡ false → Agreed below above fits base before other s v)
     → ((first : Terminal) (others : List Terminal) → test first ≡ true → Ended s t below middle base levels before context (first ∷ others) → Ended s (skipped 1 t) below middle base levels before context others
-        → Agreed below above fits base before (one others) s u)
+    → Agreed below above fits base before (one others) s u)
     → Agreed below above fits base before (if has_first test row then one (behind_first row) else other) s (if has_first test (rest t) then u else v)
 if_behind test row one other far without next =
     agreed_outcome (behind_is test row one other) (if_first test row other (λ first others. one others) far without next)
@@ -167,10 +166,10 @@ size_agrees {level} {inner} {s} {t} {below} {base} {before} {context} optional d
 
     tested : (row : List Terminal) (found : Bool) → has_mark (codes "]") row ≡ found → Ended s t below (sizes_piece done) base 0 before context row
         → Agreed below (λ more. sizes_piece (done ++ more)) ends base before
-          (admitted optional (if found then prepended None 0 (read context (behind_first row))
-          else then_read (level.conditional context row) (λ size levels behind others.
-          after_mark (codes "]") others outcome.Nothing (λ closing more. prepended (Some size) levels (read behind more))))) s
-          (go (if has_mark (codes "]") (rest t) then (if optional then write event.OpenSize (skipped 1 t) else lost t) else write event.Size (mark (codes "]") (ask_whole inner wanted.Conditional t))))
+        (admitted optional (if found then prepended None 0 (read context (behind_first row))
+        else then_read (level.conditional context row) (λ size levels behind others.
+        after_mark (codes "]") others outcome.Nothing (λ closing more. prepended (Some size) levels (read behind more))))) s
+        (go (if has_mark (codes "]") (rest t) then (if optional then write event.OpenSize (skipped 1 t) else lost t) else write event.Size (mark (codes "]") (ask_whole inner wanted.Conditional t))))
     tested [] true found far = cc found
     tested (first ∷ others) true found far =
         agreed_at (ap go (if_true _ _ _ (same_first (is_mark (codes "]")) far ∙ found))) (closing optional (first ∷ others) again far (ended_skip far))
@@ -193,8 +192,8 @@ sizes_agree {level} {inner} optional (suc count) done agrees s before is =
     tested : ((size : Option Expr) → Continues (sizes_piece (done ++ size ∷ [])) (λ more. sizes_piece ((done ++ size ∷ []) ++ more)) ends (λ context row. admitted optional (read_sizes level count context row)) (sizes inner optional count))
         → (row : List Terminal) (found : Bool) → has_mark (codes "[") row ≡ found → Ended s s (sizes_piece done) (sizes_piece done) s.levels 0 before (context_of s before) row
         → Agreed (sizes_piece done) (λ more. sizes_piece (done ++ more)) ends s.levels before
-          (admitted optional (if found then reader.size_behind (read_sizes level count) level (context_of s before) (behind_first row) else outcome.Read [] 0 (context_of s before) row)) s
-          (if has_mark (codes "[") (rest s) then sizes inner optional count (steps.size_behind inner optional (skipped 1 s)) else s)
+        (admitted optional (if found then reader.size_behind (read_sizes level count) level (context_of s before) (behind_first row) else outcome.Read [] 0 (context_of s before) row)) s
+        (if has_mark (codes "[") (rest s) then sizes inner optional count (steps.size_behind inner optional (skipped 1 s)) else s)
     tested again [] true found far = cc found
     tested again (first ∷ others) true found far =
         agreed_at (if_true _ _ _ (same_first (is_mark (codes "[")) far ∙ found))
@@ -211,7 +210,7 @@ then_all_sizes : {level : Level} {inner : Inner} {B : Type 0} {s t v : State} {b
     → Ended s t below under base levels before context row
     → Still Nothing (all_sizes inner optional t) v
     → ((sizes : List (Option Expr)) (more : ℕ) (behind : Context) (others : List Terminal) → Ended s (all_sizes inner optional t) below (λ pieces. sizes_piece sizes (under pieces)) base (max levels more) before behind others
-        → Agreed below above fits base before (go sizes more behind others) s v)
+    → Agreed below above fits base before (go sizes more behind others) s v)
     → Agreed below above fits base before (then_read (admitted optional (read_sizes level (length row + 1) context row)) go) s v
 unfolding all_sizes
 then_all_sizes {level} {inner} {under} optional go agrees far still next =
@@ -224,7 +223,7 @@ pub then_sizes : {level : Level} {inner : Inner} {B : Type 0} {s t v : State} {b
     → Ended s t below under base levels before context row
     → Still Nothing (all_sizes inner true t) v
     → ((sizes : List (Option Expr)) (more : ℕ) (behind : Context) (others : List Terminal) → Ended s (all_sizes inner true t) below (λ pieces. sizes_piece sizes (under pieces)) base (max levels more) before behind others
-        → Agreed below above fits base before (go sizes more behind others) s v)
+    → Agreed below above fits base before (go sizes more behind others) s v)
     → Agreed below above fits base before (then_read (read_sizes level (length row + 1) context row) go) s v
 then_sizes {level} {context} {row} go agrees far still next =
     agreed_outcome (then_open (read_sizes level (length row + 1) context row) go) (then_all_sizes true go agrees far still next)
@@ -235,7 +234,7 @@ pub then_closed_sizes : {level : Level} {inner : Inner} {B : Type 0} {s t v : St
     → Ended s t below under base levels before context row
     → Still Nothing (all_sizes inner false t) v
     → ((sizes : List (Option Expr)) (more : ℕ) (behind : Context) (others : List Terminal) → Ended s (all_sizes inner false t) below (λ pieces. sizes_piece sizes (under pieces)) base (max levels more) before behind others
-        → Agreed below above fits base before (go sizes more behind others) s v)
+    → Agreed below above fits base before (go sizes more behind others) s v)
     → Agreed below above fits base before (then_read (read_sizes level (length row + 1) context row) (λ sizes levels behind others. if list_all is_some sizes then go sizes levels behind others else outcome.Nothing)) s v
 then_closed_sizes {level} {context} {row} go agrees far still next =
     agreed_outcome (then_closed (read_sizes level (length row + 1) context row) go) (then_all_sizes false go agrees far still next)

@@ -1,12 +1,12 @@
 -- Types: structs, enums, `typeof`, and those that are a word or some.
-use Rattle.std.proofs.Common.{◌≡◌, ℕ, zero, suc, ◌+◌, ◌≤◌, max, Bool, true, false, ◌&&◌, List, [], ◌∷◌, ◌++◌, map, take, drop, length, codes, Option, None, Some, refl, ap, sym, ◌∙◌, subst, arith}
+use Rattle.std.proofs.Common.{◌≡◌, ℕ, suc, ◌+◌, Bool, true, false, ◌&&◌, List, [], ◌∷◌, map, take, drop, length, codes, Option, None, Some, refl, ap, sym, ◌∙◌, arith}
 use Rattle.std.proofs.lemmas.List.Sums.{prefix_len-le-length}
 use Rattle.std.specs.List.{prefix_len}
 use Rattle.std.specs.Prelude.{if◌then◌else◌}
 use Rattle.cbase.specs.declared.tree.spec.BasicType.{BasicType}
 use Rattle.cbase.specs.declared.tree.spec.TypeSpec.{TypeSpec}
-use Rattle.cbase.specs.declared.tree.spec.TypeSpec.TheVariants.{Basic, Named, Struct, Enum, OfExpr, OfType}
-use Rattle.cbuild.specs.Workshop.{bytes_at, maybe_bytes_at}
+use Rattle.cbase.specs.declared.tree.spec.TypeSpec.TheVariants.{Named, Struct, Enum}
+use Rattle.cbuild.specs.Workshop.{maybe_bytes_at}
 use Rattle.cbuild.specs.declared.event.Event.TheVariants as event
 use Rattle.cbuild.specs.declared.piece.Piece.TheVariants as piece
 use Rattle.cgrammar.specs.Firsts.{begins_type}
@@ -18,23 +18,22 @@ use Rattle.cgrammar.specs.ReadLevels.{Level, read_list, read_until_brace}
 use Rattle.cgrammar.specs.ReadStarts.{type_start}
 use Rattle.cgrammar.specs.ReadTypes.{closes_braces, behind_comma, tag_at, by_tag, read_type_name, read_fields, read_enumerator, read_struct, read_enum, of_basic, read_specifier}
 use Rattle.cgrammar.specs.ReadTypes as reader
-use Rattle.cgrammar.specs.Scope.{Names}
 use Rattle.cgrammar.specs.Terminals.{Terminal, is_mark, is_name, bytes_of}
 use Rattle.cgrammar.specs.TypeWords.{basic_rows, basic_of}
 use Rattle.cgrammar.specs.declared.reading.starts.TypeStart.{TypeStart}
 use Rattle.cgrammar.specs.declared.reading.starts.TypeStart.TheVariants as start
-use Rattle.creader.specs.State.{State, rest, goes, is_going, skipped, lost}
-use Rattle.creader.specs.Steps.{Inner, mark, ask_whole, write, make, all_parts, until_brace}
+use Rattle.creader.specs.State.{State, rest, goes, is_going, skipped}
+use Rattle.creader.specs.Steps.{Inner, all_parts, until_brace}
 use Rattle.creader.specs.TypeSteps.{type_name, fields, all_fields, enumerator, all_enumerators, over_comma, struct_with, struct_behind, enum_with, enum_behind, tag_number, basic, specifier}
 use Rattle.creader.specs.TypeSteps as steps
-use Rattle.creader.specs.declared.status.Status.TheVariants.{Going, Stopped, Nothing}
+use Rattle.creader.specs.declared.status.Status.TheVariants.{Nothing}
 use Rattle.creader.specs.declared.wanted.Wanted.TheVariants as wanted
-use Rattle.cread_expr.proofs.Agreed.{shop, Pieces, none, Ended, Agreed, Ready, Reads, ends, anyhow, context_of, type_piece, LevelAgrees}
+use Rattle.cread_expr.proofs.Agreed.{shop, Pieces, none, Ended, Agreed, Reads, ends, anyhow, context_of, type_piece, LevelAgrees}
 use Rattle.cread_expr.proofs.AgreedLists.{over_brace, then_brace, still_both}
-use Rattle.cread_expr.proofs.AgreedRules.{agreed_read, agreed_at, agreed_outcome, agreed_goes, agreed_test, same_first, then_asked, then_ends, then_mark}
-use Rattle.cread_expr.proofs.AgreedSteps.{if_going, if_true, if_false, Still, still_lost, still_goes, still_mark, still_make, ended_at, ended_levels, ended_none, ended_skip, ended_token, ended_write, ended_make}
-use Rattle.cread_expr.proofs.AgreedTypesFields.{fields_piece, enumerators_piece, fields_agree, enumerator_agrees, all_parts_agree, until_brace_agrees, still_enumerators}
-use Rattle.cread_expr.proofs.AgreedTypesSizes.{read_ends, lost_here, ended_over, type_name_agrees, still_type_name}
+use Rattle.cread_expr.proofs.AgreedRules.{agreed_at, agreed_outcome, agreed_goes, agreed_test, same_first, then_asked, then_ends, then_mark}
+use Rattle.cread_expr.proofs.AgreedSteps.{if_true, if_false, Still, still_lost, still_goes, still_mark, still_make, ended_at, ended_levels, ended_none, ended_skip, ended_token, ended_write, ended_make}
+use Rattle.cread_expr.proofs.AgreedTypesFields.{fields_piece, enumerators_piece, fields_agree, enumerator_agrees, all_parts_agree, until_brace_agrees}
+use Rattle.cread_expr.proofs.AgreedTypesSizes.{read_ends, lost_here, ended_over, type_name_agrees}
 
 -- a whole tree, of which no part was read before
 abbrev Makes : {A : Type 0} → (A → Pieces) → Outcome A → (s t : State) → ℕ → Type 0
@@ -68,7 +67,7 @@ one_more n = omega arith
 -- a tag, which may be left out
 tag_agrees : {s t : State} {before : ℕ} {context : Context} (from : Option (List ℕ) → Reader TypeSpec) (go : Option ℕ → State → State)
     → ((number : Option ℕ) (u : State) (row : List Terminal) → Ended s u none none 0 0 before context row
-        → Makes type_piece (from (maybe_bytes_at s.row number) context row) s (go number u) before)
+    → Makes type_piece (from (maybe_bytes_at s.row number) context row) s (go number u) before)
     → (row : List Terminal) → Ended s t none none 0 0 before context row
     → Makes type_piece (from (tag_at row) context (reader.behind_tag row)) s (go (tag_number t) (steps.behind_tag t)) before
 tag_agrees {s} {t} {before} {context} from go next [] far =

@@ -1,6 +1,8 @@
 pub mod Agreed
 pub mod AgreedBack
 pub mod AgreedBrackets
+pub mod AgreedDeclarations
+pub mod AgreedDeclarationsParameters
 pub mod AgreedEntire
 pub mod AgreedInitializers
 pub mod AgreedLevels
