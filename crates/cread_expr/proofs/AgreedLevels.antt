@@ -6,12 +6,11 @@ use Rattle.creader.specs.ReadingSteps.{reads, inner_at}
 use Rattle.creader.specs.Steps.{Inner}
 use Rattle.cread_expr.proofs.Agreed.{LevelAgrees}
 use Rattle.cread_expr.proofs.AgreedBrackets.{cast_agrees, operation_reads, conditional_reads, assignment_reads, expression_reads}
-use Rattle.cread_expr.proofs.AgreedDeclarations.{declaration_agrees}
 use Rattle.cread_expr.proofs.AgreedInitializers.{initializer_agrees}
 use Rattle.cread_expr.proofs.AgreedLists.{failed_lost}
 use Rattle.cread_expr.proofs.AgreedOperands.{PartsAgree}
 use Rattle.cread_expr.proofs.AgreedRules.{agreed_failed}
-use Rattle.cread_expr.proofs.AgreedStatements.{DeclarationAgrees, as_ends, as_anyhow, block_agrees, clause_agrees}
+use Rattle.cread_expr.proofs.AgreedStatements.{as_ends, as_anyhow, block_agrees, clause_agrees}
 use Rattle.cread_expr.proofs.AgreedStatementsLabels.{statement_agrees, item_agrees}
 use Rattle.cread_expr.proofs.AgreedTypesSizes.{type_name_agrees}
 use Rattle.cread_expr.proofs.AgreedTypesSpecifiers.{specifier_agrees}
@@ -46,7 +45,6 @@ unfolding reads
 above_agrees most below =
     let same = below.most in
     let parts : PartsAgree (level most) (inner_at most) = operands_agree below in
-    let declaration : DeclarationAgrees (level most) (inner_at most) = declaration_agrees below in
     record {
       most = one_more most (level most).most same;
       cast = cast_agrees parts;
@@ -56,9 +54,9 @@ above_agrees most below =
       expression = expression_reads parts;
       specifier = specifier_agrees below;
       initializer = initializer_agrees below;
-      clause = λ s before is none_before. as_anyhow _ (clause_agrees below declaration s before is none_before);
-      statement = λ s before is none_before. as_anyhow _ (statement_agrees below declaration s before is none_before);
-      item = λ s before is none_before. as_anyhow _ (item_agrees below declaration s before is none_before);
+      clause = λ s before is none_before. as_anyhow _ (clause_agrees below s before is none_before);
+      statement = λ s before is none_before. as_anyhow _ (statement_agrees below s before is none_before);
+      item = λ s before is none_before. as_anyhow _ (item_agrees below s before is none_before);
     }
   where
     one_more : (one other : ℕ) → one ≡ other → suc one ≡ other + 1
