@@ -5,6 +5,7 @@ pub mod AgreedDeclarations
 pub mod AgreedDeclarationsParameters
 pub mod AgreedEntire
 pub mod AgreedInitializers
+pub mod AgreedLevels
 pub mod AgreedLists
 pub mod AgreedOperands
 pub mod AgreedOperators
@@ -19,3 +20,4 @@ pub mod AgreedSteps
 pub mod AgreedTypesFields
 pub mod AgreedTypesSizes
 pub mod AgreedTypesSpecifiers
+pub mod Agreement
