@@ -1,1 +1,15 @@
 pub mod Agreed
+pub mod AgreedBack
+pub mod AgreedEntire
+pub mod AgreedLists
+pub mod AgreedOperators
+pub mod AgreedPlaces
+pub mod AgreedPostfixes
+pub mod AgreedRules
+pub mod AgreedStatements
+pub mod AgreedStatementsLabels
+pub mod AgreedStatementsRules
+pub mod AgreedSteps
+pub mod AgreedPaths
+pub mod AgreedOperands
+pub mod AgreedBrackets
