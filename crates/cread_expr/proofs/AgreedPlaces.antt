@@ -1,12 +1,12 @@
 -- The places of a row's tokens by their numbers.
-use Rattle.std.proofs.Common.{◌≡◌, ℕ, zero, suc, ◌+◌, ◌-◌, ◌≤◌, ◌<◌, Bool, true, false, not, List, [], ◌∷◌, ◌++◌, length, take, drop, get_or, cond, refl, ap, sym, ◌∙◌, subst, arith, length-drop, length-take-le, get_or-drop, get_or-take}
+use Rattle.std.proofs.Common.{◌≡◌, ℕ, zero, suc, ◌+◌, ◌-◌, ◌≤◌, ◌<◌, Bool, true, false, not, List, [], ◌∷◌, ◌++◌, length, take, drop, cond, refl, ap, sym, ◌∙◌, arith, length-drop, length-take-le, get_or-drop, get_or-take}
 use Rattle.std.proofs.lemmas.Bool.Decides.{nat_tests}
 use Rattle.std.specs.List.{filter, prefix_len}
 use Rattle.std.specs.Prelude.{if◌then◌else◌, nat_eq}
 use Rattle.cbuild.specs.Workshop.{place_at, no_token}
 use Rattle.cgrammar.specs.FrontOf.{front_of}
 use Rattle.cgrammar.specs.Terminals.{Terminal, first_place, last_place, first_word_place, is_any_word}
-use Rattle.creader.specs.OperandSteps.{is_no_word, first_word, call_place}
+use Rattle.creader.specs.OperandSteps.{is_no_word, call_place}
 use Rattle.creader.specs.State.{State, rest}
 
 -- the token at a number

@@ -1,8 +1,7 @@
 -- Blocks, expressions that may be left out, and clauses: the steps come to what the reader function gives (C11 6.8).
-use Rattle.std.proofs.Common.{◌≡◌, ℕ, zero, suc, ◌+◌, ◌-◌, ◌≤◌, ◌<◌, max, Bool, true, false, List, [], ◌∷◌, ◌++◌, length, drop, Option, None, Some, codes, refl, ap, sym, ◌∙◌, subst, arith}
+use Rattle.std.proofs.Common.{◌≡◌, ℕ, suc, ◌+◌, ◌-◌, ◌≤◌, ◌<◌, Bool, true, false, List, [], ◌∷◌, ◌++◌, length, drop, Option, None, Some, codes, refl, ap, sym, ◌∙◌, subst, arith}
 use Rattle.std.proofs.lemmas.List.{length-drop}
 use Rattle.std.specs.Prelude.{if◌then◌else◌}
-use Rattle.cbase.specs.declared.place.Place.{Place}
 use Rattle.cbase.specs.declared.tree.decl.Decl.{Decl}
 use Rattle.cbase.specs.declared.tree.expr.Expr.{Expr}
 use Rattle.cbase.specs.declared.tree.stmt.Stmt.{Stmt}
@@ -17,22 +16,23 @@ use Rattle.cgrammar.specs.Outcomes.{Outcome, Reader, then_read, has_first, behin
 use Rattle.cgrammar.specs.Outcomes as outcome
 use Rattle.cgrammar.specs.Phrases.{Context}
 use Rattle.cgrammar.specs.ReadDeclarations.{leaving, read_declaration}
-use Rattle.cgrammar.specs.ReadLevels.{Level, prepended, read_until_brace}
+use Rattle.cgrammar.specs.ReadLevels.{Level, read_until_brace}
 use Rattle.cgrammar.specs.ReadStatements.{read_block, read_maybe, read_clause, declared_statement as read_declared, expression_statement as read_evaluated}
 use Rattle.cgrammar.specs.Scope.{left}
 use Rattle.cgrammar.specs.Terminals.{Terminal, is_mark, first_place, last_place}
 use Rattle.cgrammar.specs.Trees.{statement as statement_of}
 use Rattle.creader.specs.DeclarationSteps.{declaration}
-use Rattle.creader.specs.State.{State, rest, goes, with_scope, skipped, lost}
+use Rattle.creader.specs.State.{State, rest, goes, with_scope}
 use Rattle.creader.specs.StatementSteps.{block_item, block_items, block, maybe, declared, declared_statement, evaluated, expression_statement, clause}
-use Rattle.creader.specs.Steps.{Inner, mark, ask_whole, write, make, enter, leave, parts_until_brace}
-use Rattle.creader.specs.declared.status.Status.TheVariants.{Going, Stopped, Nothing}
+use Rattle.creader.specs.Steps.{Inner, make, leave, parts_until_brace}
+use Rattle.creader.specs.declared.status.Status.TheVariants.{Going, Stopped}
 use Rattle.creader.specs.declared.wanted.Wanted.TheVariants as wanted
-use Rattle.cread_expr.proofs.Agreed.{Pieces, none, shop, Failed, Ended, Agreed, Ready, Reads, Follows, Continues, ends, anyhow, context_of, statement_piece, LevelAgrees}
-use Rattle.cread_expr.proofs.AgreedLists.{failed_lost, behind_brace, over_brace, then_brace, still_braces, braces_agree}
+use Rattle.cread_expr.proofs.Agreed.{Pieces, none, shop, Ended, Agreed, Ready, Reads, Follows, Continues, ends, anyhow, context_of, statement_piece, LevelAgrees}
+use Rattle.cread_expr.proofs.AgreedEntire.{entirely, entirely_asked, agreed_then, agreed_write}
+use Rattle.cread_expr.proofs.AgreedLists.{over_brace, then_brace, still_braces, braced_agree}
 use Rattle.cread_expr.proofs.AgreedPlaces.{first_of_front, last_of_front, place_first}
-use Rattle.cread_expr.proofs.AgreedRules.{agreed_read, agreed_failed, agreed_outcome, agreed_goes, agreed_lost, agreed_test, from_here, then_asked, then_mark, if_first}
-use Rattle.cread_expr.proofs.AgreedSteps.{kept_ended, failed_then, still_lost, still_mark, still_write, still_make, still_leave, still_enter, ready, ended_part, ended_none, ended_then, ended_levels, ended_token, ended_write, ended_make, ended_enter, ended_leave}
+use Rattle.cread_expr.proofs.AgreedRules.{agreed_read, agreed_outcome, agreed_goes, agreed_lost, agreed_test, from_here, then_asked, then_mark, if_first}
+use Rattle.cread_expr.proofs.AgreedSteps.{kept_ended, failed_then, still_lost, still_mark, still_write, still_make, still_leave, still_enter, ended_part, ended_none, ended_then, ended_levels, ended_token, ended_write, ended_make, ended_enter, ended_leave}
 
 abbrev pub body_piece : List Stmt → Pieces
 body_piece body pieces = piece.Statements body ∷ pieces
@@ -102,30 +102,11 @@ at_left s = step (goes s)
     step true = refl
     step false = refl
 
-abbrev pub wholly : {A : Type 0} → Reader A → Reader A
-wholly reader context row = then_read (reader context row) (λ tree levels behind others. outcome.Read tree levels behind others)
-
-wholly_then : {A : Type 0} (found : Outcome A) (one other : Context → List Terminal → Outcome (List A)) → ((context : Context) (row : List Terminal) → one context row ≡ other context row)
-    → then_read found (λ tree levels behind others. prepended tree levels (one behind others))
-    ≡ then_read (then_read found (λ tree levels behind others. outcome.Read tree levels behind others)) (λ tree levels behind others. prepended tree levels (other behind others))
-wholly_then outcome.Nothing one other same = refl
-wholly_then (outcome.Stopped tree expressions others) one other same = refl
-wholly_then {A} (outcome.Read tree levels behind others) one other same = ap (λ (trees : Outcome (List A)). prepended tree levels trees) (same behind others)
-
--- items are asked wholly in a list in braces
-pub wholly_braced : {A : Type 0} (item : Reader A) (count : ℕ) (context : Context) (row : List Terminal) → read_until_brace item count context row ≡ read_until_brace (wholly item) count context row
-unfolding read_until_brace
-wholly_braced item zero context row = refl
-wholly_braced {A} item (suc count) context row =
-    ap (λ (items : Outcome (List A)). if has_first (is_mark (codes "}")) row then outcome.Read [] 0 context row else items)
-    (wholly_then (item context row) (read_until_brace item count) (read_until_brace (wholly item) count) (wholly_braced item count))
-
 block_item_agrees : {level : Level} {inner : Inner} → LevelAgrees level inner → (done : List Stmt)
-    → Continues (body_piece done) (λ tree. body_piece (done ++ tree ∷ [])) ends (wholly level.item) (block_item inner)
+    → Continues (body_piece done) (λ tree. body_piece (done ++ tree ∷ [])) ends (entirely level.item) (block_item inner)
 unfolding block_item
 block_item_agrees {level} {inner} agrees done s before is =
-    then_asked (body_piece done) level.item inner wanted.Item _ (ended_part s (body_piece done) before is) agrees.item (still_write _ still_lost) (λ tree more behind others far.
-    agreed_ends (ended_levels (omega arith) (ended_write event.Statement (λ pieces. refl) far)))
+    agreed_write event.Statement (λ tree count pieces. refl) (agreed_then (body_piece done) (ended_part s (body_piece done) before is) (entirely_asked level.item inner wanted.Item agrees.item s before is))
 
 pub block_agrees : {level : Level} {inner : Inner} → LevelAgrees level inner → Passes body_piece (read_block level) (block inner)
 unfolding read_block block block_items
@@ -151,18 +132,15 @@ block_agrees {level} {inner} agrees s before is =
     inside_braces : (opening : Terminal) (others : List Terminal) → Ended s s none none s.levels 0 before (context_of s before) (opening ∷ others)
         → (t : State) → Ended s t none (body_piece []) s.levels 0 before (inside (context_of s before)) others
         → Agreed none body_piece (passes s) s.levels before
-          (then_read (read_until_brace level.item (length others + 1) (inside (context_of s before)) others) (λ body levels within left. outcome.Read body levels (leaving within) (behind_first left))) s
-          (leave (parts_until_brace (block_item inner) (length (rest t) + 1) t))
+        (then_read (read_until_brace level.item (length others + 1) (inside (context_of s before)) others) (λ body levels within left. outcome.Read body levels (leaving within) (behind_first left))) s
+        (leave (parts_until_brace (block_item inner) (length (rest t) + 1) t))
     inside_braces opening others here t far =
         let count : ℕ = length (rest t) + 1 in
-        let same : read_until_brace level.item (length others + 1) (inside (context_of s before)) others ≡ read_until_brace (wholly level.item) count (inside (context_of s before)) others =
-        ap (λ (row : List Terminal). read_until_brace level.item (length row + 1) (inside (context_of s before)) others) (sym far.left)
-        ∙ wholly_braced level.item count (inside (context_of s before)) others in
-        agreed_outcome (ap (λ (found : Outcome (List Stmt)). then_read found (λ body levels within left. outcome.Read body levels (leaving within) (behind_first left))) same
-        ∙ then_brace (read_until_brace (wholly level.item) count (inside (context_of s before)) others) (λ body levels within left. outcome.Read body levels (leaving within) left))
+        agreed_outcome (ap (λ (row : List Terminal). then_read (read_until_brace level.item (length row + 1) (inside (context_of s before)) others) (λ body levels within left. outcome.Read body levels (leaving within) (behind_first left))) (sym far.left)
+        ∙ then_brace (read_until_brace level.item count (inside (context_of s before)) others) (λ body levels within left. outcome.Read body levels (leaving within) left))
         (case opening others here t _ far _
-        (from_here (over_brace (read_until_brace (wholly level.item) count)) (parts_until_brace (block_item inner) count) far
-        (braces_agree body_piece (wholly level.item) (block_item inner) (block_item_agrees agrees) count [])))
+        (from_here (over_brace (read_until_brace level.item count)) (parts_until_brace (block_item inner) count) far
+        (braced_agree body_piece level.item (block_item inner) (block_item_agrees agrees) count [])))
 
 -- an expression that may be left out
 pub maybe_agrees : {level : Level} {inner : Inner} → LevelAgrees level inner → (test : Terminal → Bool) → Follows maybe_piece ends (read_maybe level test) (maybe inner test)
@@ -181,8 +159,8 @@ declared_agrees level inner declares s before is none_before =
   where
     case : (t : State) (found : Outcome Decl) → Agreed none declaration_piece (passes s) s.levels before found s t
         → Agreed none statement_piece ends 0 before
-          (then_read found (λ decl levels behind others. outcome.Read (statement_of (first_place (front_of (rest s) others)) (last_place (front_of (rest s) others)) (Declare decl)) (1 + levels) behind others))
-          s (make (event.Declare s.at (t.at - 1)) t)
+        (then_read found (λ decl levels behind others. outcome.Read (statement_of (first_place (front_of (rest s) others)) (last_place (front_of (rest s) others)) (Declare decl)) (1 + levels) behind others))
+        s (make (event.Declare s.at (t.at - 1)) t)
     case t outcome.Nothing is = agreed_lost is.is (still_make _ still_lost)
     case t (outcome.Stopped decl expressions others) is = let wrong : Stopped ≡ Going = sym is.is.0.status ∙ is.is.1.0 in cc wrong
     case t (outcome.Read decl levels behind others) is =

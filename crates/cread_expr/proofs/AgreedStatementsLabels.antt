@@ -1,5 +1,5 @@
 -- Statements with and without labels, and what stands in a block (C11 6.8, 6.8.1).
-use Rattle.std.proofs.Common.{◌≡◌, ℕ, ◌+◌, ◌-◌, ◌≤◌, max, Bool, true, false, List, [], ◌∷◌, drop, length, codes, refl, ap, sym, ◌∙◌, subst, arith}
+use Rattle.std.proofs.Common.{◌≡◌, ℕ, ◌+◌, ◌-◌, ◌≤◌, Bool, true, false, List, [], ◌∷◌, drop, length, codes, refl, ap, sym, ◌∙◌, subst, arith}
 use Rattle.std.proofs.lemmas.List.{drop-drop, length-drop}
 use Rattle.std.specs.Prelude.{if◌then◌else◌}
 use Rattle.cbase.specs.declared.place.Place.{Place}
@@ -22,17 +22,18 @@ use Rattle.cgrammar.specs.Terminals.{Terminal, last_place, first_place}
 use Rattle.cgrammar.specs.Trees.{statement as statement_of}
 use Rattle.cgrammar.specs.declared.reading.starts.StatementStart.{StatementStart}
 use Rattle.cgrammar.specs.declared.reading.starts.StatementStart.TheVariants as start
-use Rattle.creader.specs.State.{State, rest, goes, skipped, lost}
-use Rattle.creader.specs.StatementSteps.{block, blocked, block_statement, clause, other_statement, statement_with, statement_first, unlabeled_with, unlabeled, labels_length, statement, item}
+use Rattle.creader.specs.State.{State, rest, skipped}
+use Rattle.creader.specs.StatementSteps.{block, blocked, block_statement, other_statement, statement_with, statement_first, unlabeled_with, unlabeled, labels_length, statement, item}
 use Rattle.creader.specs.Steps.{Inner, make}
-use Rattle.creader.specs.declared.status.Status.TheVariants.{Going, Stopped, Nothing}
-use Rattle.cread_expr.proofs.Agreed.{Pieces, none, shop, Failed, Ended, Agreed, Ready, Reads, ends, context_of, statement_piece, LevelAgrees}
+use Rattle.creader.specs.declared.status.Status.TheVariants.{Going, Stopped}
+use Rattle.cread_expr.proofs.Agreed.{none, shop, Ended, Agreed, Ready, Reads, ends, context_of, statement_piece, LevelAgrees}
+use Rattle.cread_expr.proofs.AgreedEntire.{agreed_then}
 use Rattle.cread_expr.proofs.AgreedLists.{failed_lost}
 use Rattle.cread_expr.proofs.AgreedPlaces.{place_first, last_of_front}
 use Rattle.cread_expr.proofs.AgreedRules.{agreed_failed, agreed_outcome, agreed_goes, agreed_lost, agreed_test, same_first}
 use Rattle.cread_expr.proofs.AgreedStatements.{body_piece, passes, DeclarationAgrees, agreed_ends, block_agrees, clause_agrees}
 use Rattle.cread_expr.proofs.AgreedStatementsRules.{if_agrees, while_agrees, do_agrees, for_agrees, break_agrees, continue_agrees, return_agrees}
-use Rattle.cread_expr.proofs.AgreedSteps.{kept_ended, failed_then, went_then, still_lost, still_make, ready, ended_none, ended_token, ended_make, ended_skip, halted_then}
+use Rattle.cread_expr.proofs.AgreedSteps.{still_lost, still_make, ready, ended_none, ended_token, ended_make, ended_skip}
 
 -- A block as a statement.
 block_statement_agrees : {level : Level} {inner : Inner} → LevelAgrees level inner → (s : State) (before : ℕ) → Ready s → s.levels ≡ 0
@@ -138,26 +139,6 @@ skipped_far s before count is none_before within =
     reached : (at whole left : ℕ) → at ≤ whole → left ≡ whole - at → count ≤ left → at + count ≤ whole
     reached at whole left inside is within = omega (arith, inside, is, within)
 
--- what is read from there on
-agreed_there : {s t u : State} {before : ℕ} {row : List Terminal} (found : Outcome Stmt) → Ended s t none none 0 0 before (context_of s before) row
-    → Agreed none statement_piece ends 0 before found t u → Agreed none statement_piece ends 0 before found s u
-agreed_there outcome.Nothing far is = agreed_failed (failed_then (kept_ended far) is.is)
-agreed_there (outcome.Stopped tree expressions others) far is = let wrong : Stopped ≡ Going = sym is.is.0.status ∙ is.is.1 in cc wrong
-agreed_there {s} {t} {u} (outcome.Read tree levels behind others) far is =
-    let part = is.is.0 in
-    agreed_ends (record {
-      went = went_then none far.went part.went;
-      status = part.status;
-      left = part.left;
-      scope = part.scope;
-      levels = part.levels;
-      on = further s.at t.at u.at far.on part.on;
-      inside = part.inside;
-    })
-  where
-    further : (one middle other : ℕ) → one ≤ middle → middle ≤ other → one ≤ other
-    further one middle other first second = omega (arith, first, second)
-
 pub statement_agrees : {level : Level} {inner : Inner} → LevelAgrees level inner → DeclarationAgrees level inner → Reads statement_piece ends (read_statement level) (statement inner)
 unfolding statement
 statement_agrees {level} {inner} agrees declares s before is none_before =
@@ -166,7 +147,8 @@ statement_agrees {level} {inner} agrees declares s before is none_before =
     skipped_far s before count is none_before (labels_within s.scope (rest s)) in
     agreed_goes s s is.status
     (agreed_outcome (labels_read level (context_of s before) (rest s) ∙ ap (λ (row : List Terminal). read_unlabeled level (context_of s before) row) (drop-drop count s.at s.row))
-    (agreed_there (read_unlabeled level (context_of s before) (rest (skipped count s))) far (unlabeled_agrees agrees declares (skipped count s) before (ready far) none_before)))
+    (agreed_then none far (subst (λ (base : ℕ). Agreed none statement_piece ends base before (read_unlabeled level (context_of s before) (rest (skipped count s))) (skipped count s) (unlabeled inner (skipped count s))) (sym none_before)
+    (unlabeled_agrees agrees declares (skipped count s) before (ready far) none_before))))
 
 -- what stands in a block
 pub item_agrees : {level : Level} {inner : Inner} → LevelAgrees level inner → DeclarationAgrees level inner → Reads statement_piece ends (read_item level) (item inner)

@@ -1,10 +1,8 @@
 -- The statements that begin with a word (C11 6.8.4 to 6.8.6).
-use Rattle.std.proofs.Common.{◌≡◌, ℕ, ◌+◌, ◌-◌, max, Bool, true, false, ◌&&◌, List, [], ◌∷◌, Option, None, Some, codes, refl, ap, sym, ◌∙◌, subst, arith}
+use Rattle.std.proofs.Common.{◌≡◌, ℕ, max, Bool, true, false, ◌&&◌, List, ◌∷◌, codes, refl, ap, ◌∙◌, subst, arith}
 use Rattle.std.specs.Prelude.{if◌then◌else◌}
-use Rattle.cbase.specs.declared.place.Place.{Place}
 use Rattle.cbase.specs.declared.tree.expr.Expr.{Expr}
-use Rattle.cbase.specs.declared.tree.stmt.Stmt.{Stmt}
-use Rattle.cbase.specs.declared.tree.stmt.StmtForm.TheVariants.{If, While, Do, For, Break, Continue, Return}
+use Rattle.cbase.specs.declared.tree.stmt.StmtForm.TheVariants.{Do, Break, Continue, Return}
 use Rattle.cbuild.specs.Workshop.{place_at}
 use Rattle.cbuild.specs.declared.event.Event.TheVariants as event
 use Rattle.cbuild.specs.declared.piece.Piece.TheVariants as piece
@@ -12,31 +10,31 @@ use Rattle.cgrammar.specs.Outcomes.{Outcome, then_read, after_mark, has_first}
 use Rattle.cgrammar.specs.Outcomes as outcome
 use Rattle.cgrammar.specs.Phrases.{Context}
 use Rattle.cgrammar.specs.ReadLevels.{Level}
-use Rattle.cgrammar.specs.ReadStatements.{read_maybe, read_if, read_while, read_do, read_for, read_return, untyped as read_untyped, otherwise_behind as read_otherwise}
+use Rattle.cgrammar.specs.ReadStatements.{read_maybe, read_if, read_while, read_do, read_for, read_return, untyped as read_untyped}
 use Rattle.cgrammar.specs.Terminals.{Terminal, is_mark, is_word, begins_with_typedef}
 use Rattle.cgrammar.specs.Trees.{statement as statement_of}
-use Rattle.creader.specs.State.{State, rest, is_going, goes, skipped, lost}
+use Rattle.creader.specs.State.{State, rest, is_going, goes, lost}
 use Rattle.creader.specs.StatementSteps.{maybe, untyped, test, otherwise_behind, if_behind, while_behind, done, do_behind, for_behind, broken, break_behind, continued, continue_behind, returned, return_behind}
-use Rattle.creader.specs.Steps.{Inner, mark, ask_whole}
-use Rattle.creader.specs.declared.status.Status.TheVariants.{Going, Stopped, Nothing}
+use Rattle.creader.specs.Steps.{Inner, ask_whole}
+use Rattle.creader.specs.declared.status.Status.TheVariants.{Nothing}
 use Rattle.creader.specs.declared.wanted.Wanted.TheVariants as wanted
-use Rattle.cread_expr.proofs.Agreed.{Pieces, none, shop, Failed, Ended, Agreed, ends, expr_piece, statement_piece, LevelAgrees}
+use Rattle.cread_expr.proofs.Agreed.{Pieces, none, shop, Ended, Agreed, ends, statement_piece, LevelAgrees}
 use Rattle.cread_expr.proofs.AgreedLists.{failed_lost}
-use Rattle.cread_expr.proofs.AgreedRules.{agreed_failed, agreed_at, agreed_goes, agreed_lost, agreed_test, then_ends, then_asked, then_mark, then_word, if_first}
-use Rattle.cread_expr.proofs.AgreedStatements.{maybe_piece, maybe_agrees, agreed_ends, place_taken}
-use Rattle.cread_expr.proofs.AgreedSteps.{kept_ended, failed_then, if_true, if_false, if_going, Still, still_lost, still_goes, still_mark, still_word, still_make, still_enter, still_leave, still_ask_whole, ended_at, ended_levels, ended_token, ended_make, ended_skip, ended_enter, ended_leave}
+use Rattle.cread_expr.proofs.AgreedRules.{agreed_goes, agreed_lost, then_ends, then_asked, then_mark, then_word, if_first}
+use Rattle.cread_expr.proofs.AgreedStatements.{maybe_agrees, agreed_ends, place_taken}
+use Rattle.cread_expr.proofs.AgreedSteps.{kept_ended, failed_then, if_true, if_false, Still, still_lost, still_goes, still_mark, still_word, still_make, still_enter, still_leave, still_ask_whole, ended_at, ended_levels, ended_make, ended_enter, ended_leave}
 
 -- an expression behind a `(`, where no name of a typedef stands
 still_untyped : {u v : State} (inner : Inner) → Still Nothing u v → Still Nothing u (untyped inner v)
 unfolding untyped
 still_untyped {u} {v} inner still = record {
-    idle = refl;
-    same = λ is.
-        let same : v ≡ u = still.same is in
-        let idle : goes v ≡ false = ap (λ (s : State). goes s) same ∙ ap (λ status. is_going status) is in
-        if_false (goes v && begins_with_typedef v.scope (rest v)) (lost v) (ask_whole inner wanted.Expression v) (ap (λ (test : Bool). test && begins_with_typedef v.scope (rest v)) idle)
-        ∙ (still_ask_whole inner wanted.Expression still).same is;
-  }
+  idle = refl;
+  same = λ is.
+      let same : v ≡ u = still.same is in
+      let idle : goes v ≡ false = ap (λ (s : State). goes s) same ∙ ap (λ status. is_going status) is in
+      if_false (goes v && begins_with_typedef v.scope (rest v)) (lost v) (ask_whole inner wanted.Expression v) (ap (λ (test : Bool). test && begins_with_typedef v.scope (rest v)) idle)
+      ∙ (still_ask_whole inner wanted.Expression still).same is;
+}
 
 then_untyped : {B : Type 0} {level : Level} {inner : Inner} {s t v : State} {below under : Pieces} {above : B → Pieces} {fits : B → State → Type 0} {base levels before : ℕ} {context : Context}
     (row : List Terminal) (go : Expr → ℕ → Context → List Terminal → Outcome B)
@@ -44,7 +42,7 @@ then_untyped : {B : Type 0} {level : Level} {inner : Inner} {s t v : State} {bel
     → Ended s t below under base levels before context row
     → Still Nothing (untyped inner t) v
     → ((tree : Expr) (more : ℕ) (behind : Context) (others : List Terminal) → Ended s (untyped inner t) below (λ pieces. piece.Expr tree ∷ under pieces) base (max levels more) before behind others
-        → Agreed below above fits base before (go tree more behind others) s v)
+    → Agreed below above fits base before (go tree more behind others) s v)
     → Agreed below above fits base before (then_read (read_untyped level context row) go) s v
 unfolding untyped
 then_untyped {B} {level} {inner} {s} {t} {v} {below} {under} {above} {fits} {base} {levels} {before} {context} row go agrees far still next =
@@ -83,7 +81,7 @@ then_test : {B : Type 0} {level : Level} {inner : Inner} {s t v : State} {below 
     → Ended s t below under base levels before context row
     → Still Nothing (test inner t) v
     → ((tree : Expr) (more : ℕ) (behind : Context) (others : List Terminal) → Ended s (test inner t) below (λ pieces. piece.Expr tree ∷ under pieces) base (max levels more) before behind others
-        → Agreed below above fits base before (go tree more behind others) s v)
+    → Agreed below above fits base before (go tree more behind others) s v)
     → Agreed below above fits base before (tested level context row go) s v
 unfolding test
 then_test {inner} {t} {v} row go agrees far still next =
@@ -151,7 +149,7 @@ for_agrees {level} {inner} {row} first agrees far =
 pub break_agrees : {s t : State} {before : ℕ} {context : Context} {row : List Terminal} (first : ℕ)
     → Ended s t none none 0 0 before context row
     → Agreed none statement_piece ends 0 before
-      (after_mark (codes ";") row outcome.Nothing (λ semicolon others. outcome.Read (statement_of (place_at s.row first) semicolon.place Break) 1 context others)) s (break_behind first t)
+    (after_mark (codes ";") row outcome.Nothing (λ semicolon others. outcome.Read (statement_of (place_at s.row first) semicolon.place Break) 1 context others)) s (break_behind first t)
 unfolding break_behind broken
 break_agrees {s} {context} {row} first far =
     then_mark (codes ";") row _ far (still_make _ still_lost) (λ semicolon others found here there.
@@ -161,7 +159,7 @@ break_agrees {s} {context} {row} first far =
 pub continue_agrees : {s t : State} {before : ℕ} {context : Context} {row : List Terminal} (first : ℕ)
     → Ended s t none none 0 0 before context row
     → Agreed none statement_piece ends 0 before
-      (after_mark (codes ";") row outcome.Nothing (λ semicolon others. outcome.Read (statement_of (place_at s.row first) semicolon.place Continue) 1 context others)) s (continue_behind first t)
+    (after_mark (codes ";") row outcome.Nothing (λ semicolon others. outcome.Read (statement_of (place_at s.row first) semicolon.place Continue) 1 context others)) s (continue_behind first t)
 unfolding continue_behind continued
 continue_agrees {s} {context} {row} first far =
     then_mark (codes ";") row _ far (still_make _ still_lost) (λ semicolon others found here there.

@@ -1,8 +1,15 @@
 pub mod Agreed
 pub mod AgreedBack
+pub mod AgreedBrackets
+pub mod AgreedDeclarations
+pub mod AgreedDeclarationsParameters
 pub mod AgreedEntire
+pub mod AgreedInitializers
+pub mod AgreedLevels
 pub mod AgreedLists
+pub mod AgreedOperands
 pub mod AgreedOperators
+pub mod AgreedPaths
 pub mod AgreedPlaces
 pub mod AgreedPostfixes
 pub mod AgreedRules
@@ -10,6 +17,7 @@ pub mod AgreedStatements
 pub mod AgreedStatementsLabels
 pub mod AgreedStatementsRules
 pub mod AgreedSteps
-pub mod AgreedPaths
-pub mod AgreedOperands
-pub mod AgreedBrackets
+pub mod AgreedTypesFields
+pub mod AgreedTypesSizes
+pub mod AgreedTypesSpecifiers
+pub mod Agreement
