@@ -1,4 +1,5 @@
 pub mod DeclarationSteps
+pub mod ItemSteps
 pub mod Nests
 pub mod OperandSteps
 pub mod OperatorSteps
