@@ -5,9 +5,10 @@ use Rattle.cbase.specs.declared.tree.decl.Storage.{Storage}
 use Rattle.cbase.specs.declared.tree.expr.ExprForm.TheVariants.{Name, Constant, Unary, Binary, Assign, Count, Choose, Cast, SizeOf, SizeOfType, OffsetOf, Index, Member, Call, Inner, AssertFail}
 use Rattle.cbase.specs.declared.tree.expr.Part.TheVariants.{Member as NamedPart, At}
 use Rattle.cbase.specs.declared.tree.init.Init.TheVariants.{Value, Braces}
+use Rattle.cbase.specs.declared.tree.item.Item.TheVariants.{Empty, Declare as DeclaredItem, Function}
 use Rattle.cbase.specs.declared.tree.spec.TypeSpec.TheVariants.{Basic, Named, Struct, Enum, OfExpr, OfType}
 use Rattle.cbase.specs.declared.tree.stmt.StmtForm.TheVariants.{Declare, Eval, Block, If, While, Do, For, Break, Continue, Return}
-use Rattle.cbuild.specs.Workshop.{Workshop, token_at, place_at, bytes_at, maybe_bytes_at, pushed, expressed, with_expr, with_arguments, with_path, with_type, with_sizes, with_type_name, with_field_names, with_fields, with_enumerators, with_parameters, with_declarators, with_declaration, with_init, with_parts, with_maybe, with_statement, with_statements}
+use Rattle.cbuild.specs.Workshop.{Workshop, token_at, place_at, bytes_at, maybe_bytes_at, pushed, expressed, with_expr, with_arguments, with_path, with_type, with_sizes, with_type_name, with_field_names, with_fields, with_enumerators, with_parameters, with_declarators, with_declarator, with_declaration, with_init, with_parts, with_maybe, with_statement, with_statements}
 use Rattle.cbuild.specs.declared.event.Event.{Event}
 use Rattle.cbuild.specs.declared.event.Event.TheVariants as event
 use Rattle.cbuild.specs.declared.piece.Piece.{Piece}
@@ -142,12 +143,17 @@ built row (event.Break first last) count pieces = pushed count (piece.Statement 
 built row (event.Continue first last) count pieces = pushed count (piece.Statement (statement (place_at row first) (place_at row last) Continue)) pieces
 built row (event.Return first last) count pieces =
     with_maybe pieces (λ value others. pushed count (piece.Statement (statement (place_at row first) (place_at row last) (Return value))) others)
+built row event.EmptyItem count pieces = pushed count (piece.Item Empty) pieces
+built row event.DeclareItem count pieces = with_declaration pieces (λ decl others. pushed count (piece.Item (DeclaredItem decl)) others)
+built row (event.FunctionItem storage close) count pieces =
+    with_statements pieces (λ body lower. with_declarator lower (λ head below. with_type below (λ type others.
+    pushed count (piece.Item (Function type storage head body (place_at row close))) others)))
 
 -- what a row of events makes
 abbrev pub built_next : List Terminal → Event → Option Workshop → Option Workshop
 built_next row event None = None
 built_next row event (Some workshop) = built row event workshop.count workshop.pieces
 
-pub built_all : List Terminal → List Event → Option Workshop → Option Workshop
+unfoldable pub built_all : List Terminal → List Event → Option Workshop → Option Workshop
 built_all row [] workshop = workshop
 built_all row (event ∷ events) workshop = built_all row events (built_next row event workshop)

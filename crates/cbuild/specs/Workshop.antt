@@ -96,6 +96,11 @@ abbrev pub with_declarators : List Piece → (List Declared → List Piece → O
 with_declarators (piece.Declarators trees ∷ pieces) go = go trees pieces
 with_declarators _ go = None
 
+-- a declarator alone
+abbrev pub with_declarator : List Piece → (Declared → List Piece → Option Workshop) → Option Workshop
+with_declarator (piece.Declarators (tree ∷ []) ∷ pieces) go = go tree pieces
+with_declarator _ go = None
+
 abbrev pub with_declaration : List Piece → (Decl → List Piece → Option Workshop) → Option Workshop
 with_declaration (piece.Declaration tree ∷ pieces) go = go tree pieces
 with_declaration _ go = None

@@ -146,4 +146,10 @@ pub enum Event {
     Continue { first: usize, last: usize },
     /// `return` of the expression on top, which may be left out.
     Return { first: usize, last: usize },
+    /// A `;` as an item of a file.
+    EmptyItem,
+    /// The declaration on top as an item of a file.
+    DeclareItem,
+    /// A function's definition, up to its last `}`: of the statements on top, its one declarator and its type below them.
+    FunctionItem { storage: Storage, close: usize },
 }

@@ -1,5 +1,5 @@
 use cbase::{
-    Boxed, Decl, Declared, Enumerator, Expr, FieldDecl, FieldName, Init, InitPart, List, Param,
+    Boxed, Decl, Declared, Enumerator, Expr, FieldDecl, FieldName, Init, InitPart, Item, List, Param,
     Part, Stmt, TypeName, TypeSpec,
 };
 
@@ -40,4 +40,6 @@ pub enum Piece {
     Statement(Boxed<Stmt>),
     /// Statements.
     Statements(List<Stmt>),
+    /// An item of a file.
+    Item(Item),
 }

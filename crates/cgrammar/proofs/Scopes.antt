@@ -7,7 +7,7 @@ use Rattle.std.specs.Map.{lookup}
 use Rattle.std.proofs.Math.Seq.{take-suc}
 use Rattle.std.proofs.Common.{get_or, set, arith}
 use Rattle.indexmap.specs.IndexMap.{insert_entry}
-use Rattle.cgrammar.specs.Scope.{Names, found_in, first_answer, found, declared_in, declared, left, entered}
+use Rattle.cgrammar.specs.Scope.{Names, found_in, first_answer, found, declared_in, declared, declared_around, left, entered}
 
 module _ {X : Type 0} (bytes : X → List ℕ) where
   abbrev pub shown : X × Bool → List ℕ × Bool
@@ -54,6 +54,23 @@ declared-last name typedef (outer ∷ (next ∷ scopes)) zero names few is = abs
 declared-last name typedef (outer ∷ (next ∷ scopes)) (suc last) names few is =
     let rest : suc last ≡ length (next ∷ scopes) = omega (arith, few) in
     ap (λ (n : List Names). outer ∷ n) (declared-last name typedef (next ∷ scopes) last names rest is)
+
+-- declaring in the last scope but one is declaring around the innermost
+pub declared-around : (name : List ℕ) (typedef : Bool) (scopes : List Names) (around : ℕ) (names : Names) → suc (suc around) ≡ length scopes → names ≡ get_or scopes around names → set scopes around (declared_in name typedef names) ≡ declared_around name typedef scopes
+declared-around name typedef [] around names few is = absurd (omega (arith, few))
+declared-around name typedef (only ∷ []) around names few is = absurd (omega (arith, few))
+declared-around name typedef (outer ∷ (inner ∷ [])) zero names few is = ap (λ (n : Names). declared_in name typedef n ∷ (inner ∷ [])) is
+declared-around name typedef (outer ∷ (inner ∷ [])) (suc around) names few is = absurd (omega (arith, few))
+declared-around name typedef (outer ∷ (next ∷ (inner ∷ scopes))) zero names few is = absurd (omega (arith, few))
+declared-around name typedef (outer ∷ (next ∷ (inner ∷ scopes))) (suc around) names few is =
+    let rest : suc (suc around) ≡ length (next ∷ (inner ∷ scopes)) = omega (arith, few) in
+    ap (λ (n : List Names). outer ∷ n) (declared-around name typedef (next ∷ (inner ∷ scopes)) around names rest is)
+
+-- nothing is declared around fewer than two scopes
+pub declared-around_few : (name : List ℕ) (typedef : Bool) (scopes : List Names) → length scopes < 2 → declared_around name typedef scopes ≡ scopes
+declared-around_few name typedef [] few = refl
+declared-around_few name typedef (only ∷ []) few = refl
+declared-around_few name typedef (outer ∷ (next ∷ scopes)) few = absurd (omega (arith, few))
 
 -- one turn of a search from the innermost scope outwards
 pub found-step : (name : List ℕ) (scopes : List Names) (left : ℕ) (names : Names) → 0 < left → left ≤ length scopes → names ≡ get_or scopes (left - 1) names → found name scopes ≡ found name (take left scopes) → found name scopes ≡ first_answer (found_in name names) (found name (take (left - 1) scopes))

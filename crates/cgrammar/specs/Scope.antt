@@ -42,6 +42,13 @@ declared name typedef [] = []
 declared name typedef (names ∷ []) = declared_in name typedef names ∷ []
 declared name typedef (outer ∷ (next ∷ inner)) = outer ∷ declared name typedef (next ∷ inner)
 
+-- a name is declared in the scope around the innermost one
+abbrev pub declared_around : List ℕ → Bool → List Names → List Names
+declared_around name typedef [] = []
+declared_around name typedef (innermost ∷ []) = innermost ∷ []
+declared_around name typedef (around ∷ (innermost ∷ [])) = declared_in name typedef around ∷ (innermost ∷ [])
+declared_around name typedef (outer ∷ (next ∷ (inner ∷ others))) = outer ∷ declared_around name typedef (next ∷ (inner ∷ others))
+
 -- the file's scope, before its first declaration
 abbrev pub file_scope : List Names
 file_scope = [] ∷ []

@@ -39,7 +39,7 @@ pub use scope::Scope;
 pub use stars::stars_length;
 pub use tables::{tables_of_blocks, tables_of_expressions};
 pub use terminal::{Terminal, terminal_of};
-pub use terminals::row_of;
+pub use terminals::{row_of, row_of_part};
 
 #[cfg(test)]
 mod tests;

@@ -1,5 +1,5 @@
 ghost use Rattle.std.specs.Prelude.{◌≡◌, List, length, ◌≤◌, IfOk, OnOk, OnErr};
-ghost use Rattle.cgrammar.specs.Scope.{found, is_typedef_name, declared, file_scope, entered, left};
+ghost use Rattle.cgrammar.specs.Scope.{found, is_typedef_name, declared, declared_around, file_scope, entered, left};
 
 use crate::names::Names;
 use cbase::NoMemory;
@@ -59,6 +59,20 @@ impl Scope {
         declare_last(alloc, &mut self.sets, name, typedef)
     }
 
+    /// Declares a name in the scope around the innermost one, where there is one. Where memory is wanting all stays as it
+    /// was.
+    pub fn declare_around(
+        &mut self,
+        alloc: Global,
+        name: &[u8],
+        typedef: bool,
+    ) -> Result<(), NoMemory>
+        ensures ok { OnOk result (self.new ≡ declared_around name.now typedef self.old) }
+        ensures err { OnErr result (self.new ≡ self.old) }
+    {
+        declare_around_last(alloc, &mut self.sets, name, typedef)
+    }
+
     /// A copy, with the same names.
     pub fn copied(&self, alloc: Global) -> Result<Scope, NoMemory>
         ensures { IfOk result (λ copy. copy ≡ self.now) }
@@ -106,6 +120,23 @@ fn declare_last(
         return Ok(());
     }
     sets[count - 1].declare(alloc, name, typedef)
+}
+
+/// Declares a name in the scope before the last, where there is one.
+fn declare_around_last(
+    alloc: Global,
+    sets: &mut Vec<Names>,
+    name: &[u8],
+    typedef: bool,
+) -> Result<(), NoMemory>
+    ensures ok { OnOk result (sets.new.items ≡ declared_around name.now typedef sets.old.items) }
+    ensures err { OnErr result (sets.new.items ≡ sets.old.items) }
+{
+    let count = sets.len();
+    if count < 2 {
+        return Ok(());
+    }
+    sets[count - 2].declare(alloc, name, typedef)
 }
 
 /// Copies of the names of each scope.

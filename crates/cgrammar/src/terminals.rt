@@ -1,7 +1,8 @@
 ghost use Rattle.std.specs.Prelude.{◌≡◌, ◌<◌, ◌≤◌, length, map, IfOk};
 ghost use Rattle.std.specs.List.{All};
-ghost use Rattle.ctokens.specs.Passed.{LieInText};
+ghost use Rattle.ctokens.specs.Passed.{LieInText, passed_tokens};
 ghost use Rattle.ctokens.specs.declared.token.Token.{Token};
+ghost use Rattle.cgrammar.specs.Readings.{row_between};
 ghost use Rattle.cgrammar.specs.Terminals.{terminal_of, terminals, unpassed};
 
 use crate::terminal::{Terminal, terminal_of};
@@ -20,6 +21,30 @@ pub fn row_of<'a>(alloc: Global, t: &'a Tokens) -> Result<Vec<Terminal<'a>>, NoM
         t.text.as_slice(),
         t.list.as_slice(),
         passed.as_slice(),
+    )
+}
+
+/// The same of the tokens from one number up to another, given which tokens of the text are passed over.
+#[tactic(auto, using(crate::proofs::Unpassed::between, crate::proofs::Unpassed::ranges_between))]
+pub fn row_of_part<'a>(
+    alloc: Global,
+    t: &'a Tokens,
+    passed: &[bool],
+    from: usize,
+    to: usize,
+) -> Result<Vec<Terminal<'a>>, NoMemory>
+    requires text { LieInText t.now }
+    requires passed { passed.now ≡ passed_tokens t.now }
+    requires same { length passed.now ≡ length t.now.list }
+    requires order { from ≤ to }
+    requires inside { to ≤ length t.now.list }
+    ensures { IfOk result (λ row. row.items ≡ row_between t.now from to) }
+{
+    unpassed(
+        alloc,
+        t.text.as_slice(),
+        &t.list.as_slice()[from..to],
+        &passed[from..to],
     )
 }
 

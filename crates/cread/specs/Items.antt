@@ -11,16 +11,9 @@ use Rattle.cbase.specs.declared.tree.spec.TypeSpec.{TypeSpec}
 use Rattle.cbase.specs.declared.tree.stmt.Stmt.{Stmt}
 use Rattle.cgrammar.specs.Grammar.{Spells}
 use Rattle.cgrammar.specs.Phrases.{Context, Specifiers, Declaration, FunctionDeclarator, BlockItems, scoped}
-use Rattle.cgrammar.specs.Scope.{Names, declared_in, left}
+use Rattle.cgrammar.specs.Scope.{declared_around, left}
 use Rattle.cgrammar.specs.Terminals.{Terminal, IsMark}
 use Rattle.cgrammar.specs.TypeWords.{declares_typedef}
-
--- a name is declared in the scope around the innermost one
-abbrev pub declared_around : List ℕ → Bool → List Names → List Names
-declared_around name typedef [] = []
-declared_around name typedef (innermost ∷ []) = innermost ∷ []
-declared_around name typedef (around ∷ (innermost ∷ [])) = declared_in name typedef around ∷ (innermost ∷ [])
-declared_around name typedef (outer ∷ (next ∷ (inner ∷ others))) = outer ∷ declared_around name typedef (next ∷ (inner ∷ others))
 
 -- In the body of a function its name is in scope, outside its parameters (C11 6.2.1p4, 6.2.1p7).
 abbrev pub in_body : List ℕ → Bool → Context → Context

@@ -1,6 +1,6 @@
 -- The reader as what it does, and the reader as a function on rows, agree: they come to the same place, and the events
 -- that are written make the tree.
-use Rattle.std.specs.Prelude.{◌≡◌, ℕ, ◌+◌, ◌≤◌, max, List, [], ◌∷◌, ◌++◌, length, Option, Some}
+use Rattle.std.specs.Prelude.{◌≡◌, ℕ, ◌≤◌, max, List, ◌∷◌, ◌++◌, length, Option, Some}
 use Rattle.cbase.specs.declared.tree.expr.Expr.{Expr}
 use Rattle.cbase.specs.declared.tree.init.Init.{Init}
 use Rattle.cbase.specs.declared.tree.spec.TypeSpec.{TypeSpec}
@@ -31,6 +31,12 @@ Pieces = List Piece → List Piece
 abbrev pub none : Pieces
 none pieces = pieces
 
+-- what was written before still stands
+pub record Kept (s t : State) : Type 0 where
+  pub row : t.row ≡ s.row
+  pub added : List Event
+  pub events : t.events ≡ s.events ++ added
+
 -- what is written between two states makes these pieces of those
 pub record Went (s t : State) (below above : Pieces) (before after : ℕ) : Type 0 where
   pub row : t.row ≡ s.row
@@ -40,9 +46,7 @@ pub record Went (s t : State) (below above : Pieces) (before after : ℕ) : Type
 
 -- nothing is read, and what was written before still stands
 pub record Failed (s t : State) : Type 0 where
-  pub row : t.row ≡ s.row
-  pub added : List Event
-  pub events : t.events ≡ s.events ++ added
+  pub kept : Kept s t
   pub status : t.status ≡ Nothing
 
 pub record Halted (s t : State) (below above : Pieces) (before after : ℕ) (others : List Terminal) : Type 0 where
@@ -50,26 +54,33 @@ pub record Halted (s t : State) (below above : Pieces) (before after : ℕ) (oth
   pub status : t.status ≡ Stopped
   pub left : rest t ≡ others
 
-pub record Ended (s t : State) (below above : Pieces) (base levels before : ℕ) (behind : Context) (others : List Terminal) : Type 0 where
+pub record Ended (s t : State) (below above : Pieces) (base deep before : ℕ) (behind : Context) (others : List Terminal) : Type 0 where
   pub went : Went s t below above before behind.expressions
   pub status : t.status ≡ Going
   pub left : rest t ≡ others
   pub scope : t.scope ≡ behind.scope
-  pub levels : t.levels ≡ max base levels
+  pub levels : t.levels ≡ max base deep
   pub on : s.at ≤ t.at
   pub inside : t.at ≤ length t.row
 
 -- The outcome is what came of the steps. `base` is how many levels the parts before it have, and `fits` what else holds
 -- behind it.
-abbrev pub Agreed : {A : Type 0} → Pieces → (A → Pieces) → (A → State → Type 0) → ℕ → ℕ → Outcome A → State → State → Type 0
-Agreed below above fits base before outcome.Nothing s t = Failed s t
-Agreed below above fits base before (outcome.Stopped tree expressions others) s t =
+abbrev pub Came : {A : Type 0} → Pieces → (A → Pieces) → (A → State → Type 0) → ℕ → ℕ → Outcome A → State → State → Type 0
+Came below above fits base before outcome.Nothing s t = Failed s t
+Came below above fits base before (outcome.Stopped tree expressions others) s t =
     Halted s t below (above tree) before expressions others × fits tree t
-Agreed below above fits base before (outcome.Read tree levels behind others) s t =
+Came below above fits base before (outcome.Read tree levels behind others) s t =
     Ended s t below (above tree) base levels before behind others × fits tree t
+
+pub record Agreed {A : Type 0} (below : Pieces) (above : A → Pieces) (fits : A → State → Type 0) (base before : ℕ) (outcome : Outcome A) (s t : State) : Type 0 where
+  pub is : Came below above fits base before outcome s t
 
 abbrev pub anyhow : {A : Type 0} → A → State → Type 0
 anyhow tree t = Unit {0}
+
+-- the reading does not stop behind the tree: such a tree is the whole of no other one
+abbrev pub ends : {A : Type 0} → A → State → Type 0
+ends tree t = t.status ≡ Going
 
 abbrev pub context_of : State → ℕ → Context
 context_of s before = record { scope = s.scope; expressions = before }
@@ -88,6 +99,11 @@ Reads above fits reader steps =
 abbrev pub Follows : {A : Type 0} → (A → Pieces) → (A → State → Type 0) → Reader A → (State → State) → Type 0
 Follows above fits reader steps =
     (s : State) (before : ℕ) → Ready s → Agreed none above fits s.levels before (reader (context_of s before) (rest s)) s (steps s)
+
+-- a reader that goes on with what is already read, as with the items of a list
+abbrev pub Continues : {A : Type 0} → Pieces → (A → Pieces) → (A → State → Type 0) → Reader A → (State → State) → Type 0
+Continues below above fits reader steps =
+    (s : State) (before : ℕ) → Ready s → Agreed below above fits s.levels before (reader (context_of s before) (rest s)) s (steps s)
 
 -- the pieces of the trees that a level's readers give
 abbrev pub expr_piece : Expr → Pieces

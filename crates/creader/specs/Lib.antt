@@ -1,6 +1,7 @@
 pub mod BraceSteps
 pub mod Closers
 pub mod DeclarationSteps
+pub mod ItemSteps
 pub mod ListSteps
 pub mod Nests
 pub mod OperandSteps

@@ -1,0 +1,4 @@
+//! Forms of C that the grammar has no rule for and that are given up by name: where the first of them stands in an item.
+//!
+//! It looks at tokens alone, whether the grammar spells the item or not.
+#![tactic(auto)]
