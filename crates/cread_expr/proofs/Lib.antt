@@ -21,3 +21,4 @@ pub mod AgreedTypesFields
 pub mod AgreedTypesSizes
 pub mod AgreedTypesSpecifiers
 pub mod Agreement
+pub mod Calls

@@ -6,7 +6,7 @@ use Rattle.cgrammar.specs.Terminals.{Terminal}
 use Rattle.creader.specs.State.{State, is_nothing}
 use Rattle.creader.specs.declared.status.Status.TheVariants.{Going}
 
--- whether a tree is read, how many tokens it takes, and its events
+-- whether a tree is read, how many tokens of the row stand before its end, and its events
 pub record Writing : Type 0 where
   pub found : Bool
   pub at : ℕ
@@ -15,9 +15,13 @@ pub record Writing : Type 0 where
 abbrev pub written_of : State → Writing
 written_of s = record { found = not (is_nothing s.status); at = s.at; events = s.events }
 
--- at the front of a row, with names in scope
-abbrev pub start_of : List Terminal → List Names → State
-start_of row scope = record { row = row; at = 0; status = Going; levels = 0; unary = false; scope = scope; events = [] }
+-- the names that are in scope in the end
+abbrev pub scope_of : State → List Names
+scope_of s = s.scope
+
+-- at a token of a row, with names in scope
+abbrev pub start_of : List Terminal → ℕ → List Names → State
+start_of row at scope = record { row = row; at = at; status = Going; levels = 0; unary = false; scope = scope; events = [] }
 
 -- how many levels a tree may have
 abbrev pub most_levels : ℕ

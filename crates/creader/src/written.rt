@@ -8,7 +8,7 @@ use std::marker::Model;
 pub struct Written {
     /// Whether a tree is read. Where none is, what is written makes none.
     pub found: bool,
-    /// How many tokens it takes.
+    /// How many tokens of the row stand before its end.
     pub at: usize,
     /// The parts of it, in the order in which they end.
     pub events: Vec<Event>,
