@@ -125,6 +125,18 @@ abbrev pub declarators_of : Piece → Option (List Declared)
 declarators_of (piece.Declarators tree) = Some tree
 declarators_of _ = None
 
+-- a declarator alone
+abbrev pub single : {A : Type 0} → List A → Option A
+single (tree ∷ []) = Some tree
+single _ = None
+
+abbrev pub single_in : {A : Type 0} → Option (List A) → Option A
+single_in None = None
+single_in (Some trees) = single trees
+
+abbrev pub declarator_of : Piece → Option Declared
+declarator_of piece = single_in (declarators_of piece)
+
 abbrev pub declaration_of : Piece → Option Decl
 declaration_of (piece.Declaration tree) = Some tree
 declaration_of _ = None
@@ -183,10 +195,8 @@ with_parameters pieces go = with_tree (top_of parameters_of pieces) (below piece
 abbrev pub with_declarators : List Piece → (List Declared → List Piece → Option Workshop) → Option Workshop
 with_declarators pieces go = with_tree (top_of declarators_of pieces) (below pieces) go
 
--- a declarator alone
 abbrev pub with_declarator : List Piece → (Declared → List Piece → Option Workshop) → Option Workshop
-with_declarator (piece.Declarators (tree ∷ []) ∷ pieces) go = go tree pieces
-with_declarator _ go = None
+with_declarator pieces go = with_tree (top_of declarator_of pieces) (below pieces) go
 
 abbrev pub with_declaration : List Piece → (Decl → List Piece → Option Workshop) → Option Workshop
 with_declaration pieces go = with_tree (top_of declaration_of pieces) (below pieces) go

@@ -81,6 +81,9 @@ impl Builder {
             Event::Break { first, last } => self.break_out(row, first, last),
             Event::Continue { first, last } => self.continue_on(row, first, last),
             Event::Return { first, last } => self.give_back(row, first, last),
+            Event::EmptyItem => self.empty_item(row),
+            Event::DeclareItem => self.declare_item(row),
+            Event::FunctionItem { storage, close } => self.function_item(row, storage, close),
         }
     }
 

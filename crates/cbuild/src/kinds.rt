@@ -1,5 +1,5 @@
 ghost use Rattle.std.specs.Prelude.{◌≡◌};
-ghost use Rattle.cbuild.specs.Workshop.{expr_of, arguments_of, path_of, type_of, sizes_of, type_name_of, field_names_of, fields_of, enumerators_of, parameters_of, declarators_of, declaration_of, init_of, parts_of, maybe_of, statement_of, statements_of};
+ghost use Rattle.cbuild.specs.Workshop.{declarator_of, single, expr_of, arguments_of, path_of, type_of, sizes_of, type_name_of, field_names_of, fields_of, enumerators_of, parameters_of, declarators_of, declaration_of, init_of, parts_of, maybe_of, statement_of, statements_of};
 
 use crate::piece::Piece;
 use cbase::{
@@ -228,4 +228,20 @@ impl Piece {
             }
         }
     }
+
+    /// The declarator that it is, where it is one declarator alone.
+    pub(crate) fn into_declarator(self) -> Option<Declared>
+        ensures { result ≡ declarator_of self }
+    {
+        single(self.into_declarators()?)
+    }
+}
+
+/// The only item of a list, where it has one item.
+pub(crate) fn single<T: Drop>(list: List<T>) -> Option<T>
+    ensures { result ≡ single list }
+{
+    let mut items = list.into_vec();
+    let item = items.pop()?;
+    if items.is_empty() { Some(item) } else { None }
 }

@@ -9,6 +9,7 @@ mod declarations;
 mod event;
 mod expressions;
 mod fields;
+mod items;
 mod kinds;
 mod operands;
 mod piece;

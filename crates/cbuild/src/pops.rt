@@ -1,5 +1,5 @@
 ghost use Rattle.std.specs.Prelude.{◌≡◌};
-ghost use Rattle.cbuild.specs.Workshop.{below, top_of, expr_of, arguments_of, path_of, type_of, sizes_of, type_name_of, field_names_of, fields_of, enumerators_of, parameters_of, declarators_of, declaration_of, init_of, parts_of, maybe_of, statement_of, statements_of};
+ghost use Rattle.cbuild.specs.Workshop.{below, top_of, declarator_of, expr_of, arguments_of, path_of, type_of, sizes_of, type_name_of, field_names_of, fields_of, enumerators_of, parameters_of, declarators_of, declaration_of, init_of, parts_of, maybe_of, statement_of, statements_of};
 
 use crate::builder::Builder;
 use cbase::{
@@ -142,5 +142,13 @@ impl Builder {
         ensures rest { self.new ≡ record { count = self.old.count; pieces = below self.old.pieces } }
     {
         self.pieces.pop()?.into_statements()
+    }
+
+    /// Takes the declarators on top, which have to be one declarator. Whatever stands there is gone.
+    pub(crate) fn pop_declarator(&mut self) -> Option<Declared>
+        ensures tree { result ≡ top_of declarator_of self.old.pieces }
+        ensures rest { self.new ≡ record { count = self.old.count; pieces = below self.old.pieces } }
+    {
+        self.pieces.pop()?.into_declarator()
     }
 }
