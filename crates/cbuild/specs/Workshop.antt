@@ -1,6 +1,6 @@
 -- What trees are made of: the pieces that are made so far, the last one first, and how many expressions are among them
 -- and in them.
-use Rattle.std.specs.Prelude.{ℕ, ◌+◌, List, [], ◌∷◌, Option, None, Some, slice_index_or}
+use Rattle.std.specs.Prelude.{ℕ, ◌+◌, Bool, true, false, List, [], ◌∷◌, Option, None, Some, slice_index_or}
 use Rattle.cbase.specs.declared.place.Place.{Place}
 use Rattle.cbase.specs.declared.tree.decl.Decl.{Decl}
 use Rattle.cbase.specs.declared.tree.decl.Declared.{Declared}
@@ -16,6 +16,7 @@ use Rattle.cbase.specs.declared.tree.spec.FieldDecl.{FieldDecl}
 use Rattle.cbase.specs.declared.tree.spec.FieldName.{FieldName}
 use Rattle.cbase.specs.declared.tree.spec.TypeSpec.{TypeSpec}
 use Rattle.cbase.specs.declared.tree.stmt.Stmt.{Stmt}
+use Rattle.cbase.specs.declared.tree.stmt.StmtForm.{StmtForm}
 use Rattle.cbuild.specs.declared.piece.Piece.{Piece}
 use Rattle.cbuild.specs.declared.piece.Piece.TheVariants as piece
 use Rattle.ctokens.specs.declared.token.TokenKind.TheVariants.{Mark}
@@ -51,76 +52,187 @@ abbrev pub expressed : ℕ → Place → ExprForm → List Piece → Option Work
 expressed count place form pieces =
     Some (record { count = count + 1; pieces = piece.Expr (record { number = count; place = place; form = form }) ∷ pieces })
 
--- the piece on top, where it is of the kind that is wanted, with those below it
-abbrev pub with_expr : List Piece → (Expr → List Piece → Option Workshop) → Option Workshop
-with_expr (piece.Expr tree ∷ pieces) go = go tree pieces
-with_expr _ go = None
+-- a statement that ends there
+abbrev pub stated : ℕ → Place → Place → StmtForm → List Piece → Option Workshop
+stated count place after form pieces =
+    Some (record { count = count; pieces = piece.Statement (record { place = place; after = after; form = form }) ∷ pieces })
 
-abbrev pub with_arguments : List Piece → (List Expr → List Piece → Option Workshop) → Option Workshop
-with_arguments (piece.Arguments trees ∷ pieces) go = go trees pieces
-with_arguments _ go = None
+-- nothing is made yet
+abbrev pub start : Workshop
+start = record { count = 0; pieces = [] }
 
-abbrev pub with_path : List Piece → (List Part → List Piece → Option Workshop) → Option Workshop
-with_path (piece.Path trees ∷ pieces) go = go trees pieces
-with_path _ go = None
+-- what is left of it: all, or nothing where it could not be made
+abbrev pub left_by : Bool → Workshop → Option Workshop
+left_by true workshop = Some workshop
+left_by false workshop = None
 
-abbrev pub with_type : List Piece → (TypeSpec → List Piece → Option Workshop) → Option Workshop
-with_type (piece.Type tree ∷ pieces) go = go tree pieces
-with_type _ go = None
+-- the pieces below the one on top
+abbrev pub below : List Piece → List Piece
+below [] = []
+below (piece ∷ pieces) = pieces
 
-abbrev pub with_sizes : List Piece → (List (Option Expr) → List Piece → Option Workshop) → Option Workshop
-with_sizes (piece.Sizes trees ∷ pieces) go = go trees pieces
-with_sizes _ go = None
+-- what the piece on top is, where it is of the kind that is wanted
+abbrev pub top_of : {A : Type 0} → (Piece → Option A) → List Piece → Option A
+top_of kind [] = None
+top_of kind (piece ∷ pieces) = kind piece
 
-abbrev pub with_type_name : List Piece → (TypeName → List Piece → Option Workshop) → Option Workshop
-with_type_name (piece.TypeName tree ∷ pieces) go = go tree pieces
-with_type_name _ go = None
+abbrev pub with_tree : {A : Type 0} → Option A → List Piece → (A → List Piece → Option Workshop) → Option Workshop
+with_tree None pieces go = None
+with_tree (Some tree) pieces go = go tree pieces
 
-abbrev pub with_field_names : List Piece → (List FieldName → List Piece → Option Workshop) → Option Workshop
-with_field_names (piece.FieldNames trees ∷ pieces) go = go trees pieces
-with_field_names _ go = None
+-- a piece as the tree, or the trees, of one kind
+abbrev pub expr_of : Piece → Option Expr
+expr_of (piece.Expr tree) = Some tree
+expr_of _ = None
 
-abbrev pub with_fields : List Piece → (List FieldDecl → List Piece → Option Workshop) → Option Workshop
-with_fields (piece.Fields trees ∷ pieces) go = go trees pieces
-with_fields _ go = None
+abbrev pub arguments_of : Piece → Option (List Expr)
+arguments_of (piece.Arguments tree) = Some tree
+arguments_of _ = None
 
-abbrev pub with_enumerators : List Piece → (List Enumerator → List Piece → Option Workshop) → Option Workshop
-with_enumerators (piece.Enumerators trees ∷ pieces) go = go trees pieces
-with_enumerators _ go = None
+abbrev pub path_of : Piece → Option (List Part)
+path_of (piece.Path tree) = Some tree
+path_of _ = None
 
-abbrev pub with_parameters : List Piece → (List Param → List Piece → Option Workshop) → Option Workshop
-with_parameters (piece.Parameters trees ∷ pieces) go = go trees pieces
-with_parameters _ go = None
+abbrev pub type_of : Piece → Option TypeSpec
+type_of (piece.Type tree) = Some tree
+type_of _ = None
 
-abbrev pub with_declarators : List Piece → (List Declared → List Piece → Option Workshop) → Option Workshop
-with_declarators (piece.Declarators trees ∷ pieces) go = go trees pieces
-with_declarators _ go = None
+abbrev pub sizes_of : Piece → Option (List (Option Expr))
+sizes_of (piece.Sizes tree) = Some tree
+sizes_of _ = None
+
+abbrev pub type_name_of : Piece → Option TypeName
+type_name_of (piece.TypeName tree) = Some tree
+type_name_of _ = None
+
+abbrev pub field_names_of : Piece → Option (List FieldName)
+field_names_of (piece.FieldNames tree) = Some tree
+field_names_of _ = None
+
+abbrev pub fields_of : Piece → Option (List FieldDecl)
+fields_of (piece.Fields tree) = Some tree
+fields_of _ = None
+
+abbrev pub enumerators_of : Piece → Option (List Enumerator)
+enumerators_of (piece.Enumerators tree) = Some tree
+enumerators_of _ = None
+
+abbrev pub parameters_of : Piece → Option (List Param)
+parameters_of (piece.Parameters tree) = Some tree
+parameters_of _ = None
+
+abbrev pub declarators_of : Piece → Option (List Declared)
+declarators_of (piece.Declarators tree) = Some tree
+declarators_of _ = None
 
 -- a declarator alone
+abbrev pub single : {A : Type 0} → List A → Option A
+single (tree ∷ []) = Some tree
+single _ = None
+
+abbrev pub single_in : {A : Type 0} → Option (List A) → Option A
+single_in None = None
+single_in (Some trees) = single trees
+
+abbrev pub declarator_of : Piece → Option Declared
+declarator_of piece = single_in (declarators_of piece)
+
+abbrev pub declaration_of : Piece → Option Decl
+declaration_of (piece.Declaration tree) = Some tree
+declaration_of _ = None
+
+abbrev pub init_of : Piece → Option Init
+init_of (piece.Init tree) = Some tree
+init_of _ = None
+
+abbrev pub parts_of : Piece → Option (List InitPart)
+parts_of (piece.Parts tree) = Some tree
+parts_of _ = None
+
+abbrev pub maybe_of : Piece → Option (Option Expr)
+maybe_of (piece.Maybe tree) = Some tree
+maybe_of _ = None
+
+abbrev pub statement_of : Piece → Option Stmt
+statement_of (piece.Statement tree) = Some tree
+statement_of _ = None
+
+abbrev pub statements_of : Piece → Option (List Stmt)
+statements_of (piece.Statements tree) = Some tree
+statements_of _ = None
+
+-- the piece on top, where it is of the kind that is wanted, with those below it
+abbrev pub with_expr : List Piece → (Expr → List Piece → Option Workshop) → Option Workshop
+with_expr pieces go = with_tree (top_of expr_of pieces) (below pieces) go
+
+abbrev pub with_arguments : List Piece → (List Expr → List Piece → Option Workshop) → Option Workshop
+with_arguments pieces go = with_tree (top_of arguments_of pieces) (below pieces) go
+
+abbrev pub with_path : List Piece → (List Part → List Piece → Option Workshop) → Option Workshop
+with_path pieces go = with_tree (top_of path_of pieces) (below pieces) go
+
+abbrev pub with_type : List Piece → (TypeSpec → List Piece → Option Workshop) → Option Workshop
+with_type pieces go = with_tree (top_of type_of pieces) (below pieces) go
+
+abbrev pub with_sizes : List Piece → (List (Option Expr) → List Piece → Option Workshop) → Option Workshop
+with_sizes pieces go = with_tree (top_of sizes_of pieces) (below pieces) go
+
+abbrev pub with_type_name : List Piece → (TypeName → List Piece → Option Workshop) → Option Workshop
+with_type_name pieces go = with_tree (top_of type_name_of pieces) (below pieces) go
+
+abbrev pub with_field_names : List Piece → (List FieldName → List Piece → Option Workshop) → Option Workshop
+with_field_names pieces go = with_tree (top_of field_names_of pieces) (below pieces) go
+
+abbrev pub with_fields : List Piece → (List FieldDecl → List Piece → Option Workshop) → Option Workshop
+with_fields pieces go = with_tree (top_of fields_of pieces) (below pieces) go
+
+abbrev pub with_enumerators : List Piece → (List Enumerator → List Piece → Option Workshop) → Option Workshop
+with_enumerators pieces go = with_tree (top_of enumerators_of pieces) (below pieces) go
+
+abbrev pub with_parameters : List Piece → (List Param → List Piece → Option Workshop) → Option Workshop
+with_parameters pieces go = with_tree (top_of parameters_of pieces) (below pieces) go
+
+abbrev pub with_declarators : List Piece → (List Declared → List Piece → Option Workshop) → Option Workshop
+with_declarators pieces go = with_tree (top_of declarators_of pieces) (below pieces) go
+
 abbrev pub with_declarator : List Piece → (Declared → List Piece → Option Workshop) → Option Workshop
-with_declarator (piece.Declarators (tree ∷ []) ∷ pieces) go = go tree pieces
-with_declarator _ go = None
+with_declarator pieces go = with_tree (top_of declarator_of pieces) (below pieces) go
 
 abbrev pub with_declaration : List Piece → (Decl → List Piece → Option Workshop) → Option Workshop
-with_declaration (piece.Declaration tree ∷ pieces) go = go tree pieces
-with_declaration _ go = None
+with_declaration pieces go = with_tree (top_of declaration_of pieces) (below pieces) go
 
 abbrev pub with_init : List Piece → (Init → List Piece → Option Workshop) → Option Workshop
-with_init (piece.Init tree ∷ pieces) go = go tree pieces
-with_init _ go = None
+with_init pieces go = with_tree (top_of init_of pieces) (below pieces) go
 
 abbrev pub with_parts : List Piece → (List InitPart → List Piece → Option Workshop) → Option Workshop
-with_parts (piece.Parts trees ∷ pieces) go = go trees pieces
-with_parts _ go = None
+with_parts pieces go = with_tree (top_of parts_of pieces) (below pieces) go
 
 abbrev pub with_maybe : List Piece → (Option Expr → List Piece → Option Workshop) → Option Workshop
-with_maybe (piece.Maybe tree ∷ pieces) go = go tree pieces
-with_maybe _ go = None
+with_maybe pieces go = with_tree (top_of maybe_of pieces) (below pieces) go
 
 abbrev pub with_statement : List Piece → (Stmt → List Piece → Option Workshop) → Option Workshop
-with_statement (piece.Statement tree ∷ pieces) go = go tree pieces
-with_statement _ go = None
+with_statement pieces go = with_tree (top_of statement_of pieces) (below pieces) go
 
 abbrev pub with_statements : List Piece → (List Stmt → List Piece → Option Workshop) → Option Workshop
-with_statements (piece.Statements trees ∷ pieces) go = go trees pieces
-with_statements _ go = None
+with_statements pieces go = with_tree (top_of statements_of pieces) (below pieces) go
+
+-- the piece that is left, where it is the only one
+abbrev pub only : List Piece → Option Piece
+only (piece ∷ []) = Some piece
+only _ = None
+
+abbrev pub alone : Option Workshop → Option Piece
+alone None = None
+alone (Some workshop) = only workshop.pieces
+
+abbrev pub kind_in : {A : Type 0} → (Piece → Option A) → Option Piece → Option A
+kind_in kind None = None
+kind_in kind (Some piece) = kind piece
+
+-- the expression that is left, where it is all that is left
+abbrev pub expr_alone : Option Workshop → Option Expr
+expr_alone workshop = kind_in expr_of (alone workshop)
+
+-- the statements that are left, where they are all that is left
+abbrev pub block_alone : Option Workshop → Option (List Stmt)
+block_alone workshop = kind_in statements_of (alone workshop)
