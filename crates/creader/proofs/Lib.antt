@@ -1,5 +1,6 @@
 pub mod Fronts
 pub mod LabelRows
+pub mod LastBraces
 pub mod Matching
 pub mod Opening
 pub mod Readings
