@@ -22,3 +22,4 @@ pub mod AgreedTypesSizes
 pub mod AgreedTypesSpecifiers
 pub mod Agreement
 pub mod Calls
+pub mod LastPlaces
