@@ -1,0 +1,4 @@
+pub mod Guarded
+pub mod Guards
+pub mod Matched
+pub mod Steps

@@ -1,0 +1,73 @@
+-- Forms of C11 and of GNU C that the grammar has no rule for, each by the token that shows it, and the number by which
+-- it is given up: 1 goto, 2 switch, 3 union, 4 floating types, 5 variable arguments, 6 inline assembly, 8 complex
+-- types, 9 thread-local objects, 10 string literals, 20 function pointers. The row is that of an item, less the tokens
+-- that are passed over.
+use Rattle.std.specs.Prelude.{◌≡◌, ℕ, suc, ◌+◌, ◌<◌, Bool, false, not, ◌||◌, IsTrue, List, [], ◌∷◌, Option, Some, length, drop, slice_get, codes}
+use Rattle.std.specs.List.{starts_with}
+use Rattle.std.specs.Prelude.{nat_eq}
+use Rattle.ctokens.specs.declared.token.TokenKind.TheVariants.{Number, Quoted}
+use Rattle.cgrammar.specs.ConstantParts.{is_integer}
+use Rattle.cgrammar.specs.Operators.{row_of}
+use Rattle.cgrammar.specs.ReadOperands.{behind_matched}
+use Rattle.cgrammar.specs.Terminals.{Terminal, is_any_word, is_word, IsWord, IsMark, IsName}
+
+-- words that show one, whatever stands around them (C11 6.4.1, 6.7.2, 6.8.4.2, 6.8.6.1)
+abbrev pub word_rows : List (List ℕ × ℕ)
+word_rows =
+    (codes "goto", 1) ∷ (codes "switch", 2) ∷ (codes "union", 3) ∷ (codes "float", 4) ∷ (codes "double", 4) ∷ (codes "__float128", 4)
+    ∷ (codes "asm", 6) ∷ (codes "__asm", 6) ∷ (codes "__asm__", 6) ∷ (codes "_Complex", 8) ∷ (codes "__complex__", 8)
+    ∷ (codes "_Thread_local", 9) ∷ (codes "__thread", 9) ∷ []
+
+-- the token stands between the brackets of an `__assert_fail`, which are matched by kind
+pub record IsAsserted (row : List Terminal) (at : ℕ) : Type 0 where
+  pub start : ℕ
+  pub word : Terminal
+  pub first : slice_get row start ≡ Some word
+  pub asserts : IsWord (codes "__assert_fail") word
+  pub opening : Terminal
+  pub second : slice_get row (start + 1) ≡ Some opening
+  pub opens : IsMark (codes "(") opening
+  pub others : List Terminal
+  pub matched : behind_matched (41 ∷ []) (drop (start + 2) row) ≡ Some others
+  pub behind : start + 1 < at
+  pub before : at + length others + 1 < length row
+
+-- the word before a `(` with which no function pointer begins
+abbrev pub is_header : Terminal → Bool
+is_header token = is_word (codes "if") token || (is_word (codes "while") token || (is_word (codes "for") token || is_word (codes "sizeof") token))
+
+-- `)` and `(` begin the row
+pub record IsCalled (row : List Terminal) : Type 0 where
+  pub closing : Terminal
+  pub opening : Terminal
+  pub others : List Terminal
+  pub is : row ≡ closing ∷ (opening ∷ others)
+  pub closes : IsMark (codes ")") closing
+  pub opens : IsMark (codes "(") opening
+
+-- what stands behind the `*` of a function pointer: `)` and `(`, with an identifier before them or without
+pub data IsPointed : List Terminal → Type 0 where
+  Unnamed : {row : List Terminal} → IsCalled row → IsPointed row
+  Identified : {row : List Terminal} (name : Terminal) → IsName name → IsCalled row → IsPointed (name ∷ row)
+
+-- no such word stands before the token
+abbrev pub IsNotHeaded : List Terminal → ℕ → Type 0
+IsNotHeaded row at = (before : ℕ) (token : Terminal) → at ≡ suc before → slice_get row before ≡ Some token → IsTrue (not (is_header token))
+
+pub data IsConstructAt (row : List Terminal) : ℕ → ℕ → Type 0 where
+  NamedWord : {at number : ℕ} (token : Terminal) → slice_get row at ≡ Some token → IsTrue (is_any_word token) → row_of token.bytes word_rows ≡ Some number → IsConstructAt row at number
+  FloatingWord : {at : ℕ} (token : Terminal) → slice_get row at ≡ Some token → IsTrue (is_any_word token) → IsTrue (starts_with nat_eq token.bytes (codes "_Float")) → IsConstructAt row at 4
+  FloatingConstant : {at : ℕ} (token : Terminal) → slice_get row at ≡ Some token → token.kind ≡ Number → is_integer token.bytes ≡ false → IsConstructAt row at 4
+  VariableArguments : {at : ℕ} (token : Terminal) → slice_get row at ≡ Some token → IsMark (codes "...") token → IsConstructAt row at 5
+  StringLiteral : {at : ℕ} (token : Terminal) → slice_get row at ≡ Some token → token.kind ≡ Quoted → (IsAsserted row at → ⊥) → IsConstructAt row at 10
+  FunctionPointer : {before : ℕ} (opening star : Terminal) → slice_get row before ≡ Some opening → IsMark (codes "(") opening
+      → slice_get row (suc before) ≡ Some star → IsMark (codes "*") star → IsNotHeaded row before → IsPointed (drop (before + 2) row)
+      → IsConstructAt row (suc before) 20
+
+-- the first of them
+pub record IsFirstConstruct (row : List Terminal) (at number : ℕ) : Type 0 where
+  pub is : IsConstructAt row at number
+  pub first : (earlier other : ℕ) → earlier < at → IsConstructAt row earlier other → ⊥
+
+abbrev pub HasNoConstruct : List Terminal → Type 0
+HasNoConstruct row = (at number : ℕ) → IsConstructAt row at number → ⊥

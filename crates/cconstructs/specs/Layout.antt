@@ -1,0 +1,65 @@
+-- What changes the layout of an object: an attribute that says how it is laid out, and a struct with members behind a
+-- `#pragma pack` line. Each is given up by the number 7 wherever it stands in an item, also among the tokens that are
+-- passed over.
+use Rattle.std.specs.Prelude.{◌≡◌, ℕ, zero, suc, ◌+◌, ◌-◌, ◌<◌, ◌≤◌, nat_eq, Bool, true, false, ◌&&◌, ◌||◌, not, IsTrue, if◌then◌else◌, List, [], ◌∷◌, ◌++◌, Option, None, Some, drop, take, map, slice_get, codes}
+use Rattle.std.specs.List.{list_any}
+use Rattle.std.specs.Str.{bytes_eq}
+use Rattle.ctokens.specs.Passed.{depth_after}
+use Rattle.ctokens.specs.Symbol.{symbol_of, is_attribute, is_opening}
+use Rattle.ctokens.specs.declared.token.Tokens.{Tokens}
+use Rattle.cgrammar.specs.Readings.{row_between}
+use Rattle.cgrammar.specs.Terminals.{Terminal, terminal_of, is_any_word, is_mark, is_word, IsName, IsMark, IsWord}
+
+-- the names of attributes that say how something is laid out, each also with `__` on both sides
+abbrev pub layout_names : List (List ℕ)
+layout_names = codes "packed" ∷ codes "aligned" ∷ codes "mode" ∷ codes "vector_size" ∷ codes "cleanup" ∷ codes "alias" ∷ []
+
+abbrev pub with_underscores : List ℕ → List ℕ
+with_underscores name = codes "__" ++ name ++ codes "__"
+
+abbrev pub is_layout_name : Terminal → Bool
+is_layout_name token = is_any_word token && (list_any (bytes_eq token.bytes) layout_names || list_any (bytes_eq token.bytes) (map with_underscores layout_names))
+
+abbrev pub separates : Terminal → Bool
+separates token = is_mark (codes "(") token || is_mark (codes ",") token
+
+abbrev pub one_later : Option ℕ → Option ℕ
+one_later None = None
+one_later (Some at) = Some (at + 1)
+
+-- The first layout attribute of a row of tokens: its name stands at depth 2 of an attribute's brackets, directly behind a
+-- `(` or a `,`. `behind` says whether an attribute's word stands directly before, `unclosed` how many brackets of its part
+-- are open, and `separated` whether a `(` or a `,` stands directly before.
+abbrev pub attribute_at : Bool → ℕ → Bool → List Terminal → Option ℕ
+attribute_at behind unclosed separated [] = None
+attribute_at behind zero separated (token ∷ others) =
+    if behind && is_opening (symbol_of token.kind token.bytes) then one_later (attribute_at false 1 true others)
+    else one_later (attribute_at (is_attribute (symbol_of token.kind token.bytes)) 0 false others)
+attribute_at behind (suc unclosed) separated (token ∷ others) =
+    if nat_eq (suc unclosed) 2 && (separated && is_layout_name token) then Some 0
+    else one_later (attribute_at false (depth_after (suc unclosed) (symbol_of token.kind token.bytes)) (separates token) others)
+
+-- the tokens from one number up to another, passed over or not
+abbrev pub tokens_between : Tokens → ℕ → ℕ → List Terminal
+tokens_between t from to = take (to - from) (drop from (map (terminal_of t.text) t.list))
+
+-- `struct` with members begins the row: a `{` with no `}` behind it
+pub data IsStructWithMembers : List Terminal → Type 0 where
+  Untagged : (word opening next : Terminal) (others : List Terminal) → IsWord (codes "struct") word → IsMark (codes "{") opening
+      → IsTrue (not (is_mark (codes "}") next)) → IsStructWithMembers (word ∷ (opening ∷ (next ∷ others)))
+  Tagged : (word tag opening next : Terminal) (others : List Terminal) → IsWord (codes "struct") word → IsName tag → IsMark (codes "{") opening
+      → IsTrue (not (is_mark (codes "}") next)) → IsStructWithMembers (word ∷ (tag ∷ (opening ∷ (next ∷ others))))
+
+-- the token with the number shows a changed layout, in the item from one token up to another
+pub data IsLayoutAt (t : Tokens) (from to : ℕ) : ℕ → Type 0 where
+  ByAttribute : (at : ℕ) → attribute_at false 0 false (tokens_between t from to) ≡ Some at → IsLayoutAt t from to (from + at)
+  ByPragma : (at line : ℕ) (word : Terminal) → slice_get (row_between t from to) at ≡ Some word → IsStructWithMembers (drop at (row_between t from to))
+      → slice_get t.packs 0 ≡ Some line → line ≤ word.place.at → IsLayoutAt t from to word.place.at
+
+-- the first of them, and none
+pub record IsFirstLayout (t : Tokens) (from to number : ℕ) : Type 0 where
+  pub is : IsLayoutAt t from to number
+  pub first : (earlier : ℕ) → earlier < number → IsLayoutAt t from to earlier → ⊥
+
+abbrev pub HasNoLayout : Tokens → ℕ → ℕ → Type 0
+HasNoLayout t from to = (number : ℕ) → IsLayoutAt t from to number → ⊥

@@ -1,0 +1,4 @@
+pub mod Constructs
+pub mod Layout
+pub mod Closers
+pub mod Finding
