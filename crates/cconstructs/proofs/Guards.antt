@@ -4,6 +4,7 @@ use Rattle.std.proofs.Common.{◌≡◌, ℕ, zero, suc, ◌+◌, ◌-◌, ◌<�
 use Rattle.std.specs.Prelude.{slice_get}
 use Rattle.std.specs.List.{list_all}
 use Rattle.std.specs.Str.{bytes_eq}
+use Rattle.std.proofs.lemmas.Bool.Decides.{Decides-ltb}
 use Rattle.std.proofs.lemmas.Slice.Eq.{bytes_eq-Decides}
 use Rattle.cgrammar.proofs.Truth.{and-left, and-right, and-both}
 use Rattle.cgrammar.specs.Brackets.{is_bracket}
@@ -38,12 +39,10 @@ pub record Asserted (asserting : Bool) (row : List Terminal) (at : ℕ) : Type 0
   pub before : at + length others + 1 < length row
 
 positive : (n : ℕ) → nat_lt 0 n ≡ true → 0 < n
-positive zero is = cc is
-positive (suc n) is = omega arith
+positive n is = (Decides-ltb 0 n).0 is
 
 is_positive : (n : ℕ) → 0 < n → nat_lt 0 n ≡ true
-is_positive zero is = absurd (omega arith)
-is_positive (suc n) is = refl
+is_positive n is = (Decides-ltb 0 n).1 is
 
 no_some : {A B : Type 0} (x : A) → ◌≡◌ {A = Option A} None (Some x) → B
 no_some x is = cc is
@@ -95,10 +94,10 @@ brackets_sound (token ∷ others) guarded asserting (suc at) is =
     })
 
 -- brackets that are open: what closes each is a closing bracket
-abbrev is_closer : ℕ → Bool
+abbrev pub is_closer : ℕ → Bool
 is_closer byte = nat_eq byte 41 || (nat_eq byte 93 || nat_eq byte 125)
 
-abbrev are_closers : List ℕ → Bool
+abbrev pub are_closers : List ℕ → Bool
 are_closers stack = list_all is_closer stack
 
 closer_closes : (token : Terminal) (byte : ℕ) → closer_of token ≡ Some byte → is_closer byte ≡ true
@@ -136,11 +135,13 @@ matched_shorter : (row : List Terminal) (stack : List ℕ) (rest : List Terminal
 unfolding behind_matched
 matched_shorter row [] rest is = omega (arith, ap length (same_some row rest is))
 matched_shorter [] (closer ∷ others) rest is = cc is
-matched_shorter (token ∷ row) (closer ∷ others) rest is = step (behind_token closer others token) refl (sym (matched_step closer others token row) ∙ is)
+matched_shorter (token ∷ row) (closer ∷ others) rest is =
+    step (λ next. matched_shorter row next rest) (behind_token closer others token) refl (sym (matched_step closer others token row) ∙ is)
   where
-    step : (o : Option (List ℕ)) → behind_token closer others token ≡ o → on o row ≡ Some rest → length rest + length (closer ∷ others) ≤ suc (length row)
-    step None e h = no_some rest h
-    step (Some next) e h = omega (arith, matched_shorter row next rest h, (onward closer others token next e).longer)
+    step : ((next : List ℕ) → behind_matched next row ≡ Some rest → length rest + length next ≤ length row)
+        → (o : Option (List ℕ)) → behind_token closer others token ≡ o → on o row ≡ Some rest → length rest + length (closer ∷ others) ≤ suc (length row)
+    step further None e h = no_some rest h
+    step further (Some next) e h = omega (arith, further next h, (onward closer others token next e).longer)
 
 -- what is behind some of them, and then behind the others
 record Halfway (one two : List ℕ) (row rest : List Terminal) : Type 0 where
@@ -152,7 +153,7 @@ halfway : (row : List Terminal) (one two : List ℕ) (rest : List Terminal) → 
 unfolding behind_matched
 halfway row [] two rest is = record { middle = row; first = refl; second = is }
 halfway [] (closer ∷ one) two rest is = cc is
-halfway (token ∷ row) (closer ∷ one) two rest is = step (is_mark (closer ∷ []) token) (closer_of token) refl refl is
+halfway (token ∷ row) (closer ∷ one) two rest is = step (λ next. halfway row next two rest) (is_mark (closer ∷ []) token) (closer_of token) refl refl is
   where
     along : (next : List ℕ) → behind_token closer one token ≡ Some next → Halfway next two row rest → Halfway (closer ∷ one) two (token ∷ row) rest
     along next e half = record {
@@ -165,22 +166,22 @@ halfway (token ∷ row) (closer ∷ one) two rest is = step (is_mark (closer ∷
         → behind_token closer one token ≡ (if closes then Some one else behind_other (closer ∷ one) token inner)
     turned f o = λ i. if f i then Some one else behind_other (closer ∷ one) token (o i)
 
-    plain : (bracket : Bool) → is_bracket token ≡ bracket → is_mark (closer ∷ []) token ≡ false → closer_of token ≡ None
+    plain : ((next : List ℕ) → behind_matched (next ++ two) row ≡ Some rest → Halfway next two row rest) → (bracket : Bool) → is_bracket token ≡ bracket → is_mark (closer ∷ []) token ≡ false → closer_of token ≡ None
         → (if bracket then None else behind_matched (closer ∷ (one ++ two)) row) ≡ Some rest → Halfway (closer ∷ one) two (token ∷ row) rest
-    plain true e f o h = no_some rest h
-    plain false e f o h = along (closer ∷ one)
-        (turned f o ∙ ap (λ (b : Bool). if b then None else Some (closer ∷ one)) e) (halfway row (closer ∷ one) two rest h)
+    plain further true e f o h = no_some rest h
+    plain further false e f o h = along (closer ∷ one)
+        (turned f o ∙ ap (λ (b : Bool). if b then None else Some (closer ∷ one)) e) (further (closer ∷ one) h)
 
-    step : (closes : Bool) (inner : Option ℕ) → is_mark (closer ∷ []) token ≡ closes → closer_of token ≡ inner
+    step : ((next : List ℕ) → behind_matched (next ++ two) row ≡ Some rest → Halfway next two row rest) → (closes : Bool) (inner : Option ℕ) → is_mark (closer ∷ []) token ≡ closes → closer_of token ≡ inner
         → (if closes then behind_matched (one ++ two) row else matched_with (λ c. behind_matched (c ∷ (closer ∷ (one ++ two))) row) (behind_matched (closer ∷ (one ++ two)) row) token inner) ≡ Some rest
         → Halfway (closer ∷ one) two (token ∷ row) rest
-    step true inner f o h = along one (ap (λ (b : Bool). if b then Some one else behind_other (closer ∷ one) token (closer_of token)) f) (halfway row one two rest h)
-    step false (Some byte) f o h = along (byte ∷ (closer ∷ one))
-        (turned f o) (halfway row (byte ∷ (closer ∷ one)) two rest h)
-    step false None f o h = plain (is_bracket token) refl f o h
+    step further true inner f o h = along one (ap (λ (b : Bool). if b then Some one else behind_other (closer ∷ one) token (closer_of token)) f) (further one h)
+    step further false (Some byte) f o h = along (byte ∷ (closer ∷ one))
+        (turned f o) (further (byte ∷ (closer ∷ one)) h)
+    step further false None f o h = plain further (is_bracket token) refl f o h
 
 -- The count ends at the bracket that closes the last of some open ones.
-record Unclosed (guarded : ℕ) (row : List Terminal) : Type 0 where
+pub record Unclosed (guarded : ℕ) (row : List Terminal) : Type 0 where
   pub stack : List ℕ
   pub closers : are_closers stack ≡ true
   pub some : 0 < length stack
@@ -188,7 +189,7 @@ record Unclosed (guarded : ℕ) (row : List Terminal) : Type 0 where
   pub matched : behind_matched stack row ≡ Some rest
   pub count : guarded + 1 + length rest ≡ length row
 
-abbrev IsCount : ℕ → List Terminal → Type 0
+abbrev pub IsCount : ℕ → List Terminal → Type 0
 IsCount guarded row = (guarded ≡ 0) ⊎ Unclosed guarded row
 
 count_onward : (guarded : ℕ) (token : Terminal) (others rest : List Terminal) (stack : List ℕ) → are_closers stack ≡ true → 0 < length stack
