@@ -1,6 +1,10 @@
+pub mod Attributes
+pub mod Between
+pub mod First
 pub mod Guarded
 pub mod Guards
-pub mod Pointers
-pub mod Numbers
+pub mod Least
 pub mod Matched
+pub mod Numbers
+pub mod Pointers
 pub mod Steps

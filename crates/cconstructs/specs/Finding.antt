@@ -71,8 +71,12 @@ behind before (token ∷ others) = record {
 abbrev pub at_front : Before
 at_front = record { guarded = 0; asserting = false; opened = false; headed = false }
 
+-- a construct that a token shows, where so many tokens stand before it
+abbrev pub found_at : ℕ → ℕ → Found
+found_at number at = record { number = number; at = at }
+
 abbrev pub found_or : ℕ → Option ℕ → Option Found → Option Found
-found_or at (Some number) otherwise = Some (record { number = number; at = at })
+found_or at (Some number) otherwise = Some (found_at number at)
 found_or at None otherwise = otherwise
 
 -- the first construct of a row, where so many tokens stand before it

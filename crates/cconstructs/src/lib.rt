@@ -7,7 +7,11 @@ mod before;
 mod closers;
 mod constructs;
 mod found;
+mod layout;
 mod number;
+mod packed;
+mod part;
 
 
+pub use constructs::first_construct;
 pub use found::Found;
