@@ -3,6 +3,7 @@ pub mod Between
 pub mod First
 pub mod Guarded
 pub mod Guards
+pub mod LayoutExact
 pub mod Least
 pub mod Matched
 pub mod Numbers

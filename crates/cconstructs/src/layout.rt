@@ -1,4 +1,4 @@
-ghost use Rattle.std.specs.Prelude.{◌≡◌, ◌↔◌, ◌≤◌, ◌<◌, ◌+◌, ◌-◌, ◌^◌, ℕ, Some, None, length, map, take, drop};
+ghost use Rattle.std.specs.Prelude.{◌≡◌, ◌↔◌, ◌≤◌, ◌<◌, ◌+◌, ◌-◌, ◌^◌, ℕ, Some, None, false, length, map, take, drop};
 ghost use Rattle.std.specs.List.{All};
 ghost use Rattle.ctokens.specs.Passed.{LieInText};
 ghost use Rattle.ctokens.specs.declared.token.Token.{Token};
@@ -24,7 +24,7 @@ fn between<'a>(list: &'a [Token], from: u32, to: u32) -> &'a [Token]
 }
 
 /// The number of the first name of a layout attribute among the tokens, of which the first has the number `from`.
-#[tactic(auto, using(crate::proofs::Attributes::attribute_found, crate::proofs::Attributes::attribute_later, crate::proofs::Attributes::attribute_none))]
+#[tactic(auto, using(crate::proofs::Attributes::attribute_none))]
 fn first_attribute(text: &[u8], list: &[Token], from: u32) -> Option<u32>
     requires ranges { All (λ (token : Token). (token.from < token.to) × (token.to ≤ length text.now)) list.now }
     requires few { length list.now ≤ 4194304 }
@@ -42,4 +42,28 @@ fn first_attribute(text: &[u8], list: &[Token], from: u32) -> Option<u32>
         number += 1;
     }
     None
+}
+
+/// The first change of layout as it is found.
+#[tactic(auto, using(crate::proofs::Between::tokens_exact, crate::proofs::Between::between_ranges, crate::proofs::Between::between_few, crate::proofs::Between::between_fits))]
+fn layout_found(t: &Tokens, row: &[Terminal<'_>], from: u32, to: u32) -> Option<u32>
+    requires inside { LieInText t.now }
+    requires same { row.now ≡ row_between t.now from to }
+    ensures { result ≡ layout_found t.now from to }
+{
+    let list = between(t.list.as_slice(), from, to);
+    let attribute = first_attribute(t.text.as_slice(), list, from);
+    lesser(attribute, packed_struct(t.packs.as_slice(), row))
+}
+
+/// The number of the first token that shows a changed layout in the item from the token `from` up to the token `to`:
+/// an attribute's name, or a `struct` with members behind a `#pragma pack` line; `None` where there is no such token.
+/// `row` is the item's row.
+pub fn first_layout(t: &Tokens, row: &[Terminal<'_>], from: u32, to: u32) -> Option<u32>
+    requires inside { LieInText t.now }
+    requires same { row.now ≡ row_between t.now from to }
+    ensures first { (number : ℕ) → (result ≡ Some number) ↔ IsFirstLayout t.now from to number }
+    ensures none { (result ≡ None) ↔ HasNoLayout t.now from to }
+{
+    layout_found(t, row, from, to)
 }

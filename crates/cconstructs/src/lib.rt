@@ -12,6 +12,6 @@ mod number;
 mod packed;
 mod part;
 
-
 pub use constructs::first_construct;
 pub use found::Found;
+pub use layout::first_layout;

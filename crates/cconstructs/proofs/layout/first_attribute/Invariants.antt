@@ -1,4 +1,4 @@
-use Rattle.std.proofs.Common.{◌≡◌, ◌≤◌, ◌+◌, drop, map}
+use Rattle.std.proofs.Common.{◌≡◌, ◌≤◌, ◌+◌, drop, false, map}
 use Rattle.cgrammar.specs.Terminals.{terminal_of}
 use Rattle.cconstructs.specs.Layout.{attribute_from, outside}
 use Rattle.cconstructs.proofs.layout.first_attribute.Given as goal
