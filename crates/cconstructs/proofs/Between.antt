@@ -1,5 +1,5 @@
 -- A part of a list, by numbers that may lie behind it.
-use Rattle.std.proofs.Common.{◌≡◌, ℕ, ◌+◌, ◌-◌, ◌<◌, ◌≤◌, ◌^◌, min, refl, ap, sym, ◌∙◌, List, length, length-drop, map, take, drop, arith}
+use Rattle.std.proofs.Common.{◌≡◌, ℕ, ◌+◌, ◌-◌, ◌<◌, ◌≤◌, ◌^◌, min, ap, sym, ◌∙◌, List, length, length-drop, map, take, drop, arith}
 use Rattle.std.proofs.lemmas.List.{drop_min, drop-map, length-take, take-map, take_min, take_rest}
 use Rattle.std.proofs.lemmas.List.Elements.{All-drop, All-take}
 use Rattle.std.specs.List.{All}

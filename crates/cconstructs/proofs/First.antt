@@ -1,11 +1,11 @@
 -- The first construct that is found is the first that there is.
-use Rattle.std.proofs.Common.{◌≡◌, ℕ, zero, suc, ◌+◌, ◌<◌, ◌≤◌, nat_lt, Bool, true, false, refl, ap, sym, subst, ◌∙◌, List, [], ◌∷◌, Option, None, Some, ◌↔◌, ◌⊎◌, inl, inr, arith}
+use Rattle.std.proofs.Common.{◌≡◌, ℕ, zero, suc, ◌+◌, ◌<◌, nat_lt, Bool, true, false, refl, ap, sym, subst, ◌∙◌, List, [], ◌∷◌, Option, None, Some, ◌↔◌, arith}
 use Rattle.std.proofs.lemmas.Bool.{ltb-false}
 use Rattle.std.proofs.lemmas.Bool.Decides.{Decides-ltb}
 use Rattle.cgrammar.specs.Terminals.{Terminal}
 use Rattle.cconstructs.specs.declared.before.Before.{Before}
 use Rattle.cconstructs.specs.declared.found.Found.{Found}
-use Rattle.cconstructs.specs.Constructs.{HasNoConstruct, IsConstructAt, IsFirstConstruct}
+use Rattle.cconstructs.specs.Constructs.{HasNoConstruct, IsFirstConstruct}
 use Rattle.cconstructs.specs.Finding.{at_front, behind, first_from, found_at, found_or, number_at}
 use Rattle.cconstructs.proofs.Numbers.{number_complete, number_from, number_sound}
 

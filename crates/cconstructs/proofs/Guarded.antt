@@ -1,5 +1,5 @@
 -- How many tokens stand in brackets that are open.
-use Rattle.std.proofs.Common.{◌≡◌, ℕ, ◌-◌, ◌≤◌, refl, ap, sym, ◌∙◌, List, [], ◌∷◌, Option, Some, None, length, drop, length-drop, arith}
+use Rattle.std.proofs.Common.{◌≡◌, ℕ, ◌-◌, ◌≤◌, ap, sym, ◌∙◌, List, [], ◌∷◌, Some, None, length, drop, length-drop, arith}
 use Rattle.cgrammar.specs.ReadOperands.{behind_matched}
 use Rattle.cgrammar.specs.Terminals.{Terminal}
 use Rattle.cconstructs.specs.Finding.{inside}

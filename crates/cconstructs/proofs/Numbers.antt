@@ -1,5 +1,5 @@
 -- The number of the token at each place is that of the construct there.
-use Rattle.std.proofs.Common.{◌≡◌, ℕ, zero, suc, ◌+◌, ◌<◌, nat_eq, nat_lt, Bool, true, false, not, ◌&&◌, ◌||◌, if◌then◌else◌, IsTrue, refl, ap, sym, ◌∙◌, subst, List, [], ◌∷◌, Option, None, Some, codes, ◌↔◌}
+use Rattle.std.proofs.Common.{◌≡◌, ℕ, zero, suc, nat_eq, Bool, true, false, not, ◌&&◌, if◌then◌else◌, refl, ap, sym, ◌∙◌, subst, List, [], ◌∷◌, Option, None, Some, codes}
 use Rattle.std.specs.Prelude.{slice_get}
 use Rattle.std.specs.List.{list_all, starts_with}
 use Rattle.std.specs.Str.{bytes_eq}
@@ -9,9 +9,9 @@ use Rattle.ctokens.specs.declared.token.TokenKind.TheVariants.{Word, Number, Let
 use Rattle.cgrammar.proofs.Truth.{and-left, and-right, and-both}
 use Rattle.cgrammar.specs.ConstantParts.{is_integer}
 use Rattle.cgrammar.specs.Operators.{row_of}
-use Rattle.cgrammar.specs.Terminals.{Terminal, is_any_word, is_mark, is_mark_kind, is_word_kind, IsMark}
+use Rattle.cgrammar.specs.Terminals.{Terminal, is_mark_kind, is_word_kind, IsMark}
 use Rattle.cconstructs.specs.declared.before.Before.{Before}
-use Rattle.cconstructs.specs.Constructs.{word_rows, IsAsserted, IsConstructAt, NamedWord, FloatingWord, FloatingConstant, VariableArguments, StringLiteral, FunctionPointer}
+use Rattle.cconstructs.specs.Constructs.{word_rows, IsConstructAt, NamedWord, FloatingWord, FloatingConstant, VariableArguments, StringLiteral, FunctionPointer}
 use Rattle.cconstructs.specs.Finding.{at_front, behind, mark_number, number_at, number_of, word_number}
 use Rattle.cconstructs.proofs.Guards.{guarded_complete, guarded_sound, in_brackets}
 use Rattle.cconstructs.proofs.Pointers.{pointed_at, star_complete, star_sound}

@@ -1,8 +1,8 @@
 -- Where the `*` of a function pointer stands, by what stands before it and behind it.
-use Rattle.std.proofs.Common.{◌≡◌, ℕ, zero, suc, ◌+◌, ◌<◌, Bool, true, false, not, ◌&&◌, ◌||◌, IsTrue, refl, ap, sym, ◌∙◌, subst, ◌⊎◌, inl, inr, List, [], ◌∷◌, Option, None, Some, drop, codes, arith}
+use Rattle.std.proofs.Common.{◌≡◌, ℕ, zero, suc, ◌+◌, Bool, true, false, not, ◌&&◌, IsTrue, refl, ap, sym, ◌∙◌, subst, ◌⊎◌, inl, inr, List, [], ◌∷◌, Option, None, Some, drop, codes, arith}
 use Rattle.std.specs.Prelude.{slice_get}
 use Rattle.cgrammar.proofs.Truth.{and-left, and-right, and-both, or-cases, or-left, or-right}
-use Rattle.cgrammar.specs.Terminals.{Terminal, is_mark, is_name, IsMark, IsName}
+use Rattle.cgrammar.specs.Terminals.{Terminal, is_mark, is_name, IsMark}
 use Rattle.cconstructs.specs.Constructs.{is_header, IsCalled, IsNotHeaded, IsPointed, Unnamed, Identified}
 use Rattle.cconstructs.specs.Finding.{is_called, is_pointed}
 

@@ -1,6 +1,6 @@
 -- Brackets that are open, as the bytes of those to come that close them, that of the innermost first: what is opened behind
 -- one token more.
-use Rattle.std.specs.Prelude.{ℕ, Bool, if◌then◌else◌, List, [], ◌∷◌, Option, None, Some}
+use Rattle.std.specs.Prelude.{ℕ, if◌then◌else◌, List, [], ◌∷◌, Option, None, Some}
 use Rattle.cgrammar.specs.Brackets.{is_bracket}
 use Rattle.cgrammar.specs.ReadOperands.{closer_of}
 use Rattle.cgrammar.specs.Terminals.{Terminal, is_mark}

@@ -2,7 +2,7 @@
 -- it is given up: 1 goto, 2 switch, 3 union, 4 floating types, 5 variable arguments, 6 inline assembly, 8 complex
 -- types, 9 thread-local objects, 10 string literals, 20 function pointers. The row is that of an item, less the tokens
 -- that are passed over.
-use Rattle.std.specs.Prelude.{◌≡◌, ℕ, suc, ◌+◌, ◌<◌, Bool, false, not, ◌||◌, IsTrue, List, [], ◌∷◌, Option, Some, length, drop, slice_get, codes}
+use Rattle.std.specs.Prelude.{◌≡◌, ℕ, suc, ◌+◌, ◌<◌, Bool, false, not, ◌||◌, IsTrue, List, [], ◌∷◌, Some, length, drop, slice_get, codes}
 use Rattle.std.specs.List.{starts_with}
 use Rattle.std.specs.Prelude.{nat_eq}
 use Rattle.ctokens.specs.declared.token.TokenKind.TheVariants.{Number, Quoted}

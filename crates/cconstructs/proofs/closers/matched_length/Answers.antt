@@ -1,6 +1,5 @@
-use Rattle.std.proofs.Common.{◌∙◌, sym, ap, List, ℕ, Option, Some, None, drop, reverse, ◌+◌, if◌then◌else◌, Bool, arith, eqb-true, vec_len}
-use Rattle.cgrammar.specs.Terminals.{Terminal}
-use Rattle.cconstructs.proofs.Matched.{on, matched_end, matched_next, not_zero, unmatched_end}
+use Rattle.std.proofs.Common.{◌∙◌, sym, ap, Some, None, reverse, if◌then◌else◌, Bool, arith, eqb-true, vec_len}
+use Rattle.cconstructs.proofs.Matched.{matched_end, matched_next, not_zero, unmatched_end}
 use Rattle.cconstructs.proofs.closers.matched_length.Goals as goal
 
 pub returns-in-None-clause-is : goal.returns-in-None-clause-is

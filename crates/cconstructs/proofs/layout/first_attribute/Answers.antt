@@ -1,5 +1,5 @@
-use Rattle.std.proofs.Common.{◌≡◌, ℕ, ◌+◌, ◌≤◌, sym, subst, ap, ◌∙◌, drop, List, map, arith}
-use Rattle.cgrammar.specs.Terminals.{Terminal, terminal_of}
+use Rattle.std.proofs.Common.{◌+◌, sym, ap, ◌∙◌, drop, map, arith}
+use Rattle.cgrammar.specs.Terminals.{terminal_of}
 use Rattle.cconstructs.specs.declared.part.Part.{Part}
 use Rattle.cconstructs.specs.Layout.{attribute_from}
 use Rattle.cconstructs.proofs.Attributes.{attribute_found, attribute_later, few_behind}
