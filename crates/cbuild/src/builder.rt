@@ -20,7 +20,6 @@ pub(crate) struct Builder {
 
 impl Model for Builder {
     ghost use Rattle.cbuild.specs.Workshop.{Workshop};
-
     ghost use Rattle.cbase.specs.contracts.tree.expr.ExprForm as cexprform;
     ghost use Rattle.cbase.specs.contracts.tree.expr.Expr as cexpr;
     ghost use Rattle.cbase.specs.contracts.tree.expr.Part as cpart;
@@ -87,7 +86,12 @@ impl Builder {
     }
 
     /// Puts a statement on top.
-    pub(crate) fn state(&mut self, place: Place, after: Place, form: StmtForm) -> Result<bool, NoMemory>
+    pub(crate) fn state(
+        &mut self,
+        place: Place,
+        after: Place,
+        form: StmtForm,
+    ) -> Result<bool, NoMemory>
         ensures { IfOk result (λ made. left_by made self.new ≡ stated self.old.count place after form self.old.pieces) }
     {
         let tree = Boxed::new(self.alloc, Stmt { place, after, form })?;

@@ -89,7 +89,11 @@ impl Builder {
 
     /// Makes what the events say, one after the other.
     #[tactic(auto, using(crate::proofs::Made::made_of_nothing))]
-    pub(crate) fn build_all(&mut self, row: &[Terminal<'_>], events: &[Event]) -> Result<bool, NoMemory>
+    pub(crate) fn build_all(
+        &mut self,
+        row: &[Terminal<'_>],
+        events: &[Event],
+    ) -> Result<bool, NoMemory>
         ensures { IfOk result (λ made. left_by made self.new ≡ built_all row.now events.now (Some self.old)) }
     {
         for event in events {

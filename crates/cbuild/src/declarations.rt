@@ -19,7 +19,12 @@ impl Builder {
     }
 
     /// One more parameter (C11 6.7.6.3).
-    pub(crate) fn parameter(&mut self, row: &[Terminal<'_>], name: Option<usize>, stars: usize) -> Result<bool, NoMemory>
+    pub(crate) fn parameter(
+        &mut self,
+        row: &[Terminal<'_>],
+        name: Option<usize>,
+        stars: usize,
+    ) -> Result<bool, NoMemory>
         ensures { IfOk result (λ made. left_by made self.new ≡ built row.now (Event.Parameter name stars) self.old.count self.old.pieces) }
     {
         let name = maybe_text_at(self.alloc, row, name)?;
@@ -33,7 +38,15 @@ impl Builder {
         let Some(params) = self.pop_parameters() else {
             return Ok(false);
         };
-        let longer = appended(params, Param { spec, stars, name, sizes })?;
+        let longer = appended(
+            params,
+            Param {
+                spec,
+                stars,
+                name,
+                sizes,
+            },
+        )?;
         self.put(Piece::Parameters(longer))
     }
 
@@ -45,7 +58,12 @@ impl Builder {
     }
 
     /// One more object (C11 6.7.6).
-    pub(crate) fn object(&mut self, row: &[Terminal<'_>], name: usize, stars: usize) -> Result<bool, NoMemory>
+    pub(crate) fn object(
+        &mut self,
+        row: &[Terminal<'_>],
+        name: usize,
+        stars: usize,
+    ) -> Result<bool, NoMemory>
         ensures { IfOk result (λ made. left_by made self.new ≡ built row.now (Event.Object name stars) self.old.count self.old.pieces) }
     {
         let place = place_at(row, name);
@@ -57,13 +75,25 @@ impl Builder {
         let Some(names) = self.pop_declarators() else {
             return Ok(false);
         };
-        let declared = Declared { place, name, stars, sizes, params: None, init: None };
+        let declared = Declared {
+            place,
+            name,
+            stars,
+            sizes,
+            params: None,
+            init: None,
+        };
         let longer = appended(names, declared)?;
         self.put(Piece::Declarators(longer))
     }
 
     /// One more object with its initialiser.
-    pub(crate) fn initialized_object(&mut self, row: &[Terminal<'_>], name: usize, stars: usize) -> Result<bool, NoMemory>
+    pub(crate) fn initialized_object(
+        &mut self,
+        row: &[Terminal<'_>],
+        name: usize,
+        stars: usize,
+    ) -> Result<bool, NoMemory>
         ensures { IfOk result (λ made. left_by made self.new ≡ built row.now (Event.InitializedObject name stars) self.old.count self.old.pieces) }
     {
         let place = place_at(row, name);
@@ -78,13 +108,25 @@ impl Builder {
         let Some(names) = self.pop_declarators() else {
             return Ok(false);
         };
-        let declared = Declared { place, name, stars, sizes, params: None, init: Some(init) };
+        let declared = Declared {
+            place,
+            name,
+            stars,
+            sizes,
+            params: None,
+            init: Some(init),
+        };
         let longer = appended(names, declared)?;
         self.put(Piece::Declarators(longer))
     }
 
     /// One more function (C11 6.7.6.3).
-    pub(crate) fn function(&mut self, row: &[Terminal<'_>], name: usize, stars: usize) -> Result<bool, NoMemory>
+    pub(crate) fn function(
+        &mut self,
+        row: &[Terminal<'_>],
+        name: usize,
+        stars: usize,
+    ) -> Result<bool, NoMemory>
         ensures { IfOk result (λ made. left_by made self.new ≡ built row.now (Event.Function name stars) self.old.count self.old.pieces) }
     {
         let place = place_at(row, name);
@@ -96,13 +138,24 @@ impl Builder {
         let Some(names) = self.pop_declarators() else {
             return Ok(false);
         };
-        let declared = Declared { place, name, stars, sizes: List::new(self.alloc), params: Some(params), init: None };
+        let declared = Declared {
+            place,
+            name,
+            stars,
+            sizes: List::new(self.alloc),
+            params: Some(params),
+            init: None,
+        };
         let longer = appended(names, declared)?;
         self.put(Piece::Declarators(longer))
     }
 
     /// A declaration (C11 6.7).
-    pub(crate) fn declaration(&mut self, row: &[Terminal<'_>], storage: Storage) -> Result<bool, NoMemory>
+    pub(crate) fn declaration(
+        &mut self,
+        row: &[Terminal<'_>],
+        storage: Storage,
+    ) -> Result<bool, NoMemory>
         ensures { IfOk result (λ made. left_by made self.new ≡ built row.now (Event.Declaration storage) self.old.count self.old.pieces) }
     {
         let Some(names) = self.pop_declarators() else {
@@ -111,6 +164,10 @@ impl Builder {
         let Some(spec) = self.pop_type() else {
             return Ok(false);
         };
-        self.put(Piece::Declaration(Decl { storage, spec, names }))
+        self.put(Piece::Declaration(Decl {
+            storage,
+            spec,
+            names,
+        }))
     }
 }

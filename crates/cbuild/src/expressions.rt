@@ -4,7 +4,7 @@ ghost use Rattle.cbuild.specs.Workshop.{left_by};
 
 use crate::builder::Builder;
 use crate::event::Event;
-use crate::texts::{text_at};
+use crate::texts::text_at;
 use crate::tokens_at::place_at;
 use cbase::{BinaryOp, ExprForm, NoMemory, UnaryOp};
 use cgrammar::Terminal;
@@ -34,7 +34,12 @@ impl Builder {
     }
 
     /// A prefix operator (C11 6.5.3).
-    pub(crate) fn unary(&mut self, row: &[Terminal<'_>], op: UnaryOp, at: usize) -> Result<bool, NoMemory>
+    pub(crate) fn unary(
+        &mut self,
+        row: &[Terminal<'_>],
+        op: UnaryOp,
+        at: usize,
+    ) -> Result<bool, NoMemory>
         ensures { IfOk result (λ made. left_by made self.new ≡ built row.now (Event.Unary op at) self.old.count self.old.pieces) }
     {
         let Some(arg) = self.pop_expr() else {
@@ -44,7 +49,13 @@ impl Builder {
     }
 
     /// `++` or `--` (C11 6.5.2.4, 6.5.3.1).
-    pub(crate) fn step(&mut self, row: &[Terminal<'_>], up: bool, after: bool, at: usize) -> Result<bool, NoMemory>
+    pub(crate) fn step(
+        &mut self,
+        row: &[Terminal<'_>],
+        up: bool,
+        after: bool,
+        at: usize,
+    ) -> Result<bool, NoMemory>
         ensures { IfOk result (λ made. left_by made self.new ≡ built row.now (Event.Count up after at) self.old.count self.old.pieces) }
     {
         let Some(arg) = self.pop_expr() else {
@@ -113,14 +124,27 @@ impl Builder {
     }
 
     /// A member (C11 6.5.2.3).
-    pub(crate) fn member(&mut self, row: &[Terminal<'_>], through: bool, at: usize, name: usize) -> Result<bool, NoMemory>
+    pub(crate) fn member(
+        &mut self,
+        row: &[Terminal<'_>],
+        through: bool,
+        at: usize,
+        name: usize,
+    ) -> Result<bool, NoMemory>
         ensures { IfOk result (λ made. left_by made self.new ≡ built row.now (Event.Member through at name) self.old.count self.old.pieces) }
     {
         let name = text_at(self.alloc, row, name)?;
         let Some(base) = self.pop_expr() else {
             return Ok(false);
         };
-        self.express(place_at(row, at), ExprForm::Member { base, name, through })
+        self.express(
+            place_at(row, at),
+            ExprForm::Member {
+                base,
+                name,
+                through,
+            },
+        )
     }
 
     /// A call (C11 6.5.2.2).
@@ -147,7 +171,12 @@ impl Builder {
     }
 
     /// A binary operator (C11 6.5.5 to 6.5.14, 6.5.17).
-    pub(crate) fn binary(&mut self, row: &[Terminal<'_>], op: BinaryOp, at: usize) -> Result<bool, NoMemory>
+    pub(crate) fn binary(
+        &mut self,
+        row: &[Terminal<'_>],
+        op: BinaryOp,
+        at: usize,
+    ) -> Result<bool, NoMemory>
         ensures { IfOk result (λ made. left_by made self.new ≡ built row.now (Event.Binary op at) self.old.count self.old.pieces) }
     {
         let Some(right) = self.pop_expr() else {
@@ -160,7 +189,12 @@ impl Builder {
     }
 
     /// An assignment (C11 6.5.16).
-    pub(crate) fn assign(&mut self, row: &[Terminal<'_>], op: Option<BinaryOp>, at: usize) -> Result<bool, NoMemory>
+    pub(crate) fn assign(
+        &mut self,
+        row: &[Terminal<'_>],
+        op: Option<BinaryOp>,
+        at: usize,
+    ) -> Result<bool, NoMemory>
         ensures { IfOk result (λ made. left_by made self.new ≡ built row.now (Event.Assign op at) self.old.count self.old.pieces) }
     {
         let Some(right) = self.pop_expr() else {

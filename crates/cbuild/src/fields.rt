@@ -19,7 +19,12 @@ impl Builder {
     }
 
     /// One more field.
-    pub(crate) fn field(&mut self, row: &[Terminal<'_>], name: usize, stars: usize) -> Result<bool, NoMemory>
+    pub(crate) fn field(
+        &mut self,
+        row: &[Terminal<'_>],
+        name: usize,
+        stars: usize,
+    ) -> Result<bool, NoMemory>
         ensures { IfOk result (λ made. left_by made self.new ≡ built row.now (Event.Field name stars) self.old.count self.old.pieces) }
     {
         let place = place_at(row, name);
@@ -31,13 +36,24 @@ impl Builder {
         let Some(names) = self.pop_field_names() else {
             return Ok(false);
         };
-        let field = FieldName { place, name: Some(name), stars, sizes, bits: None };
+        let field = FieldName {
+            place,
+            name: Some(name),
+            stars,
+            sizes,
+            bits: None,
+        };
         let longer = appended(names, field)?;
         self.put(Piece::FieldNames(longer))
     }
 
     /// One more field of bits.
-    pub(crate) fn bit_field(&mut self, row: &[Terminal<'_>], name: usize, stars: usize) -> Result<bool, NoMemory>
+    pub(crate) fn bit_field(
+        &mut self,
+        row: &[Terminal<'_>],
+        name: usize,
+        stars: usize,
+    ) -> Result<bool, NoMemory>
         ensures { IfOk result (λ made. left_by made self.new ≡ built row.now (Event.BitField name stars) self.old.count self.old.pieces) }
     {
         let place = place_at(row, name);
@@ -52,7 +68,13 @@ impl Builder {
         let Some(names) = self.pop_field_names() else {
             return Ok(false);
         };
-        let field = FieldName { place, name: Some(name), stars, sizes, bits: Some(bits.into_inner()) };
+        let field = FieldName {
+            place,
+            name: Some(name),
+            stars,
+            sizes,
+            bits: Some(bits.into_inner()),
+        };
         let longer = appended(names, field)?;
         self.put(Piece::FieldNames(longer))
     }
@@ -68,7 +90,13 @@ impl Builder {
         let Some(names) = self.pop_field_names() else {
             return Ok(false);
         };
-        let field = FieldName { place, name: None, stars: 0, sizes: List::new(self.alloc), bits: Some(bits.into_inner()) };
+        let field = FieldName {
+            place,
+            name: None,
+            stars: 0,
+            sizes: List::new(self.alloc),
+            bits: Some(bits.into_inner()),
+        };
         let longer = appended(names, field)?;
         self.put(Piece::FieldNames(longer))
     }
@@ -113,12 +141,23 @@ impl Builder {
         let Some(values) = self.pop_enumerators() else {
             return Ok(false);
         };
-        let longer = appended(values, Enumerator { place, name, value: None })?;
+        let longer = appended(
+            values,
+            Enumerator {
+                place,
+                name,
+                value: None,
+            },
+        )?;
         self.put(Piece::Enumerators(longer))
     }
 
     /// One more enumerator with its value.
-    pub(crate) fn enumerator_value(&mut self, row: &[Terminal<'_>], name: usize) -> Result<bool, NoMemory>
+    pub(crate) fn enumerator_value(
+        &mut self,
+        row: &[Terminal<'_>],
+        name: usize,
+    ) -> Result<bool, NoMemory>
         ensures { IfOk result (λ made. left_by made self.new ≡ built row.now (Event.EnumeratorValue name) self.old.count self.old.pieces) }
     {
         let place = place_at(row, name);
@@ -129,7 +168,14 @@ impl Builder {
         let Some(values) = self.pop_enumerators() else {
             return Ok(false);
         };
-        let longer = appended(values, Enumerator { place, name, value: Some(value.into_inner()) })?;
+        let longer = appended(
+            values,
+            Enumerator {
+                place,
+                name,
+                value: Some(value.into_inner()),
+            },
+        )?;
         self.put(Piece::Enumerators(longer))
     }
 }

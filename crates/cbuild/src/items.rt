@@ -28,7 +28,12 @@ impl Builder {
     }
 
     /// A function's definition (C11 6.9.1).
-    pub(crate) fn function_item(&mut self, row: &[Terminal<'_>], storage: Storage, close: usize) -> Result<bool, NoMemory>
+    pub(crate) fn function_item(
+        &mut self,
+        row: &[Terminal<'_>],
+        storage: Storage,
+        close: usize,
+    ) -> Result<bool, NoMemory>
         ensures { IfOk result (λ made. left_by made self.new ≡ built row.now (Event.FunctionItem storage close) self.old.count self.old.pieces) }
     {
         let close = place_at(row, close);
@@ -41,6 +46,12 @@ impl Builder {
         let Some(spec) = self.pop_type() else {
             return Ok(false);
         };
-        self.put(Piece::Item(Item::Function { spec, storage, head, body, close }))
+        self.put(Piece::Item(Item::Function {
+            spec,
+            storage,
+            head,
+            body,
+            close,
+        }))
     }
 }

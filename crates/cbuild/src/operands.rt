@@ -41,7 +41,11 @@ impl Builder {
     }
 
     /// One more member of a path.
-    pub(crate) fn path_member(&mut self, row: &[Terminal<'_>], name: usize) -> Result<bool, NoMemory>
+    pub(crate) fn path_member(
+        &mut self,
+        row: &[Terminal<'_>],
+        name: usize,
+    ) -> Result<bool, NoMemory>
         ensures { IfOk result (λ made. left_by made self.new ≡ built row.now (Event.PathMember name) self.old.count self.old.pieces) }
     {
         let name = text_at(self.alloc, row, name)?;
@@ -84,7 +88,11 @@ impl Builder {
     }
 
     /// One more part of an initialiser.
-    pub(crate) fn part(&mut self, row: &[Terminal<'_>], member: Option<usize>) -> Result<bool, NoMemory>
+    pub(crate) fn part(
+        &mut self,
+        row: &[Terminal<'_>],
+        member: Option<usize>,
+    ) -> Result<bool, NoMemory>
         ensures { IfOk result (λ made. left_by made self.new ≡ built row.now (Event.Part member) self.old.count self.old.pieces) }
     {
         let member = maybe_text_at(self.alloc, row, member)?;

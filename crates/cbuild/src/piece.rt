@@ -1,6 +1,6 @@
 use cbase::{
-    Boxed, Decl, Declared, Enumerator, Expr, FieldDecl, FieldName, Init, InitPart, Item, List, Param,
-    Part, Stmt, TypeName, TypeSpec,
+    Boxed, Decl, Declared, Enumerator, Expr, FieldDecl, FieldName, Init, InitPart, Item, List,
+    Param, Part, Stmt, TypeName, TypeSpec,
 };
 
 /// A tree, or a list of trees, that other trees may be made of.

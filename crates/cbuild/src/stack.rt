@@ -17,7 +17,6 @@ pub(crate) struct Stack {
 impl Model for Stack {
     ghost use Rattle.std.specs.Prelude.{List, reverse};
     ghost use Rattle.cbuild.specs.declared.piece.Piece.{Piece};
-
     ghost use Rattle.cbase.specs.contracts.tree.expr.ExprForm as cexprform;
     ghost use Rattle.cbase.specs.contracts.tree.expr.Expr as cexpr;
     ghost use Rattle.cbase.specs.contracts.tree.expr.Part as cpart;

@@ -5,7 +5,7 @@ ghost use Rattle.cbuild.specs.Workshop.{left_by};
 use crate::builder::Builder;
 use crate::event::Event;
 use crate::piece::Piece;
-use crate::texts::{appended};
+use crate::texts::appended;
 use crate::tokens_at::place_at;
 use cbase::{List, NoMemory, StmtForm};
 use cgrammar::Terminal;
@@ -33,33 +33,60 @@ impl Builder {
     }
 
     /// A declaration as a statement.
-    pub(crate) fn declare(&mut self, row: &[Terminal<'_>], first: usize, last: usize) -> Result<bool, NoMemory>
+    pub(crate) fn declare(
+        &mut self,
+        row: &[Terminal<'_>],
+        first: usize,
+        last: usize,
+    ) -> Result<bool, NoMemory>
         ensures { IfOk result (λ made. left_by made self.new ≡ built row.now (Event.Declare first last) self.old.count self.old.pieces) }
     {
         let Some(decl) = self.pop_declaration() else {
             return Ok(false);
         };
-        self.state(place_at(row, first), place_at(row, last), StmtForm::Declare(decl))
+        self.state(
+            place_at(row, first),
+            place_at(row, last),
+            StmtForm::Declare(decl),
+        )
     }
 
     /// An expression, or nothing, before a `;` (C11 6.8.3).
-    pub(crate) fn eval(&mut self, row: &[Terminal<'_>], first: usize, last: usize) -> Result<bool, NoMemory>
+    pub(crate) fn eval(
+        &mut self,
+        row: &[Terminal<'_>],
+        first: usize,
+        last: usize,
+    ) -> Result<bool, NoMemory>
         ensures { IfOk result (λ made. left_by made self.new ≡ built row.now (Event.Eval first last) self.old.count self.old.pieces) }
     {
         let Some(expr) = self.pop_maybe() else {
             return Ok(false);
         };
-        self.state(place_at(row, first), place_at(row, last), StmtForm::Eval(expr))
+        self.state(
+            place_at(row, first),
+            place_at(row, last),
+            StmtForm::Eval(expr),
+        )
     }
 
     /// A block (C11 6.8.2).
-    pub(crate) fn block(&mut self, row: &[Terminal<'_>], first: usize, last: usize) -> Result<bool, NoMemory>
+    pub(crate) fn block(
+        &mut self,
+        row: &[Terminal<'_>],
+        first: usize,
+        last: usize,
+    ) -> Result<bool, NoMemory>
         ensures { IfOk result (λ made. left_by made self.new ≡ built row.now (Event.Block first last) self.old.count self.old.pieces) }
     {
         let Some(body) = self.pop_statements() else {
             return Ok(false);
         };
-        self.state(place_at(row, first), place_at(row, last), StmtForm::Block(body))
+        self.state(
+            place_at(row, first),
+            place_at(row, last),
+            StmtForm::Block(body),
+        )
     }
 
     /// `if` without `else` (C11 6.8.4.1).
@@ -74,7 +101,15 @@ impl Builder {
         };
         let after = yes.get().after;
         let test = test.into_inner();
-        self.state(place_at(row, first), after, StmtForm::If { test, yes, no: None })
+        self.state(
+            place_at(row, first),
+            after,
+            StmtForm::If {
+                test,
+                yes,
+                no: None,
+            },
+        )
     }
 
     /// `if` with `else` (C11 6.8.4.1).
@@ -92,11 +127,23 @@ impl Builder {
         };
         let after = no.get().after;
         let test = test.into_inner();
-        self.state(place_at(row, first), after, StmtForm::If { test, yes, no: Some(no) })
+        self.state(
+            place_at(row, first),
+            after,
+            StmtForm::If {
+                test,
+                yes,
+                no: Some(no),
+            },
+        )
     }
 
     /// `while` (C11 6.8.5.1).
-    pub(crate) fn while_loop(&mut self, row: &[Terminal<'_>], first: usize) -> Result<bool, NoMemory>
+    pub(crate) fn while_loop(
+        &mut self,
+        row: &[Terminal<'_>],
+        first: usize,
+    ) -> Result<bool, NoMemory>
         ensures { IfOk result (λ made. left_by made self.new ≡ built row.now (Event.While first) self.old.count self.old.pieces) }
     {
         let Some(body) = self.pop_statement() else {
@@ -111,7 +158,12 @@ impl Builder {
     }
 
     /// `do` (C11 6.8.5.2).
-    pub(crate) fn do_loop(&mut self, row: &[Terminal<'_>], first: usize, last: usize) -> Result<bool, NoMemory>
+    pub(crate) fn do_loop(
+        &mut self,
+        row: &[Terminal<'_>],
+        first: usize,
+        last: usize,
+    ) -> Result<bool, NoMemory>
         ensures { IfOk result (λ made. left_by made self.new ≡ built row.now (Event.Do first last) self.old.count self.old.pieces) }
     {
         let Some(test) = self.pop_expr() else {
@@ -121,7 +173,11 @@ impl Builder {
             return Ok(false);
         };
         let test = test.into_inner();
-        self.state(place_at(row, first), place_at(row, last), StmtForm::Do { body, test })
+        self.state(
+            place_at(row, first),
+            place_at(row, last),
+            StmtForm::Do { body, test },
+        )
     }
 
     /// `for` (C11 6.8.5.3).
@@ -141,30 +197,62 @@ impl Builder {
             return Ok(false);
         };
         let after = body.get().after;
-        self.state(place_at(row, first), after, StmtForm::For { first: clause, test, next, body })
+        self.state(
+            place_at(row, first),
+            after,
+            StmtForm::For {
+                first: clause,
+                test,
+                next,
+                body,
+            },
+        )
     }
 
     /// `break` (C11 6.8.6.3).
-    pub(crate) fn break_out(&mut self, row: &[Terminal<'_>], first: usize, last: usize) -> Result<bool, NoMemory>
+    pub(crate) fn break_out(
+        &mut self,
+        row: &[Terminal<'_>],
+        first: usize,
+        last: usize,
+    ) -> Result<bool, NoMemory>
         ensures { IfOk result (λ made. left_by made self.new ≡ built row.now (Event.Break first last) self.old.count self.old.pieces) }
     {
         self.state(place_at(row, first), place_at(row, last), StmtForm::Break)
     }
 
     /// `continue` (C11 6.8.6.2).
-    pub(crate) fn continue_on(&mut self, row: &[Terminal<'_>], first: usize, last: usize) -> Result<bool, NoMemory>
+    pub(crate) fn continue_on(
+        &mut self,
+        row: &[Terminal<'_>],
+        first: usize,
+        last: usize,
+    ) -> Result<bool, NoMemory>
         ensures { IfOk result (λ made. left_by made self.new ≡ built row.now (Event.Continue first last) self.old.count self.old.pieces) }
     {
-        self.state(place_at(row, first), place_at(row, last), StmtForm::Continue)
+        self.state(
+            place_at(row, first),
+            place_at(row, last),
+            StmtForm::Continue,
+        )
     }
 
     /// `return` (C11 6.8.6.4).
-    pub(crate) fn give_back(&mut self, row: &[Terminal<'_>], first: usize, last: usize) -> Result<bool, NoMemory>
+    pub(crate) fn give_back(
+        &mut self,
+        row: &[Terminal<'_>],
+        first: usize,
+        last: usize,
+    ) -> Result<bool, NoMemory>
         ensures { IfOk result (λ made. left_by made self.new ≡ built row.now (Event.Return first last) self.old.count self.old.pieces) }
     {
         let Some(value) = self.pop_maybe() else {
             return Ok(false);
         };
-        self.state(place_at(row, first), place_at(row, last), StmtForm::Return(value))
+        self.state(
+            place_at(row, first),
+            place_at(row, last),
+            StmtForm::Return(value),
+        )
     }
 }

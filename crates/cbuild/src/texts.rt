@@ -7,11 +7,7 @@ use cgrammar::Terminal;
 use std::alloc::Global;
 
 /// A text with the bytes of the token with the number.
-pub(crate) fn text_at(
-    alloc: Global,
-    row: &[Terminal<'_>],
-    at: usize,
-) -> Result<Text, NoMemory>
+pub(crate) fn text_at(alloc: Global, row: &[Terminal<'_>], at: usize) -> Result<Text, NoMemory>
     ensures { IfOk result (λ text. text ≡ bytes_at row.now at) }
 {
     Text::from_slice(alloc, bytes_at(row, at))

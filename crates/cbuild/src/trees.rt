@@ -13,11 +13,7 @@ use std::alloc::Global;
 /// The expression that the events make of a row, alone and of nothing.
 ///
 /// `Wrong` is for events that make anything else, or nothing.
-pub fn build_expr(
-    alloc: Global,
-    row: &[Terminal<'_>],
-    events: &[Event],
-) -> Result<Expr, Unbuilt>
+pub fn build_expr(alloc: Global, row: &[Terminal<'_>], events: &[Event]) -> Result<Expr, Unbuilt>
     ensures expr { IfOk result (λ expr. expr_alone (built_all row.now events.now (Some start)) ≡ Some expr) }
     ensures wrong { result ≡ Err Unbuilt.Wrong → expr_alone (built_all row.now events.now (Some start)) ≡ None }
 {

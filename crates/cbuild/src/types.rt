@@ -30,7 +30,10 @@ impl Builder {
         ensures { IfOk result (λ made. left_by made self.new ≡ built row.now (Event.StructTag tag) self.old.count self.old.pieces) }
     {
         let name = text_at(self.alloc, row, tag)?;
-        self.put(Piece::Type(TypeSpec::Struct { name: Some(name), fields: None }))
+        self.put(Piece::Type(TypeSpec::Struct {
+            name: Some(name),
+            fields: None,
+        }))
     }
 
     /// An enum by its tag alone (C11 6.7.2.3).
@@ -38,29 +41,46 @@ impl Builder {
         ensures { IfOk result (λ made. left_by made self.new ≡ built row.now (Event.EnumTag tag) self.old.count self.old.pieces) }
     {
         let name = text_at(self.alloc, row, tag)?;
-        self.put(Piece::Type(TypeSpec::Enum { name: Some(name), values: None }))
+        self.put(Piece::Type(TypeSpec::Enum {
+            name: Some(name),
+            values: None,
+        }))
     }
 
     /// A struct with its fields (C11 6.7.2.1).
-    pub(crate) fn struct_with_fields(&mut self, row: &[Terminal<'_>], tag: Option<usize>) -> Result<bool, NoMemory>
+    pub(crate) fn struct_with_fields(
+        &mut self,
+        row: &[Terminal<'_>],
+        tag: Option<usize>,
+    ) -> Result<bool, NoMemory>
         ensures { IfOk result (λ made. left_by made self.new ≡ built row.now (Event.Struct tag) self.old.count self.old.pieces) }
     {
         let name = maybe_text_at(self.alloc, row, tag)?;
         let Some(fields) = self.pop_fields() else {
             return Ok(false);
         };
-        self.put(Piece::Type(TypeSpec::Struct { name, fields: Some(fields) }))
+        self.put(Piece::Type(TypeSpec::Struct {
+            name,
+            fields: Some(fields),
+        }))
     }
 
     /// An enum with its constants (C11 6.7.2.2).
-    pub(crate) fn enum_with_values(&mut self, row: &[Terminal<'_>], tag: Option<usize>) -> Result<bool, NoMemory>
+    pub(crate) fn enum_with_values(
+        &mut self,
+        row: &[Terminal<'_>],
+        tag: Option<usize>,
+    ) -> Result<bool, NoMemory>
         ensures { IfOk result (λ made. left_by made self.new ≡ built row.now (Event.Enum tag) self.old.count self.old.pieces) }
     {
         let name = maybe_text_at(self.alloc, row, tag)?;
         let Some(values) = self.pop_enumerators() else {
             return Ok(false);
         };
-        self.put(Piece::Type(TypeSpec::Enum { name, values: Some(values) }))
+        self.put(Piece::Type(TypeSpec::Enum {
+            name,
+            values: Some(values),
+        }))
     }
 
     /// `typeof` of an expression.

@@ -38,12 +38,7 @@ impl Names {
     }
 
     /// Declares a name. Where memory is wanting the scope stays as it was.
-    pub fn declare(
-        &mut self,
-        alloc: Global,
-        name: &[u8],
-        typedef: bool,
-    ) -> Result<(), NoMemory>
+    pub fn declare(&mut self, alloc: Global, name: &[u8], typedef: bool) -> Result<(), NoMemory>
         ensures ok { OnOk result (self.new ≡ declared_in name.now typedef self.old) }
         ensures err { OnErr result (self.new ≡ self.old) }
     {

@@ -126,11 +126,7 @@ impl<F: Fn(&mut Reader<'_>, u32, Wanted) -> Result<(), NoMemory>> Grammar<F> {
 
     /// Reads a function's definition from behind its type on.
     #[tactic(auto, unfolding(crate::specs::ItemSteps::function_behind))]
-    fn definition_behind(
-        &self,
-        reader: &mut Reader<'_>,
-        storage: Storage,
-    ) -> Result<(), NoMemory>
+    fn definition_behind(&self, reader: &mut Reader<'_>, storage: Storage) -> Result<(), NoMemory>
         requires { Nests self.now.depth (F.pre self.now.inner) (F.post self.now.inner) }
         ensures { OnOk result (reader.new ≡ function_behind (inner_at self.now.depth) storage reader.old) }
     {
