@@ -89,7 +89,7 @@ complete row at number is = step (first_from 0 at_front row) refl
             → ◌≡◌ {A = Option Found} (Some (found_at number at)) (Some found)
         same found place counts here there =
             let numbers : number ≡ found.number =
-                same_some number found.number (sym (number_complete row at number is.is) ∙ (ap (number_from at_front row) (sym here) ∙ there)) in
+            same_some number found.number (sym (number_complete row at number is.is) ∙ (ap (number_from at_front row) (sym here) ∙ there)) in
             let places : at ≡ found.at = sym (counts ∙ here) in
             λ i. Some (found_at (numbers i) (places i))
 

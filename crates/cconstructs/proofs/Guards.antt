@@ -278,12 +278,12 @@ nested guarded token others rest at opens matched less unclosed = step unclosed.
     step [] closers some outer = absurd (omega arith)
     step (closer ∷ stack) closers some outer =
         let inner : behind_matched ((41 ∷ []) ++ (closer ∷ stack)) others ≡ Some unclosed.rest =
-            ap (λ (o : Option (List ℕ)). on o others) (sym (opens_more closer stack token (and-left (is_closer closer) (are_closers stack) closers) opens))
-            ∙ (sym (matched_step closer stack token others) ∙ outer) in
+        ap (λ (o : Option (List ℕ)). on o others) (sym (opens_more closer stack token (and-left (is_closer closer) (are_closers stack) closers) opens))
+        ∙ (sym (matched_step closer stack token others) ∙ outer) in
         let half = halfway others (41 ∷ []) (closer ∷ stack) unclosed.rest inner in
         let same : half.middle ≡ rest = same_some half.middle rest (sym half.first ∙ matched) in
         let fewer : length unclosed.rest + length (closer ∷ stack) ≤ length rest =
-            omega (arith, matched_shorter half.middle (closer ∷ stack) unclosed.rest half.second, ap length same) in
+        omega (arith, matched_shorter half.middle (closer ∷ stack) unclosed.rest half.second, ap length same) in
         omega (arith, fewer, unclosed.count)
 
 pub brackets_complete : (row : List Terminal) (guarded : ℕ) (asserting : Bool) (at place : ℕ) (rest : List Terminal) → IsCount guarded row → OpenedAt asserting row place
@@ -296,7 +296,7 @@ brackets_complete (token ∷ others) guarded asserting (suc at) (suc place) rest
     opens matched (omega arith) (omega arith)
 brackets_complete (token ∷ others) zero asserting (suc at) zero rest is opens matched after before =
     let here : guarded_behind zero asserting token others ≡ length others - length rest - 1 =
-        ap (λ (b : Bool). if b then guarded_front others else 0) (and-both opens.0 opens.1) ∙ ap (inside others) matched in
+    ap (λ (b : Bool). if b then guarded_front others else 0) (and-both opens.0 opens.1) ∙ ap (inside others) matched in
     within others (guarded_behind zero asserting token others) (is_assertion token) at (count_behind zero asserting token others is) (omega arith)
 brackets_complete (token ∷ others) (suc guarded) asserting (suc at) zero rest (inl none) opens matched after before = absurd (omega arith)
 brackets_complete (token ∷ others) (suc guarded) asserting (suc at) zero rest (inr unclosed) opens matched after before =

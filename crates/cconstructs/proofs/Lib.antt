@@ -9,3 +9,4 @@ pub mod Matched
 pub mod Numbers
 pub mod Pointers
 pub mod Steps
+pub mod WholeText

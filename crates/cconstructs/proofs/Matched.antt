@@ -34,7 +34,7 @@ pub matched_next : (row : List Terminal) (count : ℕ) (token : Terminal) (opene
 matched_next row count token opened front closer next split within there steps =
     let turned : reverse opened ≡ closer ∷ reverse front = ap reverse split ∙ reverse-append front (closer ∷ []) in
     let cut : drop count row ≡ token ∷ drop (count + 1) row =
-        drop-cons row count token within ∙ (ap (λ (t : Terminal). t ∷ drop (suc count) row) (sym there) ∙ ap (λ (n : ℕ). token ∷ drop n row) (sym (add-one count))) in
+    drop-cons row count token within ∙ (ap (λ (t : Terminal). t ∷ drop (suc count) row) (sym there) ∙ ap (λ (n : ℕ). token ∷ drop n row) (sym (add-one count))) in
     ap (λ (stack : List ℕ). behind_matched stack (drop count row)) turned
     ∙ (ap (λ (rest : List Terminal). behind_matched (closer ∷ reverse front) rest) cut
     ∙ (matched_step closer (reverse front) token (drop (count + 1) row)

@@ -8,7 +8,11 @@ use cgrammar::Terminal;
 use std::alloc::Global;
 
 /// How many tokens stand up to the bracket that closes one that is opened before them, where brackets are matched by kind.
-pub fn matched_length(alloc: Global, row: &[Terminal<'_>], closer: u8) -> Result<Option<usize>, NoMemory>
+pub fn matched_length(
+    alloc: Global,
+    row: &[Terminal<'_>],
+    closer: u8,
+) -> Result<Option<usize>, NoMemory>
     ensures is { IfOk result (λ found. option_map (λ count. drop count row.now) found ≡ behind_matched (closer ∷ []) row.now) }
     ensures inside { IfOk result (λ found. IfSome found (λ count. count ≤ length row.now)) }
 {

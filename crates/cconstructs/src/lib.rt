@@ -15,3 +15,6 @@ mod part;
 pub use constructs::first_construct;
 pub use found::Found;
 pub use layout::first_layout;
+
+#[cfg(test)]
+mod tests;

@@ -2,3 +2,4 @@ pub mod Complete
 pub mod Sound
 pub mod TextItemsRead
 pub mod ItemRowsRead
+pub mod AgreedItems

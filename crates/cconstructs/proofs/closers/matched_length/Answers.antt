@@ -14,11 +14,13 @@ returns-then-not-branch-clause-is c =
     ∙ c.tokens.invariant.0
 
 pub tokens-preserved : goal.tokens-preserved
-tokens-preserved c =
-    (sym (matched_next c.args.row.now c.tokens.count c.index-row-count.result c.tokens.opened.items c.pop.new.self.items c.in-Some.closer (Some (reverse c.go_over.new.opened.items))
-    c.in-Some.ensures.items c.tokens-test.true c.index-row-count.is
-    (c.in_ok-go_over-in-Some.ensures ∙ ap (λ (may : Bool). if may then Some (reverse c.go_over.new.opened.items) else None) c.if-not-branch.false))
-    ∙ c.tokens.invariant.0, omega arith)
+tokens-preserved c = (
+  sym (matched_next c.args.row.now c.tokens.count c.index-row-count.result c.tokens.opened.items c.pop.new.self.items c.in-Some.closer (Some (reverse c.go_over.new.opened.items))
+      c.in-Some.ensures.items c.tokens-test.true c.index-row-count.is
+      (c.in_ok-go_over-in-Some.ensures ∙ ap (λ (may : Bool). if may then Some (reverse c.go_over.new.opened.items) else None) c.if-not-branch.false))
+      ∙ c.tokens.invariant.0,
+  omega arith,
+)
 
 pub returns-then-is_empty-clause-is : goal.returns-then-is_empty-clause-is
 returns-then-is_empty-clause-is c =

@@ -14,7 +14,7 @@ returns-then-shows_layout c =
 pub loop-token-preserved : goal.loop-token-preserved
 loop-token-preserved c =
     let later = attribute_later c.args.text.now c.args.list.now c.loop-token.token-index c.loop-token.number _ c.terminal_of-terminal.result c.loop-token.part
-        c.loop-token-test.true c.terminal_of-terminal.ensures (sym c.if-shows_layout.ensures) in
+    c.loop-token-test.true c.terminal_of-terminal.ensures (sym c.if-shows_layout.ensures) in
     record {
       same = ap (λ (p : Part). attribute_from (c.loop-token.number + 1) p (map (terminal_of c.args.text.now) (drop (c.loop-token.token-index + 1) c.args.list.now))) c.part_behind-part.ensures
           ∙ (sym later ∙ c.loop-token.invariant.same);
