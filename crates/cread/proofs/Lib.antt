@@ -2,3 +2,5 @@ pub mod Complete
 pub mod Sound
 pub mod TextItemsRead
 pub mod ItemRowsRead
+pub mod Refusals
+pub mod Needed
