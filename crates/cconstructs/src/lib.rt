@@ -2,3 +2,16 @@
 //!
 //! It looks at tokens alone, whether the grammar spells the item or not.
 #![tactic(auto)]
+
+mod before;
+mod closers;
+mod constructs;
+mod found;
+mod layout;
+mod number;
+mod packed;
+mod part;
+
+pub use constructs::first_construct;
+pub use found::Found;
+pub use layout::first_layout;

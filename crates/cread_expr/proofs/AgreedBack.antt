@@ -24,25 +24,25 @@ pub agreed_back : {A : Type 0} {s t u : State} {below : Pieces} {above : A → P
     → Ended s t below (above tree) base levels before behind others → Kept t u → fits tree (back_at (point_of t) u)
     → Agreed below above fits base before (outcome.Stopped tree behind.expressions others) s (back_at (point_of t) u)
 agreed_back {s} {t} {u} {others} tree far kept fits = agreed_halted (record {
-    went = record {
-      row = kept.row ∙ far.went.row;
-      added = far.went.added;
-      events = (ap (λ (events : List Event). take (length t.events) events) kept.events ∙ take_at t.events kept.added (length t.events) refl) ∙ far.went.events;
-      builds = far.went.builds;
-    };
-    status = refl;
-    left = ap (λ (row : List Terminal). drop t.at row) kept.row ∙ far.left;
-  }) fits
+  went = record {
+    row = kept.row ∙ far.went.row;
+    added = far.went.added;
+    events = (ap (λ (events : List Event). take (length t.events) events) kept.events ∙ take_at t.events kept.added (length t.events) refl) ∙ far.went.events;
+    builds = far.went.builds;
+  };
+  status = refl;
+  left = ap (λ (row : List Terminal). drop t.at row) kept.row ∙ far.left;
+}) fits
 
 -- the tree that is read so far is all that is read
 pub agreed_stopped : {A : Type 0} {s t : State} {below : Pieces} {above : A → Pieces} {fits : A → State → Type 0} {base levels before : ℕ} {behind : Context} {others : List Terminal} (tree : A)
     → Ended s t below (above tree) base levels before behind others → fits tree (stopped t)
     → Agreed below above fits base before (outcome.Stopped tree behind.expressions others) s (stopped t)
 agreed_stopped {t} tree far fits = agreed_halted (record {
-    went = record { row = far.went.row; added = far.went.added; events = far.went.events; builds = far.went.builds };
-    status = refl;
-    left = far.left;
-  }) fits
+  went = record { row = far.went.row; added = far.went.added; events = far.went.events; builds = far.went.builds };
+  status = refl;
+  left = far.left;
+}) fits
 
 -- a part, or back to a point
 pub else_back : {A B : Type 0} {s t v : State} {below lower : Pieces} {upper : A → Pieces} {holds : A → State → Type 0} {above : B → Pieces} {fits : B → State → Type 0} {base levels before : ℕ} {context : Context} {row : List Terminal}
@@ -52,8 +52,8 @@ pub else_back : {A B : Type 0} {s t v : State} {below lower : Pieces} {upper : A
     → Still Stopped (back_unless_going point (steps t)) v
     → ((u : State) → Kept t u → Agreed below above fits base before without s (back_at point u))
     → ((tree : A) (more : ℕ) (behind : Context) (others : List Terminal) → Kept t (back_unless_going point (steps t))
-        → Ended s (back_unless_going point (steps t)) below (λ pieces. upper tree (under pieces)) base (max levels more) before behind others
-        → Agreed below above fits base before (go tree more behind others) s v)
+    → Ended s (back_unless_going point (steps t)) below (λ pieces. upper tree (under pieces)) base (max levels more) before behind others
+    → Agreed below above fits base before (go tree more behind others) s v)
     → Agreed below above fits base before (or_else (reader context row) without go) s v
 unfolding back_unless_going
 else_back {A} {B} {s} {t} {v} {below} {lower} {upper} {holds} {above} {fits} {base} {levels} {before} {context} {row} under reader steps point without go far agrees still other next =
@@ -79,7 +79,7 @@ pub mark_back : {B : Type 0} {s t v : State} {below middle : Pieces} {above : B 
     → Still Stopped (mark_or_back bytes point t) v
     → Agreed below above fits base before without s (back_at point t)
     → ((first : Terminal) (others : List Terminal) → Kept t (mark_or_back bytes point t) → Ended s (mark_or_back bytes point t) below middle base levels before context others
-        → Agreed below above fits base before (go first others) s v)
+    → Agreed below above fits base before (go first others) s v)
     → Agreed below above fits base before (after_mark bytes row without go) s v
 unfolding mark_or_back
 mark_back {B} {s} {t} {v} {below} {middle} {above} {fits} {base} {levels} {before} {context} bytes row point without go far still other next = case row far
@@ -110,7 +110,7 @@ pub right_joined : {A B : Type 0} {s t v : State} {below under : Pieces} {upper 
     → Still Stopped (ask_right inner wanted point event t) v
     → ((u : State) → Kept t u → Agreed below above anyhow 0 before without s (back_at point u))
     → ((tree : A) (more : ℕ) (behind : Context) (others : List Terminal) → Ended s (ask_right inner wanted point event t) below (above (tree_of tree behind.expressions)) 0 (1 + max levels more) before (counted behind) others
-        → Agreed below above anyhow 0 before (go tree more behind others) s v)
+    → Agreed below above anyhow 0 before (go tree more behind others) s v)
     → Agreed below above anyhow 0 before (with_right (reader context row) without tree_of go) s v
 unfolding ask_right join
 right_joined {A} {B} {s} {t} {v} {below} {under} {upper} {above} {levels} {before} {context} {row} reader inner wanted point event without tree_of go far agrees builds still other next =
@@ -132,22 +132,22 @@ right_joined {A} {B} {s} {t} {v} {below} {under} {upper} {above} {levels} {befor
         let halts : (ask_right inner wanted point event t).status ≡ Stopped = ap (λ (u : State). u.status) same ∙ is.is.0.status in
         let halted : Halted s asked below (λ pieces. upper tree (under pieces)) before expressions others = halted_then under far is.is.0 in
         agreed_at (still.same halts ∙ same) (agreed_halted (record {
-            went = went_event event (with_event event asked) halted.went refl refl (builds tree expressions);
-            status = halted.status;
-            left = halted.left;
-          }) tt)
+          went = went_event event (with_event event asked) halted.went refl refl (builds tree expressions);
+          status = halted.status;
+          left = halted.left;
+        }) tt)
     case (outcome.Read tree more behind others) is =
         let same : ask_right inner wanted point event t ≡ with_levels (asked.levels + 1) (with_event event asked) = to Going is.is.0.status in
         let ended : Ended s asked below (λ pieces. upper tree (under pieces)) 0 (max levels more) before behind others = ended_then under far is.is.0 in
         next tree more behind others (ended_at same (record {
-            went = went_event event (with_levels (asked.levels + 1) (with_event event asked)) ended.went refl refl (builds tree behind.expressions);
-            status = ended.status;
-            left = ended.left;
-            scope = ended.scope;
-            levels = omega (arith, ended.levels);
-            on = ended.on;
-            inside = ended.inside;
-          }))
+          went = went_event event (with_levels (asked.levels + 1) (with_event event asked)) ended.went refl refl (builds tree behind.expressions);
+          status = ended.status;
+          left = ended.left;
+          scope = ended.scope;
+          levels = omega (arith, ended.levels);
+          on = ended.on;
+          inside = ended.inside;
+        }))
 
 -- what is read behind a tree, where it may be the whole of another one
 pub then_continued : {A B : Type 0} {s t v : State} {below : Pieces} {above : B → Pieces} {holds : A → State → Type 0} {base before : ℕ}
@@ -155,7 +155,7 @@ pub then_continued : {A B : Type 0} {s t v : State} {below : Pieces} {above : B 
     → Agreed below (λ tree. above (tree_of tree)) holds base before outcome s t
     → Still Nothing t v → Still Stopped t v
     → ((tree : A) (levels : ℕ) (behind : Context) (others : List Terminal) → Ended s t below (above (tree_of tree)) base levels before behind others → holds tree t
-        → Agreed below above anyhow base before (go tree levels behind others) s v)
+    → Agreed below above anyhow base before (go tree levels behind others) s v)
     → Agreed below above anyhow base before (continued outcome tree_of go) s v
 then_continued outcome.Nothing tree_of go is lost_still still next = agreed_lost is.is lost_still
 then_continued (outcome.Stopped tree expressions others) tree_of go is lost_still still next = agreed_at (still.same is.is.0.status) (agreed_halted is.is.0 tt)

@@ -41,22 +41,32 @@ agreed_skipped : {A : Type 0} {s t : State} {below : Pieces} {above : A → Piec
 agreed_skipped outcome.Nothing is = record { is = record { kept = record { row = is.is.kept.row; added = is.is.kept.added; events = is.is.kept.events }; status = is.is.status } }
 agreed_skipped (outcome.Stopped tree expressions others) is =
     let halted = is.is.0 in
-    record { is = (record {
-        went = record { row = halted.went.row; added = halted.went.added; events = halted.went.events; builds = halted.went.builds };
-        status = halted.status;
-        left = halted.left;
-      }, is.is.1) }
+    record {
+      is = (
+        record {
+          went = record { row = halted.went.row; added = halted.went.added; events = halted.went.events; builds = halted.went.builds };
+          status = halted.status;
+          left = halted.left;
+        },
+        is.is.1,
+      );
+    }
 agreed_skipped {s} (outcome.Read tree levels behind others) is =
     let far = is.is.0 in
-    record { is = (record {
-        went = record { row = far.went.row; added = far.went.added; events = far.went.events; builds = far.went.builds };
-        status = far.status;
-        left = far.left;
-        scope = far.scope;
-        levels = far.levels;
-        on = omega (arith, far.on);
-        inside = far.inside;
-      }, is.is.1) }
+    record {
+      is = (
+        record {
+          went = record { row = far.went.row; added = far.went.added; events = far.went.events; builds = far.went.builds };
+          status = far.status;
+          left = far.left;
+          scope = far.scope;
+          levels = far.levels;
+          on = omega (arith, far.on);
+          inside = far.inside;
+        },
+        is.is.1,
+      );
+    }
 
 -- an operand with no bracket around an expression before it
 plain_agrees : {level : Level} {inner : Inner} (s : State) (before : ℕ) (row : List Terminal) → PartsAgree level inner → Ready s → s.levels ≡ 0 → rest s ≡ row
@@ -77,7 +87,7 @@ whole_then : {A B : Type 0} {s u v : State} {below : Pieces} {upper : A → Piec
     → Agreed below upper holds base before given s u
     → Still Nothing (whole u) v
     → ((tree : A) (levels : ℕ) (behind : Context) (others : List Terminal) → Ended s (whole u) below (upper tree) base levels before behind others → holds tree (whole u)
-        → Agreed below above fits base before (go tree levels behind others) s v)
+    → Agreed below above fits base before (go tree levels behind others) s v)
     → Agreed below above fits base before (then_read given go) s v
 unfolding whole
 whole_then {A} {B} {s} {u} {v} {below} {upper} {holds} {above} {fits} {base} {before} given go is still next = case given is
@@ -157,8 +167,8 @@ cast_row_agrees {level} {inner} (first ∷ row) s before agrees is none_read lef
     case : (test : Bool)
         → Agreed none operand_piece operand_fits 0 before (read_cast level (context_of s before) row) (skipped 1 s) (cast_behind inner (opened s.scope row) (skipped 1 s))
         → Agreed none operand_piece operand_fits 0 before
-          (if test then reader.closed level (first ∷ row) (read_cast level (context_of s before) row) else read_plain level (context_of s before) (first ∷ row)) s
-          (cast_behind inner (if test then 1 + opened s.scope row else 0) s)
+        (if test then reader.closed level (first ∷ row) (read_cast level (context_of s before) row) else read_plain level (context_of s before) (first ∷ row)) s
+        (cast_behind inner (if test then 1 + opened s.scope row else 0) s)
     case true behind =
         agreed_at (one_more inner (opened s.scope row) s)
         (agreed_skipped (reader.closed level (first ∷ row) (read_cast level (context_of s before) row))

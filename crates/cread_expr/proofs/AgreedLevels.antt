@@ -1,4 +1,4 @@
--- The readers of all levels agree.
+-- The readers of all levels agree: the steps come to what the reader function gives.
 use Rattle.std.proofs.Common.{◌≡◌, ℕ, zero, suc, ◌+◌, refl, arith}
 use Rattle.cgrammar.specs.ReadLevels.{Level}
 use Rattle.cgrammar.specs.Reader.{level}
@@ -10,14 +10,10 @@ use Rattle.cread_expr.proofs.AgreedInitializers.{initializer_agrees}
 use Rattle.cread_expr.proofs.AgreedLists.{failed_lost}
 use Rattle.cread_expr.proofs.AgreedOperands.{PartsAgree}
 use Rattle.cread_expr.proofs.AgreedRules.{agreed_failed}
-use Rattle.cread_expr.proofs.AgreedStatements.{DeclarationAgrees, as_ends, as_anyhow, block_agrees, clause_agrees}
+use Rattle.cread_expr.proofs.AgreedStatements.{as_ends, as_anyhow, block_agrees, clause_agrees}
 use Rattle.cread_expr.proofs.AgreedStatementsLabels.{statement_agrees, item_agrees}
 use Rattle.cread_expr.proofs.AgreedTypesSizes.{type_name_agrees}
 use Rattle.cread_expr.proofs.AgreedTypesSpecifiers.{specifier_agrees}
-
--- what is left to show: that declarations agree, where the readers of what stands in them do
-abbrev pub DeclarationsAgree : Type 0
-DeclarationsAgree = (level : Level) (inner : Inner) → LevelAgrees level inner → DeclarationAgrees level inner
 
 -- no tree has no level
 none_agrees : LevelAgrees (level 0) (inner_at 0)
@@ -44,12 +40,11 @@ operands_agree below = record {
   types = type_name_agrees below;
 }
 
-above_agrees : DeclarationsAgree → (most : ℕ) → LevelAgrees (level most) (inner_at most) → LevelAgrees (level (suc most)) (inner_at (suc most))
+above_agrees : (most : ℕ) → LevelAgrees (level most) (inner_at most) → LevelAgrees (level (suc most)) (inner_at (suc most))
 unfolding reads
-above_agrees declares most below =
+above_agrees most below =
     let same = below.most in
     let parts : PartsAgree (level most) (inner_at most) = operands_agree below in
-    let declaration : DeclarationAgrees (level most) (inner_at most) = declares (level most) (inner_at most) below in
     record {
       most = one_more most (level most).most same;
       cast = cast_agrees parts;
@@ -58,15 +53,15 @@ above_agrees declares most below =
       assignment = assignment_reads parts;
       expression = expression_reads parts;
       specifier = specifier_agrees below;
-      initializer = λ s before is none_before. as_anyhow _ (initializer_agrees below s before is none_before);
-      clause = λ s before is none_before. as_anyhow _ (clause_agrees below declaration s before is none_before);
-      statement = λ s before is none_before. as_anyhow _ (statement_agrees below declaration s before is none_before);
-      item = λ s before is none_before. as_anyhow _ (item_agrees below declaration s before is none_before);
+      initializer = initializer_agrees below;
+      clause = λ s before is none_before. as_anyhow _ (clause_agrees below s before is none_before);
+      statement = λ s before is none_before. as_anyhow _ (statement_agrees below s before is none_before);
+      item = λ s before is none_before. as_anyhow _ (item_agrees below s before is none_before);
     }
   where
     one_more : (one other : ℕ) → one ≡ other → suc one ≡ other + 1
     one_more one other same = omega (arith, same)
 
-pub levels_agree : DeclarationsAgree → (most : ℕ) → LevelAgrees (level most) (inner_at most)
-levels_agree declares zero = none_agrees
-levels_agree declares (suc most) = above_agrees declares most (levels_agree declares most)
+pub levels_agree : (most : ℕ) → LevelAgrees (level most) (inner_at most)
+levels_agree zero = none_agrees
+levels_agree (suc most) = above_agrees most (levels_agree most)

@@ -23,12 +23,12 @@ failed_lost s = record { kept = record { row = refl; added = []; events = sym (a
 
 pub still_both : {status : Status} {u v : State} (more : Bool) (one : State) → Still status u v → Still status u (if goes v && more then one else v)
 still_both {status} {u} {v} more one still = record {
-    idle = still.idle;
-    same = λ is.
-        let same : v ≡ u = still.same is in
-        let idle : goes v ≡ false = ap (λ (s : State). goes s) same ∙ (ap (λ (status : Status). is_going status) is ∙ still.idle) in
-        if_false (goes v && more) one v (ap (λ (test : Bool). test && more) idle) ∙ same;
-  }
+  idle = still.idle;
+  same = λ is.
+      let same : v ≡ u = still.same is in
+      let idle : goes v ≡ false = ap (λ (s : State). goes s) same ∙ (ap (λ (status : Status). is_going status) is ∙ still.idle) in
+      if_false (goes v && more) one v (ap (λ (test : Bool). test && more) idle) ∙ same;
+}
 
 -- one more item, and the items behind it
 pub then_prepended : {A : Type 0} {s t : State} {below : Pieces} {base levels before : ℕ} {context : Context} {row : List Terminal}
@@ -125,9 +125,9 @@ braced_agree {A} list_piece item part agrees (suc count) done s before is =
     tested : ((tree : A) → Continues (list_piece (done ++ tree ∷ [])) (λ trees. list_piece ((done ++ tree ∷ []) ++ trees)) ends (over_brace (read_until_brace item count)) (parts_until_brace part count))
         → (row : List Terminal) (found : Bool) → has_mark (codes "}") row ≡ found → Ended s s (list_piece done) (list_piece done) s.levels 0 before (context_of s before) row
         → Agreed (list_piece done) (λ trees. list_piece (done ++ trees)) ends s.levels before
-          (behind_brace (if found then outcome.Read [] 0 (context_of s before) row
-          else then_read (item (context_of s before) row) (λ tree levels behind others. prepended tree levels (read_until_brace item count behind others)))) s
-          (if has_mark (codes "}") (rest s) then skipped 1 s else parts_until_brace part count (part s))
+        (behind_brace (if found then outcome.Read [] 0 (context_of s before) row
+        else then_read (item (context_of s before) row) (λ tree levels behind others. prepended tree levels (read_until_brace item count behind others)))) s
+        (if has_mark (codes "}") (rest s) then skipped 1 s else parts_until_brace part count (part s))
     tested again row true found far = agreed_at (if_true _ _ _ (same_first (is_mark (codes "}")) far ∙ found)) (closing row found far)
     tested again row false found far =
         agreed_at (if_false _ _ _ (same_first (is_mark (codes "}")) far ∙ found))

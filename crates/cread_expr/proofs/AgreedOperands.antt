@@ -63,7 +63,7 @@ wrap_agrees : {A : Type 0} {s t : State} {under : Pieces} {upper : A → Pieces}
     → ((tree : A) (count : ℕ) (pieces : List Piece) → built s.row event count (upper tree (under pieces)) ≡ shop (count + 1) (operand_piece (tree_of tree count) pieces))
     → ((tree : A) (count : ℕ) → (tree_of tree count).unary ≡ unary)
     → ((tree : A) (more : ℕ) (behind : Context) (others : List Terminal) → Ended s (wrap event (on t)) none (operand_piece (tree_of tree behind.expressions)) 0 (1 + max levels more) before (counted behind) others
-        → Agreed none operand_piece (unary_is unary) 0 before (go tree more behind others) s (wrap event (on t)))
+    → Agreed none operand_piece (unary_is unary) 0 before (go tree more behind others) s (wrap event (on t)))
     → Agreed none operand_piece (unary_is unary) 0 before (with_right (reader context row) outcome.Nothing tree_of go) s (wrap event (on t))
 unfolding wrap
 wrap_agrees {A} {s} {t} {under} {upper} {holds} {levels} {before} {context} {row} unary reader on event tree_of go far agrees builds is_unary next =
@@ -77,21 +77,21 @@ wrap_agrees {A} {s} {t} {under} {upper} {holds} {levels} {before} {context} {row
     case (outcome.Stopped tree expressions others) is =
         let halted = halted_then under far is.is.0 in
         agreed_at (to Stopped halted.status) (agreed_halted (record {
-            went = went_event event (with_event event (on t)) halted.went refl refl (builds tree expressions);
-            status = halted.status;
-            left = halted.left;
-          }) (is_unary tree expressions))
+          went = went_event event (with_event event (on t)) halted.went refl refl (builds tree expressions);
+          status = halted.status;
+          left = halted.left;
+        }) (is_unary tree expressions))
     case (outcome.Read tree more behind others) is =
         let ended = ended_then under far is.is.0 in
         next tree more behind others (ended_at (to Going ended.status) (record {
-            went = went_event event (with_levels ((on t).levels + 1) (with_event event (on t))) ended.went refl refl (builds tree behind.expressions);
-            status = ended.status;
-            left = ended.left;
-            scope = ended.scope;
-            levels = omega (arith, ended.levels);
-            on = ended.on;
-            inside = ended.inside;
-          }))
+          went = went_event event (with_levels ((on t).levels + 1) (with_event event (on t))) ended.went refl refl (builds tree behind.expressions);
+          status = ended.status;
+          left = ended.left;
+          scope = ended.scope;
+          levels = omega (arith, ended.levels);
+          on = ended.on;
+          inside = ended.inside;
+        }))
 
 asked_cast : {level : Level} {inner : Inner} → LevelAgrees level inner → Follows operand_piece operand_fits level.cast (ask inner wanted.Cast)
 asked_cast {level} {inner} agrees = ask_follows level.cast inner wanted.Cast (λ tree t levels fits. fits) agrees.cast
@@ -174,9 +174,9 @@ size_of_type_agrees : {level : Level} {inner : Inner} {s : State} {before : ℕ}
     → PartsAgree level inner → Begins s at first start
     → Ended s (skipped 1 s) none none 0 0 before context row
     → Agreed none operand_piece operand_fits 0 before
-      (then_read (read_type_name level context row) (λ to levels behind others.
-      after_mark (codes ")") others outcome.Nothing (λ closing end. outcome.Read (unary_operand (numbered behind first.place (SizeOfType to))) (1 + levels) (counted behind) end)))
-      s (as_operand true (make (event.SizeOfType at) (mark (codes ")") (type_name inner (skipped 1 s)))))
+    (then_read (read_type_name level context row) (λ to levels behind others.
+    after_mark (codes ")") others outcome.Nothing (λ closing end. outcome.Read (unary_operand (numbered behind first.place (SizeOfType to))) (1 + levels) (counted behind) end)))
+    s (as_operand true (make (event.SizeOfType at) (mark (codes ")") (type_name inner (skipped 1 s)))))
 size_of_type_agrees {level} {inner} at first start row agrees begins far =
     then_ends none (read_type_name level) (type_name inner) _ far agrees.types (still_operand true (still_make _ (still_mark _ still_lost))) (λ to more behind others behind_to.
     then_mark (codes ")") others _ behind_to (still_operand true (still_make _ still_lost)) (λ closing end is there behind_closing.
@@ -193,14 +193,14 @@ size_of_agrees {level} {inner} {s} {before} {context} at first row agrees begins
     (λ i. has_mark (codes "(") (far.left i) && has_first (begins_type (far.scope i)) (behind_first (far.left i)))
     (λ is. typed row far is)
     (λ is. prefix_agrees (λ context row. unary_alone (level.cast context row)) (λ s. steps.unary_alone (ask inner wanted.Cast s)) (event.SizeOf at) first.place SizeOf
-        (alone_follows level.cast (ask inner wanted.Cast) (asked_cast agrees.deeper))
-        (λ arg count pieces i. shop (count + 1) (piece.Expr (expression_of count (begins.found i).place (SizeOf arg)) ∷ pieces)) far)
+    (alone_follows level.cast (ask inner wanted.Cast) (asked_cast agrees.deeper))
+    (λ arg count pieces i. shop (count + 1) (piece.Expr (expression_of count (begins.found i).place (SizeOf arg)) ∷ pieces)) far)
   where
     typed : (row : List Terminal) → Ended s s none none 0 0 before context row → begins_type_in_brackets context row ≡ true
         → Agreed none operand_piece operand_fits 0 before
-          (then_read (read_type_name level context (behind_first row)) (λ to levels behind others.
-          after_mark (codes ")") others outcome.Nothing (λ closing end. outcome.Read (unary_operand (numbered behind first.place (SizeOfType to))) (1 + levels) (counted behind) end)))
-          s (as_operand true (make (event.SizeOfType at) (mark (codes ")") (type_name inner (skipped 1 s)))))
+        (then_read (read_type_name level context (behind_first row)) (λ to levels behind others.
+        after_mark (codes ")") others outcome.Nothing (λ closing end. outcome.Read (unary_operand (numbered behind first.place (SizeOfType to))) (1 + levels) (counted behind) end)))
+        s (as_operand true (make (event.SizeOfType at) (mark (codes ")") (type_name inner (skipped 1 s)))))
     typed [] far is = cc is
     typed (next ∷ others) far is = size_of_type_agrees at first _ others agrees begins (ended_skip far)
 
@@ -217,11 +217,11 @@ offset_path_agrees : {level : Level} {inner : Inner} {s t : State} {levels befor
     → PartsAgree level inner → Begins s at first start
     → Ended s t none (type_name_piece to) 0 levels before context row
     → Agreed none operand_piece operand_fits 0 before
-      (after_first is_name row outcome.Nothing (λ name four.
-      then_read (read_path level (length four + 1) context four) (λ path others last five.
-      after_mark (codes ")") five outcome.Nothing (λ closing end.
-      reader.postfixes_from level (first ∷ start) (numbered last first.place (OffsetOf to (NamedPart name.bytes ∷ path))) (1 + max levels others) (counted last) end))))
-      s (offset_path inner at t)
+    (after_first is_name row outcome.Nothing (λ name four.
+    then_read (read_path level (length four + 1) context four) (λ path others last five.
+    after_mark (codes ")") five outcome.Nothing (λ closing end.
+    reader.postfixes_from level (first ∷ start) (numbered last first.place (OffsetOf to (NamedPart name.bytes ∷ path))) (1 + max levels others) (counted last) end))))
+    s (offset_path inner at t)
 unfolding offset_path
 offset_path_agrees {level} {inner} {s} {t} {context} at first start row to agrees begins far =
     agreed_goes t t far.status

@@ -70,7 +70,7 @@ operation_agrees : {level : Level} {inner : Inner} {s t : State} {below under : 
     → LevelAgrees level inner
     → ((u v : State) → Still Stopped u v → Still Stopped u (on v))
     → ((next : Expr) (more : ℕ) (u : State) (behind : Context) (others : List Terminal) → Ended s u below (expr_on under next) 0 more before behind others
-        → Agreed below (expr_on under) anyhow 0 before (go next more behind others) s (on u))
+    → Agreed below (expr_on under) anyhow 0 before (go next more behind others) s (on u))
     → Ended s t below (expr_on under left) 0 levels before context (mark ∷ row)
     → Agreed below (expr_on under) anyhow 0 before (binary_with go level loosest left levels context mark row entry) s (operation_with on inner loosest t entry)
 operation_agrees go on loosest left None agrees through next far = agreed_read far tt
@@ -113,12 +113,12 @@ choice_behind_agrees : {level : Level} {inner : Inner} {s t : State} {below unde
     → LevelAgrees level inner
     → Ended s t below (expr_on under test) 0 levels before context (mark ∷ row)
     → Agreed below (expr_on under) anyhow 0 before
-      (outcome.or_else (level.expression context row) (reader.stopped test context mark row) (λ one ones first rest.
-      outcome.after_mark (codes ":") rest (reader.stopped test context mark row) (λ colon others.
-      outcome.with_right (level.conditional first others) (reader.stopped test context mark row)
-      (λ other number. expression_of number mark.place (Choose test one other))
-      (λ other twos behind more. outcome.Read (numbered behind mark.place (Choose test one other)) (1 + max levels (max ones twos)) (counted behind) more))))
-      s (choice_behind inner (point_of t) t.at (skipped 1 t))
+    (outcome.or_else (level.expression context row) (reader.stopped test context mark row) (λ one ones first rest.
+    outcome.after_mark (codes ":") rest (reader.stopped test context mark row) (λ colon others.
+    outcome.with_right (level.conditional first others) (reader.stopped test context mark row)
+    (λ other number. expression_of number mark.place (Choose test one other))
+    (λ other twos behind more. outcome.Read (numbered behind mark.place (Choose test one other)) (1 + max levels (max ones twos)) (counted behind) more))))
+    s (choice_behind inner (point_of t) t.at (skipped 1 t))
 unfolding choice_behind
 choice_behind_agrees {level} {inner} {t} {under} test mark row agrees far =
     else_back (expr_on under test) level.expression (ask inner wanted.Expression) (point_of t) _ _ (ended_skip far) (ask_anyhow level.expression inner wanted.Expression agrees.expression)
@@ -194,15 +194,15 @@ assignment_agrees {inner} {t} operand (mark ∷ row) agrees unary far =
 comma_agrees : {level : Level} {inner : Inner} {s t : State} {below under : Pieces} {levels before : ℕ} {context : Context} (count : ℕ) (left : Expr) (mark : Terminal) (row : List Terminal)
     → LevelAgrees level inner
     → ((next : Expr) (more : ℕ) (u : State) (behind : Context) (others : List Terminal) → Ended s u below (expr_on under next) 0 more before behind others
-        → Agreed below (expr_on under) anyhow 0 before (read_commas level count next more behind others) s (commas inner count u))
+    → Agreed below (expr_on under) anyhow 0 before (read_commas level count next more behind others) s (commas inner count u))
     → Ended s t below (expr_on under left) 0 levels before context (mark ∷ row)
     → Agreed below (expr_on under) anyhow 0 before
-      (if nat_le levels level.most
-      then outcome.with_right (level.assignment context row) (reader.stopped left context mark row)
-      (λ right number. expression_of number mark.place (Binary Comma left right))
-      (λ right others behind rest. read_commas level count (numbered behind mark.place (Binary Comma left right)) (1 + max levels others) (counted behind) rest)
-      else reader.stopped left context mark row)
-      s (comma_with (commas inner count) inner t)
+    (if nat_le levels level.most
+    then outcome.with_right (level.assignment context row) (reader.stopped left context mark row)
+    (λ right number. expression_of number mark.place (Binary Comma left right))
+    (λ right others behind rest. read_commas level count (numbered behind mark.place (Binary Comma left right)) (1 + max levels others) (counted behind) rest)
+    else reader.stopped left context mark row)
+    s (comma_with (commas inner count) inner t)
 comma_agrees {level} {inner} {t} {under} {levels} count left mark row agrees next far =
     agreed_test (nat_le levels level.most) _ _ _ (same_most agrees far)
     (λ fits. right_joined level.assignment inner wanted.Assignment (point_of t) (event.Binary Comma t.at) _ _ _ (ended_skip far) agrees.assignment

@@ -42,8 +42,8 @@ path_member_agrees : {s t : State} {base before : ℕ} {context : Context} (leve
     → ((more : List Part) → Continues (path_piece more) (λ parts. path_piece (more ++ parts)) ends (read_path level count) (path inner count))
     → Ended s t (path_piece done) (path_piece done) base 0 before context row
     → Agreed (path_piece done) (λ parts. path_piece (done ++ parts)) ends base before
-      (after_first is_name row outcome.Nothing (λ name others. prepended (NamedPart name.bytes) 0 (read_path level count context others)))
-      s (path inner count (path_member t))
+    (after_first is_name row outcome.Nothing (λ name others. prepended (NamedPart name.bytes) 0 (read_path level count context others)))
+    s (path inner count (path_member t))
 unfolding path_member
 path_member_agrees {s} {t} {base} {before} {context} level inner count done row again far =
     agreed_at (if_under (λ state. path inner count state) (has_first is_name (rest t)) _ _)
@@ -60,9 +60,9 @@ path_index_agrees : {level : Level} {inner : Inner} {s t : State} {base before :
     → ((more : List Part) → Continues (path_piece more) (λ parts. path_piece (more ++ parts)) ends (read_path level count) (path inner count))
     → Ended s t (path_piece done) (path_piece done) base 0 before context row
     → Agreed (path_piece done) (λ parts. path_piece (done ++ parts)) ends base before
-      (then_read (level.conditional context row) (λ index levels behind others.
-      after_mark (codes "]") others outcome.Nothing (λ closing more. prepended (At index) levels (read_path level count behind more))))
-      s (path inner count (path_index inner t))
+    (then_read (level.conditional context row) (λ index levels behind others.
+    after_mark (codes "]") others outcome.Nothing (λ closing more. prepended (At index) levels (read_path level count behind more))))
+    s (path inner count (path_index inner t))
 unfolding path_index
 path_index_agrees {level} {inner} count done row agrees again far =
     then_asked (path_piece done) level.conditional inner wanted.Conditional _ far agrees.conditional
@@ -80,13 +80,13 @@ path_row_agrees : {level : Level} {inner : Inner} {s t : State} {base before : �
     → ((more : List Part) → Continues (path_piece more) (λ parts. path_piece (more ++ parts)) ends (read_path level count) (path inner count))
     → Ended s t (path_piece done) (path_piece done) base 0 before context row
     → Agreed (path_piece done) (λ parts. path_piece (done ++ parts)) ends base before
-      (if has_mark (codes ".") row
-      then after_first is_name (behind_first row) outcome.Nothing (λ name others. prepended (NamedPart name.bytes) 0 (read_path level count context others))
-      else (if has_mark (codes "[") row
-      then then_read (level.conditional context (behind_first row)) (λ index levels behind others.
-      after_mark (codes "]") others outcome.Nothing (λ closing more. prepended (At index) levels (read_path level count behind more)))
-      else outcome.Read [] 0 context row))
-      s (path_with (path inner count) inner t)
+    (if has_mark (codes ".") row
+    then after_first is_name (behind_first row) outcome.Nothing (λ name others. prepended (NamedPart name.bytes) 0 (read_path level count context others))
+    else (if has_mark (codes "[") row
+    then then_read (level.conditional context (behind_first row)) (λ index levels behind others.
+    after_mark (codes "]") others outcome.Nothing (λ closing more. prepended (At index) levels (read_path level count behind more)))
+    else outcome.Read [] 0 context row))
+    s (path_with (path inner count) inner t)
 path_row_agrees {s} {t} {base} {before} {context} count done [] agrees again far =
     agreed_at (if_false (has_mark (codes ".") (rest t)) _ _ (same_first (is_mark (codes ".")) far) ∙ if_false (has_mark (codes "[") (rest t)) _ _ (same_first (is_mark (codes "[")) far))
     (agreed_read (subst (λ (all : List Part). Ended s t (path_piece done) (path_piece all) base 0 before context []) (sym (append-nil done)) far) far.status)

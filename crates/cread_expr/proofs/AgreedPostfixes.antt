@@ -62,30 +62,30 @@ agreed_operand {s} {u} {below} {base} {before} {given} unary is = case given is
     case (outcome.Stopped tree expressions others) is =
         let halted = is.is.0 in
         agreed_at (to Stopped halted.status) (agreed_halted (record {
-            went = record { row = halted.went.row; added = halted.went.added; events = halted.went.events; builds = halted.went.builds };
-            status = halted.status;
-            left = halted.left;
-          }) (sym is.is.1))
+          went = record { row = halted.went.row; added = halted.went.added; events = halted.went.events; builds = halted.went.builds };
+          status = halted.status;
+          left = halted.left;
+        }) (sym is.is.1))
     case (outcome.Read tree levels behind others) is =
         let far = is.is.0 in
         agreed_at (to Going far.status) (agreed_read (record {
-            went = record { row = far.went.row; added = far.went.added; events = far.went.events; builds = far.went.builds };
-            status = far.status;
-            left = far.left;
-            scope = far.scope;
-            levels = far.levels;
-            on = far.on;
-            inside = far.inside;
-          }) (sym is.is.1))
+          went = record { row = far.went.row; added = far.went.added; events = far.went.events; builds = far.went.builds };
+          status = far.status;
+          left = far.left;
+          scope = far.scope;
+          levels = far.levels;
+          on = far.on;
+          inside = far.inside;
+        }) (sym is.is.1))
 
 pub still_operand : {u v : State} (unary : Bool) → Still Nothing u v → Still Nothing u (as_operand unary v)
 unfolding as_operand
 still_operand {u} {v} unary still = record {
-    idle = refl;
-    same = λ is.
-        let nothing : v.status ≡ Nothing = ap (λ (s : State). s.status) (still.same is) ∙ is in
-        ap (λ (status : Status). if is_nothing status then v else with_unary unary v) nothing ∙ still.same is;
-  }
+  idle = refl;
+  same = λ is.
+      let nothing : v.status ≡ Nothing = ap (λ (s : State). s.status) (still.same is) ∙ is in
+      ap (λ (status : Status). if is_nothing status then v else with_unary unary v) nothing ∙ still.same is;
+}
 
 pub still_postfixes : {status : Status} {u v : State} (inner : Inner) (first count : ℕ) → Still status u v → Still status u (postfixes inner first count v)
 unfolding postfixes
@@ -119,7 +119,7 @@ index_agrees : {level : Level} {inner : Inner} {s t : State} {levels before : �
     → LevelAgrees level inner
     → ((u v : State) → Still Stopped u v → Still Stopped u (on v))
     → ((next : Expr) (more : ℕ) (u : State) (behind : Context) (others : List Terminal) → Ended s u none (expr_piece next) 0 more before behind others
-        → Agreed none operand_piece (unary_is true) 0 before (go next more behind others) s (on u))
+    → Agreed none operand_piece (unary_is true) 0 before (go next more behind others) s (on u))
     → Ended s t none (expr_piece base) 0 levels before context (mark ∷ row)
     → Agreed none operand_piece (unary_is true) 0 before (index_behind go level base levels context mark row) s (on (steps.index_behind inner (point_of t) t.at (skipped 1 t)))
 unfolding steps.index_behind
@@ -138,7 +138,7 @@ index_agrees {level} {inner} {t} {levels} {mark} go on base agrees through next 
 member_agrees : {s t : State} {levels before : ℕ} {context : Context} {mark : Terminal} {row : List Terminal} (go : Expr → ℕ → Reader Operand) (on : State → State) (base : Expr) (arrow : Bool)
     → ((u v : State) → Still Stopped u v → Still Stopped u (on v))
     → ((next : Expr) (more : ℕ) (u : State) (behind : Context) (others : List Terminal) → Ended s u none (expr_piece next) 0 more before behind others
-        → Agreed none operand_piece (unary_is true) 0 before (go next more behind others) s (on u))
+    → Agreed none operand_piece (unary_is true) 0 before (go next more behind others) s (on u))
     → Ended s t none (expr_piece base) 0 levels before context (mark ∷ row)
     → Agreed none operand_piece (unary_is true) 0 before (member_behind go arrow base levels context mark row) s (on (steps.member_behind arrow (point_of t) t.at (skipped 1 t)))
 unfolding steps.member_behind
@@ -162,7 +162,7 @@ call_agrees : {level : Level} {inner : Inner} {s t : State} {levels before : ℕ
     → LevelAgrees level inner → place_at s.row at ≡ place
     → ((u v : State) → Still Stopped u v → Still Stopped u (on v))
     → ((next : Expr) (more : ℕ) (u : State) (behind : Context) (others : List Terminal) → Ended s u none (expr_piece next) 0 more before behind others
-        → Agreed none operand_piece (unary_is true) 0 before (go next more behind others) s (on u))
+    → Agreed none operand_piece (unary_is true) 0 before (go next more behind others) s (on u))
     → Ended s t none (expr_piece base) 0 levels before context (mark ∷ row)
     → Agreed none operand_piece (unary_is true) 0 before (call_behind go level place base levels context mark row) s (on (steps.call_behind inner (point_of t) at (skipped 1 t)))
 unfolding steps.call_behind
@@ -201,11 +201,11 @@ postfix_agrees : {level : Level} {inner : Inner} {s t : State} {levels before : 
     → LevelAgrees level inner → first < s.at → drop first s.row ≡ start
     → ((u v : State) → Still Stopped u v → Still Stopped u (on v))
     → ((next : Expr) (more : ℕ) (u : State) (behind : Context) (others : List Terminal) → Ended s u none (expr_piece next) 0 more before behind others
-        → Agreed none operand_piece (unary_is true) 0 before (go next more behind others) s (on u))
+    → Agreed none operand_piece (unary_is true) 0 before (go next more behind others) s (on u))
     → Ended s t none (expr_piece base) 0 levels before context (mark ∷ row)
     → Agreed none operand_piece (unary_is true) 0 before
-      (if goes_on begins && not fits then stopped_operand base context mark row else postfix_with go level start base levels context mark row begins)
-      s (if goes_on begins then on (if fits then steps.postfix_with inner first t begins else stopped t) else t)
+    (if goes_on begins && not fits then stopped_operand base context mark row else postfix_with go level start base levels context mark row begins)
+    s (if goes_on begins then on (if fits then steps.postfix_with inner first t begins else stopped t) else t)
 postfix_agrees go on base first postfix.Other fits agrees earlier from through next far = agreed_read far refl
 postfix_agrees go on base first postfix.Index false agrees earlier from through next far = agreed_at ((through _ _ still_stopped).same refl) (agreed_stopped (unary_operand base) far refl)
 postfix_agrees go on base first postfix.Call false agrees earlier from through next far = agreed_at ((through _ _ still_stopped).same refl) (agreed_stopped (unary_operand base) far refl)
@@ -228,7 +228,7 @@ postfixes_agree {t} first (suc count) base [] agrees earlier from far =
     agreed_at (if_false (goes t && goes_on (postfix_first (rest t))) _ t (λ i. is_going (far.status i) && goes_on (postfix_first (far.left i)))) (agreed_read far refl)
 postfixes_agree {level} {inner} {t} {levels} {start} first (suc count) base (mark ∷ row) agrees earlier from far =
     agreed_at (λ i. if is_going (far.status i) && goes_on (postfix_first (far.left i))
-        then postfixes inner first count (if same_most agrees far i then steps.postfix_with inner first t (postfix_first (far.left i)) else stopped t) else t)
+    then postfixes inner first count (if same_most agrees far i then steps.postfix_with inner first t (postfix_first (far.left i)) else stopped t) else t)
     (postfix_agrees (read_postfixes level start count) (postfixes inner first count) base first (postfix_start mark) (nat_le levels level.most) agrees earlier from
     (λ u v still. still_postfixes inner first count still)
     (λ next more u behind others further. postfixes_agree first count next others agrees earlier from further) far)

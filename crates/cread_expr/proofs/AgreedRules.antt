@@ -104,7 +104,7 @@ pub then_ends : {A B : Type 0} {s t v : State} {below lower : Pieces} {upper : A
     → Continues lower upper ends reader steps
     → Still Nothing (steps t) v
     → ((tree : A) (more : ℕ) (behind : Context) (others : List Terminal) → Ended s (steps t) below (λ pieces. upper tree (under pieces)) base (max levels more) before behind others
-        → Agreed below above fits base before (go tree more behind others) s v)
+    → Agreed below above fits base before (go tree more behind others) s v)
     → Agreed below above fits base before (then_read (reader context row) go) s v
 then_ends {A} {s} {t} {v} {below} {lower} {upper} {above} {fits} {base} {levels} {before} {context} {row} under reader steps go far agrees still next =
     case (reader context row) (from_here reader steps far agrees)
@@ -121,7 +121,7 @@ pub then_whole : {A B : Type 0} {s t v : State} {below lower : Pieces} {upper : 
     → Continues lower upper holds reader steps
     → Still Nothing (whole (steps t)) v
     → ((tree : A) (more : ℕ) (behind : Context) (others : List Terminal) → Ended s (whole (steps t)) below (λ pieces. upper tree (under pieces)) base (max levels more) before behind others
-        → Agreed below above fits base before (go tree more behind others) s v)
+    → Agreed below above fits base before (go tree more behind others) s v)
     → Agreed below above fits base before (then_read (reader context row) go) s v
 unfolding whole
 then_whole {A} {s} {t} {v} {below} {lower} {upper} {holds} {above} {fits} {base} {levels} {before} {context} {row} under reader steps go far agrees still next =
@@ -146,7 +146,7 @@ pub then_asked : {A B : Type 0} {s t v : State} {below : Pieces} {upper : A → 
     → Reads upper anyhow reader (inner.reads wanted)
     → Still Nothing (ask_whole inner wanted t) v
     → ((tree : A) (more : ℕ) (behind : Context) (others : List Terminal) → Ended s (ask_whole inner wanted t) below (λ pieces. upper tree (under pieces)) base (max levels more) before behind others
-        → Agreed below above fits base before (go tree more behind others) s v)
+    → Agreed below above fits base before (go tree more behind others) s v)
     → Agreed below above fits base before (then_read (reader context row) go) s v
 unfolding ask_whole
 then_asked under reader inner wanted go far agrees still next =
@@ -158,7 +158,7 @@ pub then_first : {B : Type 0} {s t v : State} {below middle : Pieces} {above : B
     → Ended s t below middle base levels before context row
     → Still Nothing (over test t) v
     → ((first : Terminal) (others : List Terminal) → test first ≡ true → Ended s t below middle base levels before context (first ∷ others) → Ended s (over test t) below middle base levels before context others
-        → Agreed below above fits base before (go first others) s v)
+    → Agreed below above fits base before (go first others) s v)
     → Agreed below above fits base before (after_first test row outcome.Nothing go) s v
 then_first {B} {s} {t} {v} {below} {middle} {above} {fits} {base} {levels} {before} {context} test row go far still next = case row far
   where
@@ -185,7 +185,7 @@ pub then_mark : {B : Type 0} {s t v : State} {below middle : Pieces} {above : B 
     → Ended s t below middle base levels before context row
     → Still Nothing (mark bytes t) v
     → ((first : Terminal) (others : List Terminal) → is_mark bytes first ≡ true → Ended s t below middle base levels before context (first ∷ others) → Ended s (mark bytes t) below middle base levels before context others
-        → Agreed below above fits base before (go first others) s v)
+    → Agreed below above fits base before (go first others) s v)
     → Agreed below above fits base before (after_mark bytes row outcome.Nothing go) s v
 unfolding mark
 then_mark bytes row go far still next = then_first (is_mark bytes) row go far still next
@@ -195,7 +195,7 @@ pub then_word : {B : Type 0} {s t v : State} {below middle : Pieces} {above : B 
     → Ended s t below middle base levels before context row
     → Still Nothing (word bytes t) v
     → ((first : Terminal) (others : List Terminal) → is_word bytes first ≡ true → Ended s t below middle base levels before context (first ∷ others) → Ended s (word bytes t) below middle base levels before context others
-        → Agreed below above fits base before (go first others) s v)
+    → Agreed below above fits base before (go first others) s v)
     → Agreed below above fits base before (after_first (is_word bytes) row outcome.Nothing go) s v
 unfolding word
 then_word bytes row go far still next = then_first (is_word bytes) row go far still next
@@ -206,7 +206,7 @@ pub if_first : {B : Type 0} {s t u v : State} {below middle : Pieces} {above : B
     → Ended s t below middle base levels before context row
     → (has_first test row ≡ false → Agreed below above fits base before without s v)
     → ((first : Terminal) (others : List Terminal) → test first ≡ true → Ended s t below middle base levels before context (first ∷ others) → Ended s (skipped 1 t) below middle base levels before context others
-        → Agreed below above fits base before (go first others) s u)
+    → Agreed below above fits base before (go first others) s u)
     → Agreed below above fits base before (after_first test row without go) s (if has_first test (rest t) then u else v)
 if_first {B} {s} {t} {u} {v} {below} {middle} {above} {fits} {base} {levels} {before} {context} test row without go far other next = case row far other
   where

@@ -28,6 +28,7 @@ use Rattle.creader.specs.Steps.{Inner, make, leave, parts_until_brace}
 use Rattle.creader.specs.declared.status.Status.TheVariants.{Going, Stopped}
 use Rattle.creader.specs.declared.wanted.Wanted.TheVariants as wanted
 use Rattle.cread_expr.proofs.Agreed.{Pieces, none, shop, Ended, Agreed, Ready, Reads, Follows, Continues, ends, anyhow, context_of, statement_piece, LevelAgrees}
+use Rattle.cread_expr.proofs.AgreedDeclarations.{declaration_piece, declaration_agrees}
 use Rattle.cread_expr.proofs.AgreedEntire.{entirely, entirely_asked, agreed_then, agreed_write}
 use Rattle.cread_expr.proofs.AgreedLists.{over_brace, then_brace, still_braces, braced_agree}
 use Rattle.cread_expr.proofs.AgreedPlaces.{first_of_front, last_of_front, place_first}
@@ -40,9 +41,6 @@ body_piece body pieces = piece.Statements body ∷ pieces
 abbrev pub maybe_piece : Option Expr → Pieces
 maybe_piece expr pieces = piece.Maybe expr ∷ pieces
 
-abbrev pub declaration_piece : Decl → Pieces
-declaration_piece decl pieces = piece.Declaration decl ∷ pieces
-
 -- a part of at least one token, behind which the reading does not stop
 abbrev pub passes : {A : Type 0} → State → A → State → Type 0
 passes s tree t = (t.status ≡ Going) × (s.at < t.at)
@@ -50,10 +48,6 @@ passes s tree t = (t.status ≡ Going) × (s.at < t.at)
 abbrev pub Passes : {A : Type 0} → (A → Pieces) → Reader A → (State → State) → Type 0
 Passes above reader steps =
     (s : State) (before : ℕ) → Ready s → Agreed none above (passes s) s.levels before (reader (context_of s before) (rest s)) s (steps s)
-
--- what a declaration's steps come to
-abbrev pub DeclarationAgrees : Level → Inner → Type 0
-DeclarationAgrees level inner = Passes declaration_piece (read_declaration level) (declaration inner)
 
 pub agreed_ends : {A : Type 0} {s t : State} {below : Pieces} {above : A → Pieces} {base levels before : ℕ} {behind : Context} {others : List Terminal} {tree : A}
     → Ended s t below (above tree) base levels before behind others → Agreed below above ends base before (outcome.Read tree levels behind others) s t
@@ -152,10 +146,10 @@ maybe_agrees {level} {inner} agrees test s before is =
     agreed_ends (ended_levels (omega arith) (ended_write event.OneExpression (λ pieces. refl) far)))))
 
 -- A declaration as a statement.
-pub declared_agrees : (level : Level) (inner : Inner) → DeclarationAgrees level inner → Reads statement_piece ends (read_declared level) (declared_statement inner)
+pub declared_agrees : {level : Level} {inner : Inner} → LevelAgrees level inner → Reads statement_piece ends (read_declared level) (declared_statement inner)
 unfolding declared_statement declared
-declared_agrees level inner declares s before is none_before =
-    case (declaration inner s) (read_declaration level (context_of s before) (rest s)) (declares s before is)
+declared_agrees {level} {inner} agrees s before is none_before =
+    case (declaration inner s) (read_declaration level (context_of s before) (rest s)) (declaration_agrees agrees s before is)
   where
     case : (t : State) (found : Outcome Decl) → Agreed none declaration_piece (passes s) s.levels before found s t
         → Agreed none statement_piece ends 0 before
@@ -182,11 +176,11 @@ evaluated_agrees {level} {inner} agrees s before is none_before =
     let last = place_taken here there in
     agreed_ends (ended_levels (omega arith) (ended_make _ (λ pieces i. shop behind.expressions (piece.Statement (statement_of (first i) (last i) (Eval (Some expr))) ∷ pieces)) there))))
 
-pub clause_agrees : {level : Level} {inner : Inner} → LevelAgrees level inner → DeclarationAgrees level inner → Reads statement_piece ends (read_clause level) (clause inner)
+pub clause_agrees : {level : Level} {inner : Inner} → LevelAgrees level inner → Reads statement_piece ends (read_clause level) (clause inner)
 unfolding read_clause clause
-clause_agrees {level} {inner} agrees declares s before is none_before =
+clause_agrees {level} {inner} agrees s before is none_before =
     agreed_goes s s is.status (agreed_test (has_first (begins_declaration s.scope) (rest s)) (has_first (begins_declaration s.scope) (rest s)) _ _ refl
-    (λ begins. declared_agrees level inner declares s before is none_before)
+    (λ begins. declared_agrees agrees s before is none_before)
     (λ other. if_first (is_mark (codes ";")) (rest s) _ _ (ended_none s none before is none_before)
     (λ some. evaluated_agrees agrees s before is none_before)
     (λ semicolon others found here far.

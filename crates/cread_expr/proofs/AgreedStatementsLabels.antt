@@ -31,7 +31,7 @@ use Rattle.cread_expr.proofs.AgreedEntire.{agreed_then}
 use Rattle.cread_expr.proofs.AgreedLists.{failed_lost}
 use Rattle.cread_expr.proofs.AgreedPlaces.{place_first, last_of_front}
 use Rattle.cread_expr.proofs.AgreedRules.{agreed_failed, agreed_outcome, agreed_goes, agreed_lost, agreed_test, same_first}
-use Rattle.cread_expr.proofs.AgreedStatements.{body_piece, passes, DeclarationAgrees, agreed_ends, block_agrees, clause_agrees}
+use Rattle.cread_expr.proofs.AgreedStatements.{body_piece, passes, agreed_ends, block_agrees, clause_agrees}
 use Rattle.cread_expr.proofs.AgreedStatementsRules.{if_agrees, while_agrees, do_agrees, for_agrees, break_agrees, continue_agrees, return_agrees}
 use Rattle.cread_expr.proofs.AgreedSteps.{still_lost, still_make, ready, ended_none, ended_token, ended_make, ended_skip}
 
@@ -61,9 +61,9 @@ block_statement_agrees {level} {inner} agrees s before is none_before first row 
         agreed_ends (ended_make (event.Block s.at (t.at - 1)) (λ pieces i. shop behind.expressions (piece.Statement (statement_of (one i) (last i) (Block body)) ∷ pieces)) far)
 
 -- A statement without its labels.
-unlabeled_agrees : {level : Level} {inner : Inner} → LevelAgrees level inner → DeclarationAgrees level inner → Reads statement_piece ends (read_unlabeled level) (unlabeled inner)
+unlabeled_agrees : {level : Level} {inner : Inner} → LevelAgrees level inner → Reads statement_piece ends (read_unlabeled level) (unlabeled inner)
 unfolding read_unlabeled unlabeled other_statement
-unlabeled_agrees {level} {inner} agrees declares s before is none_before =
+unlabeled_agrees {level} {inner} agrees s before is none_before =
     agreed_goes s s is.status (case (rest s) (ended_none s none before is none_before))
   where
     -- the place of the first token, as it is known to the steps
@@ -90,7 +90,7 @@ unlabeled_agrees {level} {inner} agrees declares s before is none_before =
     begun first row far start.Other =
         agreed_test (begins_declaration s.scope first) (has_first (begins_declaration s.scope) (rest s)) _ _ (same_first (begins_declaration s.scope) far)
         (λ begins. agreed_failed (failed_lost s))
-        (λ other. agreed_outcome (ap (λ (row : List Terminal). read_clause level (context_of s before) row) (sym far.left)) (clause_agrees agrees declares s before is none_before))
+        (λ other. agreed_outcome (ap (λ (row : List Terminal). read_clause level (context_of s before) row) (sym far.left)) (clause_agrees agrees s before is none_before))
 
     case : (row : List Terminal) → Ended s s none none 0 0 before (context_of s before) row
         → Agreed none statement_piece ends 0 before (read_unlabeled level (context_of s before) row) s (unlabeled_with inner s (statement_first row))
@@ -139,21 +139,21 @@ skipped_far s before count is none_before within =
     reached : (at whole left : ℕ) → at ≤ whole → left ≡ whole - at → count ≤ left → at + count ≤ whole
     reached at whole left inside is within = omega (arith, inside, is, within)
 
-pub statement_agrees : {level : Level} {inner : Inner} → LevelAgrees level inner → DeclarationAgrees level inner → Reads statement_piece ends (read_statement level) (statement inner)
+pub statement_agrees : {level : Level} {inner : Inner} → LevelAgrees level inner → Reads statement_piece ends (read_statement level) (statement inner)
 unfolding statement
-statement_agrees {level} {inner} agrees declares s before is none_before =
+statement_agrees {level} {inner} agrees s before is none_before =
     let count : ℕ = labels_length s.scope (rest s) in
     let far : Ended s (skipped count s) none none 0 0 before (context_of s before) (rest (skipped count s)) =
     skipped_far s before count is none_before (labels_within s.scope (rest s)) in
     agreed_goes s s is.status
     (agreed_outcome (labels_read level (context_of s before) (rest s) ∙ ap (λ (row : List Terminal). read_unlabeled level (context_of s before) row) (drop-drop count s.at s.row))
     (agreed_then none far (subst (λ (base : ℕ). Agreed none statement_piece ends base before (read_unlabeled level (context_of s before) (rest (skipped count s))) (skipped count s) (unlabeled inner (skipped count s))) (sym none_before)
-    (unlabeled_agrees agrees declares (skipped count s) before (ready far) none_before))))
+    (unlabeled_agrees agrees (skipped count s) before (ready far) none_before))))
 
 -- what stands in a block
-pub item_agrees : {level : Level} {inner : Inner} → LevelAgrees level inner → DeclarationAgrees level inner → Reads statement_piece ends (read_item level) (item inner)
+pub item_agrees : {level : Level} {inner : Inner} → LevelAgrees level inner → Reads statement_piece ends (read_item level) (item inner)
 unfolding read_item item
-item_agrees {level} {inner} agrees declares s before is none_before =
+item_agrees {level} {inner} agrees s before is none_before =
     agreed_goes s s is.status (agreed_test (has_first (begins_declaration s.scope) (rest s)) (has_first (begins_declaration s.scope) (rest s)) _ _ refl
-    (λ begins. clause_agrees agrees declares s before is none_before)
-    (λ other. statement_agrees agrees declares s before is none_before))
+    (λ begins. clause_agrees agrees s before is none_before)
+    (λ other. statement_agrees agrees s before is none_before))

@@ -49,10 +49,10 @@ kept_same s = record { row = refl; added = []; events = sym (append-nil s.events
 
 pub kept_then : {s t u : State} → Kept s t → Kept t u → Kept s u
 kept_then {s} one other = record {
-    row = other.row ∙ one.row;
-    added = one.added ++ other.added;
-    events = other.events ∙ (ap (λ (events : List Event). events ++ other.added) one.events ∙ append_assoc s.events one.added other.added);
-  }
+  row = other.row ∙ one.row;
+  added = one.added ++ other.added;
+  events = other.events ∙ (ap (λ (events : List Event). events ++ other.added) one.events ∙ append_assoc s.events one.added other.added);
+}
 
 pub kept_went : {s t : State} {below above : Pieces} {before after : ℕ} → Went s t below above before after → Kept s t
 kept_went went = record { row = went.row; added = went.added; events = went.events }
@@ -83,15 +83,15 @@ pub went_then : {s t u : State} {below lower above : Pieces} {before middle afte
     → Went s t below (λ pieces. lower (under pieces)) before middle → Went t u lower above middle after
     → Went s u below (λ pieces. above (under pieces)) before after
 went_then {s} {t} {u} {below} {lower} {above} {before} {middle} {after} under one other = record {
-    row = other.row ∙ one.row;
-    added = one.added ++ other.added;
-    events = other.events ∙ (ap (λ (events : List Event). events ++ other.added) one.events ∙ append_assoc s.events one.added other.added);
-    builds = λ pieces.
-        built_more s.row one.added other.added (shop before (below pieces))
-        ∙ (ap (λ (workshop : Option Workshop). built_all s.row other.added workshop) (one.builds pieces)
-        ∙ (ap (λ (row : List Terminal). built_all row other.added (shop middle (lower (under pieces)))) (sym one.row)
-        ∙ other.builds (under pieces)));
-  }
+  row = other.row ∙ one.row;
+  added = one.added ++ other.added;
+  events = other.events ∙ (ap (λ (events : List Event). events ++ other.added) one.events ∙ append_assoc s.events one.added other.added);
+  builds = λ pieces.
+      built_more s.row one.added other.added (shop before (below pieces))
+      ∙ (ap (λ (workshop : Option Workshop). built_all s.row other.added workshop) (one.builds pieces)
+      ∙ (ap (λ (row : List Terminal). built_all row other.added (shop middle (lower (under pieces)))) (sym one.row)
+      ∙ other.builds (under pieces)));
+}
 
 -- one more event, in a state that differs in nothing else that counts here
 pub went_event : {s t : State} {below middle above : Pieces} {before between after : ℕ} (event : Event) (u : State)
@@ -99,14 +99,14 @@ pub went_event : {s t : State} {below middle above : Pieces} {before between aft
     → ((pieces : List Piece) → built s.row event between (middle pieces) ≡ shop after (above pieces))
     → Went s u below above before after
 went_event {s} {t} {below} {middle} {above} {before} {between} {after} event u went row events builds = record {
-    row = row ∙ went.row;
-    added = went.added ++ event ∷ [];
-    events = events ∙ (ap (λ (events : List Event). events ++ event ∷ []) went.events ∙ append_assoc s.events went.added (event ∷ []));
-    builds = λ pieces.
-        built_more s.row went.added (event ∷ []) (shop before (below pieces))
-        ∙ (ap (λ (workshop : Option Workshop). built_all s.row (event ∷ []) workshop) (went.builds pieces)
-        ∙ (built_one s.row event between (middle pieces) ∙ builds pieces));
-  }
+  row = row ∙ went.row;
+  added = went.added ++ event ∷ [];
+  events = events ∙ (ap (λ (events : List Event). events ++ event ∷ []) went.events ∙ append_assoc s.events went.added (event ∷ []));
+  builds = λ pieces.
+      built_more s.row went.added (event ∷ []) (shop before (below pieces))
+      ∙ (ap (λ (workshop : Option Workshop). built_all s.row (event ∷ []) workshop) (went.builds pieces)
+      ∙ (built_one s.row event between (middle pieces) ∙ builds pieces));
+}
 
 -- Tests of the status.
 pub if_going : {A : Type 0} (one other : A) (s : State) → s.status ≡ Going → (if goes s then one else other) ≡ one
@@ -134,12 +134,12 @@ still_stopped = record { idle = refl; same = λ is. refl }
 
 pub still_goes : {status : Status} {u v : State} (one : State) → Still status u v → Still status u (if goes v then one else v)
 still_goes {status} {u} {v} one still = record {
-    idle = still.idle;
-    same = λ is.
-        let same : v ≡ u = still.same is in
-        let idle : goes v ≡ false = ap (λ (s : State). goes s) same ∙ (ap (λ (status : Status). is_going status) is ∙ still.idle) in
-        if_idle one v v idle ∙ same;
-  }
+  idle = still.idle;
+  same = λ is.
+      let same : v ≡ u = still.same is in
+      let idle : goes v ≡ false = ap (λ (s : State). goes s) same ∙ (ap (λ (status : Status). is_going status) is ∙ still.idle) in
+      if_idle one v v idle ∙ same;
+}
 
 pub still_mark : {status : Status} {u v : State} (bytes : List ℕ) → Still status u v → Still status u (mark bytes v)
 unfolding mark
@@ -201,11 +201,11 @@ still_losing {u} {v} still = record { idle = refl; same = λ is. lost_again v (s
 pub still_whole : {u v : State} → Still Nothing u v → Still Nothing u (whole v)
 unfolding whole
 still_whole {u} {v} still = record {
-    idle = refl;
-    same = λ is.
-        let nothing : v.status ≡ Nothing = still_idle still is in
-        if_idle v (lost v) v (going_of v nothing) ∙ (lost_again v nothing ∙ still.same is);
-  }
+  idle = refl;
+  same = λ is.
+      let nothing : v.status ≡ Nothing = still_idle still is in
+      if_idle v (lost v) v (going_of v nothing) ∙ (lost_again v nothing ∙ still.same is);
+}
 
 pub still_ask_whole : {u v : State} (inner : Inner) (wanted : Wanted) → Still Nothing u v → Still Nothing u (ask_whole inner wanted v)
 unfolding ask_whole
@@ -214,9 +214,9 @@ still_ask_whole inner wanted still = still_whole (still_ask inner wanted still)
 pub still_wrap : {u v : State} (event : Event) → Still Nothing u v → Still Nothing u (wrap event v)
 unfolding wrap
 still_wrap {u} {v} event still = record {
-    idle = refl;
-    same = λ is. ap (λ (status : Status). wrapped event status v) (still_idle still is) ∙ still.same is;
-  }
+  idle = refl;
+  same = λ is. ap (λ (status : Status). wrapped event status v) (still_idle still is) ∙ still.same is;
+}
 
 -- Where the reader goes on.
 pub ready : {s t : State} {below above : Pieces} {base levels before : ℕ} {behind : Context} {others : List Terminal}
@@ -236,13 +236,25 @@ ended_levels {s} {t} {below} {above} {base} {levels} {other} {before} {behind} {
 -- from the start of a part, and of a whole tree
 pub ended_part : (s : State) (below : Pieces) (before : ℕ) → Ready s → Ended s s below below s.levels 0 before (context_of s before) (rest s)
 ended_part s below before is = record {
-    went = went_none s below before; status = is.status; left = refl; scope = refl; levels = omega arith; on = omega arith; inside = is.inside;
-  }
+  went = went_none s below before;
+  status = is.status;
+  left = refl;
+  scope = refl;
+  levels = omega arith;
+  on = omega arith;
+  inside = is.inside;
+}
 
 pub ended_none : (s : State) (below : Pieces) (before : ℕ) → Ready s → s.levels ≡ 0 → Ended s s below below 0 0 before (context_of s before) (rest s)
 ended_none s below before is none = record {
-    went = went_none s below before; status = is.status; left = refl; scope = refl; levels = omega (arith, none); on = omega arith; inside = is.inside;
-  }
+  went = went_none s below before;
+  status = is.status;
+  left = refl;
+  scope = refl;
+  levels = omega (arith, none);
+  on = omega arith;
+  inside = is.inside;
+}
 
 -- behind a part that is read from there on
 pub ended_then : {s t u : State} {below lower above : Pieces} {base levels more before : ℕ} {context behind : Context} {row others : List Terminal} (under : Pieces)
@@ -250,14 +262,14 @@ pub ended_then : {s t u : State} {below lower above : Pieces} {base levels more 
     → Ended t u lower above t.levels more context.expressions behind others
     → Ended s u below (λ pieces. above (under pieces)) base (max levels more) before behind others
 ended_then under far part = record {
-    went = went_then under far.went part.went;
-    status = part.status;
-    left = part.left;
-    scope = part.scope;
-    levels = omega arith;
-    on = omega arith;
-    inside = part.inside;
-  }
+  went = went_then under far.went part.went;
+  status = part.status;
+  left = part.left;
+  scope = part.scope;
+  levels = omega arith;
+  on = omega arith;
+  inside = part.inside;
+}
 
 pub halted_then : {s t u : State} {below lower above : Pieces} {base levels before after : ℕ} {context : Context} {row others : List Terminal} (under : Pieces)
     → Ended s t below (λ pieces. lower (under pieces)) base levels before context row
@@ -317,14 +329,14 @@ pub ended_write : {s t : State} {below middle above : Pieces} {base levels befor
     → Ended s (write event t) below above base levels before (record { scope = behind.scope; expressions = after }) others
 unfolding write
 ended_write {t} event builds far = ended_at (if_going (with_event event t) t t far.status) (record {
-    went = went_event event (with_event event t) far.went refl refl builds;
-    status = far.status;
-    left = far.left;
-    scope = far.scope;
-    levels = far.levels;
-    on = far.on;
-    inside = far.inside;
-  })
+  went = went_event event (with_event event t) far.went refl refl builds;
+  status = far.status;
+  left = far.left;
+  scope = far.scope;
+  levels = far.levels;
+  on = far.on;
+  inside = far.inside;
+})
 
 -- a tree is made, which has one level more than its parts
 pub ended_make : {s t : State} {below middle above : Pieces} {levels before after : ℕ} {behind : Context} {others : List Terminal} (event : Event)
@@ -333,26 +345,26 @@ pub ended_make : {s t : State} {below middle above : Pieces} {levels before afte
     → Ended s (make event t) below above 0 (1 + levels) before (record { scope = behind.scope; expressions = after }) others
 unfolding make
 ended_make {t} event builds far = ended_at (if_going (with_levels (t.levels + 1) (with_event event t)) t t far.status) (record {
-    went = went_event event (with_levels (t.levels + 1) (with_event event t)) far.went refl refl builds;
-    status = far.status;
-    left = far.left;
-    scope = far.scope;
-    levels = omega (arith, far.levels);
-    on = far.on;
-    inside = far.inside;
-  })
+  went = went_event event (with_levels (t.levels + 1) (with_event event t)) far.went refl refl builds;
+  status = far.status;
+  left = far.left;
+  scope = far.scope;
+  levels = omega (arith, far.levels);
+  on = far.on;
+  inside = far.inside;
+})
 
 ended_scope : {s t : State} {below above : Pieces} {base levels before : ℕ} {behind : Context} {others : List Terminal} (scope : List Names)
     → Ended s t below above base levels before behind others → Ended s (with_scope scope t) below above base levels before (scoped behind scope) others
 ended_scope scope far = record {
-    went = record { row = far.went.row; added = far.went.added; events = far.went.events; builds = far.went.builds };
-    status = far.status;
-    left = far.left;
-    scope = refl;
-    levels = far.levels;
-    on = far.on;
-    inside = far.inside;
-  }
+  went = record { row = far.went.row; added = far.went.added; events = far.went.events; builds = far.went.builds };
+  status = far.status;
+  left = far.left;
+  scope = refl;
+  levels = far.levels;
+  on = far.on;
+  inside = far.inside;
+}
 
 ended_behind : {s t : State} {below above : Pieces} {base levels before expressions : ℕ} {one other : List Names} {others : List Terminal} → one ≡ other
     → Ended s t below above base levels before (record { scope = one; expressions = expressions }) others

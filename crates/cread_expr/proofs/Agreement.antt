@@ -23,7 +23,7 @@ use Rattle.creader.specs.declared.status.Status.TheVariants.{Going, Stopped, Not
 use Rattle.creader.specs.declared.wanted.Wanted.TheVariants as wanted
 use Rattle.ctokens.specs.declared.token.Tokens.{Tokens}
 use Rattle.cread_expr.proofs.Agreed.{Pieces, none, shop, Agreed, Ready, context_of, expr_piece}
-use Rattle.cread_expr.proofs.AgreedLevels.{DeclarationsAgree, levels_agree}
+use Rattle.cread_expr.proofs.AgreedLevels.{levels_agree}
 use Rattle.cread_expr.proofs.AgreedStatements.{body_piece, block_agrees}
 
 -- a reader at a token of a text, with these names in scope, that has read nothing yet
@@ -112,11 +112,11 @@ expression_is {s} most numbered starts =
     let row = rest_at numbered starts in
     λ i. (level most).expression (at_first (starts.names i)) (row i)
 
-pub expression_read : DeclarationsAgree → (most : ℕ) (t : Tokens) (scope : List Names) (at : ℕ) (s : State) → AreNumbered t → StartsAt t scope at s
+pub expression_read : (most : ℕ) (t : Tokens) (scope : List Names) (at : ℕ) (s : State) → AreNumbered t → StartsAt t scope at s
     → is_nothing (reads most wanted.Expression s).status ≡ false → ExpressionRead most t scope at (reads most wanted.Expression s)
-expression_read declares most t scope at s numbered starts some =
+expression_read most t scope at s numbered starts some =
     let u : State = reads most wanted.Expression s in
-    let agree = levels_agree declares most in
+    let agree = levels_agree most in
     let made : Made expr_piece ((level most).expression (context_of s 0) (rest s)) s u =
     tree_read ((level most).expression (context_of s 0) (rest s)) (agree.expression s 0 (ready_at starts) starts.levels) starts.events some in
     record {
@@ -127,10 +127,10 @@ expression_read declares most t scope at s numbered starts some =
           (expression_is most numbered starts) (leaves_there t _ made.tree s u made.row starts.row made.leaves);
     }
 
-pub no_expression_read : DeclarationsAgree → (most : ℕ) (t : Tokens) (scope : List Names) (at : ℕ) (s : State) → AreNumbered t → StartsAt t scope at s
+pub no_expression_read : (most : ℕ) (t : Tokens) (scope : List Names) (at : ℕ) (s : State) → AreNumbered t → StartsAt t scope at s
     → (reads most wanted.Expression s).status ≡ Nothing → (expr : Expr) (after : ℕ) → IsExpressionAt most t scope at after expr → ⊥
-no_expression_read declares most t scope at s numbered starts nothing =
-    let agree = levels_agree declares most in
+no_expression_read most t scope at s numbered starts nothing =
+    let agree = levels_agree most in
     none_there expressions_complete t scope at most
     (sym (nothing_read ((level most).expression (context_of s 0) (rest s)) (agree.expression s 0 (ready_at starts) starts.levels) nothing) ∙ expression_is most numbered starts)
 
@@ -147,12 +147,12 @@ block_is {s} most numbered starts =
     let row = rest_at numbered starts in
     λ i. read_block (level most) (at_first (starts.names i)) (row i)
 
-pub block_read : DeclarationsAgree → (most : ℕ) (t : Tokens) (scope : List Names) (at : ℕ) (s : State) → AreNumbered t → StartsAt t scope at s
+pub block_read : (most : ℕ) (t : Tokens) (scope : List Names) (at : ℕ) (s : State) → AreNumbered t → StartsAt t scope at s
     → is_nothing (block (inner_at most) s).status ≡ false → BlockRead most t scope at (block (inner_at most) s)
-block_read declares most t scope at s numbered starts some =
+block_read most t scope at s numbered starts some =
     let u : State = block (inner_at most) s in
     let made : Made body_piece (read_block (level most) (context_of s 0) (rest s)) s u =
-    tree_read (read_block (level most) (context_of s 0) (rest s)) (block_agrees (levels_agree declares most) s 0 (ready_at starts)) starts.events some in
+    tree_read (read_block (level most) (context_of s 0) (rest s)) (block_agrees (levels_agree most) s 0 (ready_at starts)) starts.events some in
     record {
       body = made.tree;
       count = made.count;
@@ -161,8 +161,8 @@ block_read declares most t scope at s numbered starts some =
           (block_is most numbered starts) (leaves_there t _ made.tree s u made.row starts.row made.leaves);
     }
 
-pub no_block_read : DeclarationsAgree → (most : ℕ) (t : Tokens) (scope : List Names) (at : ℕ) (s : State) → AreNumbered t → StartsAt t scope at s
+pub no_block_read : (most : ℕ) (t : Tokens) (scope : List Names) (at : ℕ) (s : State) → AreNumbered t → StartsAt t scope at s
     → (block (inner_at most) s).status ≡ Nothing → (body : List Stmt) (after : ℕ) → IsBlockAt most t scope at after body → ⊥
-no_block_read declares most t scope at s numbered starts nothing =
+no_block_read most t scope at s numbered starts nothing =
     no_block_there blocks_complete t scope at most
-    (sym (nothing_read (read_block (level most) (context_of s 0) (rest s)) (block_agrees (levels_agree declares most) s 0 (ready_at starts)) nothing) ∙ block_is most numbered starts)
+    (sym (nothing_read (read_block (level most) (context_of s 0) (rest s)) (block_agrees (levels_agree most) s 0 (ready_at starts)) nothing) ∙ block_is most numbered starts)

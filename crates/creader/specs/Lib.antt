@@ -1,5 +1,8 @@
+pub mod BraceSteps
+pub mod Closers
 pub mod DeclarationSteps
 pub mod ItemSteps
+pub mod ListSteps
 pub mod Nests
 pub mod OperandSteps
 pub mod OperatorSteps
@@ -8,3 +11,4 @@ pub mod State
 pub mod StatementSteps
 pub mod Steps
 pub mod TypeSteps
+pub mod Writings

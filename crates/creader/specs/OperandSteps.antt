@@ -1,6 +1,8 @@
 -- Operands: what stands between binary operators (C11 6.5.1 to 6.5.4).
 use Rattle.std.specs.Prelude.{ℕ, zero, suc, ◌+◌, ◌-◌, nat_eq, nat_le, Bool, true, false, ◌&&◌, not, if◌then◌else◌, List, [], ◌∷◌, take, drop, length, Option, None, Some, codes}
 use Rattle.std.specs.List.{prefix_len}
+use Rattle.cbase.specs.declared.tree.operators.UnaryOp.{UnaryOp}
+use Rattle.cbuild.specs.declared.event.Event.{Event}
 use Rattle.cbuild.specs.declared.event.Event.TheVariants as event
 use Rattle.cgrammar.specs.Firsts.{begins_type}
 use Rattle.cgrammar.specs.Outcomes.{has_mark, has_first, behind_first}
@@ -74,14 +76,20 @@ postfix_with inner first s postfix.Other = s
 unfoldable pub postfix_at : Inner → ℕ → State → State
 postfix_at inner first s = if nat_le s.levels inner.most then postfix_with inner first s (postfix_first (rest s)) else stopped s
 
+abbrev pub postfix_turn : Inner → ℕ → (State → State) → State → State
+postfix_turn inner first go s = if goes s && goes_on (postfix_first (rest s)) then go (postfix_at inner first s) else s
+
 unfoldable pub postfixes : Inner → ℕ → ℕ → State → State
 postfixes inner first zero s = s
-postfixes inner first (suc count) s =
-    if goes s && goes_on (postfix_first (rest s)) then postfixes inner first count (postfix_at inner first s) else s
+postfixes inner first (suc count) s = postfix_turn inner first (postfixes inner first count) s
+
+-- each takes a token, so that there are no more of them than tokens
+abbrev pub all_postfixes : Inner → ℕ → State → State
+all_postfixes inner first s = postfixes inner first (length (rest s) + 1) s
 
 -- an operand that begins at the token `first`, from behind its primary expression on
 unfoldable pub postfixes_from : Inner → ℕ → State → State
-postfixes_from inner first s = if goes s then as_operand true (postfixes inner first (length (rest s) + 1) s) else s
+postfixes_from inner first s = if goes s then as_operand true (all_postfixes inner first s) else s
 
 -- Members and items of `__builtin_offsetof` behind the first member (C11 7.19).
 unfoldable pub path_member : State → State
@@ -95,9 +103,12 @@ path_with go inner s =
     if has_mark (codes ".") (rest s) then go (path_member (skipped 1 s))
     else (if has_mark (codes "[") (rest s) then go (path_index inner (skipped 1 s)) else s)
 
+abbrev pub path_turn : Inner → (State → State) → State → State
+path_turn inner go s = if goes s then path_with go inner s else s
+
 unfoldable pub path : Inner → ℕ → State → State
 path inner zero s = lost s
-path inner (suc count) s = if goes s then path_with (path inner count) inner s else s
+path inner (suc count) s = path_turn inner (path inner count) s
 
 abbrev pub whole_path : Inner → State → State
 whole_path inner s = path inner (length (rest s) + 1) s
@@ -138,26 +149,49 @@ bracket inner at s = if has_mark (codes "{") (rest s) then statement_expression 
 abbrev pub begins_type_in_brackets : List Names → List Terminal → Bool
 begins_type_in_brackets scope row = has_mark (codes "(") row && has_first (begins_type scope) (behind_first row)
 
+abbrev pub size_of_type : Inner → ℕ → State → State
+size_of_type inner at s = as_operand true (make (event.SizeOfType at) (mark (codes ")") (type_name inner s)))
+
 unfoldable pub size_of : Inner → ℕ → State → State
 size_of inner at s =
     if begins_type_in_brackets s.scope (rest s)
-    then as_operand true (make (event.SizeOfType at) (mark (codes ")") (type_name inner (skipped 1 s))))
+    then size_of_type inner at (skipped 1 s)
     else as_operand true (wrap (event.SizeOf at) (unary_alone (ask inner wanted.Cast s)))
 
 abbrev pub operand_first : List Terminal → OperandStart
 operand_first [] = start.Other
 operand_first (first ∷ others) = operand_start first
 
+-- whether an operand begins there
+abbrev pub begins : OperandStart → Bool
+begins start.Other = false
+begins _ = true
+
+-- an operand that begins with a mark or a word at the token `at`, from behind that on
+abbrev pub counted : Inner → Bool → ℕ → State → State
+counted inner up at s = as_operand true (wrap (event.Count up false at) (unary_alone (ask inner wanted.Cast s)))
+
+abbrev pub unary : Inner → UnaryOp → ℕ → State → State
+unary inner op at s = as_operand true (wrap (event.Unary op at) (ask inner wanted.Cast s))
+
+abbrev pub prefixed : Inner → ℕ → State → OperandStart → State
+prefixed inner at s start.Bracket = bracket inner at s
+prefixed inner at s (start.Count up) = counted inner up at s
+prefixed inner at s (start.Unary op) = unary inner op at s
+prefixed inner at s start.SizeOf = size_of inner at s
+prefixed inner at s start.OffsetOf = offset_of inner at s
+prefixed inner at s start.AssertFail = assert_fail inner at s
+prefixed inner at s _ = s
+
+-- an operand that begins with a name or a constant
+abbrev pub primary : Inner → Event → State → State
+primary inner event s = postfixes_from inner s.at (make event (skipped 1 s))
+
 abbrev pub plain_with : Inner → State → OperandStart → State
-plain_with inner s start.Bracket = bracket inner s.at (skipped 1 s)
-plain_with inner s (start.Count up) = as_operand true (wrap (event.Count up false s.at) (unary_alone (ask inner wanted.Cast (skipped 1 s))))
-plain_with inner s (start.Unary op) = as_operand true (wrap (event.Unary op s.at) (ask inner wanted.Cast (skipped 1 s)))
-plain_with inner s start.SizeOf = size_of inner s.at (skipped 1 s)
-plain_with inner s start.OffsetOf = offset_of inner s.at (skipped 1 s)
-plain_with inner s start.AssertFail = assert_fail inner s.at (skipped 1 s)
-plain_with inner s start.Name = postfixes_from inner s.at (make (event.Name s.at) (skipped 1 s))
-plain_with inner s start.Constant = postfixes_from inner s.at (make (event.Constant s.at) (skipped 1 s))
+plain_with inner s start.Name = primary inner (event.Name s.at) s
+plain_with inner s start.Constant = primary inner (event.Constant s.at) s
 plain_with inner s start.Other = lost s
+plain_with inner s first = prefixed inner s.at (skipped 1 s) first
 
 -- an operand that begins with no bracket around an expression
 unfoldable pub plain : Inner → State → State
@@ -169,6 +203,10 @@ begins_expression scope token = not (is_mark (codes "{") token) && not (begins_t
 
 abbrev pub opens : List Names → Terminal → List Terminal → Bool
 opens scope first row = is_mark (codes "(") first && has_first (begins_expression scope) row
+
+abbrev pub opens_row : List Names → List Terminal → Bool
+opens_row scope [] = false
+opens_row scope (first ∷ row) = opens scope first row
 
 -- how many of them the row begins with
 unfoldable pub opened : List Names → List Terminal → ℕ

@@ -20,11 +20,13 @@ operation_with go inner loosest s (Some entry) =
     else stopped s)
     else s
 
+abbrev pub operation_turn : Inner → ℕ → (State → State) → State → State
+operation_turn inner loosest go s = if goes s then operation_with go inner loosest s (first_row binary_rows (rest s)) else s
+
 -- binary operators, each to the left
 unfoldable pub operations : Inner → ℕ → ℕ → State → State
 operations inner loosest zero s = s
-operations inner loosest (suc count) s =
-    if goes s then operation_with (operations inner loosest count) inner loosest s (first_row binary_rows (rest s)) else s
+operations inner loosest (suc count) s = operation_turn inner loosest (operations inner loosest count) s
 
 -- each takes a token, so that there are no more of them than tokens
 abbrev pub all_operations : Inner → ℕ → State → State
@@ -66,9 +68,12 @@ comma_with go inner s =
     then go (ask_right inner wanted.Assignment (point_of s) (event.Binary Comma s.at) (skipped 1 s))
     else stopped s
 
+abbrev pub comma_turn : Inner → (State → State) → State → State
+comma_turn inner go s = if goes s && has_mark (codes ",") (rest s) then comma_with go inner s else s
+
 unfoldable pub commas : Inner → ℕ → State → State
 commas inner zero s = s
-commas inner (suc count) s = if goes s && has_mark (codes ",") (rest s) then comma_with (commas inner count) inner s else s
+commas inner (suc count) s = comma_turn inner (commas inner count) s
 
 abbrev pub all_commas : Inner → State → State
 all_commas inner s = commas inner (length (rest s) + 1) s

@@ -44,12 +44,16 @@ evaluated first s = make (event.Eval first (s.at - 1)) s
 unfoldable pub expression_statement : Inner → State → State
 expression_statement inner s = evaluated s.at (mark (codes ";") (write event.OneExpression (ask_whole inner wanted.Expression s)))
 
+-- a `;` alone
+abbrev pub empty_statement : State → State
+empty_statement s = make (event.Eval s.at s.at) (write event.NoExpression (skipped 1 s))
+
 -- a declaration, or an expression that may be left out with its `;` (C11 6.8.3, 6.8.5.3)
 unfoldable pub clause : Inner → State → State
 clause inner s =
     if goes s
     then (if has_first (begins_declaration s.scope) (rest s) then declared_statement inner s
-    else (if has_mark (codes ";") (rest s) then make (event.Eval s.at s.at) (write event.NoExpression (skipped 1 s))
+    else (if has_mark (codes ";") (rest s) then empty_statement s
     else expression_statement inner s))
     else s
 

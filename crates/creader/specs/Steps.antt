@@ -6,7 +6,7 @@ use Rattle.cgrammar.specs.Outcomes.{has_mark, has_first, behind_first}
 use Rattle.cgrammar.specs.Operators.{mark_row}
 use Rattle.cgrammar.specs.Scope.{entered, left, declared}
 use Rattle.cgrammar.specs.Terminals.{Terminal, is_mark, is_word, is_name}
-use Rattle.creader.specs.State.{State, rest, goes, is_going, is_nothing, with_status, with_levels, with_scope, with_unary, with_event, skipped, lost, stopped, point_of, back_at}
+use Rattle.creader.specs.State.{State, rest, goes, with_levels, with_scope, with_event, skipped, lost, back_at}
 use Rattle.creader.specs.declared.status.Status.{Status}
 use Rattle.creader.specs.declared.status.Status.TheVariants.{Going, Stopped, Nothing}
 use Rattle.creader.specs.declared.point.Point.{Point}

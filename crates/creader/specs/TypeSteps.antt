@@ -18,17 +18,23 @@ use Rattle.creader.specs.Steps.{Inner, mark, ask_whole, write, make, declare, al
 use Rattle.creader.specs.declared.wanted.Wanted.TheVariants as wanted
 
 -- A size of an array, behind its `[`, which may be left out where sizes are optional (C11 6.7.6.2).
+abbrev pub open_size : Bool → State → State
+open_size optional s = if optional then write event.OpenSize (skipped 1 s) else lost s
+
 unfoldable pub size_behind : Inner → Bool → State → State
 size_behind inner optional s =
-    if has_mark (codes "]") (rest s) then (if optional then write event.OpenSize (skipped 1 s) else lost s)
+    if has_mark (codes "]") (rest s) then open_size optional s
     else write event.Size (mark (codes "]") (ask_whole inner wanted.Conditional s))
 
 abbrev pub sizes_with : (State → State) → Inner → Bool → State → State
 sizes_with go inner optional s = if has_mark (codes "[") (rest s) then go (size_behind inner optional (skipped 1 s)) else s
 
+abbrev pub size_turn : Inner → Bool → (State → State) → State → State
+size_turn inner optional go s = if goes s then sizes_with go inner optional s else s
+
 unfoldable pub sizes : Inner → Bool → ℕ → State → State
 sizes inner optional zero s = lost s
-sizes inner optional (suc count) s = if goes s then sizes_with (sizes inner optional count) inner optional s else s
+sizes inner optional (suc count) s = size_turn inner optional (sizes inner optional count) s
 
 abbrev pub sizes_from : Inner → Bool → State → State
 sizes_from inner optional s = sizes inner optional (length (rest s) + 1) s
@@ -47,10 +53,13 @@ unfoldable pub type_name : Inner → State → State
 type_name inner s = type_name_behind inner (ask_whole inner wanted.Specifier s)
 
 -- A field, with the bits that it takes (C11 6.7.2.1).
+abbrev pub bit_field : Inner → ℕ → ℕ → State → State
+bit_field inner at stars s = write (event.BitField at stars) (ask_whole inner wanted.Conditional s)
+
 unfoldable pub bits_behind : Inner → ℕ → ℕ → State → State
 bits_behind inner at stars s =
     if goes s
-    then (if has_mark (codes ":") (rest s) then write (event.BitField at stars) (ask_whole inner wanted.Conditional (skipped 1 s))
+    then (if has_mark (codes ":") (rest s) then bit_field inner at stars (skipped 1 s)
     else write (event.Field at stars) s)
     else s
 
@@ -58,10 +67,14 @@ abbrev pub named_field : Inner → ℕ → State → State
 named_field inner stars s =
     if has_first is_name (rest s) then bits_behind inner s.at stars (all_sizes inner false (skipped 1 s)) else lost s
 
+-- a field without a name, whose `:` is the token `at`
+abbrev pub padding : Inner → ℕ → State → State
+padding inner at s = write (event.Padding at) (ask_whole inner wanted.Conditional s)
+
 unfoldable pub field_name : Inner → State → State
 field_name inner s =
     if goes s
-    then (if has_mark (codes ":") (rest s) then write (event.Padding s.at) (ask_whole inner wanted.Conditional (skipped 1 s))
+    then (if has_mark (codes ":") (rest s) then padding inner s.at (skipped 1 s)
     else named_field inner (star_count (rest s)) (skipped (star_count (rest s)) s))
     else s
 
@@ -75,9 +88,12 @@ unfoldable pub all_fields : Inner → State → State
 all_fields inner s = until_brace (fields inner) (write event.NoFields s)
 
 -- An enumeration constant (C11 6.7.2.2).
+abbrev pub enumerator_valued : Inner → ℕ → State → State
+enumerator_valued inner at s = declare at false (write (event.EnumeratorValue at) (ask_whole inner wanted.Conditional s))
+
 unfoldable pub enumerator_behind : Inner → ℕ → State → State
 enumerator_behind inner at s =
-    if has_mark (codes "=") (rest s) then declare at false (write (event.EnumeratorValue at) (ask_whole inner wanted.Conditional (skipped 1 s)))
+    if has_mark (codes "=") (rest s) then enumerator_valued inner at (skipped 1 s)
     else declare at false (write (event.Enumerator at) s)
 
 unfoldable pub enumerator : Inner → State → State
@@ -101,9 +117,11 @@ abbrev pub struct_by_tag : Option ℕ → State → State
 struct_by_tag None s = lost s
 struct_by_tag (Some tag) s = make (event.StructTag tag) s
 
+abbrev pub struct_braces : Inner → Option ℕ → State → State
+struct_braces inner tag s = make (event.Struct tag) (all_fields inner s)
+
 unfoldable pub struct_with : Inner → Option ℕ → State → State
-struct_with inner tag s =
-    if has_mark (codes "{") (rest s) then make (event.Struct tag) (all_fields inner (skipped 1 s)) else struct_by_tag tag s
+struct_with inner tag s = if has_mark (codes "{") (rest s) then struct_braces inner tag (skipped 1 s) else struct_by_tag tag s
 
 unfoldable pub struct_behind : Inner → State → State
 struct_behind inner s = struct_with inner (tag_number s) (behind_tag s)
@@ -112,20 +130,26 @@ abbrev pub enum_by_tag : Option ℕ → State → State
 enum_by_tag None s = lost s
 enum_by_tag (Some tag) s = make (event.EnumTag tag) s
 
+abbrev pub enum_braces : Inner → Option ℕ → State → State
+enum_braces inner tag s = make (event.Enum tag) (mark (codes "}") (over_comma (all_enumerators inner s)))
+
 unfoldable pub enum_with : Inner → Option ℕ → State → State
-enum_with inner tag s =
-    if has_mark (codes "{") (rest s) then make (event.Enum tag) (mark (codes "}") (over_comma (all_enumerators inner (skipped 1 s))))
-    else enum_by_tag tag s
+enum_with inner tag s = if has_mark (codes "{") (rest s) then enum_braces inner tag (skipped 1 s) else enum_by_tag tag s
 
 unfoldable pub enum_behind : Inner → State → State
 enum_behind inner s = enum_with inner (tag_number s) (behind_tag s)
 
 -- `typeof` (a GNU form), behind its `(`
+abbrev pub type_of_type : Inner → State → State
+type_of_type inner s = make event.TypeOfType (mark (codes ")") (type_name inner s))
+
+abbrev pub type_of_expression : Inner → State → State
+type_of_expression inner s = make event.TypeOfExpr (mark (codes ")") (ask_whole inner wanted.Expression s))
+
 unfoldable pub type_of : Inner → State → State
 type_of inner s =
     if goes s
-    then (if has_first (begins_type s.scope) (rest s) then make event.TypeOfType (mark (codes ")") (type_name inner s))
-    else make event.TypeOfExpr (mark (codes ")") (ask_whole inner wanted.Expression s)))
+    then (if has_first (begins_type s.scope) (rest s) then type_of_type inner s else type_of_expression inner s)
     else s
 
 -- keywords of basic types, as many as there are
@@ -143,8 +167,17 @@ abbrev pub type_first : List Names → List Terminal → TypeStart
 type_first scope [] = start.Other
 type_first scope (first ∷ others) = type_start scope first
 
+-- the name of a typedef (C11 6.7.8)
+abbrev pub named : State → State
+named s = make (event.Named s.at) (skipped 1 s)
+
+-- whether a type begins there
+abbrev pub begins_so : TypeStart → Bool
+begins_so start.Other = false
+begins_so _ = true
+
 abbrev pub specifier_with : Inner → State → TypeStart → State
-specifier_with inner s start.Named = make (event.Named s.at) (skipped 1 s)
+specifier_with inner s start.Named = named s
 specifier_with inner s start.Basic = basic s
 specifier_with inner s start.Struct = struct_behind inner (skipped 1 s)
 specifier_with inner s start.Enum = enum_behind inner (skipped 1 s)

@@ -4,15 +4,51 @@
 //! It knows how a row of tokens is gone through. It makes no trees, and does not know which rows the grammar spells.
 #![tactic(auto)]
 
+mod blocks;
+mod braced;
+mod braces;
+mod brackets;
+mod branches;
+mod calls;
+mod clauses;
+mod closers;
+mod declarations;
+mod declarators;
+mod enums;
+mod fields;
 mod grammar;
+mod initializers;
+mod labels;
+mod levels;
+mod listed;
+mod lists;
+mod offsets;
+mod operands;
+mod operators;
+mod parameters;
+mod peeks;
 mod point;
+mod postfixes;
 mod reader;
+mod reading;
+mod sizes;
+mod specifiers;
+mod statement_ends;
+mod statements;
 mod status;
 mod steps;
+mod structs;
+mod type_names;
+mod types;
 mod wanted;
+mod written;
 
+pub use braced::Braced;
 pub use grammar::Grammar;
+pub use listed::Listed;
 pub use point::Point;
 pub use reader::Reader;
+pub use reading::{read, read_block, read_expression};
 pub use status::Status;
 pub use wanted::Wanted;
+pub use written::Written;

@@ -1,12 +1,14 @@
-ghost use Rattle.std.specs.Prelude.{◌≡◌, ◌+◌, drop, length};
+ghost use Rattle.std.specs.Prelude.{◌≡◌, ◌+◌, ◌≤◌, IsTrue, drop, length};
+ghost use Rattle.cgrammar.specs.Firsts.{begins_type, begins_declaration};
 ghost use Rattle.cgrammar.specs.Outcomes.{has_mark, has_first};
-ghost use Rattle.cgrammar.specs.Terminals.{is_word, is_name};
-ghost use Rattle.creader.specs.State.{rest, goes, point_of, skipped};
+ghost use Rattle.cgrammar.specs.ReadTypes.{star_count};
+ghost use Rattle.cgrammar.specs.Terminals.{is_word, is_name, begins_with_typedef};
+ghost use Rattle.creader.specs.State.{rest, goes, point_of};
 
 use crate::point::Point;
 use crate::status::Status;
 use cbuild::Event;
-use cgrammar::{Scope, Terminal};
+use cgrammar::{Scope, Terminal, begins_declaration, begins_type, stars_length};
 use std::alloc::Global;
 use std::marker::Model;
 
@@ -35,15 +37,10 @@ impl<'a> Model for Reader<'a> {
 
 impl<'a> Reader<'a> {
     /// The tokens that are left.
-    #[tactic(auto, using(crate::proofs::Rests::beyond))]
     pub fn rest(&self) -> &'a [Terminal<'a>]
         ensures { result.now ≡ rest self.now }
     {
-        if self.at < self.row.len() {
-            &self.row[self.at..]
-        } else {
-            &[]
-        }
+        behind(self.row, self.at)
     }
 
     /// How many tokens are left.
@@ -72,7 +69,8 @@ impl<'a> Reader<'a> {
 
     /// Whether the mark stands there.
     pub fn has_mark(&self, bytes: &[u8]) -> bool
-        ensures { result ≡ has_mark bytes.now (rest self.now) }
+        ensures is { result ≡ has_mark bytes.now (rest self.now) }
+        ensures more { IsTrue result → 1 ≤ length (rest self.now) }
     {
         match self.rest() {
             [] => false,
@@ -82,7 +80,8 @@ impl<'a> Reader<'a> {
 
     /// Whether the word stands there.
     pub fn has_word(&self, bytes: &[u8]) -> bool
-        ensures { result ≡ has_first (is_word bytes.now) (rest self.now) }
+        ensures is { result ≡ has_first (is_word bytes.now) (rest self.now) }
+        ensures more { IsTrue result → 1 ≤ length (rest self.now) }
     {
         match self.rest() {
             [] => false,
@@ -92,11 +91,62 @@ impl<'a> Reader<'a> {
 
     /// Whether a name stands there.
     pub fn has_name(&self) -> bool
-        ensures { result ≡ has_first is_name (rest self.now) }
+        ensures is { result ≡ has_first is_name (rest self.now) }
+        ensures more { IsTrue result → 1 ≤ length (rest self.now) }
     {
         match self.rest() {
             [] => false,
             [first, ..] => first.is_name(),
         }
+    }
+
+    /// Whether a type begins there.
+    pub fn has_type(&self) -> bool
+        ensures { result ≡ has_first (begins_type self.now.scope) (rest self.now) }
+    {
+        match self.rest() {
+            [] => false,
+            [first, ..] => begins_type(&self.scope, first),
+        }
+    }
+
+    /// Whether a declaration begins there.
+    pub fn has_declaration(&self) -> bool
+        ensures { result ≡ has_first (begins_declaration self.now.scope) (rest self.now) }
+    {
+        match self.rest() {
+            [] => false,
+            [first, ..] => begins_declaration(&self.scope, first),
+        }
+    }
+
+    /// Whether the name of a typedef stands there.
+    pub fn has_typedef(&self) -> bool
+        ensures { result ≡ begins_with_typedef self.now.scope (rest self.now) }
+    {
+        match self.rest() {
+            [] => false,
+            [first, ..] => first.is_typedef(&self.scope),
+        }
+    }
+
+    /// How many `*` stand there.
+    pub fn stars(&self) -> usize
+        ensures count { result ≡ star_count (rest self.now) }
+        ensures inside { result ≤ length (rest self.now) }
+    {
+        stars_length(self.rest())
+    }
+}
+
+/// The tokens of a row behind so many.
+#[tactic(auto, using(crate::proofs::Rests::beyond))]
+pub fn behind<'a>(row: &'a [Terminal<'a>], count: usize) -> &'a [Terminal<'a>]
+    ensures { result.now ≡ drop count row.now }
+{
+    if count < row.len() {
+        &row[count..]
+    } else {
+        &[]
     }
 }

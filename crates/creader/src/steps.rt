@@ -1,6 +1,6 @@
-ghost use Rattle.std.specs.Prelude.{◌≡◌, ◌+◌, OnOk};
-ghost use Rattle.creader.specs.State.{lost, stopped, back_at, with_levels};
-ghost use Rattle.creader.specs.Steps.{mark, word, mark_or_back, whole, back_unless_going, write, make, wrap, join, declare, enter, leave};
+ghost use Rattle.std.specs.Prelude.{◌≡◌, ◌+◌, ◌≤◌, OnOk, length};
+ghost use Rattle.creader.specs.State.{rest, skipped, lost, stopped, back_at, with_levels};
+ghost use Rattle.creader.specs.Steps.{mark, word, name, mark_or_back, whole, back_unless_going, write, make, wrap, join, declare, enter, leave};
 
 use crate::point::Point;
 use crate::reader::Reader;
@@ -14,6 +14,15 @@ impl<'a> Reader<'a> {
         ensures { self.new ≡ lost self.old }
     {
         self.status = Status::Nothing;
+    }
+
+    /// Goes over so many tokens.
+    #[tactic(auto, using(crate::proofs::Rests::fits_behind))]
+    pub fn skip(&mut self, count: usize)
+        requires { count ≤ length (rest self.old) }
+        ensures { self.new ≡ skipped count self.old }
+    {
+        self.at += count;
     }
 
     /// What is written so far is all that is read.
@@ -41,7 +50,7 @@ impl<'a> Reader<'a> {
             return;
         }
         if self.has_mark(bytes) {
-            self.at += 1;
+            self.skip(1);
         } else {
             self.lose();
         }
@@ -56,7 +65,22 @@ impl<'a> Reader<'a> {
             return;
         }
         if self.has_word(bytes) {
-            self.at += 1;
+            self.skip(1);
+        } else {
+            self.lose();
+        }
+    }
+
+    /// Goes over a name, or nothing is read.
+    #[tactic(auto, unfolding(crate::specs::Steps::name))]
+    pub fn name(&mut self)
+        ensures { self.new ≡ name self.old }
+    {
+        if !self.goes() {
+            return;
+        }
+        if self.has_name() {
+            self.skip(1);
         } else {
             self.lose();
         }
@@ -71,7 +95,7 @@ impl<'a> Reader<'a> {
             return;
         }
         if self.has_mark(bytes) {
-            self.at += 1;
+            self.skip(1);
         } else {
             self.go_back(point);
         }

@@ -1,0 +1,11 @@
+use Rattle.std.proofs.Common.{◌≡◌, ◌≤◌}
+use Rattle.creader.specs.OperandSteps.{all_closed}
+use Rattle.creader.specs.ReadingSteps.{inner_at}
+use Rattle.creader.proofs.grammar.Grammar.all_closed.Given as goal
+
+abbrev pub invariant-brackets : goal.invariant-brackets
+invariant-brackets g l =
+    (all_closed (inner_at l.self.depth) l.first l.left l.reader ≡ all_closed (inner_at l.self.depth) l.first l.count l.initial.reader) × (l.left ≤ l.count)
+
+abbrev pub decreases-brackets : goal.decreases-brackets
+decreases-brackets g l = l.left

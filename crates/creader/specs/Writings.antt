@@ -1,0 +1,24 @@
+-- What a reader has written in the end, from where it began.
+use Rattle.std.specs.Prelude.{ℕ, Bool, false, not, List, []}
+use Rattle.cbuild.specs.declared.event.Event.{Event}
+use Rattle.cgrammar.specs.Scope.{Names}
+use Rattle.cgrammar.specs.Terminals.{Terminal}
+use Rattle.creader.specs.State.{State, is_nothing}
+use Rattle.creader.specs.declared.status.Status.TheVariants.{Going}
+
+-- whether a tree is read, how many tokens it takes, and its events
+pub record Writing : Type 0 where
+  pub found : Bool
+  pub at : ℕ
+  pub events : List Event
+
+abbrev pub written_of : State → Writing
+written_of s = record { found = not (is_nothing s.status); at = s.at; events = s.events }
+
+-- at the front of a row, with names in scope
+abbrev pub start_of : List Terminal → List Names → State
+start_of row scope = record { row = row; at = 0; status = Going; levels = 0; unary = false; scope = scope; events = [] }
+
+-- how many levels a tree may have
+abbrev pub most_levels : ℕ
+most_levels = 1024

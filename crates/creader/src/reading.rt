@@ -1,0 +1,96 @@
+ghost use Rattle.std.specs.Prelude.{◌≡◌, IfOk, OnOk};
+ghost use Rattle.creader.specs.ReadingSteps.{inner_at, reads};
+ghost use Rattle.creader.specs.StatementSteps.{block};
+ghost use Rattle.creader.specs.Writings.{most_levels, start_of, written_of};
+ghost use Rattle.creader.specs.declared.wanted.Wanted.TheVariants.{Expression};
+
+use crate::grammar::Grammar;
+use crate::reader::Reader;
+use crate::status::Status;
+use crate::wanted::Wanted;
+use crate::written::Written;
+use cbase::NoMemory;
+use cgrammar::{Scope, Terminal};
+use std::alloc::Global;
+
+/// How many levels a tree may have.
+const MOST_LEVELS: u32 = 1024;
+
+/// Reads what is wanted, of at most so many levels.
+#[tactic(auto, using(crate::proofs::Readings::reads_nothing, crate::proofs::Readings::reads_more))]
+pub fn read(reader: &mut Reader<'_>, most: u32, wanted: Wanted) -> Result<(), NoMemory>
+    ensures { OnOk result (reader.new ≡ reads most wanted reader.old) }
+{
+    if most == 0 {
+        reader.lose();
+        return Ok(());
+    }
+    let grammar = Grammar {
+        depth: most - 1,
+        inner: read,
+    };
+    grammar.level(reader, wanted)
+}
+
+/// Reads an expression at the front of the row, with these names in scope (C11 6.5.17).
+pub fn read_expression<'a>(
+    alloc: Global,
+    row: &'a [Terminal<'a>],
+    scope: &Scope,
+) -> Result<Written, NoMemory>
+    ensures { IfOk result (λ written. written ≡ written_of (reads most_levels Expression (start_of row.now scope.now))) }
+{
+    let mut reader = Reader::new(alloc, row, scope)?;
+    read(&mut reader, MOST_LEVELS, Wanted::Expression)?;
+    Ok(reader.into_written())
+}
+
+/// Reads a block at the front of the row, with these names in scope around it (C11 6.8.2).
+pub fn read_block<'a>(
+    alloc: Global,
+    row: &'a [Terminal<'a>],
+    scope: &Scope,
+) -> Result<Written, NoMemory>
+    ensures { IfOk result (λ written. written ≡ written_of (block (inner_at most_levels) (start_of row.now scope.now))) }
+{
+    let mut reader = Reader::new(alloc, row, scope)?;
+    let grammar = Grammar {
+        depth: MOST_LEVELS,
+        inner: read,
+    };
+    grammar.block(&mut reader)?;
+    Ok(reader.into_written())
+}
+
+impl<'a> Reader<'a> {
+    /// A reader at the front of the row.
+    pub fn new(
+        alloc: Global,
+        row: &'a [Terminal<'a>],
+        scope: &Scope,
+    ) -> Result<Reader<'a>, NoMemory>
+        ensures { IfOk result (λ reader. reader ≡ start_of row.now scope.now) }
+    {
+        Ok(Reader {
+            alloc,
+            row,
+            at: 0,
+            status: Status::Going,
+            levels: 0,
+            unary: false,
+            scope: scope.copied(alloc)?,
+            events: Vec::new(alloc),
+        })
+    }
+
+    /// What is written in the end.
+    pub fn into_written(self) -> Written
+        ensures { result ≡ written_of self.entry }
+    {
+        Written {
+            found: !matches!(self.status, Status::Nothing),
+            at: self.at,
+            events: self.events,
+        }
+    }
+}
