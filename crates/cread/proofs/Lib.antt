@@ -3,3 +3,5 @@ pub mod Sound
 pub mod TextItemsRead
 pub mod ItemRowsRead
 pub mod AgreedItems
+pub mod Refusals
+pub mod Needed
