@@ -4,6 +4,7 @@ use Rattle.std.proofs.lemmas.List.{length-drop, drop-drop}
 use Rattle.std.specs.Prelude.{if◌then◌else◌}
 use Rattle.cbase.specs.declared.place.Place.{Place}
 use Rattle.cbase.specs.declared.tree.decl.Declared.{Declared}
+use Rattle.cbase.specs.declared.tree.decl.Param.{Param}
 use Rattle.cbase.specs.declared.tree.decl.Storage.{Storage}
 use Rattle.cbase.specs.declared.tree.item.Item.{Item}
 use Rattle.cbase.specs.declared.tree.item.Item.TheVariants as item
@@ -12,9 +13,11 @@ use Rattle.cbase.specs.declared.tree.stmt.Stmt.{Stmt}
 use Rattle.cbuild.specs.Workshop.{place_at, token_at, bytes_at}
 use Rattle.cbuild.specs.declared.event.Event.TheVariants as event
 use Rattle.cbuild.specs.declared.piece.Piece.TheVariants as piece
+use Rattle.ctrees.specs.Levels.{stmt_levels}
 use Rattle.cgrammar.proofs.Fronts.{drop_front}
 use Rattle.cgrammar.proofs.SoundSays.{SoundLevel}
-use Rattle.cgrammar.proofs.SoundStatements.{sound_items}
+use Rattle.cgrammar.proofs.SoundLists.{levels_of_all}
+use Rattle.cgrammar.proofs.SoundStatements.{says_body, sound_items}
 use Rattle.cgrammar.proofs.SoundSteps.{Sound, Got, first_of}
 use Rattle.cgrammar.specs.Outcomes.{Outcome, Reader, then_read, after_first, after_mark, behind_first}
 use Rattle.cgrammar.specs.Outcomes as outcome
@@ -28,14 +31,14 @@ use Rattle.cgrammar.specs.Trees as tree
 use Rattle.cgrammar.specs.TypeWords.{declares_typedef}
 use Rattle.creader.specs.DeclarationSteps.{specifiers, parameters, declaration}
 use Rattle.creader.specs.ItemSteps.{declare_around, defined, function_body, function_with, function_named, function_behind, function, ends_with_brace, external}
-use Rattle.creader.specs.State.{State, rest, with_scope}
+use Rattle.creader.specs.State.{State, rest, with_scope, skipped}
 use Rattle.creader.specs.StatementSteps.{block_item, block_items}
 use Rattle.creader.specs.Steps.{Inner, write, mark, leave, until_brace}
 use Rattle.creader.specs.declared.status.Status.TheVariants.{Nothing}
 use Rattle.creader.specs.declared.wanted.Wanted.TheVariants as wanted
 use Rattle.cread_expr.proofs.Agreed.{Pieces, none, shop, Ended, Agreed, Ready, Follows, Continues, ends, context_of, LevelAgrees}
 use Rattle.cread_expr.proofs.AgreedDeclarations.{declaration_piece, declaration_agrees}
-use Rattle.cread_expr.proofs.AgreedDeclarationsParameters.{then_both, then_specifiers, parameters_agree}
+use Rattle.cread_expr.proofs.AgreedDeclarationsParameters.{then_both, then_specifiers, still_parameters, parameters_agree}
 use Rattle.cread_expr.proofs.AgreedEntire.{entirely, entirely_asked, agreed_then, agreed_write}
 use Rattle.cread_expr.proofs.AgreedLists.{behind_brace, over_brace, until_brace_follows, still_braces}
 use Rattle.cread_expr.proofs.AgreedPlaces.{place_here}
@@ -85,28 +88,43 @@ then_after {A} {B} test (first ∷ others) go more = case (test first)
     case true = refl
     case false = refl
 
+abbrev headed : ℕ → Terminal → List Param → ℕ → Context → List Terminal → Outcome Head
+headed stars name params levels within end = outcome.Read (head_of name.bytes (tree.function name stars params)) levels within end
+
+abbrev opened : Level → Context → ℕ → Terminal → Terminal → List Terminal → Outcome Head
+opened level context stars name opening more = then_read (read_parameters level context more) (headed stars name)
+
+abbrev named : Level → Context → ℕ → Terminal → List Terminal → Outcome Head
+named level context stars name others = after_mark (codes "(") others outcome.Nothing (opened level context stars name)
+
+abbrev opened_then : {B : Type 0} → Level → Context → ℕ → (Head → ℕ → Context → List Terminal → Outcome B) → Terminal → Terminal → List Terminal → Outcome B
+opened_then level context stars go name opening more =
+    then_read (read_parameters level context more) (λ params levels within end. go (head_of name.bytes (tree.function name stars params)) levels within end)
+
+named_then : {B : Type 0} (level : Level) (context : Context) (stars : ℕ) (go : Head → ℕ → Context → List Terminal → Outcome B) (name : Terminal) (others : List Terminal)
+    → then_read (named level context stars name others) go ≡ after_mark (codes "(") others outcome.Nothing (opened_then level context stars go name)
+named_then level context stars go name others =
+    then_after (is_mark (codes "(")) others (opened level context stars name) go
+    ∙ (λ j. after_mark (codes "(") others outcome.Nothing (λ opening more. then_both (read_parameters level context more) (headed stars name) go j))
+
 head_then : {B : Type 0} (level : Level) (context : Context) (row : List Terminal) (go : Head → ℕ → Context → List Terminal → Outcome B)
     → then_read (read_head level context row) go
-    ≡ after_first is_name (behind_stars row) outcome.Nothing (λ name others.
-    after_mark (codes "(") others outcome.Nothing (λ opening more.
-    then_read (read_parameters level context more) (λ params levels within end. go (head_of name.bytes (tree.function name (star_count row) params)) levels within end)))
+    ≡ after_first is_name (behind_stars row) outcome.Nothing (λ name others. after_mark (codes "(") others outcome.Nothing (opened_then level context (star_count row) go name))
 unfolding read_head
 head_then level context row go =
-    then_after is_name (behind_stars row) _ go
-    ∙ (λ i. after_first is_name (behind_stars row) outcome.Nothing (λ name others.
-    (then_after (is_mark (codes "(")) others _ go
-    ∙ (λ j. after_mark (codes "(") others outcome.Nothing (λ opening more. then_both (read_parameters level context more) _ go j))) i))
+    then_after is_name (behind_stars row) (named level context (star_count row)) go
+    ∙ (λ i. after_first is_name (behind_stars row) outcome.Nothing (λ name others. named_then level context (star_count row) go name others i))
 
 -- The body's last brace: the token before what is left.
 abbrev pub place_before : List Terminal → List Terminal → Place
 place_before row final = place_at row (length row - length final - 1)
 
 place_closing : (at : ℕ) (row others front final : List Terminal) (closing : Terminal) → drop at row ≡ others → others ≡ front ++ (closing ∷ final) → place_before row final ≡ closing.place
-place_closing at row others front final closing left split =
-    let there : drop (length front + at) row ≡ closing ∷ final =
-    sym (drop-drop (length front) at row) ∙ (ap (λ (row : List Terminal). drop (length front) row) (left ∙ split) ∙ drop_front front (closing ∷ final)) in
-    let whole : length row - (length front + at) ≡ suc (length final) = sym (length-drop (length front + at) row) ∙ ap (λ (row : List Terminal). length row) there in
-    ap (λ (at : ℕ). place_at row at) (number (length row) (length front + at) (length final) whole) ∙ place_here (length front + at) row closing final there
+place_closing at row others front final closing there split =
+    let last : drop (at + length front) row ≡ closing ∷ final =
+    sym (drop-drop (length front) at row) ∙ (ap (λ (row : List Terminal). drop (length front) row) (there ∙ split) ∙ drop_front front (closing ∷ final)) in
+    let whole : length row - (at + length front) ≡ suc (length final) = sym (length-drop (at + length front) row) ∙ ap (λ (row : List Terminal). length row) last in
+    ap (λ (at : ℕ). place_at row at) (number (length row) (at + length front) (length final) whole) ∙ place_here (at + length front) row closing final last
   where
     number : (whole at final : ℕ) → whole - at ≡ suc final → whole - final - 1 ≡ at
     number whole at final is = omega (arith, is)
@@ -116,17 +134,17 @@ body_closed : {B : Type 0} (inner : Level) → SoundLevel inner → (count at : 
     → drop at row ≡ others
     → then_read (read_until_brace inner.item count context others) (λ body levels last end. after_mark (codes "}") end outcome.Nothing (λ closing final. go body levels last closing.place final))
     ≡ then_read (over_brace (read_until_brace inner.item count) context others) (λ body levels last final. go body levels last (place_before row final) final)
-body_closed {B} inner is count at context row others go left = case (read_until_brace inner.item count context others) (sound_items inner count is context others)
+body_closed {B} inner is count at context row others go there = case (read_until_brace inner.item count context others) (sound_items inner count is context others)
   where
     over : (body : List Stmt) (levels : ℕ) (last : Context) (front end : List Terminal) → others ≡ front ++ end → (closing : Terminal) × (end ≡ closing ∷ behind_first end) × (is_mark (codes "}") closing ≡ true)
         → after_mark (codes "}") end outcome.Nothing (λ closing final. go body levels last closing.place final) ≡ go body levels last (place_before row (behind_first end)) (behind_first end)
     over body levels last front end split (closing, is, marks) =
-        let place : place_before row (behind_first end) ≡ closing.place = place_closing at row others front (behind_first end) closing left (split ∙ ap (λ (end : List Terminal). front ++ end) is) in
+        let place : place_before row (behind_first end) ≡ closing.place = place_closing at row others front (behind_first end) closing there (split ∙ ap (λ (end : List Terminal). front ++ end) is) in
         ap (λ (end : List Terminal). after_mark (codes "}") end outcome.Nothing (λ closing final. go body levels last closing.place final)) is
         ∙ (ap (λ (test : Bool). if test then go body levels last closing.place (behind_first end) else outcome.Nothing) marks
         ∙ ap (λ (place : Place). go body levels last place (behind_first end)) (sym place))
 
-    case : (found : Outcome (List Stmt)) → Sound _ _ inner.most context others found
+    case : (found : Outcome (List Stmt)) → Sound says_body (levels_of_all stmt_levels) inner.most context others found
         → then_read found (λ body levels last end. after_mark (codes "}") end outcome.Nothing (λ closing final. go body levels last closing.place final))
         ≡ then_read (behind_brace found) (λ body levels last final. go body levels last (place_before row final) final)
     case outcome.Nothing read = refl
@@ -155,25 +173,94 @@ still_block_items : {u v : State} (inner : Inner) → Still Nothing u v → Stil
 unfolding block_items
 still_block_items inner still = still_braces _ _ still
 
+still_function_body : {u v : State} (inner : Inner) (storage : Storage) (at : ℕ) → Still Nothing u v → Still Nothing u (function_body inner storage at v)
+unfolding function_body defined
+still_function_body inner storage at still =
+    still_write _ (still_leave (still_block_items inner (still_write _ (still_declare_around _ _ (still_mark _ still)))))
+
 -- the body of a function, with its braces
-body_agrees : {level : Level} {inner : Inner} {s u : State} {levels before : ℕ} {within : Context} (type : TypeSpec) (storage : Storage) (name : Terminal) (at : ℕ) (head : Declared) (row : List Terminal) → SoundLevel level → LevelAgrees level inner
-    → token_at s.row at ≡ name
+body_agrees : {level : Level} {inner : Inner} {s u : State} {levels before : ℕ} {within : Context} (type : TypeSpec) (storage : Storage) (name : Terminal) (at : ℕ) (head : Declared) (row : List Terminal) (deep : ℕ → ℕ) → SoundLevel level → LevelAgrees level inner
+    → token_at s.row at ≡ name → ((bodies : ℕ) → max levels bodies ≡ deep bodies)
     → Ended s u none (λ pieces. piece.Declarators (head ∷ []) ∷ (piece.Type type ∷ pieces)) s.levels levels before within row
     → Agreed none item_piece ends s.levels before
     (after_mark (codes "{") row outcome.Nothing (λ opening others.
     then_read (read_until_brace level.item (length others + 1) (in_body name.bytes (declares_typedef storage) within) others) (λ body bodies last end.
     after_mark (codes "}") end outcome.Nothing (λ closing final.
-    outcome.Read (item.Function type storage head body closing.place) (max levels bodies) (out_of last) final)))) s
+    outcome.Read (item.Function type storage head body closing.place) (deep bodies) (out_of last) final)))) s
     (function_body inner storage at u)
 unfolding function_body defined block_items
-body_agrees {level} {inner} {s} {u} {levels} {before} {within} type storage name at head row sound agrees named far =
+body_agrees {level} {inner} {s} {u} {levels} {before} {within} type storage name at head row deep sound agrees named total far =
     then_mark (codes "{") row _ far (still_write _ (still_leave (still_block_items inner (still_write _ (still_declare_around _ _ still_lost))))) (λ opening others is at_opening behind_opening.
     let t : State = declare_around at (declares_typedef storage) (mark (codes "{") u) in
     let inside = ended_declare_around at name.bytes (declares_typedef storage) (λ i. (named i).bytes) behind_opening in
     let there : drop t.at s.row ≡ others = ap (λ (row : List Terminal). drop t.at row) (sym inside.went.row) ∙ inside.left in
-    agreed_outcome (body_closed level sound (length others + 1) t.at (in_body name.bytes (declares_typedef storage) within) s.row others (λ body bodies last place final. outcome.Read (item.Function type storage head body place) (max levels bodies) (out_of last) final) there)
+    agreed_outcome (body_closed level sound (length others + 1) t.at (in_body name.bytes (declares_typedef storage) within) s.row others (λ body bodies last place final. outcome.Read (item.Function type storage head body place) (deep bodies) (out_of last) final) there)
     (then_ends (λ pieces. piece.Declarators (head ∷ []) ∷ (piece.Type type ∷ pieces)) (λ context row. over_brace (read_until_brace level.item (length row + 1)) context row) (λ t. until_brace (block_item inner) (write event.NoStatements t)) _ inside
     (until_brace_follows body_piece level.item (block_item inner) event.NoStatements (λ row count pieces. refl) (λ done. block_item_agrees agrees done)) (still_write _ (still_leave still_lost)) (λ body bodies last final further.
     let end = ended_leave further in
     let number = left_is end in
-    read_ends (ended_write (event.FunctionItem storage _) (λ pieces i. shop last.expressions (piece.Item (item.Function type storage head body (place_at s.row (number i - 1))) ∷ pieces)) end))))
+    read_ends (ended_levels (total bodies) (ended_write (event.FunctionItem storage _) (λ pieces i. shop last.expressions (piece.Item (item.Function type storage head body (place_at s.row (number i - 1))) ∷ pieces)) end)))))
+
+-- A function's definition.
+function_with_agrees : {level : Level} {inner : Inner} {s t : State} {more before : ℕ} {context : Context} (type : TypeSpec) (storage : Storage) (name : Terminal) (at stars : ℕ) (row : List Terminal) → SoundLevel level → LevelAgrees level inner
+    → token_at s.row at ≡ name
+    → Ended s t none (λ pieces. piece.Type type ∷ pieces) s.levels more before context row
+    → Agreed none item_piece ends s.levels before
+    (after_mark (codes "(") row outcome.Nothing (opened_then level context stars (λ head heads within end.
+    after_mark (codes "{") end outcome.Nothing (λ opening others.
+    then_read (read_until_brace level.item (length others + 1) (in_body head.name (declares_typedef storage) within) others) (λ body bodies last end.
+    after_mark (codes "}") end outcome.Nothing (λ closing final.
+    outcome.Read (item.Function type storage head.declared body closing.place) (max more (max heads bodies)) (out_of last) final)))) name)) s
+    (function_with inner storage at stars t)
+unfolding function_with
+function_with_agrees {level} {inner} {s} {t} {more} {before} {context} type storage name at stars row sound agrees is far =
+    then_mark (codes "(") row _ (ended_write event.NoDeclarators (λ pieces. refl) far) (still_function_body inner storage at (still_write _ (still_parameters inner still_lost))) (λ opening others opens at_opening behind_opening.
+    then_ends (λ pieces. piece.Declarators [] ∷ (piece.Type type ∷ pieces)) (read_parameters level) (parameters inner) _ behind_opening (parameters_agree agrees) (still_function_body inner storage at (still_write _ still_lost)) (λ params heads within end further.
+    body_agrees type storage name at (tree.function name stars params) end (λ bodies. max more (max heads bodies)) sound agrees is (λ bodies. omega arith)
+    (ended_write (event.Function at stars) (λ pieces i. shop within.expressions (piece.Declarators (tree.function (is i) stars params ∷ []) ∷ (piece.Type type ∷ pieces))) further)))
+
+still_function_behind : {u v : State} (inner : Inner) (storage : Storage) → Still Nothing u v → Still Nothing u (function_behind inner storage v)
+unfolding function_behind
+still_function_behind inner storage still = still_goes _ still
+
+function_behind_agrees : {level : Level} {inner : Inner} {s u : State} {more before : ℕ} {context : Context} (type : TypeSpec) (storage : Storage) (row : List Terminal) → SoundLevel level → LevelAgrees level inner
+    → Ended s u none (λ pieces. piece.Type type ∷ pieces) s.levels more before context row
+    → Agreed none item_piece ends s.levels before
+    (then_read (read_head level context row) (λ head heads within end.
+    after_mark (codes "{") end outcome.Nothing (λ opening others.
+    then_read (read_until_brace level.item (length others + 1) (in_body head.name (declares_typedef storage) within) others) (λ body bodies last end.
+    after_mark (codes "}") end outcome.Nothing (λ closing final.
+    outcome.Read (item.Function type storage head.declared body closing.place) (max more (max heads bodies)) (out_of last) final))))) s
+    (function_behind inner storage u)
+unfolding function_behind
+function_behind_agrees {level} {inner} {s} {u} {more} {before} {context} type storage row sound agrees far =
+    agreed_outcome (head_then level context row _)
+    (agreed_goes u u far.status
+    (agreed_at (ap (λ (row : List Terminal). function_named inner storage (star_count row) (skipped (star_count row) u)) far.left)
+    (if_first is_name (behind_stars row) _ _ (ended_stars far)
+    (λ none. lost_here (ended_stars far) still_lost)
+    (λ name others named at_name behind_name.
+    function_with_agrees type storage name _ (star_count row) others sound agrees (ended_token at_name) behind_name))))
+
+function_agrees : {level : Level} {inner : Inner} → SoundLevel level → LevelAgrees level inner → Follows item_piece ends (read_function level) (function inner)
+unfolding read_function function
+function_agrees {level} {inner} sound agrees s before is =
+    then_specifiers (rest s) _ agrees (ended_part s none before is) (still_function_behind inner _ still_lost) (λ type storage more behind others same far.
+    agreed_at (ap (λ (storage : Storage). function_behind inner storage (specifiers inner s)) same)
+    (function_behind_agrees type storage others sound agrees (ended_levels (omega arith) far)))
+
+-- a declaration, or a function, or nothing but a `;`
+declares : {level : Level} {inner : Inner} → LevelAgrees level inner → Follows declaration_piece ends (read_declaration level) (declaration inner)
+declares agrees s before is = as_ends _ (declaration_agrees agrees s before is)
+
+pub external_agrees : {level : Level} {inner : Inner} → SoundLevel level → LevelAgrees level inner → Follows item_piece ends (read_external level) (external inner)
+unfolding read_external external
+external_agrees {level} {inner} sound agrees s before is =
+    let far = ended_part s none before is in
+    agreed_goes s s is.status
+    (if_behind (is_mark (codes ";")) (rest s) (λ others. outcome.Read item.Empty 0 (context_of s before) others) _ far
+    (λ some. agreed_test (ends_with_brace (rest s)) (ends_with_brace (rest s)) _ _ refl
+    (λ brace. function_agrees sound agrees s before is)
+    (λ plain. then_ends none (read_declaration level) (declaration inner) _ far (declares agrees) (still_write _ still_lost) (λ decl levels behind others further.
+    read_ends (ended_levels (omega arith) (ended_write event.DeclareItem (λ pieces. refl) further)))))
+    (λ semicolon others is at_semicolon behind_semicolon. read_ends (ended_write event.EmptyItem (λ pieces. refl) behind_semicolon)))
