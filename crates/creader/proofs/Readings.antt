@@ -1,5 +1,5 @@
 -- The levels of the reader, one by one.
-use Rattle.std.proofs.Common.{◌≡◌, ℕ, zero, suc, ◌+◌, ◌-◌, ◌<◌, refl, sym, ap, ◌∙◌, arith, add-one}
+use Rattle.std.proofs.Common.{◌≡◌, ℕ, ◌+◌, ◌-◌, ◌<◌, ap, ◌∙◌, arith, add-one}
 use Rattle.creader.specs.ReadingSteps.{reads, reads_with, inner_at}
 use Rattle.creader.specs.State.{State, lost}
 use Rattle.creader.specs.declared.wanted.Wanted.{Wanted}

@@ -1,5 +1,5 @@
 -- The storage class where nothing is read.
-use Rattle.std.proofs.Common.{◌≡◌, ℕ, Bool, true, false, if◌then◌else◌, Option, Some, None, refl, sym, ap, ◌∙◌}
+use Rattle.std.proofs.Common.{◌≡◌, Bool, true, false, if◌then◌else◌, Option, Some, None, refl, ap, ◌∙◌}
 use Rattle.cbase.specs.declared.tree.decl.Storage.{Storage}
 use Rattle.cgrammar.specs.ReadDeclarations.{storage_at}
 use Rattle.creader.specs.DeclarationSteps.{storage_read, storage_with, storage_or_plain}

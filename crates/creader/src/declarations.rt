@@ -8,9 +8,8 @@ ghost use Rattle.creader.specs.DeclarationSteps.{declaration_of_none, declaratio
 use crate::grammar::Grammar;
 use crate::reader::Reader;
 use crate::wanted::Wanted;
-use cbase::NoMemory;
+use cbase::{NoMemory, Storage};
 use cbuild::Event;
-use cbase::Storage;
 
 impl<'a> Reader<'a> {
     /// Reads the `;` of a declaration of no names.
@@ -27,7 +26,11 @@ impl<'a> Reader<'a> {
 
 impl<F: Fn(&mut Reader<'_>, u32, Wanted) -> Result<(), NoMemory>> Grammar<F> {
     /// Reads the names of a declaration, and its `;`.
-    fn declaration_of_names(&self, reader: &mut Reader<'_>, storage: Storage) -> Result<(), NoMemory>
+    fn declaration_of_names(
+        &self,
+        reader: &mut Reader<'_>,
+        storage: Storage,
+    ) -> Result<(), NoMemory>
         requires { Nests self.now.depth (F.pre self.now.inner) (F.post self.now.inner) }
         ensures { OnOk result (reader.new ≡ declaration_of_names (inner_at self.now.depth) storage reader.old) }
     {

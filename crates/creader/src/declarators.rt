@@ -12,7 +12,13 @@ use cbuild::Event;
 
 impl<F: Fn(&mut Reader<'_>, u32, Wanted) -> Result<(), NoMemory>> Grammar<F> {
     /// Reads an object from behind its `=` on. Its name is in scope before that.
-    fn object_initialized(&self, reader: &mut Reader<'_>, typedef: bool, at: usize, stars: usize) -> Result<(), NoMemory>
+    fn object_initialized(
+        &self,
+        reader: &mut Reader<'_>,
+        typedef: bool,
+        at: usize,
+        stars: usize,
+    ) -> Result<(), NoMemory>
         requires { Nests self.now.depth (F.pre self.now.inner) (F.post self.now.inner) }
         ensures { OnOk result (reader.new ≡ object_initialized (inner_at self.now.depth) typedef at stars reader.old) }
     {
@@ -23,7 +29,13 @@ impl<F: Fn(&mut Reader<'_>, u32, Wanted) -> Result<(), NoMemory>> Grammar<F> {
 
     /// Reads what stands behind the sizes of an object: its initialiser, or nothing.
     #[tactic(auto, unfolding(crate::specs::DeclarationSteps::object_behind))]
-    fn object_behind(&self, reader: &mut Reader<'_>, typedef: bool, at: usize, stars: usize) -> Result<(), NoMemory>
+    fn object_behind(
+        &self,
+        reader: &mut Reader<'_>,
+        typedef: bool,
+        at: usize,
+        stars: usize,
+    ) -> Result<(), NoMemory>
         requires { Nests self.now.depth (F.pre self.now.inner) (F.post self.now.inner) }
         ensures { OnOk result (reader.new ≡ object_behind (inner_at self.now.depth) typedef at stars reader.old) }
     {
@@ -39,7 +51,13 @@ impl<F: Fn(&mut Reader<'_>, u32, Wanted) -> Result<(), NoMemory>> Grammar<F> {
     }
 
     /// Reads a function from behind its `(` on (C11 6.7.6.3).
-    fn function_behind(&self, reader: &mut Reader<'_>, typedef: bool, at: usize, stars: usize) -> Result<(), NoMemory>
+    fn function_behind(
+        &self,
+        reader: &mut Reader<'_>,
+        typedef: bool,
+        at: usize,
+        stars: usize,
+    ) -> Result<(), NoMemory>
         requires { Nests self.now.depth (F.pre self.now.inner) (F.post self.now.inner) }
         ensures { OnOk result (reader.new ≡ function_behind (inner_at self.now.depth) typedef at stars reader.old) }
     {
@@ -51,7 +69,13 @@ impl<F: Fn(&mut Reader<'_>, u32, Wanted) -> Result<(), NoMemory>> Grammar<F> {
 
     /// Reads a declarator from behind its name on: a function, or an object (C11 6.7.6).
     #[tactic(auto, unfolding(crate::specs::DeclarationSteps::declarator_behind))]
-    fn declarator_behind(&self, reader: &mut Reader<'_>, typedef: bool, at: usize, stars: usize) -> Result<(), NoMemory>
+    fn declarator_behind(
+        &self,
+        reader: &mut Reader<'_>,
+        typedef: bool,
+        at: usize,
+        stars: usize,
+    ) -> Result<(), NoMemory>
         requires { Nests self.now.depth (F.pre self.now.inner) (F.post self.now.inner) }
         ensures { OnOk result (reader.new ≡ declarator_behind (inner_at self.now.depth) typedef at stars reader.old) }
     {
@@ -64,7 +88,12 @@ impl<F: Fn(&mut Reader<'_>, u32, Wanted) -> Result<(), NoMemory>> Grammar<F> {
     }
 
     /// Reads a declarator from its name on.
-    fn declarator_named(&self, reader: &mut Reader<'_>, typedef: bool, stars: usize) -> Result<(), NoMemory>
+    fn declarator_named(
+        &self,
+        reader: &mut Reader<'_>,
+        typedef: bool,
+        stars: usize,
+    ) -> Result<(), NoMemory>
         requires { Nests self.now.depth (F.pre self.now.inner) (F.post self.now.inner) }
         ensures { OnOk result (reader.new ≡ declarator_named (inner_at self.now.depth) typedef stars reader.old) }
     {

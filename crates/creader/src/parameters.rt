@@ -27,7 +27,12 @@ impl<'a> Reader<'a> {
 
 impl<F: Fn(&mut Reader<'_>, u32, Wanted) -> Result<(), NoMemory>> Grammar<F> {
     /// Reads a parameter from behind its name on.
-    fn known_parameter(&self, reader: &mut Reader<'_>, at: usize, stars: usize) -> Result<(), NoMemory>
+    fn known_parameter(
+        &self,
+        reader: &mut Reader<'_>,
+        at: usize,
+        stars: usize,
+    ) -> Result<(), NoMemory>
         requires { Nests self.now.depth (F.pre self.now.inner) (F.post self.now.inner) }
         ensures { OnOk result (reader.new ≡ known_parameter (inner_at self.now.depth) at stars reader.old) }
     {

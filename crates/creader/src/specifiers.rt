@@ -8,8 +8,7 @@ ghost use Rattle.creader.specs.DeclarationSteps.{over_storage, specifiers_with, 
 use crate::grammar::Grammar;
 use crate::reader::Reader;
 use crate::wanted::Wanted;
-use cbase::NoMemory;
-use cbase::Storage;
+use cbase::{NoMemory, Storage};
 
 impl<'a> Reader<'a> {
     /// The storage class of the word that stands there (C11 6.7.1).

@@ -7,9 +7,8 @@ ghost use Rattle.creader.specs.TypeSteps.{begins_so, named, type_of_type, type_o
 use crate::grammar::Grammar;
 use crate::reader::Reader;
 use crate::wanted::Wanted;
-use cbase::NoMemory;
+use cbase::{BasicType, NoMemory};
 use cbuild::Event;
-use cbase::BasicType;
 use cgrammar::{TypeStart, read_basic_words, type_start};
 
 impl<'a> Reader<'a> {
