@@ -30,7 +30,7 @@ use Rattle.cgrammar.specs.Terminals.{Terminal, is_mark, is_name}
 use Rattle.cgrammar.specs.Trees as tree
 use Rattle.cgrammar.specs.TypeWords.{declares_typedef}
 use Rattle.creader.specs.DeclarationSteps.{specifiers, parameters, declaration}
-use Rattle.creader.specs.ItemSteps.{declare_around, defined, function_body, function_with, function_named, function_behind, function, ends_with_brace, external}
+use Rattle.creader.specs.ItemSteps.{declare_around, defined, definition_inside, definition_body, definition_with, definition_named, definition_behind, definition, ends_with_brace, external}
 use Rattle.creader.specs.State.{State, rest, with_scope, skipped}
 use Rattle.creader.specs.StatementSteps.{block_item, block_items}
 use Rattle.creader.specs.Steps.{Inner, write, mark, leave, until_brace}
@@ -173,9 +173,9 @@ still_block_items : {u v : State} (inner : Inner) → Still Nothing u v → Stil
 unfolding block_items
 still_block_items inner still = still_braces _ _ still
 
-still_function_body : {u v : State} (inner : Inner) (storage : Storage) (at : ℕ) → Still Nothing u v → Still Nothing u (function_body inner storage at v)
-unfolding function_body defined
-still_function_body inner storage at still =
+still_definition_body : {u v : State} (inner : Inner) (storage : Storage) (at : ℕ) → Still Nothing u v → Still Nothing u (definition_body inner storage at v)
+unfolding definition_body definition_inside defined
+still_definition_body inner storage at still =
     still_write _ (still_leave (still_block_items inner (still_write _ (still_declare_around _ _ (still_mark _ still)))))
 
 -- the body of a function, with its braces
@@ -187,8 +187,8 @@ body_agrees : {level : Level} {inner : Inner} {s u : State} {levels before : ℕ
     then_read (read_until_brace level.item (length others + 1) (in_body name.bytes (declares_typedef storage) within) others) (λ body bodies last end.
     after_mark (codes "}") end outcome.Nothing (λ closing final.
     outcome.Read (item.Function type storage head body closing.place) (deep bodies) (out_of last) final)))) s
-    (function_body inner storage at u)
-unfolding function_body defined block_items
+    (definition_body inner storage at u)
+unfolding definition_body definition_inside defined block_items
 body_agrees {level} {inner} {s} {u} {levels} {before} {within} type storage name at head row deep sound agrees named total far =
     then_mark (codes "{") row _ far (still_write _ (still_leave (still_block_items inner (still_write _ (still_declare_around _ _ still_lost))))) (λ opening others is at_opening behind_opening.
     let t : State = declare_around at (declares_typedef storage) (mark (codes "{") u) in
@@ -202,7 +202,7 @@ body_agrees {level} {inner} {s} {u} {levels} {before} {within} type storage name
     read_ends (ended_levels (total bodies) (ended_write (event.FunctionItem storage _) (λ pieces i. shop last.expressions (piece.Item (item.Function type storage head body (place_at s.row (number i - 1))) ∷ pieces)) end)))))
 
 -- A function's definition.
-function_with_agrees : {level : Level} {inner : Inner} {s t : State} {more before : ℕ} {context : Context} (type : TypeSpec) (storage : Storage) (name : Terminal) (at stars : ℕ) (row : List Terminal) → SoundLevel level → LevelAgrees level inner
+definition_with_agrees : {level : Level} {inner : Inner} {s t : State} {more before : ℕ} {context : Context} (type : TypeSpec) (storage : Storage) (name : Terminal) (at stars : ℕ) (row : List Terminal) → SoundLevel level → LevelAgrees level inner
     → token_at s.row at ≡ name
     → Ended s t none (λ pieces. piece.Type type ∷ pieces) s.levels more before context row
     → Agreed none item_piece ends s.levels before
@@ -211,19 +211,19 @@ function_with_agrees : {level : Level} {inner : Inner} {s t : State} {more befor
     then_read (read_until_brace level.item (length others + 1) (in_body head.name (declares_typedef storage) within) others) (λ body bodies last end.
     after_mark (codes "}") end outcome.Nothing (λ closing final.
     outcome.Read (item.Function type storage head.declared body closing.place) (max more (max heads bodies)) (out_of last) final)))) name)) s
-    (function_with inner storage at stars t)
-unfolding function_with
-function_with_agrees {level} {inner} {s} {t} {more} {before} {context} type storage name at stars row sound agrees is far =
-    then_mark (codes "(") row _ (ended_write event.NoDeclarators (λ pieces. refl) far) (still_function_body inner storage at (still_write _ (still_parameters inner still_lost))) (λ opening others opens at_opening behind_opening.
-    then_ends (λ pieces. piece.Declarators [] ∷ (piece.Type type ∷ pieces)) (read_parameters level) (parameters inner) _ behind_opening (parameters_agree agrees) (still_function_body inner storage at (still_write _ still_lost)) (λ params heads within end further.
+    (definition_with inner storage at stars t)
+unfolding definition_with
+definition_with_agrees {level} {inner} {s} {t} {more} {before} {context} type storage name at stars row sound agrees is far =
+    then_mark (codes "(") row _ (ended_write event.NoDeclarators (λ pieces. refl) far) (still_definition_body inner storage at (still_write _ (still_parameters inner still_lost))) (λ opening others opens at_opening behind_opening.
+    then_ends (λ pieces. piece.Declarators [] ∷ (piece.Type type ∷ pieces)) (read_parameters level) (parameters inner) _ behind_opening (parameters_agree agrees) (still_definition_body inner storage at (still_write _ still_lost)) (λ params heads within end further.
     body_agrees type storage name at (tree.function name stars params) end (λ bodies. max more (max heads bodies)) sound agrees is (λ bodies. omega arith)
     (ended_write (event.Function at stars) (λ pieces i. shop within.expressions (piece.Declarators (tree.function (is i) stars params ∷ []) ∷ (piece.Type type ∷ pieces))) further)))
 
-still_function_behind : {u v : State} (inner : Inner) (storage : Storage) → Still Nothing u v → Still Nothing u (function_behind inner storage v)
-unfolding function_behind
-still_function_behind inner storage still = still_goes _ still
+still_definition_behind : {u v : State} (inner : Inner) (storage : Storage) → Still Nothing u v → Still Nothing u (definition_behind inner storage v)
+unfolding definition_behind
+still_definition_behind inner storage still = still_goes _ still
 
-function_behind_agrees : {level : Level} {inner : Inner} {s u : State} {more before : ℕ} {context : Context} (type : TypeSpec) (storage : Storage) (row : List Terminal) → SoundLevel level → LevelAgrees level inner
+definition_behind_agrees : {level : Level} {inner : Inner} {s u : State} {more before : ℕ} {context : Context} (type : TypeSpec) (storage : Storage) (row : List Terminal) → SoundLevel level → LevelAgrees level inner
     → Ended s u none (λ pieces. piece.Type type ∷ pieces) s.levels more before context row
     → Agreed none item_piece ends s.levels before
     (then_read (read_head level context row) (λ head heads within end.
@@ -231,23 +231,23 @@ function_behind_agrees : {level : Level} {inner : Inner} {s u : State} {more bef
     then_read (read_until_brace level.item (length others + 1) (in_body head.name (declares_typedef storage) within) others) (λ body bodies last end.
     after_mark (codes "}") end outcome.Nothing (λ closing final.
     outcome.Read (item.Function type storage head.declared body closing.place) (max more (max heads bodies)) (out_of last) final))))) s
-    (function_behind inner storage u)
-unfolding function_behind
-function_behind_agrees {level} {inner} {s} {u} {more} {before} {context} type storage row sound agrees far =
+    (definition_behind inner storage u)
+unfolding definition_behind
+definition_behind_agrees {level} {inner} {s} {u} {more} {before} {context} type storage row sound agrees far =
     agreed_outcome (head_then level context row _)
     (agreed_goes u u far.status
-    (agreed_at (ap (λ (row : List Terminal). function_named inner storage (star_count row) (skipped (star_count row) u)) far.left)
+    (agreed_at (ap (λ (row : List Terminal). definition_named inner storage (star_count row) (skipped (star_count row) u)) far.left)
     (if_first is_name (behind_stars row) _ _ (ended_stars far)
     (λ none. lost_here (ended_stars far) still_lost)
     (λ name others named at_name behind_name.
-    function_with_agrees type storage name _ (star_count row) others sound agrees (ended_token at_name) behind_name))))
+    definition_with_agrees type storage name _ (star_count row) others sound agrees (ended_token at_name) behind_name))))
 
-function_agrees : {level : Level} {inner : Inner} → SoundLevel level → LevelAgrees level inner → Follows item_piece ends (read_function level) (function inner)
-unfolding read_function function
-function_agrees {level} {inner} sound agrees s before is =
-    then_specifiers (rest s) _ agrees (ended_part s none before is) (still_function_behind inner _ still_lost) (λ type storage more behind others same far.
-    agreed_at (ap (λ (storage : Storage). function_behind inner storage (specifiers inner s)) same)
-    (function_behind_agrees type storage others sound agrees (ended_levels (omega arith) far)))
+definition_agrees : {level : Level} {inner : Inner} → SoundLevel level → LevelAgrees level inner → Follows item_piece ends (read_function level) (definition inner)
+unfolding read_function definition
+definition_agrees {level} {inner} sound agrees s before is =
+    then_specifiers (rest s) _ agrees (ended_part s none before is) (still_definition_behind inner _ still_lost) (λ type storage more behind others same far.
+    agreed_at (ap (λ (storage : Storage). definition_behind inner storage (specifiers inner s)) same)
+    (definition_behind_agrees type storage others sound agrees (ended_levels (omega arith) far)))
 
 -- a declaration, or a function, or nothing but a `;`
 declares : {level : Level} {inner : Inner} → LevelAgrees level inner → Follows declaration_piece ends (read_declaration level) (declaration inner)
@@ -260,7 +260,7 @@ external_agrees {level} {inner} sound agrees s before is =
     agreed_goes s s is.status
     (if_behind (is_mark (codes ";")) (rest s) (λ others. outcome.Read item.Empty 0 (context_of s before) others) _ far
     (λ some. agreed_test (ends_with_brace (rest s)) (ends_with_brace (rest s)) _ _ refl
-    (λ brace. function_agrees sound agrees s before is)
+    (λ brace. definition_agrees sound agrees s before is)
     (λ plain. then_ends none (read_declaration level) (declaration inner) _ far (declares agrees) (still_write _ still_lost) (λ decl levels behind others further.
     read_ends (ended_levels (omega arith) (ended_write event.DeclareItem (λ pieces. refl) further)))))
     (λ semicolon others is at_semicolon behind_semicolon. read_ends (ended_write event.EmptyItem (λ pieces. refl) behind_semicolon)))

@@ -1,4 +1,5 @@
 pub mod Fronts
+pub mod LastBraces
 pub mod LabelRows
 pub mod Matching
 pub mod Opening

@@ -3,7 +3,7 @@ use Rattle.std.specs.Prelude.{ℕ, Bool, false, not, List, []}
 use Rattle.cbuild.specs.declared.event.Event.{Event}
 use Rattle.cgrammar.specs.Scope.{Names}
 use Rattle.cgrammar.specs.Terminals.{Terminal}
-use Rattle.creader.specs.State.{State, is_nothing}
+use Rattle.creader.specs.State.{State, goes, is_nothing}
 use Rattle.creader.specs.declared.status.Status.TheVariants.{Going}
 
 -- whether a tree is read, how many tokens it takes, and its events
@@ -14,6 +14,15 @@ pub record Writing : Type 0 where
 
 abbrev pub written_of : State → Writing
 written_of s = record { found = not (is_nothing s.status); at = s.at; events = s.events }
+
+-- whether a whole row is an item, its events, and the names in scope behind it
+pub record ItemWriting : Type 0 where
+  pub found : Bool
+  pub events : List Event
+  pub scope : List Names
+
+abbrev pub item_written_of : State → ItemWriting
+item_written_of s = record { found = goes s; events = s.events; scope = s.scope }
 
 -- at the front of a row, with names in scope
 abbrev pub start_of : List Terminal → List Names → State

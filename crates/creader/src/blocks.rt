@@ -23,7 +23,7 @@ impl<F: Fn(&mut Reader<'_>, u32, Wanted) -> Result<(), NoMemory>> Grammar<F> {
 
     /// Reads what stands in a block, and its `}`.
     #[tactic(auto, unfolding(crate::specs::StatementSteps::block_items))]
-    fn block_items(&self, reader: &mut Reader<'_>) -> Result<(), NoMemory>
+    pub fn block_items(&self, reader: &mut Reader<'_>) -> Result<(), NoMemory>
         requires { Nests self.now.depth (F.pre self.now.inner) (F.post self.now.inner) }
         ensures { OnOk result (reader.new ≡ block_items (inner_at self.now.depth) reader.old) }
     {

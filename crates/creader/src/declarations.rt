@@ -67,7 +67,7 @@ impl<F: Fn(&mut Reader<'_>, u32, Wanted) -> Result<(), NoMemory>> Grammar<F> {
 }
 
 /// Whether a declaration with that storage word declares typedefs.
-fn declares_typedef(storage: Storage) -> bool
+pub(crate) fn declares_typedef(storage: Storage) -> bool
     ensures { result ≡ declares_typedef storage }
 {
     matches!(storage, Storage::Typedef)

@@ -1,7 +1,8 @@
 ghost use Rattle.std.specs.Prelude.{◌≡◌, IfOk, OnOk};
 ghost use Rattle.creader.specs.ReadingSteps.{inner_at, reads};
 ghost use Rattle.creader.specs.StatementSteps.{block};
-ghost use Rattle.creader.specs.Writings.{most_levels, start_of, written_of};
+ghost use Rattle.creader.specs.ItemSteps.{item_alone};
+ghost use Rattle.creader.specs.Writings.{item_written_of, most_levels, start_of, written_of};
 ghost use Rattle.creader.specs.declared.wanted.Wanted.TheVariants.{Expression};
 
 use crate::grammar::Grammar;
@@ -9,6 +10,7 @@ use crate::reader::Reader;
 use crate::status::Status;
 use crate::wanted::Wanted;
 use crate::written::Written;
+use crate::written_item::WrittenItem;
 use cbase::NoMemory;
 use cgrammar::{Scope, Terminal};
 use std::alloc::Global;
@@ -62,7 +64,52 @@ pub fn read_block<'a>(
     Ok(reader.into_written())
 }
 
+/// Reads the whole row as an item of a file, where these names are in scope before it (C11 6.9). The scope goes on: it is
+/// given back as it is behind the item.
+pub fn read_item<'a>(
+    alloc: Global,
+    row: &'a [Terminal<'a>],
+    scope: Scope,
+) -> Result<WrittenItem, NoMemory>
+    ensures { IfOk result (λ written. written ≡ item_written_of (item_alone (inner_at most_levels) (start_of row.now scope))) }
+{
+    let mut reader = Reader::over(alloc, row, scope);
+    let grammar = Grammar {
+        depth: MOST_LEVELS,
+        inner: read,
+    };
+    grammar.item_alone(&mut reader)?;
+    Ok(reader.into_item())
+}
+
 impl<'a> Reader<'a> {
+    /// A reader at the front of the row, where these names are in scope.
+    fn over(alloc: Global, row: &'a [Terminal<'a>], scope: Scope) -> Reader<'a>
+        ensures { result ≡ start_of row.now scope }
+    {
+        Reader {
+            alloc,
+            row,
+            at: 0,
+            status: Status::Going,
+            levels: 0,
+            unary: false,
+            scope,
+            events: Vec::new(alloc),
+        }
+    }
+
+    /// What is written of an item in the end, and the names in scope behind it.
+    fn into_item(self) -> WrittenItem
+        ensures { result ≡ item_written_of self.entry }
+    {
+        WrittenItem {
+            found: matches!(self.status, Status::Going),
+            events: self.events,
+            scope: self.scope,
+        }
+    }
+
     /// A reader at the front of the row.
     pub fn new(
         alloc: Global,
@@ -71,16 +118,8 @@ impl<'a> Reader<'a> {
     ) -> Result<Reader<'a>, NoMemory>
         ensures { IfOk result (λ reader. reader ≡ start_of row.now scope.now) }
     {
-        Ok(Reader {
-            alloc,
-            row,
-            at: 0,
-            status: Status::Going,
-            levels: 0,
-            unary: false,
-            scope: scope.copied(alloc)?,
-            events: Vec::new(alloc),
-        })
+        let copied = scope.copied(alloc)?;
+        Ok(Reader::over(alloc, row, copied))
     }
 
     /// What is written in the end.
