@@ -4,5 +4,6 @@ pub mod TextItemsRead
 pub mod ItemRowsRead
 pub mod AgreedItems
 pub mod ReadRows
+pub mod FoundItems
 pub mod Refusals
-pub mod Needed
+pub mod NeededItems

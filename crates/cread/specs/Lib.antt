@@ -4,4 +4,5 @@ pub mod ReadItem
 pub mod TextItems
 pub mod ItemRows
 pub mod Answers
+pub mod RowItems
 pub mod Needed
