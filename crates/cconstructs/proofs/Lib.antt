@@ -1,0 +1,13 @@
+pub mod Attributes
+pub mod Between
+pub mod PassedBrackets
+pub mod First
+pub mod Guarded
+pub mod Guards
+pub mod LayoutExact
+pub mod Least
+pub mod Matched
+pub mod Numbers
+pub mod Pointers
+pub mod Steps
+pub mod WholeText

@@ -2,7 +2,7 @@
 -- it is given up: 1 goto, 2 switch, 3 union, 4 floating types, 5 variable arguments, 6 inline assembly, 8 complex
 -- types, 9 thread-local objects, 10 string literals, 20 function pointers. The row is that of an item, less the tokens
 -- that are passed over.
-use Rattle.std.specs.Prelude.{◌≡◌, ℕ, suc, ◌+◌, ◌<◌, Bool, false, not, ◌||◌, IsTrue, List, [], ◌∷◌, Option, Some, length, drop, slice_get, codes}
+use Rattle.std.specs.Prelude.{◌≡◌, ℕ, suc, ◌+◌, ◌<◌, Bool, false, not, ◌||◌, IsTrue, List, [], ◌∷◌, Some, length, drop, slice_get, codes}
 use Rattle.std.specs.List.{starts_with}
 use Rattle.std.specs.Prelude.{nat_eq}
 use Rattle.ctokens.specs.declared.token.TokenKind.TheVariants.{Number, Quoted}
@@ -22,10 +22,10 @@ word_rows =
 pub record IsAsserted (row : List Terminal) (at : ℕ) : Type 0 where
   pub start : ℕ
   pub word : Terminal
-  pub is_word : slice_get row start ≡ Some word
+  pub first : slice_get row start ≡ Some word
   pub asserts : IsWord (codes "__assert_fail") word
   pub opening : Terminal
-  pub is_opening : slice_get row (start + 1) ≡ Some opening
+  pub second : slice_get row (start + 1) ≡ Some opening
   pub opens : IsMark (codes "(") opening
   pub others : List Terminal
   pub matched : behind_matched (41 ∷ []) (drop (start + 2) row) ≡ Some others

@@ -4,10 +4,9 @@
 use Rattle.std.specs.Prelude.{◌≡◌, ℕ, zero, suc, ◌+◌, ◌-◌, ◌<◌, ◌≤◌, nat_eq, Bool, true, false, ◌&&◌, ◌||◌, not, IsTrue, if◌then◌else◌, List, [], ◌∷◌, ◌++◌, Option, None, Some, drop, take, map, slice_get, codes}
 use Rattle.std.specs.List.{list_any}
 use Rattle.std.specs.Str.{bytes_eq}
-use Rattle.ctokens.specs.Passed.{depth_after}
-use Rattle.ctokens.specs.Symbol.{symbol_of, is_attribute, is_opening}
 use Rattle.ctokens.specs.declared.token.Tokens.{Tokens}
 use Rattle.cgrammar.specs.Readings.{row_between}
+use Rattle.cconstructs.specs.declared.part.Part.{Part}
 use Rattle.cgrammar.specs.Terminals.{Terminal, terminal_of, is_any_word, is_mark, is_word, IsName, IsMark, IsWord}
 
 -- the names of attributes that say how something is laid out, each also with `__` on both sides
@@ -23,21 +22,42 @@ is_layout_name token = is_any_word token && (list_any (bytes_eq token.bytes) lay
 abbrev pub separates : Terminal → Bool
 separates token = is_mark (codes "(") token || is_mark (codes ",") token
 
-abbrev pub one_later : Option ℕ → Option ℕ
-one_later None = None
-one_later (Some at) = Some (at + 1)
+-- brackets of the three kinds together
+abbrev pub opens : Terminal → Bool
+opens token = is_mark (codes "(") token || (is_mark (codes "[") token || is_mark (codes "{") token)
 
--- The first layout attribute of a row of tokens: its name stands at depth 2 of an attribute's brackets, directly behind a
--- `(` or a `,`. `behind` says whether an attribute's word stands directly before, `unclosed` how many brackets of its part
--- are open, and `separated` whether a `(` or a `,` stands directly before.
-abbrev pub attribute_at : Bool → ℕ → Bool → List Terminal → Option ℕ
-attribute_at behind unclosed separated [] = None
-attribute_at behind zero separated (token ∷ others) =
-    if behind && is_opening (symbol_of token.kind token.bytes) then one_later (attribute_at false 1 true others)
-    else one_later (attribute_at (is_attribute (symbol_of token.kind token.bytes)) 0 false others)
-attribute_at behind (suc unclosed) separated (token ∷ others) =
-    if nat_eq (suc unclosed) 2 && (separated && is_layout_name token) then Some 0
-    else one_later (attribute_at false (depth_after (suc unclosed) (symbol_of token.kind token.bytes)) (separates token) others)
+abbrev pub closes : Terminal → Bool
+closes token = is_mark (codes ")") token || (is_mark (codes "]") token || is_mark (codes "}") token)
+
+-- how many are open behind a token, where so many were open before it
+abbrev pub unclosed_behind : ℕ → Terminal → ℕ
+unclosed_behind unclosed token = if opens token then unclosed + 1 else (if closes token then unclosed - 1 else unclosed)
+
+-- the word of an attribute
+abbrev pub is_attribute : Terminal → Bool
+is_attribute token = is_word (codes "__attribute__") token || is_word (codes "__attribute") token
+
+-- outside of an attribute's part; `behind` says whether an attribute's word stands directly before
+abbrev pub outside : Bool → Part
+outside behind = record { behind = behind; unclosed = 0; separated = false }
+
+-- in an attribute's part, of which so many brackets are open; `separated` says whether a `(` or a `,` stands directly before
+abbrev pub within : ℕ → Bool → Part
+within unclosed separated = record { behind = false; unclosed = unclosed; separated = separated }
+
+-- a layout attribute's name: at depth 2, directly behind a `(` or a `,`
+abbrev pub shows_layout : Part → Terminal → Bool
+shows_layout part token = nat_eq part.unclosed 2 && (part.separated && is_layout_name token)
+
+abbrev pub part_behind : Bool → ℕ → Terminal → Part
+part_behind behind zero token = if behind && opens token then within 1 true else outside (is_attribute token)
+part_behind behind (suc unclosed) token = within (unclosed_behind (suc unclosed) token) (separates token)
+
+-- the number of the first name of a layout attribute in a row of tokens, of which the first has the number `at`
+unfoldable pub attribute_from : ℕ → Part → List Terminal → Option ℕ
+attribute_from at part [] = None
+attribute_from at part (token ∷ others) =
+    if shows_layout part token then Some at else attribute_from (at + 1) (part_behind part.behind part.unclosed token) others
 
 -- the tokens from one number up to another, passed over or not
 abbrev pub tokens_between : Tokens → ℕ → ℕ → List Terminal
@@ -52,8 +72,8 @@ pub data IsStructWithMembers : List Terminal → Type 0 where
 
 -- the token with the number shows a changed layout, in the item from one token up to another
 pub data IsLayoutAt (t : Tokens) (from to : ℕ) : ℕ → Type 0 where
-  ByAttribute : {at : ℕ} → attribute_at false 0 false (tokens_between t from to) ≡ Some at → IsLayoutAt t from to (from + at)
-  ByPragma : {at line : ℕ} (word : Terminal) → slice_get (row_between t from to) at ≡ Some word → IsStructWithMembers (drop at (row_between t from to))
+  ByAttribute : (number : ℕ) → attribute_from from (outside false) (tokens_between t from to) ≡ Some number → IsLayoutAt t from to number
+  ByPragma : (at line : ℕ) (word : Terminal) → slice_get (row_between t from to) at ≡ Some word → IsStructWithMembers (drop at (row_between t from to))
       → slice_get t.packs 0 ≡ Some line → line ≤ word.place.at → IsLayoutAt t from to word.place.at
 
 -- the first of them, and none

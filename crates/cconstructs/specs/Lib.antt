@@ -1,2 +1,5 @@
 pub mod Constructs
 pub mod Layout
+pub mod Closers
+pub mod Finding
+pub mod LayoutFinding

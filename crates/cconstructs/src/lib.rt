@@ -2,3 +2,21 @@
 //!
 //! It looks at tokens alone, whether the grammar spells the item or not.
 #![tactic(auto)]
+
+mod before;
+mod closers;
+mod constructs;
+mod found;
+mod laws;
+mod layout;
+mod number;
+mod packed;
+mod part;
+
+pub use constructs::first_construct;
+pub use found::Found;
+pub use laws::attributes_are_those_passed_over;
+pub use layout::first_layout;
+
+#[cfg(test)]
+mod tests;

@@ -3,4 +3,4 @@ pub mod Sound
 pub mod TextItemsRead
 pub mod ItemRowsRead
 pub mod Refusals
-pub mod Needed
+pub mod NeededItems

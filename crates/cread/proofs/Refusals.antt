@@ -1,6 +1,6 @@
 -- Of an item at most one answer is true: one tree with what stands behind it, or one refusal. What is refused has a
 -- number, and its place a name.
-use Rattle.std.proofs.Common.{◌≡◌, ℕ, ◌+◌, ◌-◌, ◌<◌, ◌≤◌, ◌⊎◌, inl, inr, rules, lit≤, Bool, true, false, Option, None, Some, List, [], ◌∷◌, length, map, take, drop, slice_get, cond, if◌then◌else◌, refl, ap, sym, ◌∙◌, subst, arith, zero, suc}
+use Rattle.std.proofs.Common.{◌≡◌, ℕ, ◌-◌, ◌<◌, ◌≤◌, inl, inr, rules, lit≤, Bool, true, false, Some, List, [], ◌∷◌, length, map, take, drop, slice_get, cond, ap, sym, ◌∙◌, subst, arith}
 use Rattle.std.specs.List.{All}
 use Rattle.std.specs.Str.{bytes_eq}
 use Rattle.std.proofs.lemmas.List.Elements.{All-cons, All-drop, All-head, All-map, All-nil, All-tail, All-take}
@@ -8,7 +8,9 @@ use Rattle.std.proofs.lemmas.Option.{get_or_from_slice_get, slice_get_within}
 use Rattle.cbase.specs.declared.place.Place.{Place}
 use Rattle.cbase.specs.declared.tree.item.Item.{Item}
 use Rattle.cconstructs.specs.Constructs.{IsConstructAt, IsFirstConstruct, NamedWord, FloatingWord, FloatingConstant, VariableArguments, StringLiteral, FunctionPointer, word_rows}
-use Rattle.cconstructs.specs.Layout.{IsFirstLayout}
+use Rattle.cconstructs.specs.Finding.{found_at}
+use Rattle.cconstructs.specs.declared.found.Found.{Found}
+use Rattle.cconstructs.proofs.First.{first_exact}
 use Rattle.cgrammar.specs.Phrases.{Context}
 use Rattle.cgrammar.specs.Readings.{row_between}
 use Rattle.cgrammar.specs.Operators.{row_of}
@@ -63,7 +65,11 @@ one_layout t from to number other place second is also =
 
 one_construct : (row : List Terminal) (at other number second : ℕ) → IsFirstConstruct row at number → IsFirstConstruct row other second
     → (at ≡ other) × (number ≡ second)
-one_construct row at other number second is also = ?
+one_construct row at other number second is also =
+    let one = (first_exact row at number).1 is in
+    let two = (first_exact row other second).1 also in
+    let same : found_at number at ≡ found_at second other = cc in
+    (ap (λ (found : Found). found.at) same, ap (λ (found : Found). found.number) same)
 
 two_constructs : (t : Tokens) (from to number other : ℕ) (before : Context) (place second : Place) → ShowsConstruct t from to before number place
     → ShowsConstruct t from to before other second → Construct number place ≡ Construct other second

@@ -13,9 +13,8 @@ use Rattle.ctrees.specs.Levels.{item_levels}
 use Rattle.cread.specs.Items.{SpellsItem}
 use Rattle.cread.specs.declared.refusal.Refusal.{Refusal}
 use Rattle.cread.specs.declared.refusal.Refusal.TheVariants.{Construct, Syntax}
-use Rattle.cread.specs.declared.read_item_in.ItemBehind.{ItemBehind}
-use Rattle.cread.specs.declared.read_item_in.ReadIn.{ReadIn}
-use Rattle.cread.specs.declared.read_item_in.ReadIn.TheVariants.{Read, Refused}
+use Rattle.cread.specs.declared.reading_item.ReadIn.{ReadIn}
+use Rattle.cread.specs.declared.reading_item.ReadIn.TheVariants.{Read, Refused}
 
 -- the tokens are read as the item, where `before` stands before them and `after` behind
 pub record IsItemRead (t : Tokens) (from to : ℕ) (before : Context) (item : Item) (after : Context) : Type 0 where

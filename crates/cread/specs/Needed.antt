@@ -1,6 +1,6 @@
 -- Items of a text that are read in its order: each where the names that those before it declare are in scope, and as
 -- many expressions end before it as they have. The first that is not read is refused.
-use Rattle.std.specs.Prelude.{◌≡◌, ℕ, ◌<◌, ◌≤◌, ◌⊎◌, List, [], ◌∷◌, Option, None, Some, slice_get}
+use Rattle.std.specs.Prelude.{◌≡◌, ℕ, ◌<◌, ◌≤◌, List, [], ◌∷◌, length, Option, None, Some, slice_get}
 use Rattle.cbase.specs.declared.place.Place.{Place}
 use Rattle.cbase.specs.declared.tree.item.Item.{Item}
 use Rattle.cgrammar.specs.Phrases.{Context}
@@ -11,8 +11,8 @@ use Rattle.ctokens.specs.declared.token.Tokens.{Tokens}
 use Rattle.cread.specs.Answers.{IsItemRead, IsRefusal}
 use Rattle.cread.specs.declared.refusal.Refusal.{Refusal}
 use Rattle.cread.specs.declared.refusal.Refusal.TheVariants.{Construct, Syntax}
-use Rattle.cread.specs.declared.needed.Needed.{Needed}
-use Rattle.cread.specs.declared.needed.Needed.TheVariants.{Read, Refused}
+use Rattle.cread.specs.declared.needed_items.Needed.{Needed}
+use Rattle.cread.specs.declared.needed_items.Needed.TheVariants.{Read, Refused}
 
 -- before the first declaration of a file
 abbrev pub at_file : Context
@@ -47,6 +47,10 @@ abbrev pub AreAnswered : Tokens → List ItemSpan → Needed → Type 0
 AreAnswered t spans (Read program) = (after : Context) × ReadsAll t spans at_file program after
 AreAnswered t spans (Refused refusal) = IsRefused t spans at_file refusal
 
+-- the spans of a file are read one behind the other
+abbrev pub AreRead : Tokens → List ItemSpan → Type 0
+AreRead t spans = (program : List Item) × (after : Context) × ReadsAll t spans at_file program after
+
 -- of one list of spans at most one answer is true
 abbrev pub HaveOneAnswer : Type 0
 HaveOneAnswer = (t : Tokens) (spans : List ItemSpan) (one other : Needed) → AreAnswered t spans one → AreAnswered t spans other → one ≡ other
@@ -59,7 +63,12 @@ abbrev pub place_in : Refusal → Place
 place_in (Construct number place) = place
 place_in (Syntax place) = place
 
--- a construct that is refused has one of these numbers
+-- the numbers of the constructs that are given up
 abbrev pub HasNumber : Refusal → Type 0
 HasNumber (Construct number place) = (1 ≤ number) × (number ≤ 21)
 HasNumber (Syntax place) = Unit {0}
+
+-- what is refused can be named: its construct has a number, and the file of its place a name
+abbrev pub IsNamed : List (List ℕ) → Needed → Type 0
+IsNamed names (Read program) = Unit {0}
+IsNamed names (Refused refusal) = HasNumber refusal × ((place_in refusal).file < length names)

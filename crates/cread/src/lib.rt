@@ -2,13 +2,13 @@
 #![tactic(auto)]
 
 mod laws;
-mod needed;
-mod read_item_in;
+mod needed_items;
+mod reading_item;
 mod refusal;
 mod tables;
 
 pub use laws::each_row_is_one_item;
-pub use needed::{Needed, needed_have_one_answer, read_needed};
-pub use read_item_in::{ItemBehind, ReadIn, read_item_in};
+pub use needed_items::{Needed, needed_have_one_answer, read_needed};
+pub use reading_item::{ItemBehind, ReadIn, read_item_in};
 pub use refusal::Refusal;
 pub use tables::table_of_items;

@@ -1,12 +1,12 @@
-ghost use Rattle.std.specs.Prelude.{◌≡◌, ◌<◌, Ok, Some, IfOk, IfSome, length};
+ghost use Rattle.std.specs.Prelude.{◌≡◌, ◌++◌, [], Ok, IfOk, OnOk, length, slice_get};
 ghost use Rattle.std.specs.List.{All};
 ghost use Rattle.ctokens.specs.Items.{IsItems};
 ghost use Rattle.ctokens.specs.Passed.{LieInText};
 ghost use Rattle.ctokens.specs.TokenList.{HasNamedFiles};
 ghost use Rattle.cgrammar.specs.Readings.{AreNumbered};
-ghost use Rattle.cread.specs.Needed.{AreAnswered, HasNumber, HaveOneAnswer, IsSome, place_in, spans_of};
+ghost use Rattle.cread.specs.Needed.{AreAnswered, HaveOneAnswer, IsNamed, IsSome, spans_of, with_span};
 
-use crate::read_item_in::{ItemBehind, ReadIn, read_item_in};
+use crate::reading_item::{ItemBehind, ReadIn, read_item_in};
 use crate::refusal::Refusal;
 use cbase::{List, NoMemory, Program};
 use cgrammar::Scope;
@@ -24,7 +24,7 @@ pub enum Needed {
 /// scope, and as many expressions end before it as they have (C11 6.9).
 ///
 /// The first that is not read is refused. The work grows with the text and with the items that are read alone.
-#[tactic(auto, using(crate::proofs::Needed::spans_some))]
+#[tactic(auto, using(crate::proofs::NeededItems::answer_named, crate::proofs::NeededItems::spans_some))]
 pub fn read_needed(
     alloc: Global,
     t: &Tokens,
@@ -34,10 +34,13 @@ pub fn read_needed(
     requires text { LieInText t.now }
     requires numbered { AreNumbered t.now }
     requires spans { IsItems t.now (Ok items.now) }
-    ensures { IfOk result (AreAnswered t.now (spans_of items.now numbers.now)) }
+    requires named { HasNamedFiles t.now }
+    ensures answered { IfOk result (AreAnswered t.now (spans_of items.now numbers.now)) }
+    ensures named { IfOk result (IsNamed t.now.names) }
 {
     let spans = spans_of(alloc, items, numbers)?;
-    read_all(alloc, t, spans.as_slice())
+    let needed = read_all(alloc, t, spans.as_slice())?;
+    Ok(needed)
 }
 
 /// The items with these numbers.
@@ -46,11 +49,26 @@ fn spans_of(alloc: Global, items: &[ItemSpan], numbers: &[u32]) -> Result<List<I
 {
     let mut spans = List::new(alloc);
     for number in numbers {
-        if let Some(span) = items.get(*number as usize).copied() {
-            spans.push(span)?;
-        }
+        push_found(&mut spans, item_of(items, *number))?;
     }
     Ok(spans)
+}
+
+/// The item with the number, if there is one.
+fn item_of(items: &[ItemSpan], number: u32) -> Option<ItemSpan>
+    ensures { result ≡ slice_get items.now number }
+{
+    items.get(number as usize).copied()
+}
+
+/// Appends the item, if there is one.
+fn push_found(spans: &mut List<ItemSpan>, found: Option<ItemSpan>) -> Result<(), NoMemory>
+    ensures { OnOk result (spans.new ≡ spans.old ++ with_span found []) }
+{
+    match found {
+        None => Ok(()),
+        Some(span) => spans.push(span),
+    }
 }
 
 /// Reads these items, one behind the other, from the beginning of a file.
@@ -83,7 +101,7 @@ fn read_all(alloc: Global, t: &Tokens, spans: &[ItemSpan]) -> Result<Needed, NoM
 }
 
 /// Of one list of items at most one answer is true: one program, or one refusal.
-#[tactic(auto, using(crate::proofs::Needed::one_answer))]
+#[tactic(auto, using(crate::proofs::NeededItems::one_answer))]
 pub fn needed_have_one_answer()
     ensures { HaveOneAnswer }
 {}

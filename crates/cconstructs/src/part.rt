@@ -1,0 +1,162 @@
+ghost use Rattle.std.specs.Prelude.{◌≡◌, ◌≤◌, ◌||◌, map};
+ghost use Rattle.std.specs.List.{list_any};
+ghost use Rattle.std.specs.Str.{bytes_eq};
+ghost use Rattle.cgrammar.specs.CodeTables.{text_read};
+ghost use Rattle.cconstructs.specs.Layout.{closes, is_attribute, is_layout_name, layout_names, opens, outside, part_behind, separates, shows_layout, unclosed_behind, with_underscores, within};
+
+use cgrammar::Terminal;
+
+/// What the tokens before a token say of the attribute that it may stand in.
+#[derive(Clone, Copy)]
+pub struct Part {
+    /// Whether an attribute's word stands directly before it, outside of an attribute's part.
+    pub behind: bool,
+    /// How many brackets of an attribute's part are open before it.
+    pub unclosed: u32,
+    /// Whether a `(` or a `,` of an attribute's part stands directly before it.
+    pub separated: bool,
+}
+
+/// The attributes that say how something is laid out, each in its two forms.
+const NAMES: [&'static str; 6] = [
+    "packed",
+    "aligned",
+    "mode",
+    "vector_size",
+    "cleanup",
+    "alias",
+];
+
+/// The same with `__` on both sides.
+const UNDERSCORED: [&'static str; 6] = [
+    "__packed__",
+    "__aligned__",
+    "__mode__",
+    "__vector_size__",
+    "__cleanup__",
+    "__alias__",
+];
+
+/// Whether bytes are one of the texts.
+fn is_one_of(texts: &[&str], bytes: &[u8]) -> bool
+    ensures { result ≡ list_any (bytes_eq bytes.now) (map text_read texts.now) }
+{
+    for text in texts {
+        if bytes == text.as_bytes() {
+            return true;
+        }
+    }
+    false
+}
+
+/// Whether bytes are a name of such an attribute.
+fn is_plain_name(bytes: &[u8]) -> bool
+    ensures { result ≡ list_any (bytes_eq bytes.now) layout_names }
+{
+    is_one_of(NAMES.as_slice(), bytes)
+}
+
+/// Whether bytes are such a name with `__` on both sides.
+fn is_underscored_name(bytes: &[u8]) -> bool
+    ensures { result ≡ list_any (bytes_eq bytes.now) (map with_underscores layout_names) }
+{
+    is_one_of(UNDERSCORED.as_slice(), bytes)
+}
+
+/// Whether the token is a word that names such an attribute.
+fn is_layout_name(token: &Terminal<'_>) -> bool
+    ensures { result ≡ is_layout_name token.now }
+{
+    if !token.is_any_word() {
+        return false;
+    }
+    is_plain_name(token.bytes()) || is_underscored_name(token.bytes())
+}
+
+/// Whether the token opens a bracket.
+fn opens(token: &Terminal<'_>) -> bool
+    ensures { result ≡ opens token.now }
+{
+    token.is_mark(b"(") || token.is_mark(b"[") || token.is_mark(b"{")
+}
+
+/// Whether the token closes a bracket.
+fn closes(token: &Terminal<'_>) -> bool
+    ensures { result ≡ closes token.now }
+{
+    token.is_mark(b")") || token.is_mark(b"]") || token.is_mark(b"}")
+}
+
+/// Whether the token is an attribute's word.
+fn is_attribute(token: &Terminal<'_>) -> bool
+    ensures { result ≡ is_attribute token.now }
+{
+    token.is_word(b"__attribute__") || token.is_word(b"__attribute")
+}
+
+/// Whether a name of an attribute may stand behind the token.
+fn separates(token: &Terminal<'_>) -> bool
+    ensures { result ≡ separates token.now }
+{
+    token.is_mark(b"(") || token.is_mark(b",")
+}
+
+/// How many brackets are open behind a token where `unclosed` were open before it.
+fn unclosed_behind(unclosed: u32, token: &Terminal<'_>) -> u32
+    requires { unclosed ≤ 4194304 }
+    ensures { result ≡ unclosed_behind unclosed token.now }
+{
+    if opens(token) {
+        return unclosed + 1;
+    }
+    if closes(token) {
+        return unclosed.saturating_sub(1);
+    }
+    unclosed
+}
+
+/// Outside of an attribute's part.
+pub fn outside(behind: bool) -> Part
+    ensures { result ≡ outside behind }
+{
+    Part {
+        behind,
+        unclosed: 0,
+        separated: false,
+    }
+}
+
+/// In an attribute's part.
+fn within(unclosed: u32, separated: bool) -> Part
+    ensures { result ≡ within unclosed separated }
+{
+    Part {
+        behind: false,
+        unclosed,
+        separated,
+    }
+}
+
+/// Whether the token names an attribute of layout: at depth 2, directly behind a `(` or a `,`.
+pub fn shows_layout(part: Part, token: &Terminal<'_>) -> bool
+    ensures { result ≡ shows_layout part token.now }
+{
+    if part.unclosed != 2 {
+        return false;
+    }
+    part.separated && is_layout_name(token)
+}
+
+/// What is known behind a token.
+pub fn part_behind(part: Part, token: &Terminal<'_>) -> Part
+    requires { part.unclosed ≤ 4194304 }
+    ensures { result ≡ part_behind part.behind part.unclosed token.now }
+{
+    if part.unclosed > 0 {
+        return within(unclosed_behind(part.unclosed, token), separates(token));
+    }
+    if part.behind && opens(token) {
+        return within(1, true);
+    }
+    outside(is_attribute(token))
+}
