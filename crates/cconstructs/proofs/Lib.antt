@@ -1,5 +1,6 @@
 pub mod Attributes
 pub mod Between
+pub mod PassedBrackets
 pub mod First
 pub mod Guarded
 pub mod Guards

@@ -1,5 +1,5 @@
 -- The tokens that are read from a text lie in it; its row is that of all its tokens.
-use Rattle.std.proofs.Common.{◌≡◌, ℕ, ◌-◌, ◌<◌, ◌≤◌, ap, sym, ◌∙◌, Bool, List, length, map, take, drop, arith}
+use Rattle.std.proofs.Common.{◌≡◌, ℕ, ◌-◌, ◌<◌, ◌≤◌, ap, sym, ◌∙◌, List, length, map, take, drop, arith}
 use Rattle.std.proofs.lemmas.List.{length-map, take_all}
 use Rattle.std.proofs.lemmas.List.Elements.{All-weaker}
 use Rattle.ctokens.proofs.ItemsInside.{length_passed}

@@ -7,6 +7,7 @@ mod before;
 mod closers;
 mod constructs;
 mod found;
+mod laws;
 mod layout;
 mod number;
 mod packed;
@@ -14,6 +15,7 @@ mod part;
 
 pub use constructs::first_construct;
 pub use found::Found;
+pub use laws::attributes_are_those_passed_over;
 pub use layout::first_layout;
 
 #[cfg(test)]
