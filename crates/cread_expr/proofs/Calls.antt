@@ -12,7 +12,7 @@ use Rattle.cgrammar.specs.Terminals.{Terminal, terminals, last_place}
 use Rattle.creader.specs.ReadingSteps.{reads, inner_at}
 use Rattle.creader.specs.State.{State, is_nothing}
 use Rattle.creader.specs.StatementSteps.{block}
-use Rattle.creader.specs.Writings.{Writing, start_of, written_of}
+use Rattle.creader.specs.Writings.{Writing, start_at, written_of}
 use Rattle.creader.specs.declared.status.Status.{Status}
 use Rattle.creader.specs.declared.status.Status.TheVariants.{Going, Stopped, Nothing}
 use Rattle.creader.specs.declared.wanted.Wanted.TheVariants as wanted
@@ -22,7 +22,7 @@ use Rattle.cread_expr.proofs.Agreement.{StartsAt, expression_read, no_expression
 
 -- the reader at a token of a text, before it reads
 abbrev pub at_token : Tokens → List Names → ℕ → State
-at_token t scope at = start_of (terminals t) (prefix_len (comes_before at) (terminals t)) scope
+at_token t scope at = start_at (terminals t) (prefix_len (comes_before at) (terminals t)) scope
 
 starts : (t : Tokens) (scope : List Names) (at : ℕ) → StartsAt t scope at (at_token t scope at)
 starts t scope at = record { row = refl; number = refl; status = refl; levels = refl; names = refl; events = refl }
@@ -84,59 +84,59 @@ module _ (most : ℕ) (t : Tokens) (scope : List Names) (at : ℕ) (numbered : A
 
 -- The same of what the code has: its row, the number of tokens before the place, and what is written.
 pub expression_built : (most : ℕ) (t : Tokens) (scope : List Names) (at first : ℕ) (row : List Terminal) (written : Writing) → AreNumbered t
-    → row ≡ terminals t → first ≡ prefix_len (comes_before at) row → written ≡ written_of (reads most wanted.Expression (start_of row first scope))
+    → row ≡ terminals t → first ≡ prefix_len (comes_before at) row → written ≡ written_of (reads most wanted.Expression (start_at row first scope))
     → written.found ≡ true → IsSome (expr_alone (built_all row written.events (Some start)))
 expression_built most t scope at first row written numbered rows firsts is found =
     let same : written ≡ written_of (reads most wanted.Expression (at_token t scope at)) =
-    is ∙ (λ i. written_of (reads most wanted.Expression (start_of (rows i) ((firsts ∙ ap (prefix_len (comes_before at)) rows) i) scope))) in
+    is ∙ (λ i. written_of (reads most wanted.Expression (start_at (rows i) ((firsts ∙ ap (prefix_len (comes_before at)) rows) i) scope))) in
     subst (λ (events : List _). IsSome (expr_alone (built_all row events (Some start)))) (sym (ap (λ (w : Writing). w.events) same))
     (subst (λ (r : List Terminal). IsSome (expr_alone (built_all r (reads most wanted.Expression (at_token t scope at)).events (Some start)))) (sym rows)
     (expression_made most t scope at numbered (sym (ap (λ (w : Writing). w.found) same) ∙ found)))
 
 pub expression_is_longest : (most : ℕ) (t : Tokens) (scope : List Names) (at first : ℕ) (row : List Terminal) (written : Writing) → AreNumbered t
-    → row ≡ terminals t → first ≡ prefix_len (comes_before at) row → written ≡ written_of (reads most wanted.Expression (start_of row first scope))
+    → row ≡ terminals t → first ≡ prefix_len (comes_before at) row → written ≡ written_of (reads most wanted.Expression (start_at row first scope))
     → written.found ≡ true → (expr : Expr) (after : ℕ) → expr_alone (built_all row written.events (Some start)) ≡ Some expr
     → after ≡ (last_place (take written.at row)).at + 1 → IsLongestExpressionAt most t scope at after expr
 expression_is_longest most t scope at first row written numbered rows firsts is found expr after made end =
     let same : written ≡ written_of (reads most wanted.Expression (at_token t scope at)) =
-    is ∙ (λ i. written_of (reads most wanted.Expression (start_of (rows i) ((firsts ∙ ap (prefix_len (comes_before at)) rows) i) scope))) in
+    is ∙ (λ i. written_of (reads most wanted.Expression (start_at (rows i) ((firsts ∙ ap (prefix_len (comes_before at)) rows) i) scope))) in
     expression_there most t scope at numbered (sym (ap (λ (w : Writing). w.found) same) ∙ found) expr after
     (sym (λ i. expr_alone (built_all (rows i) ((same i).events) (Some start))) ∙ made)
     (end ∙ (λ i. (last_place (take ((same i).at) (rows i))).at + 1))
 
 pub expression_is_none : (most : ℕ) (t : Tokens) (scope : List Names) (at first : ℕ) (row : List Terminal) (written : Writing) → AreNumbered t
-    → row ≡ terminals t → first ≡ prefix_len (comes_before at) row → written ≡ written_of (reads most wanted.Expression (start_of row first scope))
+    → row ≡ terminals t → first ≡ prefix_len (comes_before at) row → written ≡ written_of (reads most wanted.Expression (start_at row first scope))
     → written.found ≡ false → (expr : Expr) (after : ℕ) → IsExpressionAt most t scope at after expr → ⊥
 expression_is_none most t scope at first row written numbered rows firsts is none =
     let same : written ≡ written_of (reads most wanted.Expression (at_token t scope at)) =
-    is ∙ (λ i. written_of (reads most wanted.Expression (start_of (rows i) ((firsts ∙ ap (prefix_len (comes_before at)) rows) i) scope))) in
+    is ∙ (λ i. written_of (reads most wanted.Expression (start_at (rows i) ((firsts ∙ ap (prefix_len (comes_before at)) rows) i) scope))) in
     no_expression most t scope at numbered (sym (ap (λ (w : Writing). w.found) same) ∙ none)
 
 pub block_built : (most : ℕ) (t : Tokens) (scope : List Names) (at first : ℕ) (row : List Terminal) (written : Writing) → AreNumbered t
-    → row ≡ terminals t → first ≡ prefix_len (comes_before at) row → written ≡ written_of (block (inner_at most) (start_of row first scope))
+    → row ≡ terminals t → first ≡ prefix_len (comes_before at) row → written ≡ written_of (block (inner_at most) (start_at row first scope))
     → written.found ≡ true → IsSome (block_alone (built_all row written.events (Some start)))
 block_built most t scope at first row written numbered rows firsts is found =
     let same : written ≡ written_of (block (inner_at most) (at_token t scope at)) =
-    is ∙ (λ i. written_of (block (inner_at most) (start_of (rows i) ((firsts ∙ ap (prefix_len (comes_before at)) rows) i) scope))) in
+    is ∙ (λ i. written_of (block (inner_at most) (start_at (rows i) ((firsts ∙ ap (prefix_len (comes_before at)) rows) i) scope))) in
     subst (λ (events : List _). IsSome (block_alone (built_all row events (Some start)))) (sym (ap (λ (w : Writing). w.events) same))
     (subst (λ (r : List Terminal). IsSome (block_alone (built_all r (block (inner_at most) (at_token t scope at)).events (Some start)))) (sym rows)
     (block_made most t scope at numbered (sym (ap (λ (w : Writing). w.found) same) ∙ found)))
 
 pub block_is_there : (most : ℕ) (t : Tokens) (scope : List Names) (at first : ℕ) (row : List Terminal) (written : Writing) → AreNumbered t
-    → row ≡ terminals t → first ≡ prefix_len (comes_before at) row → written ≡ written_of (block (inner_at most) (start_of row first scope))
+    → row ≡ terminals t → first ≡ prefix_len (comes_before at) row → written ≡ written_of (block (inner_at most) (start_at row first scope))
     → written.found ≡ true → (body : List Stmt) (after : ℕ) → block_alone (built_all row written.events (Some start)) ≡ Some body
     → after ≡ (last_place (take written.at row)).at + 1 → IsBlockAt most t scope at after body
 block_is_there most t scope at first row written numbered rows firsts is found body after made end =
     let same : written ≡ written_of (block (inner_at most) (at_token t scope at)) =
-    is ∙ (λ i. written_of (block (inner_at most) (start_of (rows i) ((firsts ∙ ap (prefix_len (comes_before at)) rows) i) scope))) in
+    is ∙ (λ i. written_of (block (inner_at most) (start_at (rows i) ((firsts ∙ ap (prefix_len (comes_before at)) rows) i) scope))) in
     block_there most t scope at numbered (sym (ap (λ (w : Writing). w.found) same) ∙ found) body after
     (sym (λ i. block_alone (built_all (rows i) ((same i).events) (Some start))) ∙ made)
     (end ∙ (λ i. (last_place (take ((same i).at) (rows i))).at + 1))
 
 pub block_is_none : (most : ℕ) (t : Tokens) (scope : List Names) (at first : ℕ) (row : List Terminal) (written : Writing) → AreNumbered t
-    → row ≡ terminals t → first ≡ prefix_len (comes_before at) row → written ≡ written_of (block (inner_at most) (start_of row first scope))
+    → row ≡ terminals t → first ≡ prefix_len (comes_before at) row → written ≡ written_of (block (inner_at most) (start_at row first scope))
     → written.found ≡ false → (body : List Stmt) (after : ℕ) → IsBlockAt most t scope at after body → ⊥
 block_is_none most t scope at first row written numbered rows firsts is none =
     let same : written ≡ written_of (block (inner_at most) (at_token t scope at)) =
-    is ∙ (λ i. written_of (block (inner_at most) (start_of (rows i) ((firsts ∙ ap (prefix_len (comes_before at)) rows) i) scope))) in
+    is ∙ (λ i. written_of (block (inner_at most) (start_at (rows i) ((firsts ∙ ap (prefix_len (comes_before at)) rows) i) scope))) in
     no_block most t scope at numbered (sym (ap (λ (w : Writing). w.found) same) ∙ none)

@@ -1,5 +1,5 @@
 -- Items of a file (C11 6.9): a whole row is an item.
-use Rattle.std.specs.Prelude.{ℕ, ◌+◌, ◌-◌, Bool, if◌then◌else◌, List, [], ◌∷◌, codes}
+use Rattle.std.specs.Prelude.{ℕ, ◌-◌, Bool, false, if◌then◌else◌, List, [], ◌∷◌, codes}
 use Rattle.cbase.specs.declared.tree.decl.Storage.{Storage}
 use Rattle.cbuild.specs.Workshop.{bytes_at}
 use Rattle.cbuild.specs.declared.event.Event.TheVariants as event
@@ -17,31 +17,35 @@ use Rattle.creader.specs.Steps.{Inner, mark, write, leave}
 unfoldable pub declare_around : ℕ → Bool → State → State
 declare_around at typedef s = if goes s then with_scope (declared_around (bytes_at s.row at) typedef s.scope) s else s
 
--- a function's body, up to its last `}` (C11 6.9.1)
+-- A function's definition whose last `}` is read (C11 6.9.1).
 unfoldable pub defined : Storage → State → State
 defined storage s = write (event.FunctionItem storage (s.at - 1)) s
 
-unfoldable pub function_body : Inner → Storage → ℕ → State → State
-function_body inner storage at s =
-    defined storage (leave (block_items inner (write event.NoStatements (declare_around at (declares_typedef storage) (mark (codes "{") s)))))
+-- what stands in its braces
+unfoldable pub definition_inside : Inner → Storage → ℕ → State → State
+definition_inside inner storage at s =
+    defined storage (leave (block_items inner (write event.NoStatements (declare_around at (declares_typedef storage) s))))
 
-unfoldable pub function_with : Inner → Storage → ℕ → ℕ → State → State
-function_with inner storage at stars s =
-    function_body inner storage at (write (event.Function at stars) (parameters inner (mark (codes "(") (write event.NoDeclarators s))))
+unfoldable pub definition_body : Inner → Storage → ℕ → State → State
+definition_body inner storage at s = definition_inside inner storage at (mark (codes "{") s)
 
-abbrev pub function_named : Inner → Storage → ℕ → State → State
-function_named inner storage stars s = if has_first is_name (rest s) then function_with inner storage s.at stars (skipped 1 s) else lost s
+unfoldable pub definition_with : Inner → Storage → ℕ → ℕ → State → State
+definition_with inner storage at stars s =
+    definition_body inner storage at (write (event.Function at stars) (parameters inner (mark (codes "(") (write event.NoDeclarators s))))
 
-unfoldable pub function_behind : Inner → Storage → State → State
-function_behind inner storage s =
-    if goes s then function_named inner storage (star_count (rest s)) (skipped (star_count (rest s)) s) else s
+abbrev pub definition_named : Inner → Storage → ℕ → State → State
+definition_named inner storage stars s = if has_first is_name (rest s) then definition_with inner storage s.at stars (skipped 1 s) else lost s
 
-unfoldable pub function : Inner → State → State
-function inner s = function_behind inner (storage_read inner s) (specifiers inner s)
+unfoldable pub definition_behind : Inner → Storage → State → State
+definition_behind inner storage s =
+    if goes s then definition_named inner storage (star_count (rest s)) (skipped (star_count (rest s)) s) else s
+
+unfoldable pub definition : Inner → State → State
+definition inner s = definition_behind inner (storage_read inner s) (specifiers inner s)
 
 -- the last token of the row is a `}`
 abbrev pub ends_with_brace : List Terminal → Bool
-ends_with_brace [] = Bool.false
+ends_with_brace [] = false
 ends_with_brace (last ∷ []) = is_mark (codes "}") last
 ends_with_brace (first ∷ (next ∷ others)) = ends_with_brace (next ∷ others)
 
@@ -50,7 +54,7 @@ unfoldable pub external : Inner → State → State
 external inner s =
     if goes s
     then (if has_mark (codes ";") (rest s) then write event.EmptyItem (skipped 1 s)
-    else (if ends_with_brace (rest s) then function inner s
+    else (if ends_with_brace (rest s) then definition inner s
     else write event.DeclareItem (declaration inner s)))
     else s
 

@@ -3,7 +3,7 @@ use Rattle.std.specs.Prelude.{ℕ, Bool, false, not, List, []}
 use Rattle.cbuild.specs.declared.event.Event.{Event}
 use Rattle.cgrammar.specs.Scope.{Names}
 use Rattle.cgrammar.specs.Terminals.{Terminal}
-use Rattle.creader.specs.State.{State, is_nothing}
+use Rattle.creader.specs.State.{State, goes, is_nothing}
 use Rattle.creader.specs.declared.status.Status.TheVariants.{Going}
 
 -- whether a tree is read, how many tokens of the row stand before its end, and its events
@@ -15,13 +15,22 @@ pub record Writing : Type 0 where
 abbrev pub written_of : State → Writing
 written_of s = record { found = not (is_nothing s.status); at = s.at; events = s.events }
 
--- the names that are in scope in the end
-abbrev pub scope_of : State → List Names
-scope_of s = s.scope
+-- whether a whole row is an item, its events, and the names in scope behind it
+pub record ItemWriting : Type 0 where
+  pub found : Bool
+  pub events : List Event
+  pub scope : List Names
+
+abbrev pub item_written_of : State → ItemWriting
+item_written_of s = record { found = goes s; events = s.events; scope = s.scope }
 
 -- at a token of a row, with names in scope
-abbrev pub start_of : List Terminal → ℕ → List Names → State
-start_of row at scope = record { row = row; at = at; status = Going; levels = 0; unary = false; scope = scope; events = [] }
+abbrev pub start_at : List Terminal → ℕ → List Names → State
+start_at row at scope = record { row = row; at = at; status = Going; levels = 0; unary = false; scope = scope; events = [] }
+
+-- at the front of a row
+abbrev pub start_of : List Terminal → List Names → State
+start_of row scope = start_at row 0 scope
 
 -- how many levels a tree may have
 abbrev pub most_levels : ℕ

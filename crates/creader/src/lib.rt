@@ -43,6 +43,7 @@ mod type_names;
 mod types;
 mod wanted;
 mod written;
+mod written_item;
 
 pub use braced::Braced;
 pub use grammar::Grammar;
@@ -53,3 +54,4 @@ pub use reading::{read, read_expression, read_item, read_statements};
 pub use status::Status;
 pub use wanted::Wanted;
 pub use written::Written;
+pub use written_item::WrittenItem;

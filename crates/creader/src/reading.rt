@@ -2,7 +2,7 @@ ghost use Rattle.std.specs.Prelude.{◌≡◌, IfOk, OnOk};
 ghost use Rattle.creader.specs.ItemSteps.{item_alone};
 ghost use Rattle.creader.specs.ReadingSteps.{inner_at, reads};
 ghost use Rattle.creader.specs.StatementSteps.{block};
-ghost use Rattle.creader.specs.Writings.{most_levels, scope_of, start_of, written_of};
+ghost use Rattle.creader.specs.Writings.{item_written_of, most_levels, start_at, start_of, written_of};
 ghost use Rattle.creader.specs.declared.wanted.Wanted.TheVariants.{Expression};
 
 use crate::grammar::Grammar;
@@ -10,6 +10,7 @@ use crate::reader::Reader;
 use crate::status::Status;
 use crate::wanted::Wanted;
 use crate::written::Written;
+use crate::written_item::WrittenItem;
 use cbase::NoMemory;
 use cgrammar::{Scope, Terminal};
 use std::alloc::Global;
@@ -40,7 +41,7 @@ pub fn read_expression<'a>(
     at: usize,
     scope: &Scope,
 ) -> Result<Written, NoMemory>
-    ensures { IfOk result (λ written. written ≡ written_of (reads most_levels Expression (start_of row.now at scope.now))) }
+    ensures { IfOk result (λ written. written ≡ written_of (reads most_levels Expression (start_at row.now at scope.now))) }
 {
     let mut reader = Reader::new(alloc, row, at, scope.copied(alloc)?);
     read(&mut reader, MOST_LEVELS, Wanted::Expression)?;
@@ -54,7 +55,7 @@ pub fn read_statements<'a>(
     at: usize,
     scope: &Scope,
 ) -> Result<Written, NoMemory>
-    ensures { IfOk result (λ written. written ≡ written_of (block (inner_at most_levels) (start_of row.now at scope.now))) }
+    ensures { IfOk result (λ written. written ≡ written_of (block (inner_at most_levels) (start_at row.now at scope.now))) }
 {
     let mut reader = Reader::new(alloc, row, at, scope.copied(alloc)?);
     let grammar = Grammar {
@@ -65,15 +66,14 @@ pub fn read_statements<'a>(
     Ok(reader.into_written())
 }
 
-/// Reads a whole row as an item of a file, with these names in scope (C11 6.9). It takes the scope, and gives back what it
-/// is behind the item.
+/// Reads the whole row as an item of a file, where these names are in scope before it (C11 6.9). The scope goes on: it is
+/// given back as it is behind the item.
 pub fn read_item<'a>(
     alloc: Global,
     row: &'a [Terminal<'a>],
     scope: Scope,
-) -> Result<(Written, Scope), NoMemory>
-    ensures written { IfOk result (λ read. read.0 ≡ written_of (item_alone (inner_at most_levels) (start_of row.now 0 scope))) }
-    ensures scope { IfOk result (λ read. read.1 ≡ scope_of (item_alone (inner_at most_levels) (start_of row.now 0 scope))) }
+) -> Result<WrittenItem, NoMemory>
+    ensures { IfOk result (λ written. written ≡ item_written_of (item_alone (inner_at most_levels) (start_of row.now scope))) }
 {
     let mut reader = Reader::new(alloc, row, 0, scope);
     let grammar = Grammar {
@@ -81,13 +81,13 @@ pub fn read_item<'a>(
         inner: read,
     };
     grammar.item_alone(&mut reader)?;
-    Ok(reader.into_written_and_scope())
+    Ok(reader.into_item())
 }
 
 impl<'a> Reader<'a> {
     /// A reader at a token of the row, which has read nothing yet.
     pub fn new(alloc: Global, row: &'a [Terminal<'a>], at: usize, scope: Scope) -> Reader<'a>
-        ensures { result ≡ start_of row.now at scope }
+        ensures { result ≡ start_at row.now at scope }
     {
         Reader {
             alloc,
@@ -101,17 +101,15 @@ impl<'a> Reader<'a> {
         }
     }
 
-    /// What is written in the end, and the names that are in scope there.
-    fn into_written_and_scope(self) -> (Written, Scope)
-        ensures written { result.0 ≡ written_of self.entry }
-        ensures scope { result.1 ≡ scope_of self.entry }
+    /// What is written of an item in the end, and the names in scope behind it.
+    fn into_item(self) -> WrittenItem
+        ensures { result ≡ item_written_of self.entry }
     {
-        let written = Written {
-            found: !matches!(self.status, Status::Nothing),
-            at: self.at,
+        WrittenItem {
+            found: matches!(self.status, Status::Going),
             events: self.events,
-        };
-        (written, self.scope)
+            scope: self.scope,
+        }
     }
 
     /// What is written in the end.
