@@ -1,8 +1,8 @@
 -- What events make, event by event.
 use Rattle.std.proofs.Common.{◌≡◌, ℕ, ◌+◌, ◌<◌, List, [], ◌∷◌, length, drop, Option, None, Some, refl}
-use Rattle.cbuild.specs.Building.{built_all, built_next}
-use Rattle.cbuild.specs.Workshop.{Workshop}
-use Rattle.cbuild.specs.declared.event.Event.{Event}
+use Rattle.cevents.specs.Building.{built_all, built_next}
+use Rattle.cevents.specs.Workshop.{Workshop}
+use Rattle.cevents.specs.declared.event.Event.{Event}
 use Rattle.cgrammar.specs.Terminals.{Terminal}
 
 -- out of nothing they make nothing

@@ -1,9 +1,9 @@
 ghost use Rattle.std.specs.Prelude.{◌≡◌, IfOk};
-ghost use Rattle.cbuild.specs.Workshop.{expressed, left_by, only, pushed, start, stated};
+ghost use Rattle.cevents.specs.Workshop.{expressed, left_by, only, pushed, start, stated};
 
-use crate::piece::Piece;
 use crate::stack::Stack;
 use cbase::{Boxed, Expr, ExprForm, NoMemory, Place, Stmt, StmtForm};
+use cevents::Piece;
 use std::alloc::Global;
 use std::marker::Model;
 
@@ -19,7 +19,7 @@ pub(crate) struct Builder {
 }
 
 impl Model for Builder {
-    ghost use Rattle.cbuild.specs.Workshop.{Workshop};
+    ghost use Rattle.cevents.specs.Workshop.{Workshop};
     ghost use Rattle.cbase.specs.contracts.tree.expr.ExprForm as cexprform;
     ghost use Rattle.cbase.specs.contracts.tree.expr.Expr as cexpr;
     ghost use Rattle.cbase.specs.contracts.tree.expr.Part as cpart;

@@ -1,10 +1,10 @@
 ghost use Rattle.std.specs.Prelude.{◌≡◌, IfOk, Some};
-ghost use Rattle.cbuild.specs.Building.{built, built_all};
-ghost use Rattle.cbuild.specs.Workshop.{left_by};
+ghost use Rattle.cevents.specs.Building.{built, built_all};
+ghost use Rattle.cevents.specs.Workshop.{left_by};
 
 use crate::builder::Builder;
-use crate::event::Event;
 use cbase::NoMemory;
+use cevents::Event;
 use cgrammar::Terminal;
 
 impl Builder {

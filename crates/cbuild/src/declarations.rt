@@ -1,13 +1,11 @@
 ghost use Rattle.std.specs.Prelude.{◌≡◌, IfOk};
-ghost use Rattle.cbuild.specs.Building.{built};
-ghost use Rattle.cbuild.specs.Workshop.{left_by};
+ghost use Rattle.cevents.specs.Building.{built};
+ghost use Rattle.cevents.specs.Workshop.{left_by};
 
 use crate::builder::Builder;
-use crate::event::Event;
-use crate::piece::Piece;
 use crate::texts::{appended, count_of, maybe_text_at, text_at};
-use crate::tokens_at::place_at;
 use cbase::{Decl, Declared, List, NoMemory, Param, Storage};
+use cevents::{Event, Piece, place_at};
 use cgrammar::Terminal;
 
 impl Builder {

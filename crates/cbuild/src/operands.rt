@@ -1,12 +1,11 @@
 ghost use Rattle.std.specs.Prelude.{◌≡◌, IfOk};
-ghost use Rattle.cbuild.specs.Building.{built};
-ghost use Rattle.cbuild.specs.Workshop.{left_by};
+ghost use Rattle.cevents.specs.Building.{built};
+ghost use Rattle.cevents.specs.Workshop.{left_by};
 
 use crate::builder::Builder;
-use crate::event::Event;
-use crate::piece::Piece;
 use crate::texts::{appended, list_of_one, maybe_text_at, text_at};
 use cbase::{Init, InitPart, List, NoMemory, Part};
+use cevents::{Event, Piece};
 use cgrammar::Terminal;
 
 impl Builder {

@@ -1,7 +1,12 @@
 ghost use Rattle.std.specs.Prelude.{◌≡◌};
-ghost use Rattle.cbuild.specs.Workshop.{below, top_of, declarator_of, expr_of, arguments_of, path_of, type_of, sizes_of, type_name_of, field_names_of, fields_of, enumerators_of, parameters_of, declarators_of, declaration_of, init_of, parts_of, maybe_of, statement_of, statements_of};
+ghost use Rattle.cevents.specs.Workshop.{below, top_of, declarator_of, expr_of, arguments_of, path_of, type_of, sizes_of, type_name_of, field_names_of, fields_of, enumerators_of, parameters_of, declarators_of, declaration_of, init_of, parts_of, maybe_of, statement_of, statements_of};
 
 use crate::builder::Builder;
+use crate::kinds::{
+    into_arguments, into_declaration, into_declarator, into_declarators, into_enumerators,
+    into_expr, into_field_names, into_fields, into_init, into_maybe, into_parameters, into_parts,
+    into_path, into_sizes, into_statement, into_statements, into_type, into_type_name,
+};
 use cbase::{
     Boxed, Decl, Declared, Enumerator, Expr, FieldDecl, FieldName, Init, InitPart, List, Param,
     Part, Stmt, TypeName, TypeSpec,
@@ -13,7 +18,7 @@ impl Builder {
         ensures tree { result ≡ top_of expr_of self.old.pieces }
         ensures rest { self.new ≡ record { count = self.old.count; pieces = below self.old.pieces } }
     {
-        self.pieces.pop()?.into_expr()
+        into_expr(self.pieces.pop()?)
     }
 
     /// Takes the arguments on top. Whatever stands there is gone.
@@ -21,7 +26,7 @@ impl Builder {
         ensures tree { result ≡ top_of arguments_of self.old.pieces }
         ensures rest { self.new ≡ record { count = self.old.count; pieces = below self.old.pieces } }
     {
-        self.pieces.pop()?.into_arguments()
+        into_arguments(self.pieces.pop()?)
     }
 
     /// Takes the path on top. Whatever stands there is gone.
@@ -29,7 +34,7 @@ impl Builder {
         ensures tree { result ≡ top_of path_of self.old.pieces }
         ensures rest { self.new ≡ record { count = self.old.count; pieces = below self.old.pieces } }
     {
-        self.pieces.pop()?.into_path()
+        into_path(self.pieces.pop()?)
     }
 
     /// Takes the type on top. Whatever stands there is gone.
@@ -37,7 +42,7 @@ impl Builder {
         ensures tree { result ≡ top_of type_of self.old.pieces }
         ensures rest { self.new ≡ record { count = self.old.count; pieces = below self.old.pieces } }
     {
-        self.pieces.pop()?.into_type()
+        into_type(self.pieces.pop()?)
     }
 
     /// Takes the sizes on top. Whatever stands there is gone.
@@ -45,7 +50,7 @@ impl Builder {
         ensures tree { result ≡ top_of sizes_of self.old.pieces }
         ensures rest { self.new ≡ record { count = self.old.count; pieces = below self.old.pieces } }
     {
-        self.pieces.pop()?.into_sizes()
+        into_sizes(self.pieces.pop()?)
     }
 
     /// Takes the name of a type on top. Whatever stands there is gone.
@@ -53,7 +58,7 @@ impl Builder {
         ensures tree { result ≡ top_of type_name_of self.old.pieces }
         ensures rest { self.new ≡ record { count = self.old.count; pieces = below self.old.pieces } }
     {
-        self.pieces.pop()?.into_type_name()
+        into_type_name(self.pieces.pop()?)
     }
 
     /// Takes the declarators of fields on top. Whatever stands there is gone.
@@ -61,7 +66,7 @@ impl Builder {
         ensures tree { result ≡ top_of field_names_of self.old.pieces }
         ensures rest { self.new ≡ record { count = self.old.count; pieces = below self.old.pieces } }
     {
-        self.pieces.pop()?.into_field_names()
+        into_field_names(self.pieces.pop()?)
     }
 
     /// Takes the declarations of fields on top. Whatever stands there is gone.
@@ -69,7 +74,7 @@ impl Builder {
         ensures tree { result ≡ top_of fields_of self.old.pieces }
         ensures rest { self.new ≡ record { count = self.old.count; pieces = below self.old.pieces } }
     {
-        self.pieces.pop()?.into_fields()
+        into_fields(self.pieces.pop()?)
     }
 
     /// Takes the enumerators on top. Whatever stands there is gone.
@@ -77,7 +82,7 @@ impl Builder {
         ensures tree { result ≡ top_of enumerators_of self.old.pieces }
         ensures rest { self.new ≡ record { count = self.old.count; pieces = below self.old.pieces } }
     {
-        self.pieces.pop()?.into_enumerators()
+        into_enumerators(self.pieces.pop()?)
     }
 
     /// Takes the parameters on top. Whatever stands there is gone.
@@ -85,7 +90,7 @@ impl Builder {
         ensures tree { result ≡ top_of parameters_of self.old.pieces }
         ensures rest { self.new ≡ record { count = self.old.count; pieces = below self.old.pieces } }
     {
-        self.pieces.pop()?.into_parameters()
+        into_parameters(self.pieces.pop()?)
     }
 
     /// Takes the declarators on top. Whatever stands there is gone.
@@ -93,7 +98,7 @@ impl Builder {
         ensures tree { result ≡ top_of declarators_of self.old.pieces }
         ensures rest { self.new ≡ record { count = self.old.count; pieces = below self.old.pieces } }
     {
-        self.pieces.pop()?.into_declarators()
+        into_declarators(self.pieces.pop()?)
     }
 
     /// Takes the declaration on top. Whatever stands there is gone.
@@ -101,7 +106,7 @@ impl Builder {
         ensures tree { result ≡ top_of declaration_of self.old.pieces }
         ensures rest { self.new ≡ record { count = self.old.count; pieces = below self.old.pieces } }
     {
-        self.pieces.pop()?.into_declaration()
+        into_declaration(self.pieces.pop()?)
     }
 
     /// Takes the initialiser on top. Whatever stands there is gone.
@@ -109,7 +114,7 @@ impl Builder {
         ensures tree { result ≡ top_of init_of self.old.pieces }
         ensures rest { self.new ≡ record { count = self.old.count; pieces = below self.old.pieces } }
     {
-        self.pieces.pop()?.into_init()
+        into_init(self.pieces.pop()?)
     }
 
     /// Takes the parts of an initialiser on top. Whatever stands there is gone.
@@ -117,7 +122,7 @@ impl Builder {
         ensures tree { result ≡ top_of parts_of self.old.pieces }
         ensures rest { self.new ≡ record { count = self.old.count; pieces = below self.old.pieces } }
     {
-        self.pieces.pop()?.into_parts()
+        into_parts(self.pieces.pop()?)
     }
 
     /// Takes the expression that may be left out on top. Whatever stands there is gone.
@@ -125,7 +130,7 @@ impl Builder {
         ensures tree { result ≡ top_of maybe_of self.old.pieces }
         ensures rest { self.new ≡ record { count = self.old.count; pieces = below self.old.pieces } }
     {
-        self.pieces.pop()?.into_maybe()
+        into_maybe(self.pieces.pop()?)
     }
 
     /// Takes the statement on top. Whatever stands there is gone.
@@ -133,7 +138,7 @@ impl Builder {
         ensures tree { result ≡ top_of statement_of self.old.pieces }
         ensures rest { self.new ≡ record { count = self.old.count; pieces = below self.old.pieces } }
     {
-        self.pieces.pop()?.into_statement()
+        into_statement(self.pieces.pop()?)
     }
 
     /// Takes the statements on top. Whatever stands there is gone.
@@ -141,7 +146,7 @@ impl Builder {
         ensures tree { result ≡ top_of statements_of self.old.pieces }
         ensures rest { self.new ≡ record { count = self.old.count; pieces = below self.old.pieces } }
     {
-        self.pieces.pop()?.into_statements()
+        into_statements(self.pieces.pop()?)
     }
 
     /// Takes the declarators on top, which have to be one declarator. Whatever stands there is gone.
@@ -149,6 +154,6 @@ impl Builder {
         ensures tree { result ≡ top_of declarator_of self.old.pieces }
         ensures rest { self.new ≡ record { count = self.old.count; pieces = below self.old.pieces } }
     {
-        self.pieces.pop()?.into_declarator()
+        into_declarator(self.pieces.pop()?)
     }
 }

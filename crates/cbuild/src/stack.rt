@@ -1,8 +1,8 @@
 ghost use Rattle.std.specs.Prelude.{◌≡◌, ◌↔◌, [], ◌∷◌, IsTrue, OnOk, MatchOption};
-ghost use Rattle.cbuild.specs.Workshop.{only};
+ghost use Rattle.cevents.specs.Workshop.{only};
 
-use crate::piece::Piece;
 use cbase::NoMemory;
+use cevents::Piece;
 use std::alloc::Global;
 use std::marker::Model;
 
@@ -16,7 +16,7 @@ pub(crate) struct Stack {
 
 impl Model for Stack {
     ghost use Rattle.std.specs.Prelude.{List, reverse};
-    ghost use Rattle.cbuild.specs.declared.piece.Piece.{Piece};
+    ghost use Rattle.cevents.specs.declared.piece.Piece.{Piece};
     ghost use Rattle.cbase.specs.contracts.tree.expr.ExprForm as cexprform;
     ghost use Rattle.cbase.specs.contracts.tree.expr.Expr as cexpr;
     ghost use Rattle.cbase.specs.contracts.tree.expr.Part as cpart;

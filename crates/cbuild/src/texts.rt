@@ -1,8 +1,8 @@
 ghost use Rattle.std.specs.Prelude.{◌≡◌, ◌∷◌, [], ◌++◌, IfOk};
-ghost use Rattle.cbuild.specs.Workshop.{bytes_at, maybe_bytes_at};
+ghost use Rattle.cevents.specs.Workshop.{bytes_at, maybe_bytes_at};
 
-use crate::tokens_at::bytes_at;
 use cbase::{List, NoMemory, Text};
+use cevents::bytes_at;
 use cgrammar::Terminal;
 use std::alloc::Global;
 

@@ -1,12 +1,12 @@
 ghost use Rattle.std.specs.Prelude.{◌≡◌, IfOk, Some, None};
-ghost use Rattle.cbuild.specs.Building.{built_all};
-ghost use Rattle.cbuild.specs.Workshop.{alone, block_alone, expr_alone, expr_of, kind_in, start, statements_of};
+ghost use Rattle.cevents.specs.Building.{built_all};
+ghost use Rattle.cevents.specs.Workshop.{alone, block_alone, expr_alone, expr_of, kind_in, start, statements_of};
 
 use crate::builder::Builder;
-use crate::event::Event;
-use crate::piece::Piece;
+use crate::kinds::{into_expr, into_statements};
 use crate::unbuilt::Unbuilt;
 use cbase::{Expr, List, NoMemory, Stmt};
+use cevents::{Event, Piece};
 use cgrammar::Terminal;
 use std::alloc::Global;
 
@@ -85,12 +85,12 @@ fn built_alone(
 fn expr_of(piece: Option<Piece>) -> Option<Expr>
     ensures { result ≡ kind_in expr_of piece }
 {
-    Some(piece?.into_expr()?.into_inner())
+    Some(into_expr(piece?)?.into_inner())
 }
 
 /// Statements that may be there.
 fn block_of(piece: Option<Piece>) -> Option<List<Stmt>>
     ensures { result ≡ kind_in statements_of piece }
 {
-    piece?.into_statements()
+    into_statements(piece?)
 }

@@ -1,5 +1,5 @@
 -- Items of a file: the steps come to what the reader function gives (C11 6.9).
-use Rattle.std.proofs.Common.{◌≡◌, ℕ, suc, ◌+◌, ◌-◌, ◌≤◌, max, Bool, true, false, List, [], ◌∷◌, ◌++◌, length, drop, codes, refl, ap, sym, ◌∙◌, subst, arith}
+use Rattle.std.proofs.Common.{◌≡◌, ℕ, suc, ◌+◌, ◌-◌, ◌≤◌, max, Bool, true, false, List, [], ◌∷◌, ◌++◌, length, drop, codes, refl, ap, sym, ◌∙◌, arith}
 use Rattle.std.proofs.lemmas.List.{length-drop, drop-drop}
 use Rattle.std.specs.Prelude.{if◌then◌else◌}
 use Rattle.cbase.specs.declared.place.Place.{Place}
@@ -10,19 +10,19 @@ use Rattle.cbase.specs.declared.tree.item.Item.{Item}
 use Rattle.cbase.specs.declared.tree.item.Item.TheVariants as item
 use Rattle.cbase.specs.declared.tree.spec.TypeSpec.{TypeSpec}
 use Rattle.cbase.specs.declared.tree.stmt.Stmt.{Stmt}
-use Rattle.cbuild.specs.Workshop.{place_at, token_at, bytes_at}
-use Rattle.cbuild.specs.declared.event.Event.TheVariants as event
-use Rattle.cbuild.specs.declared.piece.Piece.TheVariants as piece
+use Rattle.cevents.specs.Workshop.{place_at, token_at, bytes_at}
+use Rattle.cevents.specs.declared.event.Event.TheVariants as event
+use Rattle.cevents.specs.declared.piece.Piece.TheVariants as piece
 use Rattle.ctrees.specs.Levels.{stmt_levels}
 use Rattle.cgrammar.proofs.Fronts.{drop_front}
 use Rattle.cgrammar.proofs.SoundSays.{SoundLevel}
 use Rattle.cgrammar.proofs.SoundLists.{levels_of_all}
 use Rattle.cgrammar.proofs.SoundStatements.{says_body, sound_items}
-use Rattle.cgrammar.proofs.SoundSteps.{Sound, Got, first_of}
+use Rattle.cgrammar.proofs.SoundSteps.{Sound, first_of}
 use Rattle.cgrammar.specs.Outcomes.{Outcome, Reader, then_read, after_first, after_mark, behind_first}
 use Rattle.cgrammar.specs.Outcomes as outcome
 use Rattle.cgrammar.specs.Phrases.{Context, scoped}
-use Rattle.cgrammar.specs.ReadDeclarations.{read_specifiers, read_parameters, read_declaration}
+use Rattle.cgrammar.specs.ReadDeclarations.{read_parameters, read_declaration}
 use Rattle.cgrammar.specs.ReadLevels.{Level, read_until_brace}
 use Rattle.cgrammar.specs.ReadTypes.{star_count, behind_stars}
 use Rattle.cgrammar.specs.Scope.{Names, declared_around, left}
@@ -33,10 +33,10 @@ use Rattle.creader.specs.DeclarationSteps.{specifiers, parameters, declaration}
 use Rattle.creader.specs.ItemSteps.{declare_around, defined, definition_inside, definition_body, definition_with, definition_named, definition_behind, definition, ends_with_brace, external}
 use Rattle.creader.specs.State.{State, rest, with_scope, skipped}
 use Rattle.creader.specs.StatementSteps.{block_item, block_items}
-use Rattle.creader.specs.Steps.{Inner, write, mark, leave, until_brace}
+use Rattle.creader.specs.Steps.{Inner, write, mark, until_brace}
 use Rattle.creader.specs.declared.status.Status.TheVariants.{Nothing}
 use Rattle.creader.specs.declared.wanted.Wanted.TheVariants as wanted
-use Rattle.cread_expr.proofs.Agreed.{Pieces, none, shop, Ended, Agreed, Ready, Follows, Continues, ends, context_of, LevelAgrees}
+use Rattle.cread_expr.proofs.Agreed.{Pieces, none, shop, Ended, Agreed, Follows, Continues, ends, context_of, LevelAgrees}
 use Rattle.cread_expr.proofs.AgreedDeclarations.{declaration_piece, declaration_agrees}
 use Rattle.cread_expr.proofs.AgreedDeclarationsParameters.{then_both, then_specifiers, still_parameters, parameters_agree}
 use Rattle.cread_expr.proofs.AgreedEntire.{entirely, entirely_asked, agreed_then, agreed_write}
@@ -44,7 +44,7 @@ use Rattle.cread_expr.proofs.AgreedLists.{behind_brace, over_brace, until_brace_
 use Rattle.cread_expr.proofs.AgreedPlaces.{place_here}
 use Rattle.cread_expr.proofs.AgreedRules.{agreed_at, agreed_outcome, agreed_goes, agreed_test, if_first, then_ends, then_mark}
 use Rattle.cread_expr.proofs.AgreedStatements.{body_piece, as_ends}
-use Rattle.cread_expr.proofs.AgreedSteps.{if_going, Still, still_lost, still_goes, still_mark, still_write, still_leave, ended_at, ended_levels, ended_part, ended_skip, ended_token, ended_write, ended_leave}
+use Rattle.cread_expr.proofs.AgreedSteps.{if_going, Still, still_lost, still_goes, still_mark, still_write, still_leave, ended_at, ended_levels, ended_part, ended_token, ended_write, ended_leave}
 use Rattle.cread_expr.proofs.AgreedTypesSizes.{read_ends, lost_here, ended_stars, if_behind}
 use Rattle.cread.specs.Items.{in_body, out_of}
 use Rattle.cread.specs.ReadItem.{Head, head_of, read_head, read_function, read_external}

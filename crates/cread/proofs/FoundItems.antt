@@ -1,16 +1,15 @@
 -- What the reader's events make of a row is its item; where constructs and changes of layout stand.
-use Rattle.std.proofs.Common.{◌≡◌, ℕ, zero, suc, ◌+◌, ◌-◌, ◌<◌, ◌≤◌, Bool, true, false, if◌then◌else◌, Option, None, Some, List, [], ◌∷◌, length, map, take, drop, slice_get, length-drop, refl, ap, sym, ◌∙◌, subst, arith, inl, inr, ◌↔◌}
+use Rattle.std.proofs.Common.{◌≡◌, ℕ, ◌+◌, ◌-◌, ◌<◌, ◌≤◌, Bool, true, false, if◌then◌else◌, Option, Some, List, [], ◌∷◌, length, map, take, drop, slice_get, length-drop, refl, ap, sym, ◌∙◌, subst, arith, inr, ◌↔◌}
 use Rattle.std.proofs.lemmas.List.{length-map, length-take}
 use Rattle.std.proofs.lemmas.List.Elements.{All-cons, All-drop, All-head, All-map, All-nil, All-tail, All-take}
 use Rattle.std.proofs.lemmas.Option.{get_or_from_slice_get, slice_get_within}
 use Rattle.std.specs.List.{All}
 use Rattle.cbase.specs.declared.place.Place.{Place}
 use Rattle.cbase.specs.declared.tree.item.Item.{Item}
-use Rattle.cbuild.specs.Building.{built_all}
-use Rattle.cbuild.specs.Workshop.{Workshop}
-use Rattle.cbuild.specs.declared.event.Event.{Event}
-use Rattle.cbuild.specs.declared.piece.Piece.{Piece}
-use Rattle.cbuild.specs.declared.piece.Piece.TheVariants as piece
+use Rattle.cevents.specs.Building.{built_all}
+use Rattle.cevents.specs.Workshop.{Workshop}
+use Rattle.cevents.specs.declared.event.Event.{Event}
+use Rattle.cevents.specs.declared.piece.Piece.TheVariants as piece
 use Rattle.cconstructs.specs.Finding.{found_at}
 use Rattle.cconstructs.specs.declared.found.Found.{Found}
 use Rattle.cconstructs.specs.Constructs.{IsConstructAt, IsFirstConstruct, NamedWord, FloatingWord, FloatingConstant, VariableArguments, StringLiteral, FunctionPointer, HasNoConstruct}
@@ -27,10 +26,10 @@ use Rattle.cgrammar.specs.Scope.{Names}
 use Rattle.cgrammar.specs.Terminals.{Terminal, terminal_of, unpassed}
 use Rattle.creader.specs.ItemSteps.{item_alone}
 use Rattle.creader.specs.ReadingSteps.{inner_at}
-use Rattle.creader.specs.State.{State, goes}
+use Rattle.creader.specs.State.{State}
 use Rattle.creader.specs.Writings.{ItemWriting, item_written_of, start_of}
 use Rattle.cread.proofs.ReadRows.{RowRead, row_read, no_row_read}
-use Rattle.cread.specs.Answers.{IsItemRead, IsNoItem, IsPlaceOf, IsPlaceIn, IsRefusal, ShowsLayout}
+use Rattle.cread.specs.Answers.{IsItemRead, IsPlaceOf, IsPlaceIn, IsRefusal, ShowsLayout}
 use Rattle.cread.specs.Items.{SpellsItem}
 use Rattle.cread.specs.RowItems.{context_at, IsItemOf, IsItemOfNone, IsConstructOf, nothing_made, item_made, MakeItem}
 use Rattle.cread.specs.declared.refusal.Refusal.TheVariants.{Construct, Syntax}

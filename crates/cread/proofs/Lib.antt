@@ -6,4 +6,5 @@ pub mod AgreedItems
 pub mod ReadRows
 pub mod FoundItems
 pub mod Refusals
+pub mod OneAnswer
 pub mod NeededItems

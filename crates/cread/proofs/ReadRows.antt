@@ -1,10 +1,10 @@
 -- What the steps make of a whole row is the item that the grammar spells with it, and where they make nothing there is
 -- none.
-use Rattle.std.proofs.Common.{◌≡◌, ℕ, ◌≤◌, Bool, true, false, List, [], ◌∷◌, ◌++◌, refl, ap, sym, ◌∙◌, subst, arith, append-nil}
+use Rattle.std.proofs.Common.{◌≡◌, ℕ, ◌≤◌, true, false, List, [], ◌∷◌, ◌++◌, refl, ap, sym, ◌∙◌, subst, arith, append-nil}
 use Rattle.cbase.specs.declared.tree.item.Item.{Item}
-use Rattle.cbuild.specs.Building.{built_all}
-use Rattle.cbuild.specs.declared.event.Event.{Event}
-use Rattle.cbuild.specs.declared.piece.Piece.TheVariants as piece
+use Rattle.cevents.specs.Building.{built_all}
+use Rattle.cevents.specs.declared.event.Event.{Event}
+use Rattle.cevents.specs.declared.piece.Piece.TheVariants as piece
 use Rattle.ctrees.specs.Levels.{item_levels}
 use Rattle.cgrammar.proofs.Sound.{sound_level}
 use Rattle.cgrammar.proofs.SoundSteps.{Sound, Got}
@@ -16,11 +16,11 @@ use Rattle.cgrammar.specs.Scope.{Names}
 use Rattle.cgrammar.specs.Terminals.{Terminal}
 use Rattle.creader.specs.ItemSteps.{external, ended_with, at_end, item_alone}
 use Rattle.creader.specs.ReadingSteps.{inner_at}
-use Rattle.creader.specs.State.{State, rest, goes, is_going, lost}
+use Rattle.creader.specs.State.{State, rest, goes, is_going}
 use Rattle.creader.specs.Writings.{start_of}
 use Rattle.creader.specs.declared.status.Status.{Status}
-use Rattle.creader.specs.declared.status.Status.TheVariants.{Going, Stopped, Nothing}
-use Rattle.cread_expr.proofs.Agreed.{Ended, Agreed, none, shop, ends, context_of}
+use Rattle.creader.specs.declared.status.Status.TheVariants.{Going, Stopped}
+use Rattle.cread_expr.proofs.Agreed.{Ended, Agreed, none, shop, ends}
 use Rattle.cread_expr.proofs.AgreedLevels.{levels_agree}
 use Rattle.cread_expr.proofs.AgreedSteps.{if_going, if_idle}
 use Rattle.cread.proofs.AgreedItems.{item_piece, external_agrees}

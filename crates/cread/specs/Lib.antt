@@ -5,4 +5,5 @@ pub mod TextItems
 pub mod ItemRows
 pub mod Answers
 pub mod RowItems
+pub mod ItemAnswers
 pub mod Needed

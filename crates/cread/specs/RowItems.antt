@@ -2,11 +2,10 @@
 use Rattle.std.specs.Prelude.{◌≡◌, ℕ, ◌≤◌, List, [], ◌∷◌, Option, Some}
 use Rattle.cbase.specs.declared.place.Place.{Place}
 use Rattle.cbase.specs.declared.tree.item.Item.{Item}
-use Rattle.cbuild.specs.Building.{built_all}
-use Rattle.cbuild.specs.Workshop.{Workshop}
-use Rattle.cbuild.specs.declared.event.Event.{Event}
-use Rattle.cbuild.specs.declared.piece.Piece.{Piece}
-use Rattle.cbuild.specs.declared.piece.Piece.TheVariants as piece
+use Rattle.cevents.specs.Building.{built_all}
+use Rattle.cevents.specs.Workshop.{Workshop}
+use Rattle.cevents.specs.declared.event.Event.{Event}
+use Rattle.cevents.specs.declared.piece.Piece.TheVariants as piece
 use Rattle.ctrees.specs.Levels.{item_levels}
 use Rattle.cconstructs.specs.Constructs.{IsFirstConstruct}
 use Rattle.cgrammar.specs.Phrases.{Context}

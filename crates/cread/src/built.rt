@@ -1,10 +1,10 @@
 ghost use Rattle.std.specs.Prelude.{◌≡◌, ℕ, Err, IfOk};
 ghost use Rattle.cbase.specs.declared.tree.item.Item.{Item as Tree};
-ghost use Rattle.cbuild.specs.Building.{built_all};
+ghost use Rattle.cevents.specs.Building.{built_all};
 ghost use Rattle.cread.specs.RowItems.{item_made, nothing_made};
 
 use cbase::Item;
-use cbuild::Event;
+use cevents::Event;
 use cgrammar::Terminal;
 use std::alloc::Global;
 

@@ -9,7 +9,7 @@ ghost use Rattle.creader.specs.ItemSteps.{item_alone};
 ghost use Rattle.creader.specs.ReadingSteps.{inner_at};
 ghost use Rattle.creader.specs.Writings.{item_written_of, start_of};
 ghost use Rattle.cread.specs.Answers.{IsPlaceIn, IsPlaceOf, IsReadIn, IsRefusal, ShowsLayout};
-ghost use Rattle.cbuild.specs.Building.{built_all};
+ghost use Rattle.cevents.specs.Building.{built_all};
 ghost use Rattle.cread.specs.RowItems.{IsConstructOf, IsItemOf, IsItemOfNone, MakeItem, context_at, item_made, nothing_made};
 
 use crate::built::{BuiltItem, Unbuilt, build_item};
@@ -57,13 +57,7 @@ pub fn read_item_in(
     requires inside { span.after ≤ length t.now.list }
     ensures { IfOk result (λ read. IsReadIn t.now span.first span.after (record { scope = scope; expressions = expressions }) read) }
 {
-    let row = row_of_part(
-        alloc,
-        t,
-        passed,
-        span.first as usize,
-        span.after as usize,
-    )?;
+    let row = row_of_part(alloc, t, passed, span.first as usize, span.after as usize)?;
     match layout_place(t, row.as_slice(), span.first, span.after) {
         Some(place) => Ok(ReadIn::Refused(Refusal::Construct { number: 7, place })),
         None => read_plain(alloc, t, row.as_slice(), span, scope, expressions),
@@ -162,10 +156,7 @@ fn unread(
 }
 
 /// The place of the first construct of a row, with its number.
-fn construct_place(
-    alloc: Global,
-    row: &[Terminal<'_>],
-) -> Result<Option<(u8, Place)>, NoMemory>
+fn construct_place(alloc: Global, row: &[Terminal<'_>]) -> Result<Option<(u8, Place)>, NoMemory>
     ensures found { IfOk result (λ found. IfSome found (λ construct. IsConstructOf row.now construct.0 construct.1)) }
     ensures none { IfOk result (λ found. IfNone found (HasNoConstruct row.now)) }
 {

@@ -5,11 +5,11 @@ use Rattle.cbase.specs.declared.tree.expr.Expr.{Expr}
 use Rattle.cbase.specs.declared.tree.init.Init.{Init}
 use Rattle.cbase.specs.declared.tree.spec.TypeSpec.{TypeSpec}
 use Rattle.cbase.specs.declared.tree.stmt.Stmt.{Stmt}
-use Rattle.cbuild.specs.Building.{built_all}
-use Rattle.cbuild.specs.Workshop.{Workshop}
-use Rattle.cbuild.specs.declared.event.Event.{Event}
-use Rattle.cbuild.specs.declared.piece.Piece.{Piece}
-use Rattle.cbuild.specs.declared.piece.Piece.TheVariants as piece
+use Rattle.cevents.specs.Building.{built_all}
+use Rattle.cevents.specs.Workshop.{Workshop}
+use Rattle.cevents.specs.declared.event.Event.{Event}
+use Rattle.cevents.specs.declared.piece.Piece.{Piece}
+use Rattle.cevents.specs.declared.piece.Piece.TheVariants as piece
 use Rattle.cgrammar.specs.Outcomes.{Outcome, Reader}
 use Rattle.cgrammar.specs.Outcomes as outcome
 use Rattle.cgrammar.specs.Phrases.{Context}

@@ -2,9 +2,9 @@
 use Rattle.std.proofs.Common.{◌≡◌, ℕ, ◌+◌, max, Bool, true, false, List, [], ◌∷◌, drop, take, length, refl, ap, ◌∙◌, arith}
 use Rattle.std.proofs.lemmas.List.{take_at}
 use Rattle.std.specs.Prelude.{if◌then◌else◌}
-use Rattle.cbuild.specs.Building.{built}
-use Rattle.cbuild.specs.declared.event.Event.{Event}
-use Rattle.cbuild.specs.declared.piece.Piece.{Piece}
+use Rattle.cevents.specs.Building.{built}
+use Rattle.cevents.specs.declared.event.Event.{Event}
+use Rattle.cevents.specs.declared.piece.Piece.{Piece}
 use Rattle.cgrammar.specs.Outcomes.{Outcome, Reader, then_read, or_else, with_right, continued, after_first, after_mark, has_first, has_mark}
 use Rattle.cgrammar.specs.Outcomes as outcome
 use Rattle.cgrammar.specs.Phrases.{Context, counted}

@@ -4,9 +4,9 @@ use Rattle.cbase.specs.declared.tree.decl.Decl.{Decl}
 use Rattle.cbase.specs.declared.tree.decl.Declared.{Declared}
 use Rattle.cbase.specs.declared.tree.decl.Storage.{Storage}
 use Rattle.cbase.specs.declared.tree.spec.TypeSpec.{TypeSpec}
-use Rattle.cbuild.specs.Workshop.{token_at}
-use Rattle.cbuild.specs.declared.event.Event.TheVariants as event
-use Rattle.cbuild.specs.declared.piece.Piece.TheVariants as piece
+use Rattle.cevents.specs.Workshop.{token_at}
+use Rattle.cevents.specs.declared.event.Event.TheVariants as event
+use Rattle.cevents.specs.declared.piece.Piece.TheVariants as piece
 use Rattle.cgrammar.specs.Outcomes as outcome
 use Rattle.cgrammar.specs.Phrases.{Context}
 use Rattle.cgrammar.specs.ReadDeclarations.{read_parameters, read_declarator, read_declaration}

@@ -5,8 +5,8 @@ use Rattle.cbase.specs.declared.tree.decl.Param.{Param}
 use Rattle.cbase.specs.declared.tree.decl.Storage.{Storage}
 use Rattle.cbase.specs.declared.tree.decl.Storage.TheVariants.{Plain}
 use Rattle.cbase.specs.declared.tree.spec.TypeSpec.{TypeSpec}
-use Rattle.cbuild.specs.declared.event.Event.TheVariants as event
-use Rattle.cbuild.specs.declared.piece.Piece.TheVariants as piece
+use Rattle.cevents.specs.declared.event.Event.TheVariants as event
+use Rattle.cevents.specs.declared.piece.Piece.TheVariants as piece
 use Rattle.cgrammar.proofs.Truth.{and-right}
 use Rattle.cgrammar.specs.Grammar.{inside}
 use Rattle.cgrammar.specs.Outcomes.{Outcome, Reader, then_read, has_mark}

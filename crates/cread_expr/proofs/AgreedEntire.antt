@@ -1,8 +1,8 @@
 -- Readers behind which more has to follow: a tree behind which they stopped is none.
 use Rattle.std.proofs.Common.{◌≡◌, ℕ, false, List, refl, ap, sym, ◌∙◌, arith}
-use Rattle.cbuild.specs.Building.{built}
-use Rattle.cbuild.specs.declared.event.Event.{Event}
-use Rattle.cbuild.specs.declared.piece.Piece.{Piece}
+use Rattle.cevents.specs.Building.{built}
+use Rattle.cevents.specs.declared.event.Event.{Event}
+use Rattle.cevents.specs.declared.piece.Piece.{Piece}
 use Rattle.cgrammar.specs.Outcomes.{Outcome, Reader, then_read}
 use Rattle.cgrammar.specs.Outcomes as outcome
 use Rattle.cgrammar.specs.Phrases.{Context}

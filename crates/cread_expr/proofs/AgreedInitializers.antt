@@ -1,8 +1,8 @@
 -- Initialisers.
 use Rattle.std.proofs.Common.{ℕ, ◌+◌, List, [], ◌∷◌, ◌++◌, length, codes, None, Some, refl, arith}
 use Rattle.cbase.specs.declared.tree.init.InitPart.{InitPart}
-use Rattle.cbuild.specs.declared.event.Event.TheVariants as event
-use Rattle.cbuild.specs.declared.piece.Piece.TheVariants as piece
+use Rattle.cevents.specs.declared.event.Event.TheVariants as event
+use Rattle.cevents.specs.declared.piece.Piece.TheVariants as piece
 use Rattle.cgrammar.specs.Phrases.{Context}
 use Rattle.cgrammar.specs.ReadDeclarations.{read_part, read_initializer}
 use Rattle.cgrammar.specs.ReadDeclarations as reader

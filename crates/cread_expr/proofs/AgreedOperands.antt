@@ -9,11 +9,11 @@ use Rattle.cbase.specs.declared.tree.expr.ExprForm.TheVariants.{Name, Constant, 
 use Rattle.cbase.specs.declared.tree.expr.ExprForm.TheVariants.{Inner as Statements}
 use Rattle.cbase.specs.declared.tree.expr.Part.TheVariants.{Member as NamedPart}
 use Rattle.cbase.specs.declared.tree.stmt.Stmt.{Stmt}
-use Rattle.cbuild.specs.Building.{built}
-use Rattle.cbuild.specs.declared.event.Event.{Event}
-use Rattle.cbuild.specs.declared.event.Event.TheVariants as event
-use Rattle.cbuild.specs.declared.piece.Piece.{Piece}
-use Rattle.cbuild.specs.declared.piece.Piece.TheVariants as piece
+use Rattle.cevents.specs.Building.{built}
+use Rattle.cevents.specs.declared.event.Event.{Event}
+use Rattle.cevents.specs.declared.event.Event.TheVariants as event
+use Rattle.cevents.specs.declared.piece.Piece.{Piece}
+use Rattle.cevents.specs.declared.piece.Piece.TheVariants as piece
 use Rattle.cgrammar.specs.Firsts.{begins_type}
 use Rattle.cgrammar.specs.Outcomes.{Outcome, Reader, with_right, then_read, after_first, after_mark, has_mark, has_first, behind_first}
 use Rattle.cgrammar.specs.Outcomes as outcome

@@ -4,8 +4,8 @@ use Rattle.std.proofs.lemmas.List.{drop_at, append_assoc, drop-drop, length-drop
 use Rattle.std.specs.Prelude.{if◌then◌else◌}
 use Rattle.cbase.specs.declared.tree.expr.Part.{Part}
 use Rattle.cbase.specs.declared.tree.expr.Part.TheVariants.{Member as NamedPart, At}
-use Rattle.cbuild.specs.declared.event.Event.TheVariants as event
-use Rattle.cbuild.specs.declared.piece.Piece.TheVariants as piece
+use Rattle.cevents.specs.declared.event.Event.TheVariants as event
+use Rattle.cevents.specs.declared.piece.Piece.TheVariants as piece
 use Rattle.cgrammar.proofs.SoundBrackets.{Closes, brackets_close}
 use Rattle.cgrammar.specs.Outcomes.{Outcome, Reader, has_mark, has_first, behind_first, then_read, after_first, after_mark}
 use Rattle.cgrammar.specs.Outcomes as outcome

@@ -3,7 +3,7 @@ use Rattle.std.proofs.Common.{◌≡◌, ℕ, zero, suc, ◌+◌, ◌-◌, ◌�
 use Rattle.std.proofs.lemmas.Bool.Decides.{nat_tests}
 use Rattle.std.specs.List.{filter, prefix_len}
 use Rattle.std.specs.Prelude.{if◌then◌else◌, nat_eq}
-use Rattle.cbuild.specs.Workshop.{place_at, no_token}
+use Rattle.cevents.specs.Workshop.{place_at, no_token}
 use Rattle.cgrammar.specs.FrontOf.{front_of}
 use Rattle.cgrammar.specs.Terminals.{Terminal, first_place, last_place, first_word_place, is_any_word}
 use Rattle.creader.specs.OperandSteps.{is_no_word, call_place}

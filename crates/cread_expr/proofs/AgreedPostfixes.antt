@@ -4,9 +4,9 @@ use Rattle.std.specs.Prelude.{if◌then◌else◌}
 use Rattle.cbase.specs.declared.place.Place.{Place}
 use Rattle.cbase.specs.declared.tree.expr.Expr.{Expr}
 use Rattle.cbase.specs.declared.tree.expr.ExprForm.TheVariants.{Count, Index, Member, Call}
-use Rattle.cbuild.specs.Workshop.{token_at, place_at}
-use Rattle.cbuild.specs.declared.event.Event.TheVariants as event
-use Rattle.cbuild.specs.declared.piece.Piece.TheVariants as piece
+use Rattle.cevents.specs.Workshop.{token_at, place_at}
+use Rattle.cevents.specs.declared.event.Event.TheVariants as event
+use Rattle.cevents.specs.declared.piece.Piece.TheVariants as piece
 use Rattle.cgrammar.specs.FrontOf.{front_of}
 use Rattle.cgrammar.specs.Outcomes.{Outcome, Reader, has_mark, has_first}
 use Rattle.cgrammar.specs.Outcomes as outcome

@@ -6,9 +6,9 @@ use Rattle.cbase.specs.declared.tree.decl.Decl.{Decl}
 use Rattle.cbase.specs.declared.tree.expr.Expr.{Expr}
 use Rattle.cbase.specs.declared.tree.stmt.Stmt.{Stmt}
 use Rattle.cbase.specs.declared.tree.stmt.StmtForm.TheVariants.{Declare, Eval}
-use Rattle.cbuild.specs.Workshop.{place_at}
-use Rattle.cbuild.specs.declared.event.Event.TheVariants as event
-use Rattle.cbuild.specs.declared.piece.Piece.TheVariants as piece
+use Rattle.cevents.specs.Workshop.{place_at}
+use Rattle.cevents.specs.declared.event.Event.TheVariants as event
+use Rattle.cevents.specs.declared.piece.Piece.TheVariants as piece
 use Rattle.cgrammar.specs.Firsts.{begins_declaration}
 use Rattle.cgrammar.specs.FrontOf.{front_of}
 use Rattle.cgrammar.specs.Grammar.{inside}

@@ -2,10 +2,10 @@
 use Rattle.std.proofs.Common.{◌≡◌, ℕ, zero, suc, ◌+◌, ◌≤◌, max, Bool, true, false, List, [], ◌∷◌, ◌++◌, drop, length, Option, refl, ap, sym, ◌∙◌, subst, arith, append_assoc, append-nil}
 use Rattle.std.proofs.lemmas.List.{length-drop, drop-drop}
 use Rattle.std.specs.Prelude.{if◌then◌else◌, slice_index_or}
-use Rattle.cbuild.specs.Building.{built, built_next, built_all}
-use Rattle.cbuild.specs.Workshop.{Workshop, token_at, bytes_at, no_token}
-use Rattle.cbuild.specs.declared.event.Event.{Event}
-use Rattle.cbuild.specs.declared.piece.Piece.{Piece}
+use Rattle.cevents.specs.Building.{built, built_next, built_all}
+use Rattle.cevents.specs.Workshop.{Workshop, token_at, bytes_at, no_token}
+use Rattle.cevents.specs.declared.event.Event.{Event}
+use Rattle.cevents.specs.declared.piece.Piece.{Piece}
 use Rattle.cgrammar.specs.Outcomes.{has_first}
 use Rattle.cgrammar.specs.Phrases.{Context, scoped}
 use Rattle.cgrammar.specs.Scope.{Names, entered, left, declared}

@@ -6,9 +6,9 @@ use Rattle.std.specs.Prelude.{if◌then◌else◌}
 use Rattle.cbase.specs.declared.tree.spec.BasicType.{BasicType}
 use Rattle.cbase.specs.declared.tree.spec.TypeSpec.{TypeSpec}
 use Rattle.cbase.specs.declared.tree.spec.TypeSpec.TheVariants.{Named, Struct, Enum}
-use Rattle.cbuild.specs.Workshop.{maybe_bytes_at}
-use Rattle.cbuild.specs.declared.event.Event.TheVariants as event
-use Rattle.cbuild.specs.declared.piece.Piece.TheVariants as piece
+use Rattle.cevents.specs.Workshop.{maybe_bytes_at}
+use Rattle.cevents.specs.declared.event.Event.TheVariants as event
+use Rattle.cevents.specs.declared.piece.Piece.TheVariants as piece
 use Rattle.cgrammar.specs.Firsts.{begins_type}
 use Rattle.cgrammar.specs.FrontReadings.{is_basic_word}
 use Rattle.cgrammar.specs.Outcomes.{Outcome, Reader, then_read, after_mark, has_first, has_mark, behind_first}

@@ -3,8 +3,8 @@ use Rattle.std.proofs.Common.{◌≡◌, ℕ, ◌+◌, ◌≤◌, Bool, true, fa
 use Rattle.std.specs.List.{prefix_len}
 use Rattle.cbase.specs.declared.tree.expr.Expr.{Expr}
 use Rattle.cbase.specs.declared.tree.stmt.Stmt.{Stmt}
-use Rattle.cbuild.specs.Building.{built_all}
-use Rattle.cbuild.specs.declared.event.Event.{Event}
+use Rattle.cevents.specs.Building.{built_all}
+use Rattle.cevents.specs.declared.event.Event.{Event}
 use Rattle.cgrammar.proofs.Between.{comes_before}
 use Rattle.cgrammar.proofs.Exact.{expressions_complete, expressions_sound, blocks_complete, blocks_sound}
 use Rattle.cgrammar.proofs.ReadAt.{Leaves, row_from, row_at, longest_there, none_there, block_there, no_block_there}

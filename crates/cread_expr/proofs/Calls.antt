@@ -4,8 +4,8 @@ use Rattle.std.specs.Prelude.{IsSome}
 use Rattle.std.specs.List.{prefix_len}
 use Rattle.cbase.specs.declared.tree.expr.Expr.{Expr}
 use Rattle.cbase.specs.declared.tree.stmt.Stmt.{Stmt}
-use Rattle.cbuild.specs.Building.{built_all}
-use Rattle.cbuild.specs.Workshop.{start, expr_alone, block_alone}
+use Rattle.cevents.specs.Building.{built_all}
+use Rattle.cevents.specs.Workshop.{start, expr_alone, block_alone}
 use Rattle.cgrammar.specs.Readings.{AreNumbered, IsExpressionAt, IsLongestExpressionAt, IsBlockAt}
 use Rattle.cgrammar.specs.Scope.{Names}
 use Rattle.cgrammar.specs.Terminals.{Terminal, terminals, last_place}

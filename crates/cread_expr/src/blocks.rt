@@ -1,7 +1,7 @@
 ghost use Rattle.std.specs.Prelude.{◌≡◌, ◌+◌, ℕ, List, false, true, take, Some, None, IfOk, IfSome, IfNone, IsSome};
 ghost use Rattle.cbase.specs.declared.tree.stmt.Stmt.{Stmt};
-ghost use Rattle.cbuild.specs.Building.{built_all};
-ghost use Rattle.cbuild.specs.Workshop.{block_alone, start};
+ghost use Rattle.cevents.specs.Building.{built_all};
+ghost use Rattle.cevents.specs.Workshop.{block_alone, start};
 ghost use Rattle.cgrammar.specs.Readings.{AreNumbered, IsBlockAt, most_levels};
 ghost use Rattle.cgrammar.specs.Terminals.{last_place};
 ghost use Rattle.ctokens.specs.Passed.{LieInText};

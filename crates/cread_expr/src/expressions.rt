@@ -1,7 +1,7 @@
 ghost use Rattle.std.specs.Prelude.{◌≡◌, ◌+◌, ℕ, false, true, take, Some, None, IfOk, IfSome, IfNone, IsSome};
 ghost use Rattle.cbase.specs.declared.tree.expr.Expr.{Expr};
-ghost use Rattle.cbuild.specs.Building.{built_all};
-ghost use Rattle.cbuild.specs.Workshop.{expr_alone, start};
+ghost use Rattle.cevents.specs.Building.{built_all};
+ghost use Rattle.cevents.specs.Workshop.{expr_alone, start};
 ghost use Rattle.cgrammar.specs.Readings.{AreNumbered, IsExpressionAt, IsLongestExpressionAt, most_levels};
 ghost use Rattle.cgrammar.specs.Terminals.{last_place};
 ghost use Rattle.ctokens.specs.Passed.{LieInText};

@@ -1,6 +1,6 @@
 pub mod Fronts
-pub mod LabelRows
 pub mod LastBraces
+pub mod LabelRows
 pub mod Matching
 pub mod Opening
 pub mod Readings

@@ -1,6 +1,6 @@
 -- What is left of a row behind a part that is written: all that was left before.
 use Rattle.std.proofs.Common.{◌≡◌, ℕ, ◌≤◌, Bool, true, false, if◌then◌else◌, length, refl, sym, ap, ◌∙◌, subst}
-use Rattle.cbuild.specs.declared.event.Event.{Event}
+use Rattle.cevents.specs.declared.event.Event.{Event}
 use Rattle.creader.specs.State.{State, rest, goes, with_event}
 use Rattle.creader.specs.Steps.{write}
 

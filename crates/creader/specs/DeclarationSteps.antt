@@ -2,7 +2,7 @@
 use Rattle.std.specs.Prelude.{ℕ, Bool, false, true, ◌&&◌, if◌then◌else◌, Option, None, Some, is_some, codes}
 use Rattle.cbase.specs.declared.tree.decl.Storage.{Storage}
 use Rattle.cbase.specs.declared.tree.decl.Storage.TheVariants.{Plain}
-use Rattle.cbuild.specs.declared.event.Event.TheVariants as event
+use Rattle.cevents.specs.declared.event.Event.TheVariants as event
 use Rattle.cgrammar.specs.Outcomes.{has_mark, has_first}
 use Rattle.cgrammar.specs.ReadDeclarations.{storage_at, is_void_alone}
 use Rattle.cgrammar.specs.ReadTypes.{star_count, never, closes_braces}

@@ -1,8 +1,8 @@
 -- Items of a file (C11 6.9): a whole row is an item.
 use Rattle.std.specs.Prelude.{ℕ, ◌-◌, Bool, false, if◌then◌else◌, List, [], ◌∷◌, codes}
 use Rattle.cbase.specs.declared.tree.decl.Storage.{Storage}
-use Rattle.cbuild.specs.Workshop.{bytes_at}
-use Rattle.cbuild.specs.declared.event.Event.TheVariants as event
+use Rattle.cevents.specs.Workshop.{bytes_at}
+use Rattle.cevents.specs.declared.event.Event.TheVariants as event
 use Rattle.cgrammar.specs.Outcomes.{has_mark, has_first}
 use Rattle.cgrammar.specs.ReadTypes.{star_count}
 use Rattle.cgrammar.specs.Scope.{declared_around}

@@ -2,8 +2,8 @@
 use Rattle.std.specs.Prelude.{ℕ, zero, suc, ◌+◌, ◌-◌, nat_eq, nat_le, Bool, true, false, ◌&&◌, not, if◌then◌else◌, List, [], ◌∷◌, take, drop, length, Option, None, Some, codes}
 use Rattle.std.specs.List.{prefix_len}
 use Rattle.cbase.specs.declared.tree.operators.UnaryOp.{UnaryOp}
-use Rattle.cbuild.specs.declared.event.Event.{Event}
-use Rattle.cbuild.specs.declared.event.Event.TheVariants as event
+use Rattle.cevents.specs.declared.event.Event.{Event}
+use Rattle.cevents.specs.declared.event.Event.TheVariants as event
 use Rattle.cgrammar.specs.Firsts.{begins_type}
 use Rattle.cgrammar.specs.Outcomes.{has_mark, has_first, behind_first}
 use Rattle.cgrammar.specs.ReadOperands.{behind_matched, goes_on}

@@ -2,7 +2,7 @@
 use Rattle.std.specs.Prelude.{ℕ, zero, suc, ◌+◌, nat_le, ◌&&◌, if◌then◌else◌, length, Option, None, Some, codes}
 use Rattle.cbase.specs.declared.tree.operators.BinaryOp.{BinaryOp}
 use Rattle.cbase.specs.declared.tree.operators.BinaryOp.TheVariants.{Comma}
-use Rattle.cbuild.specs.declared.event.Event.TheVariants as event
+use Rattle.cevents.specs.declared.event.Event.TheVariants as event
 use Rattle.cgrammar.specs.Operators.{binary_rows, assignment_rows}
 use Rattle.cgrammar.specs.Outcomes.{has_mark}
 use Rattle.creader.specs.State.{State, rest, goes, skipped, stopped, point_of}

@@ -1,6 +1,6 @@
 -- Where a reader stands in a row of tokens, and what it has written of the tree that it reads.
 use Rattle.std.specs.Prelude.{ℕ, ◌+◌, Bool, true, false, List, [], ◌∷◌, ◌++◌, drop, take, length}
-use Rattle.cbuild.specs.declared.event.Event.{Event}
+use Rattle.cevents.specs.declared.event.Event.{Event}
 use Rattle.cgrammar.specs.Scope.{Names}
 use Rattle.cgrammar.specs.Terminals.{Terminal}
 use Rattle.creader.specs.declared.status.Status.{Status}

@@ -1,7 +1,7 @@
 -- What a reader does. Where it has stopped, or nothing is read, no step does anything but those that say so.
 use Rattle.std.specs.Prelude.{ℕ, zero, suc, ◌+◌, max, Bool, ◌&&◌, not, if◌then◌else◌, List, [], ◌∷◌, length, Option, None, codes}
-use Rattle.cbuild.specs.declared.event.Event.{Event}
-use Rattle.cbuild.specs.Workshop.{bytes_at}
+use Rattle.cevents.specs.declared.event.Event.{Event}
+use Rattle.cevents.specs.Workshop.{bytes_at}
 use Rattle.cgrammar.specs.Outcomes.{has_mark, has_first, behind_first}
 use Rattle.cgrammar.specs.Operators.{mark_row}
 use Rattle.cgrammar.specs.Scope.{entered, left, declared}

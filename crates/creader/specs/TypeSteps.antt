@@ -2,7 +2,7 @@
 use Rattle.std.specs.Prelude.{ℕ, zero, suc, ◌+◌, Bool, true, false, ◌&&◌, if◌then◌else◌, List, [], ◌∷◌, map, take, length, Option, None, Some, codes}
 use Rattle.std.specs.List.{prefix_len}
 use Rattle.cbase.specs.declared.tree.spec.BasicType.{BasicType}
-use Rattle.cbuild.specs.declared.event.Event.TheVariants as event
+use Rattle.cevents.specs.declared.event.Event.TheVariants as event
 use Rattle.cgrammar.specs.Firsts.{begins_type}
 use Rattle.cgrammar.specs.FrontReadings.{is_basic_word}
 use Rattle.cgrammar.specs.Outcomes.{has_mark, has_first}

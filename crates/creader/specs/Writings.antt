@@ -1,6 +1,6 @@
 -- What a reader has written in the end, from where it began.
 use Rattle.std.specs.Prelude.{ℕ, Bool, false, not, List, []}
-use Rattle.cbuild.specs.declared.event.Event.{Event}
+use Rattle.cevents.specs.declared.event.Event.{Event}
 use Rattle.cgrammar.specs.Scope.{Names}
 use Rattle.cgrammar.specs.Terminals.{Terminal}
 use Rattle.creader.specs.State.{State, goes, is_nothing}

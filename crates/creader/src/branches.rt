@@ -7,7 +7,7 @@ use crate::grammar::Grammar;
 use crate::reader::Reader;
 use crate::wanted::Wanted;
 use cbase::NoMemory;
-use cbuild::Event;
+use cevents::Event;
 
 impl<F: Fn(&mut Reader<'_>, u32, Wanted) -> Result<(), NoMemory>> Grammar<F> {
     /// Reads what stands behind the first statement of an `if`: an `else` belongs to the nearest (C11 6.8.4.1).

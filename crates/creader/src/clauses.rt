@@ -8,7 +8,7 @@ use crate::grammar::Grammar;
 use crate::reader::Reader;
 use crate::wanted::Wanted;
 use cbase::NoMemory;
-use cbuild::Event;
+use cevents::Event;
 
 impl<F: Fn(&mut Reader<'_>, u32, Wanted) -> Result<(), NoMemory>> Grammar<F> {
     /// Reads an expression that may be left out before the mark.

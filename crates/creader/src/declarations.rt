@@ -9,7 +9,7 @@ use crate::grammar::Grammar;
 use crate::reader::Reader;
 use crate::wanted::Wanted;
 use cbase::{NoMemory, Storage};
-use cbuild::Event;
+use cevents::Event;
 
 impl<'a> Reader<'a> {
     /// Reads the `;` of a declaration of no names.
@@ -67,7 +67,7 @@ impl<F: Fn(&mut Reader<'_>, u32, Wanted) -> Result<(), NoMemory>> Grammar<F> {
 }
 
 /// Whether a declaration with that storage word declares typedefs.
-pub fn declares_typedef(storage: Storage) -> bool
+pub(crate) fn declares_typedef(storage: Storage) -> bool
     ensures { result ≡ declares_typedef storage }
 {
     matches!(storage, Storage::Typedef)

@@ -8,7 +8,7 @@ use crate::listed::Listed;
 use crate::reader::Reader;
 use crate::wanted::Wanted;
 use cbase::NoMemory;
-use cbuild::Event;
+use cevents::Event;
 
 impl<'a> Reader<'a> {
     /// Goes over a comma, which may stand before the `}` of a list in braces.

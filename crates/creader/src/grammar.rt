@@ -7,7 +7,7 @@ use crate::point::Point;
 use crate::reader::Reader;
 use crate::wanted::Wanted;
 use cbase::NoMemory;
-use cbuild::Event;
+use cevents::Event;
 
 /// The rules of the grammar take the reader of what stands in a tree as a parameter, so that each is proved by itself.
 #[derive(Clone, Copy)]

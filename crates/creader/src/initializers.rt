@@ -9,7 +9,7 @@ use crate::listed::Listed;
 use crate::reader::Reader;
 use crate::wanted::Wanted;
 use cbase::NoMemory;
-use cbuild::Event;
+use cevents::Event;
 
 impl<'a> Reader<'a> {
     /// Reads the `}` of an initialiser without parts.

@@ -1,19 +1,18 @@
-ghost use Rattle.std.specs.Prelude.{◌≡◌, ◌≤◌, OnOk, length};
-ghost use Rattle.creader.specs.ItemSteps.{declare_around, defined, function_body, function_with, function_named, function_behind, function, ends_with_brace, external, at_end, item_alone};
+ghost use Rattle.std.specs.Prelude.{◌≡◌, OnOk};
 ghost use Rattle.creader.specs.Nests.{Nests};
 ghost use Rattle.creader.specs.ReadingSteps.{inner_at};
 ghost use Rattle.creader.specs.State.{rest};
+ghost use Rattle.creader.specs.ItemSteps.{declare_around, defined, definition_inside, definition_body, definition_with, definition_named, definition_behind, definition, ends_with_brace, external, at_end, item_alone};
 
 use crate::declarations::declares_typedef;
 use crate::grammar::Grammar;
 use crate::reader::Reader;
 use crate::wanted::Wanted;
 use cbase::{NoMemory, Storage};
-use cbuild::{Event, bytes_at};
-use cgrammar::Terminal;
+use cevents::{Event, bytes_at};
 
 impl<'a> Reader<'a> {
-    /// Declares the name at a token around the innermost scope.
+    /// Declares the name of a function around its parameters, in whose scope its body lies (C11 6.2.1p4, 6.2.1p7).
     #[tactic(auto, unfolding(crate::specs::ItemSteps::declare_around))]
     fn declare_around(&mut self, at: usize, typedef: bool) -> Result<(), NoMemory>
         ensures { OnOk result (self.new ≡ declare_around at typedef self.old) }
@@ -25,7 +24,7 @@ impl<'a> Reader<'a> {
         Ok(())
     }
 
-    /// Writes a function's definition whose last `}` is read.
+    /// Writes a function's definition, of which the last `}` is read.
     #[tactic(auto, unfolding(crate::specs::ItemSteps::defined))]
     fn defined(&mut self, storage: Storage) -> Result<(), NoMemory>
         ensures { OnOk result (self.new ≡ defined storage self.old) }
@@ -35,13 +34,17 @@ impl<'a> Reader<'a> {
     }
 
     /// Whether the last token of the row is a `}`.
+    #[tactic(auto, using(crate::proofs::LastBraces::brace_none, crate::proofs::LastBraces::brace_some))]
     fn ends_with_brace(&self) -> bool
         ensures { result ≡ ends_with_brace (rest self.now) }
     {
-        ends_with_brace(self.rest())
+        match self.rest().last() {
+            None => false,
+            Some(last) => last.is_mark(b"}"),
+        }
     }
 
-    /// Nothing is read where something stands behind it.
+    /// Nothing is read where tokens are left.
     #[tactic(auto, unfolding(crate::specs::ItemSteps::at_end))]
     fn at_end(&mut self)
         ensures { self.new ≡ at_end self.old }
@@ -50,35 +53,24 @@ impl<'a> Reader<'a> {
             return;
         }
         match self.rest() {
-            [] => {}
+            [] => (),
             [_, ..] => self.lose(),
         }
     }
 }
 
-/// Whether the last token of a row is a `}`.
-fn ends_with_brace(row: &[Terminal<'_>]) -> bool
-    ensures { result ≡ ends_with_brace row.now }
-{
-    match row {
-        [] => false,
-        [.., last] => last.is_mark(b"}"),
-    }
-}
-
 impl<F: Fn(&mut Reader<'_>, u32, Wanted) -> Result<(), NoMemory>> Grammar<F> {
-    /// Reads the body of a function whose name stands at the token `at`.
-    #[tactic(auto, unfolding(crate::specs::ItemSteps::function_body))]
-    fn definition_body(
+    /// Reads the body of a function from behind its `{` on.
+    #[tactic(auto, unfolding(crate::specs::ItemSteps::definition_inside))]
+    fn definition_inside(
         &self,
         reader: &mut Reader<'_>,
         storage: Storage,
         at: usize,
     ) -> Result<(), NoMemory>
         requires { Nests self.now.depth (F.pre self.now.inner) (F.post self.now.inner) }
-        ensures { OnOk result (reader.new ≡ function_body (inner_at self.now.depth) storage at reader.old) }
+        ensures { OnOk result (reader.new ≡ definition_inside (inner_at self.now.depth) storage at reader.old) }
     {
-        reader.mark(b"{");
         reader.declare_around(at, declares_typedef(storage))?;
         reader.write(Event::NoStatements)?;
         self.block_items(reader)?;
@@ -86,8 +78,23 @@ impl<F: Fn(&mut Reader<'_>, u32, Wanted) -> Result<(), NoMemory>> Grammar<F> {
         reader.defined(storage)
     }
 
-    /// Reads the parameters of a function whose name stands at the token `at`, and its body.
-    #[tactic(auto, unfolding(crate::specs::ItemSteps::function_with))]
+    /// Reads the body of a function.
+    #[tactic(auto, unfolding(crate::specs::ItemSteps::definition_body))]
+    fn definition_body(
+        &self,
+        reader: &mut Reader<'_>,
+        storage: Storage,
+        at: usize,
+    ) -> Result<(), NoMemory>
+        requires { Nests self.now.depth (F.pre self.now.inner) (F.post self.now.inner) }
+        ensures { OnOk result (reader.new ≡ definition_body (inner_at self.now.depth) storage at reader.old) }
+    {
+        reader.mark(b"{");
+        self.definition_inside(reader, storage, at)
+    }
+
+    /// Reads a function from behind its name on.
+    #[tactic(auto, unfolding(crate::specs::ItemSteps::definition_with))]
     fn definition_with(
         &self,
         reader: &mut Reader<'_>,
@@ -96,7 +103,7 @@ impl<F: Fn(&mut Reader<'_>, u32, Wanted) -> Result<(), NoMemory>> Grammar<F> {
         stars: usize,
     ) -> Result<(), NoMemory>
         requires { Nests self.now.depth (F.pre self.now.inner) (F.post self.now.inner) }
-        ensures { OnOk result (reader.new ≡ function_with (inner_at self.now.depth) storage at stars reader.old) }
+        ensures { OnOk result (reader.new ≡ definition_with (inner_at self.now.depth) storage at stars reader.old) }
     {
         reader.write(Event::NoDeclarators)?;
         reader.mark(b"(");
@@ -105,7 +112,7 @@ impl<F: Fn(&mut Reader<'_>, u32, Wanted) -> Result<(), NoMemory>> Grammar<F> {
         self.definition_body(reader, storage, at)
     }
 
-    /// Reads a function's definition from its name on.
+    /// Reads a function from its name on.
     fn definition_named(
         &self,
         reader: &mut Reader<'_>,
@@ -113,7 +120,7 @@ impl<F: Fn(&mut Reader<'_>, u32, Wanted) -> Result<(), NoMemory>> Grammar<F> {
         stars: usize,
     ) -> Result<(), NoMemory>
         requires { Nests self.now.depth (F.pre self.now.inner) (F.post self.now.inner) }
-        ensures { OnOk result (reader.new ≡ function_named (inner_at self.now.depth) storage stars reader.old) }
+        ensures { OnOk result (reader.new ≡ definition_named (inner_at self.now.depth) storage stars reader.old) }
     {
         if !reader.has_name() {
             reader.lose();
@@ -124,11 +131,11 @@ impl<F: Fn(&mut Reader<'_>, u32, Wanted) -> Result<(), NoMemory>> Grammar<F> {
         self.definition_with(reader, storage, at, stars)
     }
 
-    /// Reads a function's definition from behind its type on.
-    #[tactic(auto, unfolding(crate::specs::ItemSteps::function_behind))]
+    /// Reads a function from behind its type on.
+    #[tactic(auto, unfolding(crate::specs::ItemSteps::definition_behind))]
     fn definition_behind(&self, reader: &mut Reader<'_>, storage: Storage) -> Result<(), NoMemory>
         requires { Nests self.now.depth (F.pre self.now.inner) (F.post self.now.inner) }
-        ensures { OnOk result (reader.new ≡ function_behind (inner_at self.now.depth) storage reader.old) }
+        ensures { OnOk result (reader.new ≡ definition_behind (inner_at self.now.depth) storage reader.old) }
     {
         if !reader.goes() {
             return Ok(());
@@ -139,16 +146,16 @@ impl<F: Fn(&mut Reader<'_>, u32, Wanted) -> Result<(), NoMemory>> Grammar<F> {
     }
 
     /// Reads a function's definition (C11 6.9.1).
-    #[tactic(auto, unfolding(crate::specs::ItemSteps::function))]
+    #[tactic(auto, unfolding(crate::specs::ItemSteps::definition))]
     fn definition(&self, reader: &mut Reader<'_>) -> Result<(), NoMemory>
         requires { Nests self.now.depth (F.pre self.now.inner) (F.post self.now.inner) }
-        ensures { OnOk result (reader.new ≡ function (inner_at self.now.depth) reader.old) }
+        ensures { OnOk result (reader.new ≡ definition (inner_at self.now.depth) reader.old) }
     {
         let storage = self.specifiers(reader)?;
         self.definition_behind(reader, storage)
     }
 
-    /// Reads an item of a file, as the last token of the row tells (C11 6.9).
+    /// Reads an item as its last token tells: a function's definition, or a declaration, or nothing but a `;` (C11 6.9).
     #[tactic(auto, unfolding(crate::specs::ItemSteps::external))]
     fn external(&self, reader: &mut Reader<'_>) -> Result<(), NoMemory>
         requires { Nests self.now.depth (F.pre self.now.inner) (F.post self.now.inner) }
@@ -168,7 +175,7 @@ impl<F: Fn(&mut Reader<'_>, u32, Wanted) -> Result<(), NoMemory>> Grammar<F> {
         reader.write(Event::DeclareItem)
     }
 
-    /// Reads the row of a whole item of a file (C11 6.9).
+    /// Reads the whole row as an item (C11 6.9).
     #[tactic(auto, unfolding(crate::specs::ItemSteps::item_alone))]
     pub fn item_alone(&self, reader: &mut Reader<'_>) -> Result<(), NoMemory>
         requires { Nests self.now.depth (F.pre self.now.inner) (F.post self.now.inner) }

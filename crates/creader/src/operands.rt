@@ -9,7 +9,7 @@ use crate::reader::Reader;
 use crate::status::Status;
 use crate::wanted::Wanted;
 use cbase::{NoMemory, UnaryOp};
-use cbuild::Event;
+use cevents::Event;
 use cgrammar::{OperandStart, begins_type};
 
 impl<'a> Reader<'a> {

@@ -9,7 +9,7 @@ use crate::point::Point;
 use crate::reader::Reader;
 use crate::wanted::Wanted;
 use cbase::{BinaryOp, NoMemory};
-use cbuild::Event;
+use cevents::Event;
 
 impl<F: Fn(&mut Reader<'_>, u32, Wanted) -> Result<(), NoMemory>> Grammar<F> {
     /// Binary operators behind an operand, no looser than a level, each to the left (C11 6.5.5 to 6.5.14).

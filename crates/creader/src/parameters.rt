@@ -10,7 +10,7 @@ use crate::listed::Listed;
 use crate::reader::Reader;
 use crate::wanted::Wanted;
 use cbase::NoMemory;
-use cbuild::Event;
+use cevents::Event;
 
 impl<'a> Reader<'a> {
     /// Whether the word `void` stands there alone before a `)`.

@@ -12,7 +12,7 @@ use crate::reader::Reader;
 use crate::status::Status;
 use crate::wanted::Wanted;
 use cbase::NoMemory;
-use cbuild::Event;
+use cevents::Event;
 use cgrammar::PostfixStart;
 
 impl<'a> Reader<'a> {

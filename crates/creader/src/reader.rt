@@ -7,7 +7,7 @@ ghost use Rattle.creader.specs.State.{rest, goes, point_of};
 
 use crate::point::Point;
 use crate::status::Status;
-use cbuild::Event;
+use cevents::Event;
 use cgrammar::{Scope, Terminal, begins_declaration, begins_type, stars_length};
 use std::alloc::Global;
 use std::marker::Model;

@@ -8,7 +8,7 @@ use crate::grammar::Grammar;
 use crate::reader::Reader;
 use crate::wanted::Wanted;
 use cbase::NoMemory;
-use cbuild::Event;
+use cevents::Event;
 
 impl<'a> Reader<'a> {
     /// Goes over the `]` of a size that is left out, where sizes may be.

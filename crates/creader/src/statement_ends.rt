@@ -4,7 +4,7 @@ ghost use Rattle.creader.specs.StatementSteps.{declared, evaluated, empty_statem
 
 use crate::reader::Reader;
 use cbase::NoMemory;
-use cbuild::Event;
+use cevents::Event;
 
 impl<'a> Reader<'a> {
     /// The number of the token that was read last.

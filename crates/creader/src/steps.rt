@@ -6,7 +6,7 @@ use crate::point::Point;
 use crate::reader::Reader;
 use crate::status::Status;
 use cbase::NoMemory;
-use cbuild::{Event, bytes_at};
+use cevents::{Event, bytes_at};
 
 impl<'a> Reader<'a> {
     /// Nothing is read.

@@ -7,7 +7,7 @@ use crate::grammar::Grammar;
 use crate::reader::Reader;
 use crate::wanted::Wanted;
 use cbase::NoMemory;
-use cbuild::Event;
+use cevents::Event;
 
 impl<'a> Reader<'a> {
     /// A tag, which may be left out: the number of its token.

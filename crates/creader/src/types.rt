@@ -8,7 +8,7 @@ use crate::grammar::Grammar;
 use crate::reader::Reader;
 use crate::wanted::Wanted;
 use cbase::{BasicType, NoMemory};
-use cbuild::Event;
+use cevents::Event;
 use cgrammar::{TypeStart, read_basic_words, type_start};
 
 impl<'a> Reader<'a> {

@@ -1,4 +1,4 @@
-use cbuild::Event;
+use cevents::Event;
 use std::marker::Model;
 
 /// What a reader has written of a tree.

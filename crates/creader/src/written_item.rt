@@ -1,4 +1,4 @@
-use cbuild::Event;
+use cevents::Event;
 use cgrammar::Scope;
 use std::marker::Model;
 

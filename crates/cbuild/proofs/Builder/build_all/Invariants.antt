@@ -1,5 +1,5 @@
 use Rattle.std.proofs.Common.{◌≡◌, drop, Some}
-use Rattle.cbuild.specs.Building.{built_all}
+use Rattle.cevents.specs.Building.{built_all}
 use Rattle.cbuild.proofs.building.Builder.build_all.Given as goal
 
 abbrev pub invariant-loop-event : goal.invariant-loop-event

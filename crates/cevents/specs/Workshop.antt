@@ -17,8 +17,8 @@ use Rattle.cbase.specs.declared.tree.spec.FieldName.{FieldName}
 use Rattle.cbase.specs.declared.tree.spec.TypeSpec.{TypeSpec}
 use Rattle.cbase.specs.declared.tree.stmt.Stmt.{Stmt}
 use Rattle.cbase.specs.declared.tree.stmt.StmtForm.{StmtForm}
-use Rattle.cbuild.specs.declared.piece.Piece.{Piece}
-use Rattle.cbuild.specs.declared.piece.Piece.TheVariants as piece
+use Rattle.cevents.specs.declared.piece.Piece.{Piece}
+use Rattle.cevents.specs.declared.piece.Piece.TheVariants as piece
 use Rattle.ctokens.specs.declared.token.TokenKind.TheVariants.{Mark}
 use Rattle.cgrammar.specs.Terminals.{Terminal, no_place}
 

@@ -1,5 +1,5 @@
 ghost use Rattle.std.specs.Prelude.{◌≡◌};
-ghost use Rattle.cbuild.specs.Workshop.{place_at, bytes_at};
+ghost use Rattle.cevents.specs.Workshop.{place_at, bytes_at};
 
 use cbase::Place;
 use cgrammar::Terminal;

@@ -8,11 +8,11 @@ use Rattle.cbase.specs.declared.tree.init.Init.TheVariants.{Value, Braces}
 use Rattle.cbase.specs.declared.tree.item.Item.TheVariants.{Empty, Declare as DeclaredItem, Function}
 use Rattle.cbase.specs.declared.tree.spec.TypeSpec.TheVariants.{Basic, Named, Struct, Enum, OfExpr, OfType}
 use Rattle.cbase.specs.declared.tree.stmt.StmtForm.TheVariants.{Declare, Eval, Block, If, While, Do, For, Break, Continue, Return}
-use Rattle.cbuild.specs.Workshop.{Workshop, token_at, place_at, bytes_at, maybe_bytes_at, pushed, expressed, with_expr, with_arguments, with_path, with_type, with_sizes, with_type_name, with_field_names, with_fields, with_enumerators, with_parameters, with_declarators, with_declarator, with_declaration, with_init, with_parts, with_maybe, with_statement, with_statements}
-use Rattle.cbuild.specs.declared.event.Event.{Event}
-use Rattle.cbuild.specs.declared.event.Event.TheVariants as event
-use Rattle.cbuild.specs.declared.piece.Piece.{Piece}
-use Rattle.cbuild.specs.declared.piece.Piece.TheVariants as piece
+use Rattle.cevents.specs.Workshop.{Workshop, token_at, place_at, bytes_at, maybe_bytes_at, pushed, expressed, with_expr, with_arguments, with_path, with_type, with_sizes, with_type_name, with_field_names, with_fields, with_enumerators, with_parameters, with_declarators, with_declarator, with_declaration, with_init, with_parts, with_maybe, with_statement, with_statements}
+use Rattle.cevents.specs.declared.event.Event.{Event}
+use Rattle.cevents.specs.declared.event.Event.TheVariants as event
+use Rattle.cevents.specs.declared.piece.Piece.{Piece}
+use Rattle.cevents.specs.declared.piece.Piece.TheVariants as piece
 use Rattle.cgrammar.specs.Terminals.{Terminal}
 use Rattle.cgrammar.specs.Trees.{object, function, field, parameter, type_name, fields, enumerator, declaration, initializer, statement}
 
