@@ -1,5 +1,5 @@
 -- What the steps make at a token of a text is what the grammar has there: the longest expression, or a block.
-use Rattle.std.proofs.Common.{◌≡◌, ℕ, ◌+◌, ◌≤◌, Bool, true, false, List, [], ◌∷◌, ◌++◌, drop, take, length, cond, refl, ap, sym, ◌∙◌, subst, arith}
+use Rattle.std.proofs.Common.{◌≡◌, ℕ, ◌+◌, ◌≤◌, Bool, true, false, not, List, [], ◌∷◌, ◌++◌, drop, take, length, cond, refl, ap, sym, ◌∙◌, subst, arith}
 use Rattle.std.specs.List.{prefix_len}
 use Rattle.cbase.specs.declared.tree.expr.Expr.{Expr}
 use Rattle.cbase.specs.declared.tree.stmt.Stmt.{Stmt}
@@ -22,6 +22,7 @@ use Rattle.creader.specs.declared.status.Status.{Status}
 use Rattle.creader.specs.declared.status.Status.TheVariants.{Going, Stopped, Nothing}
 use Rattle.creader.specs.declared.wanted.Wanted.TheVariants as wanted
 use Rattle.ctokens.specs.declared.token.Tokens.{Tokens}
+use Rattle.cread_expr.specs.Exactly.{ExpressionsAreExact, BlocksAreExact, at_token}
 use Rattle.cread_expr.proofs.Agreed.{Pieces, none, shop, Agreed, Ready, context_of, expr_piece}
 use Rattle.cread_expr.proofs.AgreedLevels.{levels_agree}
 use Rattle.cread_expr.proofs.AgreedStatements.{body_piece, block_agrees}
@@ -166,3 +167,39 @@ pub no_block_read : (most : ℕ) (t : Tokens) (scope : List Names) (at : ℕ) (s
 no_block_read most t scope at s numbered starts nothing =
     no_block_there blocks_complete t scope at most
     (sym (nothing_read (read_block (level most) (context_of s 0) (rest s)) (block_agrees (levels_agree most) s 0 (ready_at starts)) nothing) ∙ block_is most numbered starts)
+
+-- What is written at a token is exact.
+starts_there : (t : Tokens) (scope : List Names) (at : ℕ) → StartsAt t scope at (at_token t scope at)
+starts_there t scope at = record { row = refl; number = refl; status = refl; levels = refl; names = refl; events = refl }
+
+is_something : (status : Status) → not (is_nothing status) ≡ true → is_nothing status ≡ false
+is_something Going found = refl
+is_something Stopped found = refl
+is_something Nothing found = cc
+
+is_no_more : (status : Status) → not (is_nothing status) ≡ false → status ≡ Nothing
+is_no_more Going found = cc
+is_no_more Stopped found = cc
+is_no_more Nothing found = refl
+
+pub expressions_are_exact : ExpressionsAreExact
+expressions_are_exact most t scope at numbered =
+    let s : State = at_token t scope at in
+    record {
+      found = λ found.
+          let read : ExpressionRead most t scope at (reads most wanted.Expression s) =
+          expression_read most t scope at s numbered (starts_there t scope at) (is_something (reads most wanted.Expression s).status found) in
+          (read.expr, record { count = read.count; made = read.built }, read.longest);
+      none = λ none. no_expression_read most t scope at s numbered (starts_there t scope at) (is_no_more (reads most wanted.Expression s).status none);
+    }
+
+pub blocks_are_exact : BlocksAreExact
+blocks_are_exact most t scope at numbered =
+    let s : State = at_token t scope at in
+    record {
+      found = λ found.
+          let read : BlockRead most t scope at (block (inner_at most) s) =
+          block_read most t scope at s numbered (starts_there t scope at) (is_something (block (inner_at most) s).status found) in
+          (read.body, record { count = read.count; made = read.built }, read.is);
+      none = λ none. no_block_read most t scope at s numbered (starts_there t scope at) (is_no_more (block (inner_at most) s).status none);
+    }

@@ -1,15 +1,8 @@
-//! Reads expressions and blocks of C into trees, exactly where the grammar spells one.
+//! That what the reader writes at a token of a text is what the grammar spells there.
 //!
-//! It knows how what a reader has written becomes a tree at a token of a text, and no types of expressions.
+//! It knows how the steps of the reader and the grammar hang together, and makes no trees.
 #![tactic(auto)]
 
-mod blocks;
-mod ends;
-mod expressions;
+mod laws;
 
-pub use blocks::{ReadBlock, read_block};
-pub use cgrammar::Scope;
-pub use expressions::{ReadExpr, read_expr};
-
-#[cfg(test)]
-mod tests;
+pub use laws::{blocks_are_written_exactly, expressions_are_written_exactly};

@@ -1,0 +1,71 @@
+-- What the reader writes at a token of a text, and what the grammar has there.
+use Rattle.std.specs.Prelude.{◌≡◌, ℕ, ◌+◌, true, false, nat_lt, Bool, List, [], ◌∷◌, take, Option, Some}
+use Rattle.std.specs.List.{prefix_len}
+use Rattle.cbase.specs.declared.tree.expr.Expr.{Expr}
+use Rattle.cbase.specs.declared.tree.stmt.Stmt.{Stmt}
+use Rattle.cevents.specs.Building.{built_all}
+use Rattle.cevents.specs.Workshop.{Workshop}
+use Rattle.cevents.specs.declared.piece.Piece.{Piece}
+use Rattle.cevents.specs.declared.piece.Piece.TheVariants as piece
+use Rattle.cgrammar.specs.Readings.{AreNumbered, IsExpressionAt, IsLongestExpressionAt, IsBlockAt}
+use Rattle.cgrammar.specs.Scope.{Names}
+use Rattle.cgrammar.specs.Terminals.{Terminal, terminals, last_place}
+use Rattle.creader.specs.ReadingSteps.{reads, inner_at}
+use Rattle.creader.specs.State.{State}
+use Rattle.creader.specs.StatementSteps.{block}
+use Rattle.creader.specs.Writings.{Writing, start_at, written_of}
+use Rattle.creader.specs.declared.wanted.Wanted.TheVariants as wanted
+use Rattle.ctokens.specs.declared.token.Tokens.{Tokens}
+
+-- the token comes before that of the number
+abbrev pub comes_before : ℕ → Terminal → Bool
+comes_before number token = nat_lt token.place.at number
+
+-- the reader at a token of a text, before it reads
+abbrev pub at_token : Tokens → List Names → ℕ → State
+at_token t scope at = start_at (terminals t) (prefix_len (comes_before at) (terminals t)) scope
+
+-- what is written of an expression, and of a block, of so many levels
+abbrev pub expression_written : ℕ → Tokens → List Names → ℕ → Writing
+expression_written most t scope at = written_of (reads most wanted.Expression (at_token t scope at))
+
+abbrev pub block_written : ℕ → Tokens → List Names → ℕ → Writing
+block_written most t scope at = written_of (block (inner_at most) (at_token t scope at))
+
+-- the number behind that of the last token that is read
+abbrev pub end_of : Tokens → Writing → ℕ
+end_of t written = (last_place (take written.at (terminals t))).at + 1
+
+-- nothing is made yet, and one piece alone is made
+abbrev pub nothing_made : Option Workshop
+nothing_made = Some (record { count = 0; pieces = [] })
+
+abbrev pub alone : ℕ → Piece → Option Workshop
+alone count piece = Some (record { count = count; pieces = piece ∷ [] })
+
+-- what is written makes the expression, and nothing beside it
+pub record MakesExpression (t : Tokens) (written : Writing) (expr : Expr) : Type 0 where
+  pub count : ℕ
+  pub made : built_all (terminals t) written.events nothing_made ≡ alone count (piece.Expr expr)
+
+pub record MakesBlock (t : Tokens) (written : Writing) (body : List Stmt) : Type 0 where
+  pub count : ℕ
+  pub made : built_all (terminals t) written.events nothing_made ≡ alone count (piece.Statements body)
+
+-- the longest expression of so many levels is written, or none begins there
+pub record IsExactExpression (most : ℕ) (t : Tokens) (scope : List Names) (at : ℕ) (written : Writing) : Type 0 where
+  pub found : written.found ≡ true → (expr : Expr) × MakesExpression t written expr × IsLongestExpressionAt most t scope at (end_of t written) expr
+  pub none : written.found ≡ false → (expr : Expr) (after : ℕ) → IsExpressionAt most t scope at after expr → ⊥
+
+pub record IsExactBlock (most : ℕ) (t : Tokens) (scope : List Names) (at : ℕ) (written : Writing) : Type 0 where
+  pub found : written.found ≡ true → (body : List Stmt) × MakesBlock t written body × IsBlockAt most t scope at (end_of t written) body
+  pub none : written.found ≡ false → (body : List Stmt) (after : ℕ) → IsBlockAt most t scope at after body → ⊥
+
+-- for every text, at every token, with any names in scope
+abbrev pub ExpressionsAreExact : Type 0
+ExpressionsAreExact =
+    (most : ℕ) (t : Tokens) (scope : List Names) (at : ℕ) → AreNumbered t → IsExactExpression most t scope at (expression_written most t scope at)
+
+abbrev pub BlocksAreExact : Type 0
+BlocksAreExact =
+    (most : ℕ) (t : Tokens) (scope : List Names) (at : ℕ) → AreNumbered t → IsExactBlock most t scope at (block_written most t scope at)
