@@ -14,7 +14,7 @@ use Rattle.cgrammar.specs.ReadStatements.{read_maybe, read_if, read_while, read_
 use Rattle.cgrammar.specs.Terminals.{Terminal, is_mark, is_word, begins_with_typedef}
 use Rattle.cgrammar.specs.Trees.{statement as statement_of}
 use Rattle.creader.specs.State.{State, rest, is_going, goes, lost}
-use Rattle.creader.specs.StatementSteps.{maybe, untyped, test, otherwise_behind, if_behind, while_behind, done, do_behind, for_behind, broken, break_behind, continued, continue_behind, returned, return_behind}
+use Rattle.creader.specs.StatementSteps.{maybe, untyped, tested, otherwise_behind, if_behind, while_behind, done, do_behind, for_behind, broken, break_behind, continued, continue_behind, returned, return_behind}
 use Rattle.creader.specs.Steps.{Inner, ask_whole}
 use Rattle.creader.specs.declared.status.Status.TheVariants.{Nothing}
 use Rattle.creader.specs.declared.wanted.Wanted.TheVariants as wanted
@@ -65,8 +65,8 @@ then_untyped {B} {level} {inner} {s} {t} {v} {below} {under} {above} {fits} {bas
         next tree more behind others (ended_at asks there))
 
 -- an expression in brackets
-still_test : {u v : State} (inner : Inner) → Still Nothing u v → Still Nothing u (test inner v)
-unfolding test
+still_test : {u v : State} (inner : Inner) → Still Nothing u v → Still Nothing u (tested inner v)
+unfolding tested
 still_test inner still = still_mark _ (still_untyped inner (still_mark _ still))
 
 abbrev tested : {B : Type 0} → Level → Context → List Terminal → (Expr → ℕ → Context → List Terminal → Outcome B) → Outcome B
@@ -79,17 +79,17 @@ then_test : {B : Type 0} {level : Level} {inner : Inner} {s t v : State} {below 
     (row : List Terminal) (go : Expr → ℕ → Context → List Terminal → Outcome B)
     → LevelAgrees level inner
     → Ended s t below under base levels before context row
-    → Still Nothing (test inner t) v
-    → ((tree : Expr) (more : ℕ) (behind : Context) (others : List Terminal) → Ended s (test inner t) below (λ pieces. piece.Expr tree ∷ under pieces) base (max levels more) before behind others
+    → Still Nothing (tested inner t) v
+    → ((tree : Expr) (more : ℕ) (behind : Context) (others : List Terminal) → Ended s (tested inner t) below (λ pieces. piece.Expr tree ∷ under pieces) base (max levels more) before behind others
     → Agreed below above fits base before (go tree more behind others) s v)
     → Agreed below above fits base before (tested level context row go) s v
-unfolding test
+unfolding tested
 then_test {inner} {t} {v} row go agrees far still next =
     then_mark (codes "(") row _ far (through (still_mark _ (still_untyped inner still_lost))) (λ opening others found here one.
     then_untyped others _ agrees one (through (still_mark _ still_lost)) (λ tree more behind end two.
     then_mark (codes ")") end _ two still (λ closing left found here three. next tree more behind left three)))
   where
-    through : {u : State} → Still Nothing u (test inner t) → Still Nothing u v
+    through : {u : State} → Still Nothing u (tested inner t) → Still Nothing u v
     through first = record { idle = refl; same = λ is. still.same (ap (λ (s : State). s.status) (first.same is) ∙ is) ∙ first.same is }
 
 -- `if`
@@ -100,7 +100,7 @@ unfolding read_if if_behind otherwise_behind
 if_agrees {level} {inner} {t} {row} first agrees far =
     then_test row _ agrees far (still_goes _ (still_ask_whole _ _ still_lost)) (λ tree tests behind end two.
     then_asked _ level.statement inner wanted.Statement _ two agrees.statement (still_goes _ still_lost) (λ one ones last left three.
-    agreed_goes (ask_whole inner wanted.Statement (test inner t)) (ask_whole inner wanted.Statement (test inner t)) three.status (if_first (is_word (codes "else")) left _ _ three
+    agreed_goes (ask_whole inner wanted.Statement (tested inner t)) (ask_whole inner wanted.Statement (tested inner t)) three.status (if_first (is_word (codes "else")) left _ _ three
     (λ none_there. agreed_ends (ended_levels (omega arith) (ended_make (event.If first) (λ pieces. refl) three)))
     (λ otherwise others found here four.
     then_asked _ level.statement inner wanted.Statement _ four agrees.statement (still_make _ still_lost) (λ other more final end five.

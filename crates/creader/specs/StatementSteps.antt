@@ -62,8 +62,8 @@ unfoldable pub untyped : Inner → State → State
 untyped inner s = if goes s && begins_with_typedef s.scope (rest s) then lost s else ask_whole inner wanted.Expression s
 
 -- an expression in brackets
-unfoldable pub test : Inner → State → State
-test inner s = mark (codes ")") (untyped inner (mark (codes "(") s))
+unfoldable pub tested : Inner → State → State
+tested inner s = mark (codes ")") (untyped inner (mark (codes "(") s))
 
 -- `if` (C11 6.8.4.1): an `else` belongs to the nearest
 unfoldable pub otherwise_behind : Inner → ℕ → State → State
@@ -74,16 +74,16 @@ otherwise_behind inner first s =
     else s
 
 unfoldable pub if_behind : Inner → ℕ → State → State
-if_behind inner first s = otherwise_behind inner first (ask_whole inner wanted.Statement (test inner s))
+if_behind inner first s = otherwise_behind inner first (ask_whole inner wanted.Statement (tested inner s))
 
 unfoldable pub while_behind : Inner → ℕ → State → State
-while_behind inner first s = make (event.While first) (ask_whole inner wanted.Statement (test inner s))
+while_behind inner first s = make (event.While first) (ask_whole inner wanted.Statement (tested inner s))
 
 unfoldable pub done : ℕ → State → State
 done first s = make (event.Do first (s.at - 1)) s
 
 unfoldable pub do_behind : Inner → ℕ → State → State
-do_behind inner first s = done first (mark (codes ";") (test inner (word (codes "while") (ask_whole inner wanted.Statement s))))
+do_behind inner first s = done first (mark (codes ";") (tested inner (word (codes "while") (ask_whole inner wanted.Statement s))))
 
 unfoldable pub for_behind : Inner → ℕ → State → State
 for_behind inner first s =

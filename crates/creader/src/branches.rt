@@ -33,7 +33,7 @@ impl<F: Fn(&mut Reader<'_>, u32, Wanted) -> Result<(), NoMemory>> Grammar<F> {
         requires { Nests self.now.depth (F.pre self.now.inner) (F.post self.now.inner) }
         ensures { OnOk result (reader.new ≡ if_behind (inner_at self.now.depth) first reader.old) }
     {
-        self.test(reader)?;
+        self.tested(reader)?;
         self.ask_whole(reader, Wanted::Statement)?;
         self.otherwise_behind(reader, first)
     }
@@ -44,7 +44,7 @@ impl<F: Fn(&mut Reader<'_>, u32, Wanted) -> Result<(), NoMemory>> Grammar<F> {
         requires { Nests self.now.depth (F.pre self.now.inner) (F.post self.now.inner) }
         ensures { OnOk result (reader.new ≡ while_behind (inner_at self.now.depth) first reader.old) }
     {
-        self.test(reader)?;
+        self.tested(reader)?;
         self.ask_whole(reader, Wanted::Statement)?;
         reader.make(Event::While { first })
     }
@@ -57,7 +57,7 @@ impl<F: Fn(&mut Reader<'_>, u32, Wanted) -> Result<(), NoMemory>> Grammar<F> {
     {
         self.ask_whole(reader, Wanted::Statement)?;
         reader.word(b"while");
-        self.test(reader)?;
+        self.tested(reader)?;
         reader.mark(b";");
         reader.done(first)
     }

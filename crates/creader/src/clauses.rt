@@ -2,7 +2,7 @@ ghost use Rattle.std.specs.Prelude.{◌≡◌, OnOk};
 ghost use Rattle.cgrammar.specs.Terminals.{is_mark};
 ghost use Rattle.creader.specs.Nests.{Nests};
 ghost use Rattle.creader.specs.ReadingSteps.{inner_at};
-ghost use Rattle.creader.specs.StatementSteps.{maybe, declared_statement, expression_statement, clause, untyped, test};
+ghost use Rattle.creader.specs.StatementSteps.{maybe, declared_statement, expression_statement, clause, untyped, tested};
 
 use crate::grammar::Grammar;
 use crate::reader::Reader;
@@ -83,10 +83,10 @@ impl<F: Fn(&mut Reader<'_>, u32, Wanted) -> Result<(), NoMemory>> Grammar<F> {
     }
 
     /// Reads an expression in brackets.
-    #[tactic(auto, unfolding(crate::specs::StatementSteps::test))]
-    pub fn test(&self, reader: &mut Reader<'_>) -> Result<(), NoMemory>
+    #[tactic(auto, unfolding(crate::specs::StatementSteps::tested))]
+    pub fn tested(&self, reader: &mut Reader<'_>) -> Result<(), NoMemory>
         requires { Nests self.now.depth (F.pre self.now.inner) (F.post self.now.inner) }
-        ensures { OnOk result (reader.new ≡ test (inner_at self.now.depth) reader.old) }
+        ensures { OnOk result (reader.new ≡ tested (inner_at self.now.depth) reader.old) }
     {
         reader.mark(b"(");
         self.untyped(reader)?;

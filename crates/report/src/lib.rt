@@ -4,7 +4,6 @@
 #![tactic(auto)]
 
 mod answer;
-mod construct;
 mod exit_status;
 mod kind;
 mod limits;
