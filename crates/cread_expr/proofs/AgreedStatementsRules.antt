@@ -69,8 +69,8 @@ still_test : {u v : State} (inner : Inner) → Still Nothing u v → Still Nothi
 unfolding tested
 still_test inner still = still_mark _ (still_untyped inner (still_mark _ still))
 
-abbrev tested : {B : Type 0} → Level → Context → List Terminal → (Expr → ℕ → Context → List Terminal → Outcome B) → Outcome B
-tested level context row go =
+abbrev read_tested : {B : Type 0} → Level → Context → List Terminal → (Expr → ℕ → Context → List Terminal → Outcome B) → Outcome B
+read_tested level context row go =
     after_mark (codes "(") row outcome.Nothing (λ opening others.
     then_read (read_untyped level context others) (λ tree levels behind end.
     after_mark (codes ")") end outcome.Nothing (λ closing more. go tree levels behind more)))
@@ -82,7 +82,7 @@ then_test : {B : Type 0} {level : Level} {inner : Inner} {s t v : State} {below 
     → Still Nothing (tested inner t) v
     → ((tree : Expr) (more : ℕ) (behind : Context) (others : List Terminal) → Ended s (tested inner t) below (λ pieces. piece.Expr tree ∷ under pieces) base (max levels more) before behind others
     → Agreed below above fits base before (go tree more behind others) s v)
-    → Agreed below above fits base before (tested level context row go) s v
+    → Agreed below above fits base before (read_tested level context row go) s v
 unfolding tested
 then_test {inner} {t} {v} row go agrees far still next =
     then_mark (codes "(") row _ far (through (still_mark _ (still_untyped inner still_lost))) (λ opening others found here one.
