@@ -2,3 +2,9 @@ pub mod Complete
 pub mod Sound
 pub mod TextItemsRead
 pub mod ItemRowsRead
+pub mod AgreedItems
+pub mod ReadRows
+pub mod FoundItems
+pub mod Refusals
+pub mod OneAnswer
+pub mod NeededItems

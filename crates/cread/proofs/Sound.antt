@@ -20,7 +20,8 @@ use Rattle.cgrammar.specs.Terminals.{Terminal, is_mark}
 use Rattle.cgrammar.specs.Trees.{function}
 use Rattle.cgrammar.specs.TypeWords.{declares_typedef}
 use Rattle.cread.specs.Items.{SpellsItem, EmptyItem, DeclarationItem, FunctionDefinition, in_body}
-use Rattle.cread.specs.ReadItem.{Head, head_of, read_head, read_function, ends_with_brace, read_external}
+use Rattle.cread.specs.ReadItem.{Head, head_of, read_head, read_function, read_external}
+use Rattle.creader.specs.ItemSteps.{ends_with_brace}
 
 abbrev says_head : Head → Context → List Terminal → Context → List Terminal → Type 0
 says_head head before front behind rest = Spells (FunctionDeclarator head.name head.declared) before front behind

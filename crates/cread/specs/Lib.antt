@@ -3,3 +3,7 @@ pub mod OneItem
 pub mod ReadItem
 pub mod TextItems
 pub mod ItemRows
+pub mod Answers
+pub mod RowItems
+pub mod ItemAnswers
+pub mod Needed

@@ -1,5 +1,5 @@
 -- The reader of items: a whole row as an item of at most so many levels.
-use Rattle.std.specs.Prelude.{ℕ, ◌+◌, max, Bool, false, if◌then◌else◌, List, [], ◌∷◌, length, codes}
+use Rattle.std.specs.Prelude.{ℕ, ◌+◌, max, if◌then◌else◌, List, length, codes}
 use Rattle.cbase.specs.declared.tree.decl.Declared.{Declared}
 use Rattle.cbase.specs.declared.tree.item.Item.{Item}
 use Rattle.cbase.specs.declared.tree.item.Item.TheVariants.{Empty, Declare, Function}
@@ -7,10 +7,11 @@ use Rattle.cgrammar.specs.Outcomes.{Nothing, Read, Reader, then_read, after_firs
 use Rattle.cgrammar.specs.ReadDeclarations.{read_specifiers, read_parameters, read_declaration}
 use Rattle.cgrammar.specs.ReadLevels.{Level, read_until_brace}
 use Rattle.cgrammar.specs.ReadTypes.{star_count, behind_stars}
-use Rattle.cgrammar.specs.Terminals.{Terminal, is_mark, is_name}
+use Rattle.cgrammar.specs.Terminals.{is_name}
 use Rattle.cgrammar.specs.Trees.{function}
 use Rattle.cgrammar.specs.TypeWords.{declares_typedef}
 use Rattle.cread.specs.Items.{in_body, out_of}
+use Rattle.creader.specs.ItemSteps.{ends_with_brace}
 
 -- a function's declarator with its name; behind it the scope of the parameters is still entered
 pub record Head : Type 0 where
@@ -36,12 +37,6 @@ read_function level context row =
     then_read (read_until_brace level.item (length others + 1) (in_body head.name (declares_typedef specifiers.storage) within) others) (λ body bodies last end.
     after_mark (codes "}") end Nothing (λ closing final.
     Read (Function specifiers.spec specifiers.storage head.declared body closing.place) (max levels (max heads bodies)) (out_of last) final)))))
-
--- the last token of the row is a `}`
-abbrev pub ends_with_brace : List Terminal → Bool
-ends_with_brace [] = false
-ends_with_brace (last ∷ []) = is_mark (codes "}") last
-ends_with_brace (first ∷ (next ∷ others)) = ends_with_brace (next ∷ others)
 
 -- what the row is, as its last token tells
 unfoldable pub read_external : Level → Reader Item

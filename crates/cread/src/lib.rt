@@ -1,8 +1,16 @@
 //! The items of a file: which rows of tokens spell declarations and definitions, and their trees.
 #![tactic(auto)]
 
+mod answer;
 mod laws;
+mod needed_items;
+mod reading_item;
+mod refusal;
 mod tables;
 
+pub use answer::{ItemAnswer, one_item_answer, read_item};
 pub use laws::each_row_is_one_item;
+pub use needed_items::{Needed, needed_have_one_answer, read_needed};
+pub use reading_item::{ItemBehind, ReadIn, read_item_in};
+pub use refusal::Refusal;
 pub use tables::table_of_items;

@@ -21,3 +21,5 @@ pub mod AgreedTypesFields
 pub mod AgreedTypesSizes
 pub mod AgreedTypesSpecifiers
 pub mod Agreement
+pub mod Calls
+pub mod LastPlaces

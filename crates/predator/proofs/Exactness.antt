@@ -1,11 +1,14 @@
 -- What is said of the bytes of a file that was read is said of the file.
-use Rattle.std.proofs.Common.{◌≡◌, ℕ, ◌+◌, ◌<◌, ◌≤◌, Bool, IsTrue, IfOk, Option, Result, Ok, Err, List, [], length, refl, subst, sym, arith}
+use Rattle.std.proofs.Common.{◌≡◌, ℕ, ◌≤◌, Bool, IsTrue, IfOk, ap, ◌∙◌, option_map, Option, Some, Result, Ok, Err, List, length, refl, subst, sym, arith}
+use Rattle.command_line.specs.CommandLine.{command_of}
+use Rattle.command_line.specs.declared.command.Command.{Command}
 use Rattle.report.specs.declared.answer.Answer.{Answer}
-use Rattle.report.specs.declared.answer.Answer.TheVariants.{Safe, Warned, NotRead, NotYet, TooLong, Usage, ReadFault, OutOfMemory}
+use Rattle.report.specs.declared.answer.Answer.TheVariants.{Safe, Warned, NotRead, Construct, NotYet, TooLong, Usage, ReadFault, OutOfMemory}
 use Rattle.report.specs.declared.answer.Shown.{Shown}
 use Rattle.predator.specs.declared.top.Plan.{Plan}
 use Rattle.predator.specs.declared.judge.Judged.{Judged}
 use Rattle.predator.specs.Verdict.{AreNames, IsAnswered, IsVerdict, IsWhole, Judges}
+use Rattle.predator.specs.Words.{file_of}
 
 answered_whole : (tells : Bool) (content : Option (List ℕ)) (left file bytes : List ℕ) (names : List (List ℕ)) (answer : Answer)
     → (IsTrue tells → IsWhole content left bytes) → length bytes ≤ 4194304 → IsVerdict answer → Judges file bytes answer → AreNames file bytes answer names
@@ -13,6 +16,7 @@ answered_whole : (tells : Bool) (content : Option (List ℕ)) (left file bytes :
 answered_whole tells content left file bytes names Safe whole short verdict judged named = (bytes, whole, judged, named)
 answered_whole tells content left file bytes names (Warned warnings) whole short verdict judged named = (bytes, whole, judged, named)
 answered_whole tells content left file bytes names (NotRead why) whole short verdict judged named = (bytes, whole, judged, named)
+answered_whole tells content left file bytes names (Construct number place) whole short verdict judged named = (bytes, whole, judged, named)
 answered_whole tells content left file bytes names NotYet whole short verdict judged named = (bytes, whole, judged, named)
 answered_whole tells content left file bytes names (TooLong taken) whole short verdict (is, inside) named = absurd (omega arith)
 answered_whole tells content left file bytes names Usage whole short verdict judged named = absurd verdict
@@ -39,8 +43,16 @@ pub is_verdict : (answer : Answer) → (answer ≡ Usage → ⊥) → (answer �
 is_verdict Safe usage fault memory = tt
 is_verdict (Warned warnings) usage fault memory = tt
 is_verdict (NotRead why) usage fault memory = tt
+is_verdict (Construct number place) usage fault memory = tt
 is_verdict NotYet usage fault memory = tt
 is_verdict (TooLong taken) usage fault memory = tt
 is_verdict Usage usage fault memory = usage refl
 is_verdict ReadFault usage fault memory = fault refl
 is_verdict OutOfMemory usage fault memory = memory refl
+
+-- the words name the file of the command that they ask for
+pub file_named : (command : Command) (file : List ℕ) (words : List (List ℕ)) → command_of words ≡ Some command → file_of words ≡ Some file
+    → command.file ≡ file
+file_named command file words asked told =
+    let both : Some command.file ≡ Some file = sym (ap (option_map (λ (c : Command). c.file)) asked) ∙ told in
+    cc

@@ -1,25 +1,26 @@
 -- Of one file at most one verdict is true.
-use Rattle.std.proofs.Common.{◌≡◌, ℕ, ◌+◌, ◌<◌, ◌≤◌, ◌⊎◌, inl, inr, Bool, true, false, Option, None, Some, MatchOption, Result, Ok, Err, List, [], ◌∷◌, length, map, slice_get, ◌↔◌, refl, ap, sym, ◌∙◌, subst, arith}
-use Rattle.std.specs.List.{list_any}
+use Rattle.std.proofs.Common.{◌≡◌, ℕ, ◌<◌, ◌≤◌, ◌⊎◌, inl, inr, Option, None, Some, Result, Ok, Err, List, [], ◌∷◌, length, map, ◌↔◌, refl, ap, sym, ◌∙◌, subst, arith}
 use Rattle.cbase.specs.declared.place.Place.{Place}
-use Rattle.ctokens.specs.declared.token.Token.{Token as Lexeme}
 use Rattle.ctokens.specs.declared.token.Tokens.{Tokens}
 use Rattle.ctokens.specs.declared.token.Lexical.{Lexical}
 use Rattle.ctokens.specs.declared.item_span.ItemSpan.{ItemSpan}
 use Rattle.ctokens.specs.declared.item_span.Deep.{Deep}
 use Rattle.ctokens.specs.TokenList.{AreTokens, IsLexical}
 use Rattle.ctokens.specs.Items.{IsItems}
-use Rattle.ctokens.specs.Need.{AreNeeded, IsNeed, defines_main, item_rows}
+use Rattle.ctokens.specs.Need.{IsNeed, item_rows}
+use Rattle.cread.specs.Needed.{AreAnswered, AreRead, IsRefused, at_file, spans_of}
+use Rattle.cread.specs.declared.needed_items.Needed.{Needed}
+use Rattle.cread.specs.declared.needed_items.Needed.TheVariants.{Read, Refused}
+use Rattle.cread.specs.declared.refusal.Refusal.{Refusal}
+use Rattle.cread.specs.declared.refusal.Refusal.TheVariants as refusal
 use Rattle.report.specs.declared.answer.Why.TheVariants as why
 use Rattle.report.specs.declared.answer.Answer.{Answer}
-use Rattle.report.specs.declared.answer.Answer.TheVariants.{Safe, Warned, NotRead, NotYet, TooLong, Usage, ReadFault, OutOfMemory}
+use Rattle.report.specs.declared.answer.Answer.TheVariants.{Safe, Warned, NotRead, Construct, NotYet, TooLong, Usage, ReadFault, OutOfMemory}
 use Rattle.report.specs.declared.warning.Warning.{Warning}
-use Rattle.predator.specs.declared.fault.Fault.{Fault}
 use Rattle.predator.specs.declared.line.Program.{Program}
 use Rattle.predator.specs.declared.token.PlacedToken.{PlacedToken}
 use Rattle.predator.specs.FirstForm.{IsFormed, IsProgram}
-use Rattle.predator.specs.Faults.{AreFaults}
-use Rattle.predator.specs.Verdict.{AreWarnings, HasNoMain, HasNoToken, IsExact, IsFirstForm, IsRead, IsSound, IsTooDeep, IsVerdict, Judges, only_item, verdict_of, warning_of}
+use Rattle.predator.specs.Verdict.{AreWarnings, HasNoMain, HasNoToken, IsExact, IsFirstForm, IsRead, IsSound, IsTooDeep, IsVerdict, Judges, answer_of, verdict_of, warning_of}
 use Rattle.predator.proofs.Ascending.{same_faults, same_numbers, no_member}
 use Rattle.predator.proofs.ReadLines.{one_program}
 use Rattle.predator.proofs.Spellings.{same_spelled}
@@ -41,18 +42,22 @@ IsStage file bytes AtLong = 4194305 ≤ length bytes
 
 abbrev HasForm : Tokens → List ItemSpan → List ℕ → Answer → Type 0
 HasForm t items numbers answer =
-    (row : List PlacedToken) × (program : Program) × (warnings : List Warning) × IsFirstForm t items numbers row program
+    AreRead t (spans_of items numbers) × (row : List PlacedToken) × (program : Program) × (warnings : List Warning) × IsFirstForm t items numbers row program
     × AreWarnings row program warnings × (answer ≡ verdict_of warnings)
 
 abbrev HasNoForm : Tokens → List ItemSpan → List ℕ → Answer → Type 0
-HasNoForm t items numbers answer = ((row : List PlacedToken) (program : Program) → IsFirstForm t items numbers row program → ⊥) × (answer ≡ NotYet)
+HasNoForm t items numbers answer =
+    AreRead t (spans_of items numbers) × ((row : List PlacedToken) (program : Program) → IsFirstForm t items numbers row program → ⊥) × (answer ≡ NotYet)
+
+abbrev IsRefusedSo : Tokens → List ItemSpan → List ℕ → Answer → Type 0
+IsRefusedSo t items numbers answer = (refused : Refusal) × IsRefused t (spans_of items numbers) at_file refused × (answer ≡ answer_of refused)
 
 -- what is answered there
 abbrev Fits : Stage → Answer → Type 0
 Fits (AtLexical place) answer = answer ≡ NotRead (why.Lexical place)
 Fits (AtDeep place) answer = answer ≡ NotRead (why.Deep place)
 Fits AtNoMain answer = answer ≡ NotRead why.NoMain
-Fits (AtRead t items numbers) answer = HasForm t items numbers answer ⊎ HasNoForm t items numbers answer
+Fits (AtRead t items numbers) answer = IsRefusedSo t items numbers answer ⊎ (HasForm t items numbers answer ⊎ HasNoForm t items numbers answer)
 Fits AtLong answer = answer ≡ TooLong 4194305
 
 -- a row of warnings for a program that no run of which meets a fault
@@ -72,14 +77,18 @@ verdict_of_some (warning ∷ rest) some = refl
 
 -- each answer that says something of a file is given at some stage
 stage_of : (file bytes : List ℕ) (answer : Answer) → IsVerdict answer → Judges file bytes answer → (stage : Stage) × IsStage file bytes stage × Fits stage answer
-stage_of file bytes Safe verdict (short, (t, items, numbers, read, (row, program, form, sound))) =
-    (AtRead t items numbers, (short, read), inl (row, program, [], form, no_warnings row program sound, refl))
-stage_of file bytes (Warned warnings) verdict (short, (t, items, numbers, read, (row, program, form, are)), some) =
-    (AtRead t items numbers, (short, read), inl (row, program, warnings, form, are, verdict_of_some warnings some))
+stage_of file bytes Safe verdict (short, (t, items, numbers, read, all, (row, program, form, sound))) =
+    (AtRead t items numbers, (short, read), inr (inl (all, row, program, [], form, no_warnings row program sound, refl)))
+stage_of file bytes (Warned warnings) verdict (short, (t, items, numbers, read, all, (row, program, form, are)), some) =
+    (AtRead t items numbers, (short, read), inr (inl (all, row, program, warnings, form, are, verdict_of_some warnings some)))
 stage_of file bytes (NotRead (why.Lexical place)) verdict judged = (AtLexical place, judged, refl)
 stage_of file bytes (NotRead (why.Deep place)) verdict judged = (AtDeep place, judged, refl)
 stage_of file bytes (NotRead why.NoMain) verdict judged = (AtNoMain, judged, refl)
-stage_of file bytes NotYet verdict (short, (t, items, numbers, read, none)) = (AtRead t items numbers, (short, read), inr (none, refl))
+stage_of file bytes (NotRead (why.Syntax place)) verdict (short, (t, items, numbers, read, refused)) =
+    (AtRead t items numbers, (short, read), inl (refusal.Syntax place, refused, refl))
+stage_of file bytes (Construct number place) verdict (short, (t, items, numbers, read, refused)) =
+    (AtRead t items numbers, (short, read), inl (refusal.Construct number place, refused, refl))
+stage_of file bytes NotYet verdict (short, (t, items, numbers, read, all, none)) = (AtRead t items numbers, (short, read), inr (inr (all, none, refl)))
 stage_of file bytes (TooLong taken) verdict (is, inside) = (AtLong, omega (arith, is, inside), ap TooLong is)
 stage_of file bytes Usage verdict judged = absurd verdict
 stage_of file bytes ReadFault verdict judged = absurd verdict
@@ -118,25 +127,45 @@ same_warnings row program warnings others are also =
     ∙ ap (map (warning_of row)) (same_faults program are.faults also.faults are.are_faults also.are_faults)
     ∙ sym also.are_warnings
 
-one_fit : (stage : Stage) (answer other : Answer) → Fits stage answer → Fits stage other → answer ≡ other
-one_fit (AtLexical place) answer other is also = is ∙ sym also
-one_fit (AtDeep place) answer other is also = is ∙ sym also
-one_fit AtNoMain answer other is also = is ∙ sym also
-one_fit AtLong answer other is also = is ∙ sym also
-one_fit (AtRead t items numbers) answer other (inl (row, program, warnings, form, are, is)) (inl (row2, program2, warnings2, form2, are2, is2)) =
-    let (rows, programs) = one_form t items numbers row row2 program program2 form form2 in
-    let there : AreWarnings row2 program2 warnings =
-    subst (λ (p : Program). AreWarnings row2 p warnings) programs (subst (λ (r : List PlacedToken). AreWarnings r program warnings) rows are) in
-    is ∙ (ap verdict_of (same_warnings row2 program2 warnings warnings2 there are2) ∙ sym is2)
-one_fit (AtRead t items numbers) answer other (inl (row, program, warnings, form, are, is)) (inr (none, is2)) = absurd (none row program form)
-one_fit (AtRead t items numbers) answer other (inr (none, is)) (inl (row, program, warnings, form, are, is2)) = absurd (none row program form)
-one_fit (AtRead t items numbers) answer other (inr (none, is)) (inr (none2, is2)) = is ∙ sym is2
-
 module _ (one_list : (file text : List ℕ) (tokens others : Tokens) → AreTokens file text tokens → AreTokens file text others → tokens ≡ others)
     (one_place : (file text : List ℕ) (lexical other : Lexical) → IsLexical file text lexical → IsLexical file text other → lexical ≡ other)
     (never_both : (file text : List ℕ) (tokens : Tokens) (lexical : Lexical) → AreTokens file text tokens → IsLexical file text lexical → ⊥)
     (one_items : (t : Tokens) (answer other : Result (List ItemSpan) Deep) → IsItems t answer → IsItems t other → answer ≡ other)
+    (one_needed : (t : Tokens) (spans : List ItemSpan) (needed other : Needed) → AreAnswered t spans needed → AreAnswered t spans other → needed ≡ other)
     (file bytes : List ℕ) where
+  -- of the items that main needs one answer is true
+  read_or_refused : (t : Tokens) (items : List ItemSpan) (numbers : List ℕ) (refused : Refusal) → AreRead t (spans_of items numbers)
+      → IsRefused t (spans_of items numbers) at_file refused → ⊥
+  read_or_refused t items numbers refused (program, behind, read) is =
+      let same = one_needed t (spans_of items numbers) (Read program) (Refused refused) (behind, read) is in absurd cc
+
+  one_refused : (t : Tokens) (items : List ItemSpan) (numbers : List ℕ) (refused other : Refusal) → IsRefused t (spans_of items numbers) at_file refused
+      → IsRefused t (spans_of items numbers) at_file other → refused ≡ other
+  one_refused t items numbers refused other is also =
+      let same = one_needed t (spans_of items numbers) (Refused refused) (Refused other) is also in cc
+
+  one_fit : (stage : Stage) (answer other : Answer) → Fits stage answer → Fits stage other → answer ≡ other
+  one_fit (AtLexical place) answer other is also = is ∙ sym also
+  one_fit (AtDeep place) answer other is also = is ∙ sym also
+  one_fit AtNoMain answer other is also = is ∙ sym also
+  one_fit AtLong answer other is also = is ∙ sym also
+  one_fit (AtRead t items numbers) answer other (inl (refused, by, is)) (inl (second, also, is2)) =
+      is ∙ (ap answer_of (one_refused t items numbers refused second by also) ∙ sym is2)
+  one_fit (AtRead t items numbers) answer other (inl (refused, by, is)) (inr (inl (read, row, program, warnings, form, are, is2))) =
+      absurd (read_or_refused t items numbers refused read by)
+  one_fit (AtRead t items numbers) answer other (inl (refused, by, is)) (inr (inr (read, none, is2))) = absurd (read_or_refused t items numbers refused read by)
+  one_fit (AtRead t items numbers) answer other (inr (inl (read, row, program, warnings, form, are, is))) (inl (refused, by, is2)) =
+      absurd (read_or_refused t items numbers refused read by)
+  one_fit (AtRead t items numbers) answer other (inr (inr (read, none, is))) (inl (refused, by, is2)) = absurd (read_or_refused t items numbers refused read by)
+  one_fit (AtRead t items numbers) answer other (inr (inl (read, row, program, warnings, form, are, is))) (inr (inl (read2, row2, program2, warnings2, form2, are2, is2))) =
+      let (rows, programs) = one_form t items numbers row row2 program program2 form form2 in
+      let there : AreWarnings row2 program2 warnings =
+      subst (λ (p : Program). AreWarnings row2 p warnings) programs (subst (λ (r : List PlacedToken). AreWarnings r program warnings) rows are) in
+      is ∙ (ap verdict_of (same_warnings row2 program2 warnings warnings2 there are2) ∙ sym is2)
+  one_fit (AtRead t items numbers) answer other (inr (inl (read, row, program, warnings, form, are, is))) (inr (inr (read2, none, is2))) = absurd (none row program form)
+  one_fit (AtRead t items numbers) answer other (inr (inr (read, none, is))) (inr (inl (read2, row, program, warnings, form, are, is2))) = absurd (none row program form)
+  one_fit (AtRead t items numbers) answer other (inr (inr (read, none, is))) (inr (inr (read2, none2, is2))) = is ∙ sym is2
+
   spans_or_deep : (t : Tokens) (items : List ItemSpan) (deep : Deep) → IsItems t (Ok items) → IsItems t (Err deep) → ⊥
   spans_or_deep t items deep is also = let same = one_items t (Ok items) (Err deep) is also in absurd cc
 
@@ -224,6 +253,8 @@ long_only file bytes long (Warned warnings) verdict = (λ same. absurd cc, λ (s
 long_only file bytes long (NotRead (why.Lexical place)) verdict = (λ same. absurd cc, λ (short, judged). absurd (omega arith))
 long_only file bytes long (NotRead (why.Deep place)) verdict = (λ same. absurd cc, λ (short, judged). absurd (omega arith))
 long_only file bytes long (NotRead why.NoMain) verdict = (λ same. absurd cc, λ (short, judged). absurd (omega arith))
+long_only file bytes long (NotRead (why.Syntax place)) verdict = (λ same. absurd cc, λ (short, judged). absurd (omega arith))
+long_only file bytes long (Construct number place) verdict = (λ same. absurd cc, λ (short, judged). absurd (omega arith))
 long_only file bytes long NotYet verdict = (λ same. absurd cc, λ (short, judged). absurd (omega arith))
 long_only file bytes long (TooLong taken) verdict =
     (λ same. let is : 4194305 ≡ taken = cc in (omega (arith, is), omega (arith, is, long)), λ (is, inside). ap TooLong (sym is))

@@ -1,5 +1,5 @@
 -- The lines of a row of few tokens are few, and their sizes are in range.
-use Rattle.std.proofs.Common.{◌≡◌, ℕ, ◌+◌, ◌≤◌, map, Bool, true, false, ◌&&◌, List, [], ◌∷◌, ◌++◌, length, refl, sym, ap, arith, None, Some, IsTrue, length-append, subst}
+use Rattle.std.proofs.Common.{◌≡◌, ℕ, ◌≤◌, map, Bool, true, false, ◌&&◌, List, [], ◌∷◌, ◌++◌, length, refl, sym, ap, arith, None, Some, IsTrue, length-append, subst}
 use Rattle.std.proofs.lemmas.Bool.{le-leb}
 use Rattle.std.proofs.lemmas.List.{length-map}
 use Rattle.std.specs.List.{list_all}

@@ -1,7 +1,6 @@
 -- The row of tokens that is read of an item, and what its program is of it.
-use Rattle.std.proofs.Common.{◌≡◌, ℕ, zero, suc, ◌+◌, ◌-◌, ◌<◌, ◌≤◌, Bool, true, false, Option, None, Some, option_map, List, [], ◌∷◌, ◌++◌, length, map, take, drop, slice_range, refl, ap, sym, ◌∙◌, subst, arith, IsTrue, append_assoc, length-drop, get_or}
+use Rattle.std.proofs.Common.{◌≡◌, ℕ, zero, suc, ◌-◌, ◌<◌, ◌≤◌, Bool, true, false, Option, None, Some, option_map, List, [], ◌∷◌, ◌++◌, length, map, take, drop, slice_range, refl, ap, sym, ◌∙◌, subst, arith, IsTrue, append_assoc, length-drop, get_or}
 use Rattle.std.specs.List.{All}
-use Rattle.std.proofs.lemmas.List.{length-map, append-nil}
 use Rattle.std.proofs.lemmas.List.Elements.{All-nil, All-cons, All-tail}
 use Rattle.cbase.specs.declared.place.Place.{Place}
 use Rattle.ctokens.specs.declared.token.Token.{Token as Lexeme}

@@ -1,20 +1,22 @@
 -- What is answered of a text with these tokens is true of each file with them.
-use Rattle.std.proofs.Common.{◌≡◌, ℕ, ◌+◌, ◌<◌, ◌≤◌, ◌⊎◌, inl, inr, Option, None, Some, MatchOption, Result, Ok, Err, List, [], ◌∷◌, length, map, slice_get, get_or, refl, ap, sym, ◌∙◌, subst, arith}
+use Rattle.std.proofs.Common.{◌≡◌, ℕ, ◌<◌, ◌≤◌, inl, inr, None, Some, Ok, Err, List, [], ◌∷◌, length, map, slice_get, refl, sym, ◌∙◌, subst, arith}
 use Rattle.std.specs.List.{All}
 use Rattle.cbase.specs.declared.place.Place.{Place}
 use Rattle.ctokens.specs.declared.token.Token.{Token as Lexeme}
 use Rattle.ctokens.specs.declared.token.Tokens.{Tokens}
 use Rattle.ctokens.specs.declared.item_span.ItemSpan.{ItemSpan}
 use Rattle.ctokens.specs.declared.item_span.Deep.{Deep}
-use Rattle.ctokens.specs.TokenList.{AreTokens, HasNamedFiles}
+use Rattle.ctokens.specs.TokenList.{HasNamedFiles}
 use Rattle.ctokens.specs.Items.{IsFirstDeep, IsItems}
 use Rattle.ctokens.specs.Need.{IsNeed, item_rows}
+use Rattle.cread.specs.Needed.{AreRead, IsNamed, IsRefused, at_file, spans_of}
+use Rattle.cread.specs.declared.needed_items.Needed.TheVariants.{Refused}
+use Rattle.cread.specs.declared.refusal.Refusal.{Refusal}
+use Rattle.cread.specs.declared.refusal.Refusal.TheVariants as refusal
 use Rattle.std.proofs.lemmas.Option.{slice_get_cases, get_or_from_slice_get}
 use Rattle.report.specs.declared.answer.Why.TheVariants as why
-use Rattle.report.specs.declared.answer.Answer.{Answer}
-use Rattle.report.specs.declared.answer.Answer.TheVariants.{Safe, Warned, NotRead, NotYet}
+use Rattle.report.specs.declared.answer.Answer.TheVariants.{NotRead, NotYet}
 use Rattle.report.specs.declared.warning.Warning.{Warning}
-use Rattle.report.specs.Report.{IsPrintable}
 use Rattle.predator.specs.declared.fault.Fault.{Fault}
 use Rattle.predator.specs.declared.line.Program.{Program}
 use Rattle.predator.specs.declared.token.PlacedToken.{PlacedToken}
@@ -22,7 +24,7 @@ use Rattle.predator.specs.FirstForm.{IsFormed}
 use Rattle.predator.specs.Faults.{AreFaults}
 use Rattle.predator.specs.Row.{item_tokens}
 use Rattle.predator.specs.Told.{IsTold}
-use Rattle.predator.specs.Verdict.{AreWarnings, IsFirstForm, IsRead, IsSound, only_item, verdict_of, warning_of}
+use Rattle.predator.specs.Verdict.{AreWarnings, IsFirstForm, IsSound, answer_of, only_item, verdict_of, warning_of}
 use Rattle.predator.proofs.Ascending.{no_member}
 use Rattle.predator.proofs.FaultPlaces.{warnings_printable}
 use Rattle.predator.proofs.Spellings.{item_tokens-All, row_places}
@@ -55,24 +57,40 @@ no_main_told t items is need = record {
   verdict = tt;
 }
 
+-- the first item that is not read is refused
+pub refused_told : (t : Tokens) (items : List ItemSpan) (numbers : List ℕ) (refused : Refusal) → IsItems t (Ok items) → IsNeed (item_rows t items) (Some numbers)
+    → IsRefused t (spans_of items numbers) at_file refused → IsNamed t.names (Refused refused) → IsTold t (answer_of refused)
+refused_told t items numbers (refusal.Construct number place) is need refused named = record {
+  judged = λ file bytes short are. (short, (t, items, numbers, record { are_tokens = are; are_items = is; are_needed = need }, refused));
+  named = λ file bytes are. (t, are, refl);
+  printable = named;
+  verdict = tt;
+}
+refused_told t items numbers (refusal.Syntax place) is need refused named = record {
+  judged = λ file bytes short are. (short, (t, items, numbers, record { are_tokens = are; are_items = is; are_needed = need }, refused));
+  named = λ file bytes are. (t, are, refl);
+  printable = named.1;
+  verdict = tt;
+}
+
 not_yet_told : (t : Tokens) (items : List ItemSpan) (numbers : List ℕ) → IsItems t (Ok items) → IsNeed (item_rows t items) (Some numbers)
-    → ((row : List PlacedToken) (program : Program) → IsFirstForm t items numbers row program → ⊥) → IsTold t NotYet
-not_yet_told t items numbers is need none = record {
-  judged = λ file bytes short are. (short, (t, items, numbers, record { are_tokens = are; are_items = is; are_needed = need }, none));
+    → AreRead t (spans_of items numbers) → ((row : List PlacedToken) (program : Program) → IsFirstForm t items numbers row program → ⊥) → IsTold t NotYet
+not_yet_told t items numbers is need read none = record {
+  judged = λ file bytes short are. (short, (t, items, numbers, record { are_tokens = are; are_items = is; are_needed = need }, read, none));
   named = λ file bytes are. (t, are, refl);
   printable = tt;
   verdict = tt;
 }
 
 pub no_item_told : (t : Tokens) (items : List ItemSpan) (numbers : List ℕ) → IsItems t (Ok items) → IsNeed (item_rows t items) (Some numbers)
-    → None ≡ only_item items numbers → IsTold t NotYet
-no_item_told t items numbers is need none =
-    not_yet_told t items numbers is need (λ row program form. let alone = none ∙ form.alone in absurd cc)
+    → AreRead t (spans_of items numbers) → None ≡ only_item items numbers → IsTold t NotYet
+no_item_told t items numbers is need read none =
+    not_yet_told t items numbers is need read (λ row program form. let alone = none ∙ form.alone in absurd cc)
 
 pub no_form_told : (t : Tokens) (items : List ItemSpan) (numbers : List ℕ) (span : ItemSpan) → IsItems t (Ok items) → IsNeed (item_rows t items) (Some numbers)
-    → Some span ≡ only_item items numbers → ((row : List PlacedToken) (program : Program) → IsFormed t span row program → ⊥) → IsTold t NotYet
-no_form_told t items numbers span is need only none =
-    not_yet_told t items numbers is need (λ row program form.
+    → AreRead t (spans_of items numbers) → Some span ≡ only_item items numbers → ((row : List PlacedToken) (program : Program) → IsFormed t span row program → ⊥) → IsTold t NotYet
+no_form_told t items numbers span is need read only none =
+    not_yet_told t items numbers is need read (λ row program form.
     let same : span ≡ form.span = (let both = only ∙ form.alone in cc) in
     none row program (subst (λ (s : ItemSpan). IsFormed t s row program) (sym same) form.formed))
 
@@ -83,9 +101,9 @@ sound_of_none row program [] are is fault reaches = no_member fault ((are.reache
 sound_of_none row program (first ∷ rest) are is fault reaches = cc
 
 pub form_told : (t : Tokens) (items : List ItemSpan) (numbers : List ℕ) (span : ItemSpan) (row : List PlacedToken) (program : Program) (warnings : List Warning)
-    → HasNamedFiles t → IsItems t (Ok items) → IsNeed (item_rows t items) (Some numbers) → Some span ≡ only_item items numbers → IsFormed t span row program
+    → HasNamedFiles t → IsItems t (Ok items) → IsNeed (item_rows t items) (Some numbers) → AreRead t (spans_of items numbers) → Some span ≡ only_item items numbers → IsFormed t span row program
     → AreWarnings row program warnings → All (λ warning. (5 ≤ warning.kind) × (warning.kind ≤ 7)) warnings → IsTold t (verdict_of warnings)
-form_told t items numbers span row program [] named is need only formed are kinds = record {
+form_told t items numbers span row program [] named is need read only formed are kinds = record {
   judged = λ file bytes short all. (
     short,
     (
@@ -93,6 +111,7 @@ form_told t items numbers span row program [] named is need only formed are kind
       items,
       numbers,
       record { are_tokens = all; are_items = is; are_needed = need },
+      read,
       (
         row,
         program,
@@ -105,7 +124,7 @@ form_told t items numbers span row program [] named is need only formed are kind
   printable = tt;
   verdict = tt;
 }
-form_told t items numbers span row program (warning ∷ rest) (some, files) is need only formed are kinds = record {
+form_told t items numbers span row program (warning ∷ rest) (some, files) is need read only formed are kinds = record {
   judged = λ file bytes short all. (
     short,
     (
@@ -113,6 +132,7 @@ form_told t items numbers span row program (warning ∷ rest) (some, files) is n
       items,
       numbers,
       record { are_tokens = all; are_items = is; are_needed = need },
+      read,
       (
         row,
         program,

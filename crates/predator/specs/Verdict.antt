@@ -8,10 +8,12 @@ use Rattle.ctokens.specs.declared.item_span.ItemSpan.{ItemSpan}
 use Rattle.ctokens.specs.TokenList.{AreTokens, IsLexical}
 use Rattle.ctokens.specs.Items.{IsItems}
 use Rattle.ctokens.specs.Need.{IsNeed, item_rows}
-use Rattle.report.specs.declared.answer.Why.{Why}
+use Rattle.cread.specs.declared.refusal.Refusal.{Refusal}
+use Rattle.cread.specs.declared.refusal.Refusal.TheVariants as refusal
+use Rattle.cread.specs.Needed.{AreRead, IsRefused, at_file, spans_of}
 use Rattle.report.specs.declared.answer.Why.TheVariants as why
 use Rattle.report.specs.declared.answer.Answer.{Answer}
-use Rattle.report.specs.declared.answer.Answer.TheVariants.{Safe, Warned, NotRead, NotYet, TooLong, Usage, ReadFault, OutOfMemory}
+use Rattle.report.specs.declared.answer.Answer.TheVariants.{Safe, Warned, NotRead, Construct, NotYet, TooLong, Usage, ReadFault, OutOfMemory}
 use Rattle.report.specs.declared.limits.Limits.{Limits}
 use Rattle.report.specs.declared.warning.Warning.{Warning}
 use Rattle.predator.specs.declared.fault.Fault.{Fault}
@@ -78,22 +80,28 @@ IsTooDeep file bytes place = (t : Tokens) × AreTokens file bytes t × IsItems t
 abbrev pub HasNoMain : List ℕ → List ℕ → Type 0
 HasNoMain file bytes = (t : Tokens) × (items : List ItemSpan) × AreTokens file bytes t × IsItems t (Ok items) × IsNeed (item_rows t items) None
 
--- main needs more than one item, or one that is not of the first form
+-- the items that main needs are read in the order of the text, each behind the items before it, and the first that is
+-- not read is refused so
+abbrev pub HasRefusal : List ℕ → List ℕ → Refusal → Type 0
+HasRefusal file bytes refusal =
+    (t : Tokens) × (items : List ItemSpan) × (numbers : List ℕ) × IsRead file bytes t items numbers × IsRefused t (spans_of items numbers) at_file refusal
+
+-- each item that main needs is read, and main needs more than one, or one that is not of the first form
 abbrev pub HasOtherForm : List ℕ → List ℕ → Type 0
 HasOtherForm file bytes =
-    (t : Tokens) × (items : List ItemSpan) × (numbers : List ℕ) × IsRead file bytes t items numbers
+    (t : Tokens) × (items : List ItemSpan) × (numbers : List ℕ) × IsRead file bytes t items numbers × AreRead t (spans_of items numbers)
     × ((row : List PlacedToken) (program : Program) → IsFirstForm t items numbers row program → ⊥)
 
--- the bytes hold a main of the first form, and these are its warnings
+-- the bytes hold a main of the first form, which is read, and these are its warnings
 abbrev pub HasWarnings : List ℕ → List ℕ → List Warning → Type 0
 HasWarnings file bytes warnings =
-    (t : Tokens) × (items : List ItemSpan) × (numbers : List ℕ) × IsRead file bytes t items numbers
+    (t : Tokens) × (items : List ItemSpan) × (numbers : List ℕ) × IsRead file bytes t items numbers × AreRead t (spans_of items numbers)
     × ((row : List PlacedToken) × (program : Program) × IsFirstForm t items numbers row program × AreWarnings row program warnings)
 
--- the bytes hold a main of the first form that no run of which meets a fault
+-- the bytes hold a main of the first form, which is read, and no run of which meets a fault
 abbrev pub HasSoundMain : List ℕ → List ℕ → Type 0
 HasSoundMain file bytes =
-    (t : Tokens) × (items : List ItemSpan) × (numbers : List ℕ) × IsRead file bytes t items numbers
+    (t : Tokens) × (items : List ItemSpan) × (numbers : List ℕ) × IsRead file bytes t items numbers × AreRead t (spans_of items numbers)
     × ((row : List PlacedToken) × (program : Program) × IsFirstForm t items numbers row program × IsSound program)
 
 -- what an answer says of the bytes of the file with this name
@@ -103,6 +111,8 @@ Judges file bytes (Warned warnings) = (length bytes ≤ most_bytes) × HasWarnin
 Judges file bytes (NotRead (why.Lexical place)) = (length bytes ≤ most_bytes) × HasNoToken file bytes place
 Judges file bytes (NotRead (why.Deep place)) = (length bytes ≤ most_bytes) × IsTooDeep file bytes place
 Judges file bytes (NotRead why.NoMain) = (length bytes ≤ most_bytes) × HasNoMain file bytes
+Judges file bytes (NotRead (why.Syntax place)) = (length bytes ≤ most_bytes) × HasRefusal file bytes (refusal.Syntax place)
+Judges file bytes (Construct number place) = (length bytes ≤ most_bytes) × HasRefusal file bytes (refusal.Construct number place)
 Judges file bytes NotYet = (length bytes ≤ most_bytes) × HasOtherForm file bytes
 Judges file bytes (TooLong taken) = (taken ≡ most_bytes + 1) × (taken ≤ length bytes)
 Judges file bytes Usage = Unit {0}
@@ -114,11 +124,17 @@ abbrev pub verdict_of : List Warning → Answer
 verdict_of [] = Safe
 verdict_of (warning ∷ rest) = Warned (warning ∷ rest)
 
+-- the answer of a text with an item that is refused so
+abbrev pub answer_of : Refusal → Answer
+answer_of (refusal.Construct number place) = Construct number place
+answer_of (refusal.Syntax place) = NotRead (why.Syntax place)
+
 -- the answer says something of a file
 abbrev pub IsVerdict : Answer → Type 0
 IsVerdict Safe = Unit {0}
 IsVerdict (Warned warnings) = Unit {0}
 IsVerdict (NotRead why) = Unit {0}
+IsVerdict (Construct number place) = Unit {0}
 IsVerdict NotYet = Unit {0}
 IsVerdict (TooLong taken) = Unit {0}
 IsVerdict Usage = ⊥
@@ -141,6 +157,8 @@ AreNames file bytes (Warned warnings) names = AreTextNames file bytes names
 AreNames file bytes (NotRead (why.Lexical place)) names = (lexical : Lexical) × IsLexical file bytes lexical × (names ≡ lexical.names)
 AreNames file bytes (NotRead (why.Deep place)) names = AreTextNames file bytes names
 AreNames file bytes (NotRead why.NoMain) names = AreTextNames file bytes names
+AreNames file bytes (NotRead (why.Syntax place)) names = AreTextNames file bytes names
+AreNames file bytes (Construct number place) names = AreTextNames file bytes names
 AreNames file bytes NotYet names = AreTextNames file bytes names
 AreNames file bytes (TooLong taken) names = names ≡ []
 AreNames file bytes Usage names = names ≡ []
@@ -166,6 +184,7 @@ abbrev pub IsAnswered : Bool → Option (List ℕ) → List ℕ → List ℕ →
 IsAnswered tells content left file names Safe = IsJudged tells content left file names Safe
 IsAnswered tells content left file names (Warned warnings) = IsJudged tells content left file names (Warned warnings)
 IsAnswered tells content left file names (NotRead why) = IsJudged tells content left file names (NotRead why)
+IsAnswered tells content left file names (Construct number place) = IsJudged tells content left file names (Construct number place)
 IsAnswered tells content left file names NotYet = IsJudged tells content left file names NotYet
 IsAnswered tells content left file names (TooLong taken) = (taken ≡ most_bytes + 1) × (IsTrue tells → IsTaken content left taken) × (names ≡ [])
 IsAnswered tells content left file names Usage = names ≡ []
@@ -189,6 +208,7 @@ abbrev pub file_shown : List ℕ → Answer → List ℕ
 file_shown file Safe = file
 file_shown file (Warned warnings) = file
 file_shown file (NotRead why) = file
+file_shown file (Construct number place) = file
 file_shown file NotYet = file
 file_shown file (TooLong taken) = file
 file_shown file Usage = []
@@ -200,6 +220,7 @@ abbrev pub limits_shown : Limits → Answer → Limits
 limits_shown limits Safe = limits
 limits_shown limits (Warned warnings) = limits
 limits_shown limits (NotRead why) = limits
+limits_shown limits (Construct number place) = limits
 limits_shown limits NotYet = limits
 limits_shown limits (TooLong taken) = limits
 limits_shown limits Usage = limits_in None

@@ -3,16 +3,19 @@ ghost use Rattle.std.specs.List.{All};
 ghost use Rattle.ctokens.specs.Items.{IsInside, IsItems};
 ghost use Rattle.ctokens.specs.Need.{IsNeed, item_rows};
 ghost use Rattle.ctokens.specs.Passed.{LieInText};
+ghost use Rattle.cgrammar.specs.Readings.{AreNumbered};
+ghost use Rattle.cread.specs.Needed.{AreRead, spans_of};
 ghost use Rattle.ctokens.specs.TokenList.{HasNamedFiles};
 ghost use Rattle.report.specs.Report.{HasPrintable};
 ghost use Rattle.predator.specs.FirstForm.{IsSmall};
 ghost use Rattle.predator.specs.Told.{IsTold};
-ghost use Rattle.predator.specs.Verdict.{AreNames, AreWarnings, IsExact, IsVerdict, Judges, only_item, verdict_of};
+ghost use Rattle.predator.specs.Verdict.{AreNames, AreWarnings, IsExact, IsVerdict, Judges, answer_of, only_item, verdict_of};
 
 use crate::decide::decide;
 use crate::read_item::{ReadItem, read_item};
 use crate::warnings::warnings_of;
 use cbase::{List, NoMemory, Text};
+use cread::{Needed, Refusal, needed_have_one_answer, read_needed};
 use ctokens::{
     Deep, ItemSpan, Lexical, Tokens, items, needed, one_item_list, one_token_list, tokens_of_bytes,
 };
@@ -28,8 +31,9 @@ pub struct Judged {
 
 /// The answer to the bytes of a whole file, given the name of the file.
 ///
-/// `NotRead` where there is a place without a token, a bracket at depth 257 or no main, the first of these;
-/// `Safe` or `Warned` where main needs one item alone, which is of the first form; and else `NotYet`.
+/// `NotRead` where there is a place without a token, a bracket at depth 257 or no main, the first of these; `Construct`,
+/// or `NotRead` for its syntax, where an item that main needs is not read, for the first of them; `Safe` or `Warned` where
+/// main needs one item alone, which is of the first form; and else `NotYet`.
 #[tactic(auto, using(crate::proofs::OneVerdict::exact_verdict))]
 pub fn judge(alloc: Global, file: &[u8], text: &[u8]) -> Result<Judged, NoMemory>
     requires { length text.now ≤ 4194304 }
@@ -41,6 +45,7 @@ pub fn judge(alloc: Global, file: &[u8], text: &[u8]) -> Result<Judged, NoMemory
 {
     one_token_list();
     one_item_list();
+    needed_have_one_answer();
     let judged = answer_of_text(alloc, file, text)?;
     Ok(judged)
 }
@@ -76,6 +81,7 @@ fn without_token(lexical: Lexical) -> Judged
 /// The answer to a text with these tokens.
 fn with_tokens(alloc: Global, t: Tokens) -> Result<Judged, NoMemory>
     requires text { LieInText t }
+    requires numbered { AreNumbered t }
     requires named { HasNamedFiles t }
     ensures told { IfOk result (λ judged. IsTold t judged.answer) }
     ensures names { IfOk result (λ judged. judged.names ≡ t.names) }
@@ -94,6 +100,7 @@ fn with_tokens(alloc: Global, t: Tokens) -> Result<Judged, NoMemory>
 #[tactic(auto, using(crate::proofs::Told::deep_told))]
 fn answer_of_tokens(alloc: Global, t: &Tokens) -> Result<Answer, NoMemory>
     requires text { LieInText t.now }
+    requires numbered { AreNumbered t.now }
     requires named { HasNamedFiles t.now }
     ensures { IfOk result (IsTold t.now) }
 {
@@ -109,6 +116,7 @@ fn answer_of_tokens(alloc: Global, t: &Tokens) -> Result<Answer, NoMemory>
 #[tactic(auto, using(crate::proofs::Told::no_main_told))]
 fn answer_of_items(alloc: Global, t: &Tokens, items: &List<ItemSpan>) -> Result<Answer, NoMemory>
     requires text { LieInText t.now }
+    requires numbered { AreNumbered t.now }
     requires named { HasNamedFiles t.now }
     requires spans { IsItems t.now (Ok items.now) }
     requires inside { All (IsInside (length t.now.list)) items.now }
@@ -120,9 +128,43 @@ fn answer_of_items(alloc: Global, t: &Tokens, items: &List<ItemSpan>) -> Result<
     }
 }
 
-/// The answer to a text where main needs the items with these numbers.
-#[tactic(auto, using(crate::proofs::Told::no_item_told, crate::proofs::Told::no_form_told, crate::proofs::Told::form_told))]
+/// The answer to a text where main needs the items with these numbers: they are read in order.
+#[tactic(auto, using(crate::proofs::Told::refused_told))]
 fn answer_of_needed(
+    alloc: Global,
+    t: &Tokens,
+    items: &[ItemSpan],
+    numbers: &[u32],
+) -> Result<Answer, NoMemory>
+    requires text { LieInText t.now }
+    requires numbered { AreNumbered t.now }
+    requires named { HasNamedFiles t.now }
+    requires spans { IsItems t.now (Ok items.now) }
+    requires inside { All (IsInside (length t.now.list)) items.now }
+    requires needed { IsNeed (item_rows t.now items.now) (Some numbers.now) }
+    ensures { IfOk result (IsTold t.now) }
+{
+    match read_needed(alloc, t, items, numbers)? {
+        Needed::Refused(refusal) => Ok(answer_of(refusal)),
+        Needed::Read(_) => answer_of_read(alloc, t, items, numbers),
+    }
+}
+
+/// The answer where an item that main needs is refused so.
+fn answer_of(refusal: Refusal) -> Answer
+    ensures { result ≡ answer_of refusal }
+{
+    match refusal {
+        Refusal::Construct { number, place } => Answer::Construct { number, place },
+        Refusal::Syntax { place } => Answer::NotRead {
+            why: Why::Syntax { place },
+        },
+    }
+}
+
+/// The answer to a text where main needs the items with these numbers, which are read.
+#[tactic(auto, using(crate::proofs::Told::no_item_told, crate::proofs::Told::no_form_told, crate::proofs::Told::form_told))]
+fn answer_of_read(
     alloc: Global,
     t: &Tokens,
     items: &[ItemSpan],
@@ -133,6 +175,7 @@ fn answer_of_needed(
     requires spans { IsItems t.now (Ok items.now) }
     requires inside { All (IsInside (length t.now.list)) items.now }
     requires needed { IsNeed (item_rows t.now items.now) (Some numbers.now) }
+    requires read { AreRead t.now (spans_of items.now numbers.now) }
     ensures { IfOk result (IsTold t.now) }
 {
     let Some(span) = only_item(items, numbers) else {

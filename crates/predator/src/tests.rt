@@ -41,7 +41,7 @@ fn gives(rt: &HostRuntime, text: &[u8], step: u32, status: u8, report: &str) -> 
 }
 
 /// Whole texts, each with its status and its report.
-static TEXTS: [(&str, u8, &str); 15] = [
+static TEXTS: [(&str, u8, &str); 21] = [
     (
         "int main(void) {\n  void *p = malloc(8);\n  free(p);\n  return 0;\n}\n",
         0,
@@ -91,6 +91,38 @@ static TEXTS: [(&str, u8, &str); 15] = [
         "# 10 \"g.c\"\nint f(void) {\n  goto out;\nout:\n  return 0;\n}\nint main(void) {\n  void *p = malloc(8);\n  free(p);\n  return 0;\n}\n",
         0,
         "t.c: safe\n",
+    ),
+    // The first needed item that is not read is refused, in the order of the text.
+    (
+        "# 10 \"g.c\"\nint main(void) {\n  goto out;\nout:\n  return 0;\n}\n",
+        2,
+        "t.c: gave up: goto at g.c:11:3\n",
+    ),
+    (
+        "int f(void) { goto a; a: return 0; }\nint main(void) { return f() 0; }\n",
+        2,
+        "t.c: gave up: goto at t.c:1:15\n",
+    ),
+    (
+        "struct __attribute__((packed)) s { int a; };\nint main(void) { struct s x; return 0; }\n",
+        2,
+        "t.c: gave up: layout attribute at t.c:1:23\n",
+    ),
+    (
+        "int main(void) { return 0 0; }\n",
+        3,
+        "t.c: not read: syntax at t.c:1:1\n",
+    ),
+    // The names of typedefs in the items before are in scope.
+    (
+        "typedef int T;\nint main(void) { return (T) 0; }\n",
+        3,
+        "t.c: not read: not yet\n",
+    ),
+    (
+        "int main(void) { return (T) 0; }\ntypedef int T;\n",
+        3,
+        "t.c: not read: syntax at t.c:1:1\n",
     ),
     ("", 3, "t.c: not read: no main\n"),
     (

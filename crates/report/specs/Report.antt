@@ -6,9 +6,10 @@ use Rattle.cbase.specs.declared.place.Place.{Place}
 use Rattle.report.specs.declared.warning.Warning.{Warning}
 use Rattle.report.specs.declared.answer.Answer.{Answer}
 use Rattle.report.specs.declared.answer.Why.{Why}
-use Rattle.report.specs.declared.answer.Why.TheVariants.{Lexical, Deep, NoMain}
-use Rattle.report.specs.declared.answer.Answer.TheVariants.{Safe, Warned, NotRead, NotYet, TooLong, Usage, ReadFault, OutOfMemory}
+use Rattle.report.specs.declared.answer.Why.TheVariants.{Lexical, Deep, NoMain, Syntax}
+use Rattle.report.specs.declared.answer.Answer.TheVariants.{Safe, Warned, NotRead, Construct, NotYet, TooLong, Usage, ReadFault, OutOfMemory}
 use Rattle.report.specs.declared.answer.Shown.{Shown}
+use Rattle.report.specs.Construct.{IsConstruct, construct_name}
 use Rattle.report.specs.Kind.{IsKind, kind_text}
 
 -- `file:line:column`, with the name of the place's file
@@ -33,12 +34,18 @@ abbrev pub why_line : List ℕ → List (List ℕ) → Why → List ℕ
 why_line file names (Lexical place) = file ++ (codes ": not read: no token at " ++ place_text names place)
 why_line file names (Deep place) = file ++ (codes ": not read: too deep at " ++ place_text names place)
 why_line file names NoMain = file ++ codes ": not read: no main"
+why_line file names (Syntax place) = file ++ (codes ": not read: syntax at " ++ place_text names place)
+
+-- `FILE: gave up: NAME at file:line:column`
+abbrev pub construct_line : List ℕ → List (List ℕ) → ℕ → Place → List ℕ
+construct_line file names number place = file ++ (codes ": gave up: " ++ (construct_name number ++ (codes " at " ++ place_text names place)))
 
 -- the lines of an answer about a file
 abbrev pub answer_lines : List ℕ → List (List ℕ) → Answer → List (List ℕ)
 answer_lines file names Safe = (file ++ codes ": safe") ∷ []
 answer_lines file names (Warned warnings) = map (warning_line names) warnings ++ (file ++ codes ": warned") ∷ []
 answer_lines file names (NotRead why) = why_line file names why ∷ []
+answer_lines file names (Construct number place) = construct_line file names number place ∷ []
 answer_lines file names NotYet = (file ++ codes ": not read: not yet") ∷ []
 answer_lines file names (TooLong taken) = (file ++ codes ": not read: over 4194304 bytes") ∷ []
 answer_lines file names Usage = codes "usage: predator [--budget N] [--int-limit K] FILE" ∷ []
@@ -63,12 +70,14 @@ abbrev pub HasPlace : List (List ℕ) → Why → Type 0
 HasPlace names (Lexical place) = place.file < length names
 HasPlace names (Deep place) = place.file < length names
 HasPlace names NoMain = Unit {0}
+HasPlace names (Syntax place) = place.file < length names
 
--- each place that is printed has a name for its file, and each kind is one
+-- each place that is printed has a name for its file, each kind is one, and so is each construct
 abbrev pub HasPrintable : List (List ℕ) → Answer → Type 0
 HasPrintable names Safe = Unit {0}
 HasPrintable names (Warned warnings) = All (IsPrintable names) warnings
 HasPrintable names (NotRead why) = HasPlace names why
+HasPrintable names (Construct number place) = IsConstruct number × (place.file < length names)
 HasPrintable names NotYet = Unit {0}
 HasPrintable names (TooLong taken) = Unit {0}
 HasPrintable names Usage = Unit {0}
@@ -79,6 +88,7 @@ abbrev pub status_of : Answer → ℕ
 status_of Safe = 0
 status_of (Warned warnings) = 1
 status_of (NotRead why) = 3
+status_of (Construct number place) = 2
 status_of NotYet = 3
 status_of (TooLong taken) = 3
 status_of Usage = 4

@@ -11,6 +11,8 @@ pub enum Why {
     Deep { place: Place },
     /// No item defines main.
     NoMain,
+    /// An item that main needs, which begins at the place, is not spelled by the grammar.
+    Syntax { place: Place },
 }
 
 /// What the program answers.
@@ -22,6 +24,8 @@ pub enum Answer {
     Warned { warnings: List<Warning> },
     /// The file holds no program that can be read.
     NotRead { why: Why },
+    /// An item that main needs has a construct of C at the place that is given up, by its number.
+    Construct { number: u8, place: Place },
     /// The one item that main needs is not of the form that is read today, or main needs more than one.
     NotYet,
     /// The file has more bytes than are read: so many were taken.

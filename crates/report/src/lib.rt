@@ -4,6 +4,7 @@
 #![tactic(auto)]
 
 mod answer;
+mod construct;
 mod exit_status;
 mod kind;
 mod limits;

@@ -85,6 +85,41 @@ fn a_text_that_is_not_read_has_its_place(rt: HostRuntime) -> Result<(), Fail> {
         text::why_text(alloc, &file, names.as_slice(), Why::Deep { place })?.as_slice(),
         b"t.c: not read: too deep at a.h:7:280\n".as_slice()
     );
+    assert_eq!(rt;
+        text::why_text(alloc, &file, names.as_slice(), Why::Syntax { place })?.as_slice(),
+        b"t.c: not read: syntax at a.h:7:280\n".as_slice()
+    );
+    Ok(())
+}
+
+#[test]
+fn a_construct_has_its_name_and_place(rt: HostRuntime) -> Result<(), Fail> {
+    let alloc = rt.alloc();
+    let mut names = Vec::new(alloc);
+    names.push(Text::from_slice(alloc, b"t.c")?)?;
+    let place = Place {
+        file: 0,
+        line: 11,
+        column: 3,
+        at: 20,
+    };
+    let file = Text::from_slice(alloc, b"t.c")?;
+    let names = names.as_slice();
+    assert_eq!(rt;
+        text::construct_text(alloc, &file, names, 1, place)?.as_slice(),
+        b"t.c: gave up: goto at t.c:11:3\n".as_slice()
+    );
+    assert_eq!(rt;
+        text::construct_text(alloc, &file, names, 20, place)?.as_slice(),
+        b"t.c: gave up: function pointer at t.c:11:3\n".as_slice()
+    );
+    assert_eq!(rt; status(&Answer::Construct { number: 1, place }), 2);
+    assert_eq!(rt;
+        status(&Answer::NotRead {
+            why: Why::Syntax { place }
+        }),
+        3
+    );
     Ok(())
 }
 

@@ -1,8 +1,10 @@
 ghost use Rattle.std.specs.Prelude.{◌≡◌, ◌∷◌, [], ◌++◌, ◌<◌, IfOk, OnOk, length, map, codes};
 ghost use Rattle.std.specs.List.{All};
-ghost use Rattle.report.specs.Report.{HasPlace, HasPrintable, IsPrintable, lines_text, place_text, report_bytes, warning_line, why_line};
+ghost use Rattle.report.specs.Construct.{IsConstruct};
+ghost use Rattle.report.specs.Report.{HasPlace, HasPrintable, IsPrintable, construct_line, lines_text, place_text, report_bytes, warning_line, why_line};
 
 use crate::answer::{Answer, Shown, Why};
+use crate::construct::name_of_construct;
 use crate::lines::{push_place, push_warning};
 use crate::warning::Warning;
 use cbase::{NoMemory, Place, Text};
@@ -10,8 +12,8 @@ use std::alloc::Global;
 
 /// The report of an answer: its lines, each with a newline at its end.
 ///
-/// The file of each place that is printed must have a name among those shown, and a warning's kind must be one
-/// of the eight.
+/// The file of each place that is printed must have a name among those shown, a warning's kind must be one of the
+/// eight, and a construct's number one of the twenty-one.
 #[tactic(auto, using(std::proofs::Common::append_assoc))]
 pub fn report_text(alloc: Global, shown: &Shown) -> Result<Text, NoMemory>
     requires { HasPrintable shown.now.names shown.now.answer }
@@ -26,6 +28,13 @@ pub fn report_text(alloc: Global, shown: &Shown) -> Result<Text, NoMemory>
             warnings.as_slice(),
         ),
         Answer::NotRead { why } => why_text(alloc, &shown.file, shown.names.as_slice(), *why),
+        Answer::Construct { number, place } => construct_text(
+            alloc,
+            &shown.file,
+            shown.names.as_slice(),
+            *number,
+            *place,
+        ),
         Answer::NotYet => file_line(alloc, &shown.file, b": not read: not yet\n"),
         Answer::TooLong { .. } => {
             file_line(alloc, &shown.file, b": not read: over 4194304 bytes\n")
@@ -60,6 +69,7 @@ pub fn why_text(alloc: Global, file: &Text, names: &[Text], why: Why) -> Result<
         }
         Why::Deep { place } => line_at(alloc, file, b": not read: too deep at ", names, place),
         Why::NoMain => file_line(alloc, file, b": not read: no main\n"),
+        Why::Syntax { place } => line_at(alloc, file, b": not read: syntax at ", names, place),
     }
 }
 
@@ -78,6 +88,29 @@ fn line_at(
 {
     let mut text = Text::from_slice(alloc, file.as_slice())?;
     text.extend(between)?;
+    push_place(alloc, &mut text, names, &place)?;
+    text.extend(b"\n")?;
+    Ok(text)
+}
+
+/// The line that tells which construct is given up, with its newline.
+#[tactic(auto, using(std::proofs::Common::append_assoc))]
+pub fn construct_text(
+    alloc: Global,
+    file: &Text,
+    names: &[Text],
+    number: u8,
+    place: Place,
+) -> Result<Text, NoMemory>
+    requires construct { IsConstruct number }
+    requires named { place.file < length names.now }
+    ensures { IfOk result (λ text. text
+        ≡ lines_text (construct_line file.now names.now number place ∷ [])) }
+{
+    let mut text = Text::from_slice(alloc, file.as_slice())?;
+    text.extend(b": gave up: ")?;
+    text.extend(name_of_construct(number))?;
+    text.extend(b" at ")?;
     push_place(alloc, &mut text, names, &place)?;
     text.extend(b"\n")?;
     Ok(text)

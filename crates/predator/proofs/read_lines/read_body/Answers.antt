@@ -1,6 +1,5 @@
-use Rattle.std.proofs.Common.{◌≡◌, ◌+◌, ◌-◌, ◌∷◌, [], ◌++◌, length, sym, ◌∙◌, arith}
-use Rattle.predator.specs.FirstForm.{line_tokens, AreNumbered}
-use Rattle.predator.specs.ReadLines.{lines_tokens}
+use Rattle.std.proofs.Common.{◌≡◌, ◌+◌, ◌-◌, length, sym, ◌∙◌, arith}
+use Rattle.predator.specs.FirstForm.{line_tokens}
 use Rattle.predator.proofs.FrontLine.{front_line-length}
 use Rattle.predator.proofs.ReadLines.{lines_tokens-read, AreNumbered-read, lines_tokens-end, no_body}
 use Rattle.predator.proofs.read_lines.read_body.Goals as goal

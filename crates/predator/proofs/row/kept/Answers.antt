@@ -1,4 +1,4 @@
-use Rattle.std.proofs.Common.{◌≡◌, ◌++◌, false, sym, ap, ◌∙◌, arith, add-one}
+use Rattle.std.proofs.Common.{◌++◌, false, sym, ap, ◌∙◌, arith, add-one}
 use Rattle.predator.proofs.Spellings.{kept_passed}
 use Rattle.predator.proofs.row.kept.Goals as goal
 

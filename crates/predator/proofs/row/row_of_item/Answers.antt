@@ -1,5 +1,4 @@
-use Rattle.std.proofs.Common.{List, sym, subst, ◌∙◌, ◌<◌, ◌≤◌, length}
-use Rattle.std.specs.List.{All}
+use Rattle.std.proofs.Common.{◌<◌, ◌≤◌, length}
 use Rattle.ctokens.specs.declared.token.Token.{Token as Lexeme}
 use Rattle.predator.proofs.Spellings.{item_tokens-All}
 use Rattle.predator.proofs.row.row_of_item.Goals as goal

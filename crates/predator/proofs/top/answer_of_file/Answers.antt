@@ -1,4 +1,4 @@
-use Rattle.std.proofs.Common.{◌≡◌, subst}
+use Rattle.std.proofs.Common.{subst}
 use Rattle.outside.specs.Reading.{Reads}
 use Rattle.predator.proofs.Exactness.{answered_result}
 use Rattle.predator.proofs.top.answer_of_file.Goals as goal

@@ -1,0 +1,3 @@
+pub mod ItemsAlone
+pub mod Made
+pub mod Stacks

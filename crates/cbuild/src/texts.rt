@@ -1,0 +1,56 @@
+ghost use Rattle.std.specs.Prelude.{◌≡◌, ◌∷◌, [], ◌++◌, IfOk};
+ghost use Rattle.cevents.specs.Workshop.{bytes_at, maybe_bytes_at};
+
+use cbase::{List, NoMemory, Text};
+use cevents::bytes_at;
+use cgrammar::Terminal;
+use std::alloc::Global;
+
+/// A text with the bytes of the token with the number.
+pub(crate) fn text_at(alloc: Global, row: &[Terminal<'_>], at: usize) -> Result<Text, NoMemory>
+    ensures { IfOk result (λ text. text ≡ bytes_at row.now at) }
+{
+    Text::from_slice(alloc, bytes_at(row, at))
+}
+
+/// A text with the bytes of the token, where there is a number.
+pub(crate) fn maybe_text_at(
+    alloc: Global,
+    row: &[Terminal<'_>],
+    at: Option<usize>,
+) -> Result<Option<Text>, NoMemory>
+    ensures { IfOk result (λ text. text ≡ maybe_bytes_at row.now at) }
+{
+    match at {
+        None => Ok(None),
+        Some(at) => Ok(Some(text_at(alloc, row, at)?)),
+    }
+}
+
+/// A list with one item more at its end.
+pub(crate) fn appended<T: Drop>(list: List<T>, item: T) -> Result<List<T>, NoMemory>
+    ensures { IfOk result (λ longer. longer ≡ list ++ item ∷ []) }
+{
+    let mut longer = list;
+    longer.push(item)?;
+    Ok(longer)
+}
+
+/// A list of one item.
+pub(crate) fn list_of_one<T: Drop>(alloc: Global, item: T) -> Result<List<T>, NoMemory>
+    ensures { IfOk result (λ list. list ≡ item ∷ []) }
+{
+    let mut list = List::new(alloc);
+    list.push(item)?;
+    Ok(list)
+}
+
+/// How many `*` there are, as a number of a tree. More than such a number says are in no memory.
+pub(crate) fn count_of(stars: usize) -> Result<u32, NoMemory>
+    ensures { IfOk result (λ count. count ≡ stars) }
+{
+    match u32::try_from(stars) {
+        Ok(count) => Ok(count),
+        Err(_) => Err(NoMemory),
+    }
+}

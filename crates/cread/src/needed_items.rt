@@ -1,0 +1,107 @@
+ghost use Rattle.std.specs.Prelude.{◌≡◌, ◌++◌, [], Ok, IfOk, OnOk, length, slice_get};
+ghost use Rattle.std.specs.List.{All};
+ghost use Rattle.ctokens.specs.Items.{IsItems};
+ghost use Rattle.ctokens.specs.Passed.{LieInText};
+ghost use Rattle.ctokens.specs.TokenList.{HasNamedFiles};
+ghost use Rattle.cgrammar.specs.Readings.{AreNumbered};
+ghost use Rattle.cread.specs.Needed.{AreAnswered, HaveOneAnswer, IsNamed, IsSome, spans_of, with_span};
+
+use crate::reading_item::{ItemBehind, ReadIn, read_item_in};
+use crate::refusal::Refusal;
+use cbase::{List, NoMemory, Program};
+use cgrammar::Scope;
+use ctokens::{ItemSpan, Tokens, passed_over};
+use std::alloc::Global;
+
+/// What the items are that main needs: a program, or why the first of them that is not read is refused.
+#[derive(Drop)]
+pub enum Needed {
+    Read(Program),
+    Refused(Refusal),
+}
+
+/// Reads the items with these numbers, one behind the other: each where the names that those before it declare are in
+/// scope, and as many expressions end before it as they have (C11 6.9).
+///
+/// The first that is not read is refused. The work grows with the text and with the items that are read alone.
+#[tactic(auto, using(crate::proofs::NeededItems::answer_named, crate::proofs::NeededItems::spans_some))]
+pub fn read_needed(
+    alloc: Global,
+    t: &Tokens,
+    items: &[ItemSpan],
+    numbers: &[u32],
+) -> Result<Needed, NoMemory>
+    requires text { LieInText t.now }
+    requires numbered { AreNumbered t.now }
+    requires spans { IsItems t.now (Ok items.now) }
+    requires named { HasNamedFiles t.now }
+    ensures answered { IfOk result (AreAnswered t.now (spans_of items.now numbers.now)) }
+    ensures named { IfOk result (IsNamed t.now.names) }
+{
+    let spans = spans_of(alloc, items, numbers)?;
+    let needed = read_all(alloc, t, spans.as_slice())?;
+    Ok(needed)
+}
+
+/// The items with these numbers.
+fn spans_of(alloc: Global, items: &[ItemSpan], numbers: &[u32]) -> Result<List<ItemSpan>, NoMemory>
+    ensures { IfOk result (λ spans. spans ≡ spans_of items.now numbers.now) }
+{
+    let mut spans = List::new(alloc);
+    for number in numbers {
+        push_found(&mut spans, item_of(items, *number))?;
+    }
+    Ok(spans)
+}
+
+/// The item with the number, if there is one.
+fn item_of(items: &[ItemSpan], number: u32) -> Option<ItemSpan>
+    ensures { result ≡ slice_get items.now number }
+{
+    items.get(number as usize).copied()
+}
+
+/// Appends the item, if there is one.
+fn push_found(spans: &mut List<ItemSpan>, found: Option<ItemSpan>) -> Result<(), NoMemory>
+    ensures { OnOk result (spans.new ≡ spans.old ++ with_span found []) }
+{
+    match found {
+        None => Ok(()),
+        Some(span) => spans.push(span),
+    }
+}
+
+/// Reads these items, one behind the other, from the beginning of a file.
+fn read_all(alloc: Global, t: &Tokens, spans: &[ItemSpan]) -> Result<Needed, NoMemory>
+    requires text { LieInText t.now }
+    requires numbered { AreNumbered t.now }
+    requires some { All (IsSome (length t.now.list)) spans.now }
+    ensures { IfOk result (AreAnswered t.now spans.now) }
+{
+    let passed = passed_over(alloc, t)?;
+    let mut program = List::new(alloc);
+    let mut scope = Scope::new(alloc)?;
+    let mut expressions: u32 = 0;
+    for span in spans {
+        match read_item_in(alloc, t, passed.as_slice(), *span, scope, expressions)? {
+            ReadIn::Read(behind) => {
+                let ItemBehind {
+                    item,
+                    scope: within,
+                    expressions: count,
+                } = behind;
+                program.push(item)?;
+                scope = within;
+                expressions = count;
+            }
+            ReadIn::Refused(refusal) => return Ok(Needed::Refused(refusal)),
+        }
+    }
+    Ok(Needed::Read(program))
+}
+
+/// Of one list of items at most one answer is true: one program, or one refusal.
+#[tactic(auto, using(crate::proofs::NeededItems::one_answer))]
+pub fn needed_have_one_answer()
+    ensures { HaveOneAnswer }
+{}

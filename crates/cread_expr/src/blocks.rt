@@ -1,0 +1,66 @@
+ghost use Rattle.std.specs.Prelude.{◌≡◌, ◌+◌, ℕ, List, false, true, take, Some, None, IfOk, IfSome, IfNone, IsSome};
+ghost use Rattle.cbase.specs.declared.tree.stmt.Stmt.{Stmt};
+ghost use Rattle.cevents.specs.Building.{built_all};
+ghost use Rattle.cevents.specs.Workshop.{block_alone, start};
+ghost use Rattle.cgrammar.specs.Readings.{AreNumbered, IsBlockAt, most_levels};
+ghost use Rattle.cgrammar.specs.Terminals.{last_place};
+ghost use Rattle.ctokens.specs.Passed.{LieInText};
+
+use crate::ends::{number_behind, tokens_before};
+use cbase::{List, NoMemory, Stmt};
+use cbuild::{Unbuilt, build_block};
+use cgrammar::{Scope, Terminal, row_of};
+use creader::{Written, read_statements};
+use ctokens::Tokens;
+use std::alloc::Global;
+
+/// A block that is read at a token of a text.
+#[derive(Drop)]
+pub struct ReadBlock {
+    /// Its declarations and statements.
+    pub body: List<Stmt>,
+    /// The number of the token behind its `}`.
+    pub after: u32,
+}
+
+/// The block of at most 1,024 levels that begins at the token `at` of a text, where these names are in scope around it
+/// (C11 6.8.2). None where no such block begins there. The tokens are those of some text.
+pub fn read_block(
+    alloc: Global,
+    t: &Tokens,
+    scope: &Scope,
+    at: u32,
+) -> Result<Option<ReadBlock>, NoMemory>
+    requires text { LieInText t.now }
+    requires numbered { AreNumbered t.now }
+    ensures block { IfOk result (λ found. IfSome found (λ read. IsBlockAt most_levels t.now scope.now at read.after read.body)) }
+    ensures none { IfOk result (λ found. IfNone found ((body : List Stmt) (after : ℕ) → IsBlockAt most_levels t.now scope.now at after body → ⊥)) }
+{
+    let row = row_of(alloc, t)?;
+    let start = tokens_before(row.as_slice(), at);
+    let written = read_statements(alloc, row.as_slice(), start, scope)?;
+    block_of(alloc, row.as_slice(), &written)
+}
+
+/// The block that is written, where one is found, with the number behind its last token.
+fn block_of(
+    alloc: Global,
+    row: &[Terminal<'_>],
+    written: &Written,
+) -> Result<Option<ReadBlock>, NoMemory>
+    requires { written.now.found ≡ true → IsSome (block_alone (built_all row.now written.now.events (Some start))) }
+    ensures found { IfOk result (λ found. IfSome found (λ read. written.now.found ≡ true)) }
+    ensures block { IfOk result (λ found. IfSome found (λ read. block_alone (built_all row.now written.now.events (Some start)) ≡ Some read.body)) }
+    ensures after { IfOk result (λ found. IfSome found (λ read. read.after ≡ (last_place (take written.now.at row.now)).at + 1)) }
+    ensures none { IfOk result (λ found. IfNone found (written.now.found ≡ false)) }
+{
+    if !written.found {
+        return Ok(None);
+    }
+    let after = number_behind(row, written.at)?;
+    match build_block(alloc, row, written.events.as_slice()) {
+        Ok(body) => Ok(Some(ReadBlock { body, after })),
+        Err(Unbuilt::NoMemory) => Err(NoMemory),
+        Err(Unbuilt::Wrong) => unreachable!(),
+    }
+}

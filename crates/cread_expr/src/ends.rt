@@ -1,0 +1,47 @@
+ghost use Rattle.std.specs.Prelude.{◌≡◌, ◌+◌, take, IfOk};
+ghost use Rattle.std.specs.List.{prefix_len};
+ghost use Rattle.cgrammar.specs.Terminals.{last_place};
+ghost use Rattle.cread_expr.specs.Exactly.{comes_before};
+
+use cbase::{NoMemory, Place};
+use cgrammar::Terminal;
+
+/// How many tokens of a row come before the token of that number.
+pub(crate) fn tokens_before(row: &[Terminal<'_>], number: u32) -> usize
+    ensures { result ≡ prefix_len (comes_before number) row.now }
+{
+    row.iter()
+        .take_while(|token| token.place().at < number)
+        .count()
+}
+
+/// The number behind that of the last of the first tokens of a row. More tokens than numbers suffice for are in no
+/// memory.
+pub(crate) fn number_behind(row: &[Terminal<'_>], count: usize) -> Result<u32, NoMemory>
+    ensures { IfOk result (λ number. number ≡ (last_place (take count row.now)).at + 1) }
+{
+    let last = if count < row.len() {
+        last_place(&row[..count])
+    } else {
+        last_place(row)
+    };
+    if last.at == u32::MAX {
+        return Err(NoMemory);
+    }
+    Ok(last.at + 1)
+}
+
+/// Where the last token of a row stands.
+fn last_place(row: &[Terminal<'_>]) -> Place
+    ensures { result ≡ last_place row.now }
+{
+    match row {
+        [] => Place {
+            file: 0,
+            line: 0,
+            column: 0,
+            at: 0,
+        },
+        [.., last] => last.place(),
+    }
+}

@@ -1,0 +1,102 @@
+ghost use Rattle.std.specs.Prelude.{IfOk, IfSome};
+ghost use Rattle.ctokens.specs.Passed.{LieInText};
+ghost use Rattle.cgrammar.specs.Readings.{AreNumbered};
+
+use crate::{Scope, read_block, read_expr};
+use cbase::{BinaryOp, Expr, ExprForm, NoMemory};
+use ctokens::{Tokens, tokens};
+use std::alloc::Global;
+use std::process::Abort;
+use std::test::Fail;
+
+mod deep;
+
+/// The tokens of a text, where it has any and is not too long.
+fn cut(alloc: Global, text: &[u8]) -> Result<Option<Tokens>, NoMemory>
+    ensures text { IfOk result (λ answer. IfSome answer LieInText) }
+    ensures numbered { IfOk result (λ answer. IfSome answer AreNumbered) }
+{
+    if text.len() > 4_194_304 {
+        return Ok(None);
+    }
+    match tokens(alloc, text, "t.c")? {
+        Err(_) => Ok(None),
+        Ok(tokens) => Ok(Some(tokens)),
+    }
+}
+
+/// A file's scope without names.
+fn file_scope(alloc: Global) -> Result<Scope, NoMemory> {
+    Scope::new(alloc)
+}
+
+/// Behind which token the expression at a token of a text ends, or 0.
+fn expression_after(alloc: Global, text: &str, at: u32) -> Result<u32, NoMemory> {
+    let scope = file_scope(alloc)?;
+    let Some(t) = cut(alloc, text.as_bytes())? else {
+        return Ok(0);
+    };
+    match read_expr(alloc, &t, &scope, at)? {
+        None => Ok(0),
+        Some(read) => Ok(read.after),
+    }
+}
+
+/// Behind which token the block at a token of a text ends, and how many statements it has, or 0 and 0.
+fn block_after(alloc: Global, text: &str, at: u32) -> Result<(u32, usize), NoMemory> {
+    let scope = file_scope(alloc)?;
+    let Some(t) = cut(alloc, text.as_bytes())? else {
+        return Ok((0, 0));
+    };
+    match read_block(alloc, &t, &scope, at)? {
+        None => Ok((0, 0)),
+        Some(read) => Ok((read.after, read.body.len())),
+    }
+}
+
+/// Whether an expression is a difference of a difference and another.
+fn is_difference_to_the_left(expr: &Expr) -> bool {
+    match &expr.form {
+        ExprForm::Binary {
+            op: BinaryOp::Sub,
+            left,
+            right: _,
+        } => matches!(
+            &left.get().form,
+            ExprForm::Binary {
+                op: BinaryOp::Sub,
+                left: _,
+                right: _,
+            }
+        ),
+        _ => false,
+    }
+}
+
+#[test]
+fn differences_stand_to_the_left(rt: HostRuntime) -> Result<(), Fail> {
+    let alloc = rt.alloc();
+    let scope = file_scope(alloc)?;
+    let Some(t) = cut(alloc, b"a - b - c ; d")? else {
+        return Ok(());
+    };
+    match read_expr(alloc, &t, &scope, 0)? {
+        None => assert!(rt; false, "nothing is read"),
+        Some(read) => {
+            assert_eq!(rt; read.after, 5);
+            assert!(rt; is_difference_to_the_left(&read.expr), "to the left");
+        }
+    }
+    Ok(())
+}
+
+#[test]
+fn fronts_of_texts_are_read(rt: HostRuntime) -> Result<(), Fail> {
+    let alloc = rt.alloc();
+    assert_eq!(rt; expression_after(alloc, "a - b - c ; d", 5)?, 0);
+    assert_eq!(rt; expression_after(alloc, "a + ;", 0)?, 1);
+    assert_eq!(rt; block_after(alloc, "{ ; } x", 0)?, (3, 1));
+    assert_eq!(rt; block_after(alloc, "{ ; } x", 1)?, (0, 0));
+    assert_eq!(rt; block_after(alloc, "{ ERROR: ; } x", 0)?, (5, 1));
+    Ok(())
+}
