@@ -38,7 +38,7 @@ is_no_more Stopped found = cc
 is_no_more Nothing found = refl
 
 is_some : {A : Type 0} (found : Option A) (tree : A) → found ≡ Some tree → IsSome found
-is_some found tree is = subst (λ (o : Option _). IsSome o) (sym is) tt
+is_some found tree is = subst (λ (o : Option _). IsSome o) (sym is) refl
 
 same_some : {A : Type 0} (found : Option A) (tree other : A) → found ≡ Some tree → found ≡ Some other → tree ≡ other
 same_some found tree other is also = let both = sym is ∙ also in cc

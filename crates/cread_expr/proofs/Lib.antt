@@ -23,3 +23,4 @@ pub mod AgreedTypesSpecifiers
 pub mod Agreement
 pub mod Calls
 pub mod LastPlaces
+pub mod Parts
