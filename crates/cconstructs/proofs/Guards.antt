@@ -10,10 +10,10 @@ use Rattle.cgrammar.proofs.Truth.{and-left, and-right, and-both}
 use Rattle.cgrammar.specs.Brackets.{is_bracket}
 use Rattle.cgrammar.specs.ReadOperands.{behind_matched, closer_of, matched_with}
 use Rattle.cgrammar.specs.Terminals.{Terminal, is_mark, is_mark_kind, is_word, IsMark, IsWord}
-use Rattle.cconstructs.specs.Closers.{behind_other, behind_token}
+use Rattle.cgrammar.specs.Closers.{behind_other, behind_token}
 use Rattle.cconstructs.specs.Constructs.{IsAsserted}
 use Rattle.cconstructs.specs.Finding.{guarded_behind, guarded_front, inside}
-use Rattle.cconstructs.proofs.Matched.{on, matched_step}
+use Rattle.cgrammar.proofs.Matching.{matched_on, matched_one}
 
 abbrev pub is_assertion : Terminal → Bool
 is_assertion token = is_word (codes "__assert_fail") token
@@ -136,10 +136,10 @@ unfolding behind_matched
 matched_shorter row [] rest is = omega (arith, ap length (same_some row rest is))
 matched_shorter [] (closer ∷ others) rest is = cc is
 matched_shorter (token ∷ row) (closer ∷ others) rest is =
-    step (λ next. matched_shorter row next rest) (behind_token closer others token) refl (sym (matched_step closer others token row) ∙ is)
+    step (λ next. matched_shorter row next rest) (behind_token closer others token) refl (sym (matched_one closer others token row) ∙ is)
   where
     step : ((next : List ℕ) → behind_matched next row ≡ Some rest → length rest + length next ≤ length row)
-        → (o : Option (List ℕ)) → behind_token closer others token ≡ o → on o row ≡ Some rest → length rest + length (closer ∷ others) ≤ suc (length row)
+        → (o : Option (List ℕ)) → behind_token closer others token ≡ o → matched_on o row ≡ Some rest → length rest + length (closer ∷ others) ≤ suc (length row)
     step further None e h = no_some rest h
     step further (Some next) e h = omega (arith, further next h, (onward closer others token next e).longer)
 
@@ -158,7 +158,7 @@ halfway (token ∷ row) (closer ∷ one) two rest is = step (λ next. halfway ro
     along : (next : List ℕ) → behind_token closer one token ≡ Some next → Halfway next two row rest → Halfway (closer ∷ one) two (token ∷ row) rest
     along next e half = record {
       middle = half.middle;
-      first = matched_step closer one token row ∙ (ap (λ (o : Option (List ℕ)). on o row) e ∙ half.first);
+      first = matched_one closer one token row ∙ (ap (λ (o : Option (List ℕ)). matched_on o row) e ∙ half.first);
       second = half.second;
     }
 
@@ -197,9 +197,9 @@ count_onward : (guarded : ℕ) (token : Terminal) (others rest : List Terminal) 
 unfolding behind_matched
 count_onward guarded token others rest [] closers some matched count = absurd (omega arith)
 count_onward guarded token others rest (closer ∷ stack) closers some matched count =
-    step (behind_token closer stack token) refl (sym (matched_step closer stack token others) ∙ matched)
+    step (behind_token closer stack token) refl (sym (matched_one closer stack token others) ∙ matched)
   where
-    step : (o : Option (List ℕ)) → behind_token closer stack token ≡ o → on o others ≡ Some rest → Unclosed guarded others
+    step : (o : Option (List ℕ)) → behind_token closer stack token ≡ o → matched_on o others ≡ Some rest → Unclosed guarded others
     step None e h = no_some rest h
     step (Some []) e h = absurd (omega (arith, ap length (same_some others rest h)))
     step (Some (byte ∷ next)) e h = record {
@@ -278,8 +278,8 @@ nested guarded token others rest at opens matched less unclosed = step unclosed.
     step [] closers some outer = absurd (omega arith)
     step (closer ∷ stack) closers some outer =
         let inner : behind_matched ((41 ∷ []) ++ (closer ∷ stack)) others ≡ Some unclosed.rest =
-        ap (λ (o : Option (List ℕ)). on o others) (sym (opens_more closer stack token (and-left (is_closer closer) (are_closers stack) closers) opens))
-        ∙ (sym (matched_step closer stack token others) ∙ outer) in
+        ap (λ (o : Option (List ℕ)). matched_on o others) (sym (opens_more closer stack token (and-left (is_closer closer) (are_closers stack) closers) opens))
+        ∙ (sym (matched_one closer stack token others) ∙ outer) in
         let half = halfway others (41 ∷ []) (closer ∷ stack) unclosed.rest inner in
         let same : half.middle ≡ rest = same_some half.middle rest (sym half.first ∙ matched) in
         let fewer : length unclosed.rest + length (closer ∷ stack) ≤ length rest =

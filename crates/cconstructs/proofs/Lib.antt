@@ -6,7 +6,6 @@ pub mod Guarded
 pub mod Guards
 pub mod LayoutExact
 pub mod Least
-pub mod Matched
 pub mod Numbers
 pub mod Pointers
 pub mod Steps

@@ -2,9 +2,8 @@ ghost use Rattle.std.specs.Prelude.{◌≡◌, IfOk};
 ghost use Rattle.cconstructs.specs.Constructs.{is_header};
 ghost use Rattle.cconstructs.specs.Finding.{at_front, behind, guarded_behind, guarded_front};
 
-use crate::closers::matched_length;
 use cbase::NoMemory;
-use cgrammar::Terminal;
+use cgrammar::{Terminal, matched_length};
 use std::alloc::Global;
 
 /// What the tokens before a token say of it.

@@ -4,7 +4,6 @@
 #![tactic(auto)]
 
 mod before;
-mod closers;
 mod constructs;
 mod found;
 mod laws;

@@ -11,9 +11,10 @@ pub mod Firsts
 pub mod FrontReadings
 pub mod Fronts
 pub mod Integers
-pub mod Keywords
 pub mod Labels
+pub mod Matching
 pub mod Scopes
+pub mod Stacks
 pub mod StarRows
 pub mod TokenReadings
 pub mod Starting

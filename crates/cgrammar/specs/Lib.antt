@@ -6,8 +6,8 @@ pub mod Firsts
 pub mod FrontOf
 pub mod FrontReadings
 pub mod Grammar
+pub mod Closers
 pub mod CodeTables
-pub mod Keywords
 pub mod Labels
 pub mod OneTree
 pub mod Operators

@@ -7,7 +7,8 @@ use crate::terminal::Terminal;
 /// Whether a label with its `:` stands at the front of the row (C11 6.8.1).
 #[tactic(auto, using(crate::proofs::FrontReadings::label_exact))]
 pub fn begins_with_label(scope: &Scope, row: &[Terminal<'_>]) -> bool
-    ensures { IsTrue result ↔ BeginsWithLabel scope.now row.now }
+    ensures is { result ≡ begins_with_label scope.now row.now }
+    ensures begins { IsTrue result ↔ BeginsWithLabel scope.now row.now }
 {
     has_label(scope, row)
 }

@@ -5,9 +5,11 @@
 
 mod basic;
 mod basic_words;
+mod closers;
 mod constants;
 mod label;
 mod laws;
+mod left_out;
 mod name;
 mod names;
 mod operators;
@@ -20,9 +22,9 @@ mod tag;
 mod terminal;
 mod terminals;
 mod texts;
-mod words;
 
 pub use basic_words::{BasicWords, read_basic_words};
+pub use closers::matched_length;
 pub use label::begins_with_label;
 pub use laws::{
     declared_names_are_found, each_row_has_one_tree, first_tokens, labels_are_told_apart,

@@ -8,13 +8,13 @@ ghost use Rattle.cgrammar.specs.TypeWords.{IsStorage};
 ghost use Rattle.cgrammar.specs.Terminals.{bytes_read, is_any_word, is_mark, is_mark_kind, is_name, is_typedef, is_word, terminal_of};
 
 use crate::constants::has_integer_parts;
+use crate::left_out::is_left_out;
 use crate::operators::{
     assignment_operator, binary_operator, count_operator, member_operator, unary_operator,
 };
 use crate::scope::Scope;
-use crate::words::{is_identifier, is_left_out};
 use cbase::{BinaryOp, Place, Storage, UnaryOp};
-use ctokens::{Token, TokenKind};
+use ctokens::{Token, TokenKind, is_identifier, read_as};
 use std::marker::Model;
 
 /// A token as the grammar sees it: what it is, its bytes as it is read, and where it stands.
@@ -184,23 +184,6 @@ impl<'a> Terminal<'a> {
     {
         matches!(self.kind, TokenKind::Mark) && self.bytes == bytes
     }
-}
-
-/// A word as C spells it: `__signed__` is read as `signed`, `__typeof__` and `__typeof` as `typeof`.
-#[tactic(auto, unfolding(ctokens::specs::Symbol::read_as))]
-fn read_as<'a>(bytes: &'a [u8]) -> &'a [u8]
-    ensures { result.now ≡ read_as bytes.now }
-{
-    if bytes == b"__signed__".as_slice() {
-        return b"signed";
-    }
-    if bytes == b"__typeof__".as_slice() {
-        return b"typeof";
-    }
-    if bytes == b"__typeof".as_slice() {
-        return b"typeof";
-    }
-    bytes
 }
 
 /// The bytes of a token of the kind as it is read.

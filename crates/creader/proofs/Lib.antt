@@ -1,11 +1,9 @@
 pub mod Fronts
 pub mod LastBraces
 pub mod LabelRows
-pub mod Matching
 pub mod Opening
 pub mod Readings
 pub mod Rests
 pub mod RestsWritten
-pub mod Stacks
 pub mod Storages
 pub mod Turns

@@ -1,5 +1,4 @@
 pub mod BraceSteps
-pub mod Closers
 pub mod DeclarationSteps
 pub mod ItemSteps
 pub mod ListSteps

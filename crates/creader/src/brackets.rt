@@ -4,12 +4,11 @@ ghost use Rattle.creader.specs.OperandSteps.{over_matched, opened, opens_row, cl
 ghost use Rattle.creader.specs.ReadingSteps.{inner_at};
 ghost use Rattle.creader.specs.State.{rest};
 
-use crate::closers::matched_length;
 use crate::grammar::Grammar;
 use crate::reader::{Reader, behind};
 use crate::wanted::Wanted;
 use cbase::NoMemory;
-use cgrammar::{Scope, Terminal, begins_type};
+use cgrammar::{Scope, Terminal, begins_type, matched_length};
 
 impl<'a> Reader<'a> {
     /// Goes over the rest of what stands in brackets, up to the one that closes them.

@@ -1,20 +1,7 @@
 ghost use Rattle.std.specs.Prelude.{◌≡◌, ◌≤◌, length};
-ghost use Rattle.cgrammar.specs.FrontReadings.{begins_with_label};
 ghost use Rattle.creader.specs.StatementSteps.{labels_length};
 
-use cgrammar::{Scope, Terminal};
-
-/// Whether a label with its `:` stands at the front of the row (C11 6.8.1).
-fn has_label(scope: &Scope, row: &[Terminal<'_>]) -> bool
-    ensures { result ≡ begins_with_label scope.now row.now }
-{
-    match row {
-        [] | [_] => false,
-        [label, colon, ..] => {
-            label.is_name() && (!label.is_typedef(scope) && colon.is_mark(b":"))
-        }
-    }
-}
+use cgrammar::{Scope, Terminal, begins_with_label};
 
 /// How many tokens the labels take that the row begins with, each with its `:` (C11 6.8.1).
 #[tactic(auto, using(crate::proofs::LabelRows::labels_behind, crate::proofs::LabelRows::labels_there, crate::proofs::LabelRows::labels_none))]
@@ -23,7 +10,7 @@ pub fn labels_length(scope: &Scope, row: &[Terminal<'_>]) -> usize
     ensures inside { result ≤ length row.now }
 {
     let mut count: usize = 0;
-    'labels: while has_label(scope, &row[count..]) {
+    'labels: while begins_with_label(scope, &row[count..]) {
         count += 2;
     }
     count

@@ -11,7 +11,6 @@ mod brackets;
 mod branches;
 mod calls;
 mod clauses;
-mod closers;
 mod declarations;
 mod declarators;
 mod enums;

@@ -34,6 +34,7 @@ pub use item_spans::{items, one_item_list};
 pub use need::needed;
 pub use one_list::one_token_list;
 pub use passed::passed_over;
+pub use symbol_of::{is_identifier, read_as};
 pub use token::{Lexical, Token, TokenKind, Tokens};
 pub use token_list::{tokens, tokens_of_bytes};
 

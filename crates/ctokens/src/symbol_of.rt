@@ -1,5 +1,5 @@
 ghost use Rattle.std.specs.Prelude.{◌≡◌, ◌<◌, ◌≤◌, length, map};
-ghost use Rattle.ctokens.specs.Symbol.{keyword_symbol, mark_symbol, name_symbol, passed_symbol, read_as, symbol_in, symbol_of, token_symbol, token_word, word_of, word_symbol};
+ghost use Rattle.ctokens.specs.Symbol.{is_identifier, keyword_symbol, mark_symbol, name_symbol, passed_symbol, read_as, symbol_in, symbol_of, token_symbol, token_word, word_of, word_symbol};
 ghost use Rattle.ctokens.specs.SymbolRows.{row_read};
 
 use crate::symbol::Symbol;
@@ -128,9 +128,9 @@ fn symbol_in(rows: &[(&str, Symbol)], otherwise: Symbol, bytes: &[u8]) -> Symbol
     otherwise
 }
 
-/// The bytes as C spells them: `__signed__` is read as `signed`, `__typeof__` and `__typeof` as `typeof`.
+/// A word as C spells it: `__signed__` is read as `signed`, `__typeof__` and `__typeof` as `typeof`.
 #[tactic(auto, unfolding(crate::specs::Symbol::read_as))]
-fn read_as(bytes: &[u8]) -> &[u8]
+pub fn read_as(bytes: &[u8]) -> &[u8]
     ensures { result.now ≡ read_as bytes.now }
 {
     if bytes == b"__signed__".as_slice() {
@@ -182,6 +182,14 @@ fn word_symbol(bytes: &[u8]) -> Symbol
     ensures { result ≡ word_symbol bytes.now }
 {
     passed_symbol(keyword_symbol(name_symbol(bytes), bytes), bytes)
+}
+
+/// Whether a word, as it is read, is an identifier and no keyword (C11 6.4.1, 6.4.2). `main` and the names of built-in
+/// functions are identifiers.
+pub fn is_identifier(word: &[u8]) -> bool
+    ensures { result ≡ is_identifier (word_symbol word.now) }
+{
+    word_symbol(word).is_identifier()
 }
 
 /// The symbol of a token with these bytes.

@@ -8,13 +8,13 @@ use Rattle.creader.proofs.labels.labels_length.Goals as goal
 pub labels-preserved : goal.labels-preserved
 labels-preserved c =
     let same = ap (λ (row : List Terminal). begins_with_label c.args.scope.now row) (sym (take_rest c.args.row.now c.labels.count)) in
-    let there : begins_with_label c.args.scope.now (drop c.labels.count c.args.row.now) ≡ true = same ∙ (sym c.has_label.ensures ∙ c.labels-test.true) in
+    let there : begins_with_label c.args.scope.now (drop c.labels.count c.args.row.now) ≡ true = same ∙ (sym c.begins_with_label.ensures.is ∙ c.labels-test.true) in
     let more = labels_behind c.args.scope.now c.args.row.now c.labels.count there in
     (omega (arith, more, c.labels.invariant.0), labels_there c.args.scope.now c.args.row.now c.labels.count there c.labels.invariant.1)
 
 pub returns-clause-count : goal.returns-clause-count
 returns-clause-count c =
     let same = ap (λ (row : List Terminal). begins_with_label c.args.scope.now row) (sym (take_rest c.args.row.now c.labels.count)) in
-    let away : begins_with_label c.args.scope.now (drop c.labels.count c.args.row.now) ≡ false = same ∙ (sym c.has_label.ensures ∙ c.labels-test.false) in
+    let away : begins_with_label c.args.scope.now (drop c.labels.count c.args.row.now) ≡ false = same ∙ (sym c.begins_with_label.ensures.is ∙ c.labels-test.false) in
     let none = labels_none c.args.scope.now (drop c.labels.count c.args.row.now) away in
     omega (arith, none, c.labels.invariant.0)

@@ -1,10 +1,10 @@
 use Rattle.std.proofs.Common.{◌≡◌, ◌≢◌, vec_len, ◌∙◌, ◌+◌, ap, sym, arith, rules, [], ◌∷◌, List, ℕ, Option, Some, None, Bool, true, false, if◌then◌else◌, drop, reverse}
 use Rattle.std.proofs.lemmas.List.{drop_all}
 use Rattle.cgrammar.specs.ReadOperands.{behind_matched}
-use Rattle.creader.specs.Closers.{behind_token}
-use Rattle.creader.proofs.Matching.{matched_on, matched_at, matched_all, none_behind}
-use Rattle.creader.proofs.Stacks.{none, popped}
-use Rattle.creader.proofs.closers.matched_length.Goals as goal
+use Rattle.cgrammar.specs.Closers.{behind_token}
+use Rattle.cgrammar.proofs.Matching.{matched_on, matched_at, matched_all, none_behind}
+use Rattle.cgrammar.proofs.Stacks.{none, popped}
+use Rattle.cgrammar.proofs.closers.matched_length.Goals as goal
 
 pub returns-in-None-clause-is : goal.returns-in-None-clause-is
 returns-in-None-clause-is c =

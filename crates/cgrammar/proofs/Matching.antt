@@ -5,7 +5,7 @@ use Rattle.std.proofs.lemmas.List.{length-reverse}
 use Rattle.cgrammar.specs.Brackets.{is_bracket}
 use Rattle.cgrammar.specs.ReadOperands.{behind_matched, matched_with, closer_of}
 use Rattle.cgrammar.specs.Terminals.{Terminal, is_mark}
-use Rattle.creader.specs.Closers.{behind_other, behind_token}
+use Rattle.cgrammar.specs.Closers.{behind_other, behind_token}
 
 -- what is behind the brackets that are open then
 abbrev pub matched_on : Option (List ℕ) → List Terminal → Option (List Terminal)

@@ -1,10 +1,10 @@
 ghost use Rattle.std.specs.Prelude.{◌≡◌, ◌∷◌, ◌++◌, [], ◌≤◌, IfOk, IfSome, Some, None, drop, if◌then◌else◌, length, option_map, reverse};
 ghost use Rattle.cgrammar.specs.Brackets.{is_bracket};
 ghost use Rattle.cgrammar.specs.ReadOperands.{behind_matched, closer_of};
-ghost use Rattle.creader.specs.Closers.{behind_other, behind_token};
+ghost use Rattle.cgrammar.specs.Closers.{behind_other, behind_token};
 
+use crate::terminal::Terminal;
 use cbase::NoMemory;
-use cgrammar::Terminal;
 use std::alloc::Global;
 
 /// How many tokens stand up to the bracket that closes one that is open before them, where brackets are matched by kind.
