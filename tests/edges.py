@@ -1,0 +1,177 @@
+#!/usr/bin/env python3
+"""Runs the built program where files and outputs misbehave, and compares what it writes and its exit status.
+
+Usage, at the project's root: tests/edges.py
+Prints a line for each case, and ends with status 1 where one differs. Where it is run as root the case of a file without
+read permission runs as another user; elsewhere the permission is taken from the file's owner.
+"""
+import os
+import subprocess
+import sys
+import tempfile
+import threading
+import time
+from pathlib import Path
+
+PROGRAM = str(Path(__file__).resolve().parent.parent / "predator")
+SAFE = b"int main(void) {\n  void *p = malloc(8);\n  free(p);\n  return 0;\n}\n"
+USAGE = b"usage: predator [--budget N] [--int-limit K] FILE\n"
+MOST = 4_194_304
+SECONDS = 60
+
+
+def ran(words, folder, stdout=subprocess.PIPE, **more):
+    """The exit status and what was written, where that is caught."""
+    done = subprocess.run([PROGRAM, *words], cwd=folder, stdin=subprocess.DEVNULL, stdout=stdout,
+                          stderr=subprocess.PIPE, timeout=SECONDS, **more)
+    return done.returncode, done.stdout
+
+
+def a_folder(folder):
+    return ran(["."], folder), (5, b"")
+
+
+def no_permission(folder):
+    Path(folder, "closed.c").write_bytes(SAFE)
+    os.chmod(Path(folder, "closed.c"), 0)
+    os.chmod(folder, 0o755)
+    more = {"user": 65534, "group": 65534, "extra_groups": []} if os.geteuid() == 0 else {}
+    return ran(["closed.c"], folder, **more), (5, b"")
+
+
+def a_missing_file(folder):
+    return ran(["missing.c"], folder), (5, b"")
+
+
+def a_path_that_is_no_utf8(folder):
+    Path(os.fsdecode(os.fsencode(folder) + b"/\xff.c")).write_bytes(SAFE)
+    return ran([b"\xff.c"], folder), (4, USAGE)
+
+
+def a_full_device(folder):
+    with open("/dev/full", "wb") as full:
+        return (ran(["safe.c"], folder, stdout=full)[0],), (6,)
+
+
+def a_closed_output(folder):
+    words = ["sh", "-c", 'exec "$0" safe.c >&-', PROGRAM]
+    done = subprocess.run(words, cwd=folder, stdin=subprocess.DEVNULL, stderr=subprocess.PIPE, timeout=SECONDS)
+    return (done.returncode,), (6,)
+
+
+def a_pipe_that_nobody_reads(folder):
+    out, into = os.pipe()
+    os.close(out)
+    try:
+        return (ran(["safe.c"], folder, stdout=into)[0],), (6,)
+    finally:
+        os.close(into)
+
+
+def a_pipe_that_closes_after_ten_bytes(folder):
+    """Its buffer is filled first, so that the writer waits for the reader, who takes it and ten bytes more, and leaves."""
+    out, into = os.pipe()
+    os.set_blocking(into, False)
+    filled = 0
+    try:
+        while True:
+            filled += os.write(into, b"x" * 4096)
+    except BlockingIOError:
+        pass
+    os.set_blocking(into, True)
+    Path(folder, "lost.c").write_bytes(b"int main(void) {\n" + b"  void *p = malloc(8);\n  p = 0;\n" * 1 + b"  return 0;\n}\n")
+    started = subprocess.Popen([PROGRAM, "lost.c"], cwd=folder, stdin=subprocess.DEVNULL, stdout=into, stderr=subprocess.PIPE)
+    os.close(into)
+    time.sleep(0.2)
+    os.close(out)
+    started.communicate(timeout=SECONDS)
+    return (started.returncode,), (6,)
+
+
+def a_file_that_grows(folder):
+    """Whatever it takes of the file, it ends, with an answer of a file that was read."""
+    grown, ended = Path(folder, "grown.c"), threading.Event()
+    grown.write_bytes(SAFE)
+
+    def grow():
+        with open(grown, "ab") as file:
+            while not ended.is_set() and file.tell() < 2 * MOST:
+                file.write(b" " * 65536)
+                file.flush()
+
+    thread = threading.Thread(target=grow)
+    thread.start()
+    try:
+        got = ran(["grown.c"], folder)
+    finally:
+        ended.set()
+        thread.join()
+    answers = ((0, b"grown.c: safe\n"), (3, b"grown.c: not read: over 4194304 bytes\n"))
+    return got, got if got in answers else answers[0]
+
+
+def a_named_pipe(folder):
+    os.mkfifo(Path(folder, "pipe.c"))
+
+    def write():
+        with open(Path(folder, "pipe.c"), "wb") as file:
+            for at in range(0, len(SAFE), 7):
+                file.write(SAFE[at:at + 7])
+                file.flush()
+
+    thread = threading.Thread(target=write)
+    thread.start()
+    try:
+        return ran(["pipe.c"], folder), (0, b"pipe.c: safe\n")
+    finally:
+        thread.join()
+
+
+def an_empty_name(folder):
+    return ran([""], folder), (4, USAGE)
+
+
+def no_words(folder):
+    return ran([], folder), (4, USAGE)
+
+
+def ten_thousand_words(folder):
+    return ran(["safe.c"] * 10_000, folder), (4, USAGE)
+
+
+def an_empty_file(folder):
+    Path(folder, "empty.c").write_bytes(b"")
+    return ran(["empty.c"], folder), (3, b"empty.c: not read: no main\n")
+
+
+def the_longest_file(folder):
+    Path(folder, "long.c").write_bytes(SAFE + b" " * (MOST - len(SAFE)))
+    return ran(["long.c"], folder), (0, b"long.c: safe\n")
+
+
+def one_byte_too_many(folder):
+    Path(folder, "longer.c").write_bytes(SAFE + b" " * (MOST + 1 - len(SAFE)))
+    return ran(["longer.c"], folder), (3, b"longer.c: not read: over 4194304 bytes\n")
+
+
+CASES = (a_folder, no_permission, a_missing_file, a_path_that_is_no_utf8, a_full_device, a_closed_output,
+         a_pipe_that_nobody_reads, a_pipe_that_closes_after_ten_bytes, a_file_that_grows, a_named_pipe, an_empty_name,
+         no_words, ten_thousand_words, an_empty_file, the_longest_file, one_byte_too_many)
+
+
+def main():
+    differs = 0
+    for case in CASES:
+        with tempfile.TemporaryDirectory() as folder:
+            Path(folder, "safe.c").write_bytes(SAFE)
+            try:
+                got, wanted = case(folder)
+            except subprocess.TimeoutExpired:
+                got, wanted = "no answer in time", None
+        name = case.__name__.replace("_", " ")
+        differs += got != wanted
+        print(f"{name}: " + ("holds" if got == wanted else f"differs: wanted {wanted!r}, got {got!r}"))
+    sys.exit(1 if differs else 0)
+
+
+main()
