@@ -14,3 +14,6 @@ pub use needed_items::{Needed, needed_have_one_answer, read_needed};
 pub use reading_item::{ItemBehind, ReadIn, read_item_in};
 pub use refusal::Refusal;
 pub use tables::table_of_items;
+
+#[cfg(test)]
+mod tests;

@@ -1,0 +1,134 @@
+ghost use Rattle.std.specs.Prelude.{◌≡◌, ◌<◌, ◌≤◌, IfOk, IfSome, length};
+ghost use Rattle.ctokens.specs.Passed.{LieInText, passed_tokens};
+ghost use Rattle.cgrammar.specs.Readings.{AreNumbered};
+
+use crate::{ItemAnswer, ReadIn, read_item, read_item_in};
+use cbase::NoMemory;
+use cgrammar::Scope;
+use ctokens::{ItemSpan, Tokens, items as items_of, passed_over, tokens};
+use items::ITEMS;
+use std::alloc::Global;
+use std::test::Fail;
+
+mod items;
+
+/// The tokens of a text, where it has any and is not too long.
+fn cut(alloc: Global, text: &[u8]) -> Result<Option<Tokens>, NoMemory>
+    ensures text { IfOk result (λ answer. IfSome answer LieInText) }
+    ensures numbered { IfOk result (λ answer. IfSome answer AreNumbered) }
+{
+    if text.len() > 4_194_304 {
+        return Ok(None);
+    }
+    match tokens(alloc, text, "t.c")? {
+        Err(_) => Ok(None),
+        Ok(tokens) => Ok(Some(tokens)),
+    }
+}
+
+/// The names in scope behind an item, where it is read.
+fn behind_item(
+    alloc: Global,
+    t: &Tokens,
+    passed: &[bool],
+    span: &ItemSpan,
+    scope: Scope,
+) -> Result<Option<Scope>, NoMemory>
+    requires text { LieInText t.now }
+    requires numbered { AreNumbered t.now }
+    requires passed { passed.now ≡ passed_tokens t.now }
+{
+    if span.first >= span.after {
+        return Ok(None);
+    }
+    if span.after as usize > t.list.len() {
+        return Ok(None);
+    }
+    match read_item_in(alloc, t, passed, *span, scope, 0)? {
+        ReadIn::Read(behind) => Ok(Some(behind.scope)),
+        ReadIn::Refused(_) => Ok(None),
+    }
+}
+
+/// The names in scope behind items of a text, one behind the other from its beginning, where each is read.
+fn behind_items(alloc: Global, t: &Tokens, spans: &[ItemSpan]) -> Result<Option<Scope>, NoMemory>
+    requires text { LieInText t.now }
+    requires numbered { AreNumbered t.now }
+{
+    let passed = passed_over(alloc, t)?;
+    let mut scope = Scope::new(alloc)?;
+    for span in spans {
+        match behind_item(alloc, t, passed.as_slice(), span, scope)? {
+            None => return Ok(None),
+            Some(within) => scope = within,
+        }
+    }
+    Ok(Some(scope))
+}
+
+/// An answer as it stands in the table.
+fn shown(alloc: Global, answer: &ItemAnswer) -> Result<String, NoMemory> {
+    match answer {
+        ItemAnswer::Read(_) => Ok(String::from_str(alloc, "read")?),
+        ItemAnswer::Construct { number, place } => {
+            Ok(format!(in alloc; "construct {} at {}:{}", number, place.line, place.column)?)
+        }
+        ItemAnswer::Syntax { place } => {
+            Ok(format!(in alloc; "syntax at {}:{}", place.line, place.column)?)
+        }
+    }
+}
+
+/// What is answered of an item, where these names are in scope.
+fn shown_item(alloc: Global, t: &Tokens, span: &ItemSpan, scope: &Scope) -> Result<String, NoMemory>
+    requires text { LieInText t.now }
+    requires numbered { AreNumbered t.now }
+{
+    if span.first >= span.after {
+        return Ok(String::from_str(alloc, "no token")?);
+    }
+    if span.after as usize > t.list.len() {
+        return Ok(String::from_str(alloc, "outside")?);
+    }
+    let answer = read_item(alloc, t, span, scope)?;
+    shown(alloc, &answer)
+}
+
+/// What is answered of the last of these items, where each before it is read.
+fn shown_last(alloc: Global, t: &Tokens, spans: &[ItemSpan]) -> Result<String, NoMemory>
+    requires text { LieInText t.now }
+    requires numbered { AreNumbered t.now }
+{
+    let count = spans.len();
+    if count == 0 {
+        return Ok(String::from_str(alloc, "no item")?);
+    }
+    match behind_items(alloc, t, &spans[..count - 1])? {
+        None => Ok(String::from_str(alloc, "not read before")?),
+        Some(scope) => shown_item(alloc, t, &spans[count - 1], &scope),
+    }
+}
+
+/// What is answered of the last item of a text.
+fn shown_text(alloc: Global, text: &[u8]) -> Result<String, NoMemory> {
+    let Some(t) = cut(alloc, text)? else {
+        return Ok(String::from_str(alloc, "no tokens")?);
+    };
+    match items_of(alloc, &t)? {
+        Err(_) => Ok(String::from_str(alloc, "too deep")?),
+        Ok(spans) => shown_last(alloc, &t, spans.as_slice()),
+    }
+}
+
+#[test]
+fn last_items_are_read_or_refused(rt: HostRuntime) -> Result<(), Fail> {
+    let alloc = rt.alloc();
+    for (text, want) in &ITEMS {
+        assert_eq!(rt;
+            shown_text(alloc, text.as_bytes())?.as_str(),
+            *want,
+            "at {text}"
+        );
+    }
+    Ok(())
+}
