@@ -1,4 +1,4 @@
-ghost use Rattle.std.specs.Prelude.{◌≡◌, ◌<◌, ◌≤◌, IfOk, IfSome, length};
+ghost use Rattle.std.specs.Prelude.{◌≡◌, IfOk, IfSome};
 ghost use Rattle.ctokens.specs.Passed.{LieInText, passed_tokens};
 ghost use Rattle.cgrammar.specs.Readings.{AreNumbered};
 
