@@ -68,7 +68,7 @@ abbrev pub HasExpression : List Names → List Terminal → Option (Expr × ℕ)
 HasExpression scope row None = BeginsNoExpression scope row
 HasExpression scope row (Some found) = IsLongestFront scope row found.0 found.1
 
--- a block stands at the front of the row, and no other one
+-- the longest block that stands at the front of the row
 abbrev pub IsOnlyBlock : List Names → List Terminal → List Stmt → ℕ → Type 0
 IsOnlyBlock scope row body taken =
     ((behind : Context) × Spells (CompoundStatement body) (at_first scope) (take taken row) behind)
