@@ -23,4 +23,17 @@ examples = record {
   empty_fill = refl;
   null_fill = refl;
   inner_free = refl;
+  low_address = refl;
+  high_address = refl;
+  second_free = refl;
+  address_of_zero = refl;
+  address_below_zero = refl;
+  offset_wraps = refl;
+  inside_last = refl;
+  inside_end = refl;
+  last_place = refl;
+  past_last_place = refl;
+  beside_empty = refl;
+  over_live = refl;
+  over_dead = refl;
 }

@@ -1,12 +1,13 @@
 -- Worked examples: what the definitions compute in a small memory.
-use Rattle.std.specs.Prelude.{◌≡◌, ℕ, true, false, List, [], ◌∷◌, ◌++◌, map, take, replicate, pos, negsuc, None, Some}
+use Rattle.std.specs.Prelude.{◌≡◌, ℕ, ◌-◌, ◌^◌, true, false, List, [], ◌∷◌, ◌++◌, map, take, replicate, pos, negsuc, None, Some}
 use Rattle.bytes_core.specs.declared.byte.Byte.{Byte}
 use Rattle.bytes_core.specs.declared.byte.Byte.TheVariants.{Num, Part}
 use Rattle.bytes_core.specs.declared.word.Word.TheVariants.{Plain, To}
 use Rattle.bytes_core.specs.declared.block.BlockKind.TheVariants.{Local, Heap}
 use Rattle.bytes_core.specs.declared.block.Block.{Block}
-use Rattle.bytes_core.specs.Fault.{null_pointer_dereference, access_outside_object, access_to_dead_object, overlapping_copy, invalid_free}
-use Rattle.bytes_core.specs.Value.{pointer_read}
+use Rattle.bytes_core.specs.Fault.{null_pointer_dereference, access_outside_object, access_to_dead_object, access_through_invalid_address, overlapping_copy, double_free, invalid_free}
+use Rattle.bytes_core.specs.Value.{pointer_read, address_number, is_inside, moved}
+use Rattle.bytes_core.specs.Placement.{can_be_placed, is_placed, new_block}
 use Rattle.bytes_core.specs.Access.{access_fault, range_fault, stored}
 use Rattle.bytes_core.specs.Copying.{copy_fault}
 use Rattle.bytes_core.specs.Release.{free_fault}
@@ -64,3 +65,23 @@ pub record AreExamples : Type 0 where
   pub null_fill : range_fault example (Plain 0) 1 ≡ Some null_pointer_dereference
   -- a free inside a block is invalid (C11 7.22.3.3p2)
   pub inner_free : free_fault example (To 1 (pos 1)) ≡ Some invalid_free
+  -- the first 4,096 addresses are null's, and the next is invalid
+  pub low_address : access_fault example (Plain 4095) 1 ≡ Some null_pointer_dereference
+  pub high_address : access_fault example (Plain 4096) 1 ≡ Some access_through_invalid_address
+  -- a second free (C11 7.22.3.3p2)
+  pub second_free : free_fault example (To 2 (pos 0)) ≡ Some double_free
+  -- an address is a number of 64 bits, also below its block
+  pub address_of_zero : address_number example (To 1 (negsuc 8191)) ≡ 0
+  pub address_below_zero : address_number example (To 1 (negsuc 8192)) ≡ 2 ^ 64 - 1
+  -- an offset wraps as a number of 64 bits with a sign
+  pub offset_wraps : moved (To 1 (pos (2 ^ 63 - 1))) (pos 1) ≡ To 1 (negsuc (2 ^ 63 - 1))
+  -- one past the end is not inside
+  pub inside_last : is_inside 8 (pos 7) ≡ true
+  pub inside_end : is_inside 8 (pos 8) ≡ false
+  -- an empty block takes 16 bytes of addresses, and may be the last that there is
+  pub last_place : is_placed (new_block Heap (2 ^ 47 - 16) []) ≡ true
+  pub past_last_place : is_placed (new_block Heap (2 ^ 47) []) ≡ false
+  pub beside_empty : can_be_placed (new_block Heap 16 [] ∷ []) (new_block Heap 32 []) ≡ true
+  -- a live block's addresses are taken, a dead one's are free again
+  pub over_live : can_be_placed example (new_block Heap 8192 []) ≡ false
+  pub over_dead : can_be_placed example (new_block Heap 12288 []) ≡ true

@@ -7,8 +7,8 @@ use Rattle.ctokens.specs.declared.token.Tokens.{Tokens}
 use Rattle.cgrammar.proofs.Truth.{and-left, and-right, and-both, or-cases, or-left, or-right}
 use Rattle.cgrammar.specs.Readings.{row_between}
 use Rattle.cgrammar.specs.Terminals.{Terminal, is_mark, is_name, is_word}
-use Rattle.cconstructs.specs.Layout.{attribute_from, outside, tokens_between, IsStructWithMembers, Untagged, Tagged, IsLayoutAt, ByAttribute, ByPragma, IsFirstLayout, HasNoLayout}
-use Rattle.cconstructs.specs.LayoutFinding.{has_members, is_filled, is_tagged, layout_found, least_struct, lesser, packed_struct, struct_at}
+use Rattle.cconstructs.specs.Layout.{attribute_from, first_closing, outside, tokens_between, ClosesBehind, EndsBehind, IsStructWithMembers, Untagged, Tagged, IsLayoutAt, ByAttribute, ByPragma, IsFirstLayout, HasNoLayout}
+use Rattle.cconstructs.specs.LayoutFinding.{ends_behind, has_members, is_behind, is_filled, is_tagged, layout_found, least_struct, lesser, packed_struct, struct_at}
 
 same_some : {A : Type 0} (x y : A) → ◌≡◌ {A = Option A} (Some x) (Some y) → x ≡ y
 same_some x y is = cc is
@@ -88,26 +88,43 @@ members_complete _ (Untagged word opening next others struct opens full) =
 members_complete _ (Tagged word tag opening next others struct named opens full) =
     and-both struct (or-right (is_filled (tag ∷ (opening ∷ (next ∷ others)))) (and-both named (and-both opens full)))
 
--- a `struct` with members in the row, at or behind the line
+-- where a struct ends
+closing_sound : (line : ℕ) (row : List Terminal) (found : Option Terminal) → first_closing 0 row ≡ found → is_behind line found ≡ true → ClosesBehind line row
+closing_sound line row None e is = cc is
+closing_sound line row (Some closing) e is = record { closing = closing; is = e; behind = le_true line closing.place.at is }
+
+ends_sound : (line : ℕ) (word : Terminal) (row : List Terminal) → ends_behind line word row ≡ true → EndsBehind line word row
+ends_sound line word row is = step (or-cases (nat_le line word.place.at) (is_behind line (first_closing 0 row)) is)
+  where
+    step : (nat_le line word.place.at ≡ true) ⊎ (is_behind line (first_closing 0 row) ≡ true) → EndsBehind line word row
+    step (inl e) = inl (le_true line word.place.at e)
+    step (inr e) = inr (closing_sound line row (first_closing 0 row) refl e)
+
+ends_complete : (line : ℕ) (word : Terminal) (row : List Terminal) → EndsBehind line word row → ends_behind line word row ≡ true
+ends_complete line word row (inl less) = or-left (is_behind line (first_closing 0 row)) (le_is line word.place.at less)
+ends_complete line word row (inr closes) =
+    or-right (nat_le line word.place.at) (ap (is_behind line) closes.is ∙ le_is line closes.closing.place.at closes.behind)
+
+-- a `struct` with members in the row that ends at or behind the line
 pub record ShownAt (line : ℕ) (row : List Terminal) (number : ℕ) : Type 0 where
   pub at : ℕ
   pub word : Terminal
   pub there : slice_get row at ≡ Some word
   pub full : IsStructWithMembers (drop at row)
-  pub behind : line ≤ word.place.at
+  pub behind : EndsBehind line word (drop at row)
   pub numbered : word.place.at ≡ number
 
 struct_sound : (line : ℕ) (row : List Terminal) (number : ℕ) → struct_at line row ≡ Some number → ShownAt line row number
 struct_sound line [] number is = no_some number is
-struct_sound line (word ∷ others) number is = step (nat_le line word.place.at && has_members (word ∷ others)) refl is
+struct_sound line (word ∷ others) number is = step (has_members (word ∷ others) && ends_behind line word (word ∷ others)) refl is
   where
-    step : (b : Bool) → (nat_le line word.place.at && has_members (word ∷ others)) ≡ b → (if b then Some word.place.at else None) ≡ Some number → ShownAt line (word ∷ others) number
+    step : (b : Bool) → (has_members (word ∷ others) && ends_behind line word (word ∷ others)) ≡ b → (if b then Some word.place.at else None) ≡ Some number → ShownAt line (word ∷ others) number
     step true e h = record {
       at = 0;
       word = word;
       there = refl;
-      full = members_sound (word ∷ others) (and-right (nat_le line word.place.at) (has_members (word ∷ others)) e);
-      behind = le_true line word.place.at (and-left (nat_le line word.place.at) (has_members (word ∷ others)) e);
+      full = members_sound (word ∷ others) (and-left (has_members (word ∷ others)) (ends_behind line word (word ∷ others)) e);
+      behind = ends_sound line word (word ∷ others) (and-right (has_members (word ∷ others)) (ends_behind line word (word ∷ others)) e);
       numbered = same_some word.place.at number h;
     }
     step false e h = no_some number h
@@ -125,7 +142,7 @@ least_sound line (word ∷ others) number is =
         let shown = further e in
         record { at = suc shown.at; word = shown.word; there = shown.there; full = shown.full; behind = shown.behind; numbered = shown.numbered }
 
-least_least : (line : ℕ) (row : List Terminal) (at : ℕ) (word : Terminal) → slice_get row at ≡ Some word → IsStructWithMembers (drop at row) → line ≤ word.place.at
+least_least : (line : ℕ) (row : List Terminal) (at : ℕ) (word : Terminal) → slice_get row at ≡ Some word → IsStructWithMembers (drop at row) → EndsBehind line word (drop at row)
     → AtMost (least_struct line row) word.place.at
 unfolding least_struct
 least_least line [] at word there full behind = no_some word there
@@ -133,7 +150,7 @@ least_least line (first ∷ others) zero word there full behind =
     lesser_left (struct_at line (first ∷ others)) (least_struct line others) word.place.at (record {
       least = first.place.at;
       is = ap (λ (b : Bool). if b then Some first.place.at else None)
-          (and-both (le_is line first.place.at (subst (λ (t : Terminal). line ≤ t.place.at) (sym same) behind)) (members_complete (first ∷ others) full));
+          (and-both (members_complete (first ∷ others) full) (ends_complete line first (first ∷ others) (subst (λ (t : Terminal). EndsBehind line t (first ∷ others)) (sym same) behind)));
       less = subst (λ (t : Terminal). first.place.at ≤ t.place.at) same (omega arith);
     })
   where
@@ -153,11 +170,11 @@ packed_sound t from to number is = step t.packs refl is
         (ByPragma shown.at line shown.word shown.there shown.full (ap (λ (all : List ℕ). slice_get all 0) e) shown.behind)
 
 packed_least : (lines : List ℕ) (row : List Terminal) (at line : ℕ) (word : Terminal) → slice_get row at ≡ Some word → IsStructWithMembers (drop at row)
-    → slice_get lines 0 ≡ Some line → line ≤ word.place.at → AtMost (packed_struct lines row) word.place.at
+    → slice_get lines 0 ≡ Some line → EndsBehind line word (drop at row) → AtMost (packed_struct lines row) word.place.at
 packed_least [] row at line word there full first behind = no_some line first
 packed_least (one ∷ lines) row at line word there full first behind =
     let same : one ≡ line = same_some one line first in
-    least_least one row at word there full (omega arith)
+    least_least one row at word there full (subst (λ (n : ℕ). EndsBehind n word (drop at row)) (sym same) behind)
 
 found_sound : (t : Tokens) (from to number : ℕ) → layout_found t from to ≡ Some number → IsLayoutAt t from to number
 found_sound t from to number is =

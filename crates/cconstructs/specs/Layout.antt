@@ -1,7 +1,7 @@
--- What changes the layout of an object: an attribute that says how it is laid out, and a struct with members behind a
--- `#pragma pack` line. Each is given up by the number 7 wherever it stands in an item, also among the tokens that are
--- passed over.
-use Rattle.std.specs.Prelude.{◌≡◌, ℕ, zero, suc, ◌+◌, ◌-◌, ◌<◌, ◌≤◌, nat_eq, Bool, true, false, ◌&&◌, ◌||◌, not, IsTrue, if◌then◌else◌, List, [], ◌∷◌, ◌++◌, Option, None, Some, drop, take, map, slice_get, codes}
+-- What changes the layout of an object: an attribute that says how it is laid out, and a `#pragma pack` line before the
+-- end of a struct with members. Each is given up by the number 7 wherever it stands in an item, also among the tokens
+-- that are passed over.
+use Rattle.std.specs.Prelude.{◌≡◌, ℕ, zero, suc, ◌+◌, ◌-◌, ◌<◌, ◌≤◌, ◌⊎◌, nat_eq, nat_le, Bool, true, false, ◌&&◌, ◌||◌, not, IsTrue, if◌then◌else◌, List, [], ◌∷◌, ◌++◌, Option, None, Some, drop, take, map, slice_get, codes}
 use Rattle.std.specs.List.{list_any}
 use Rattle.std.specs.Str.{bytes_eq}
 use Rattle.ctokens.specs.declared.token.Tokens.{Tokens}
@@ -70,11 +70,31 @@ pub data IsStructWithMembers : List Terminal → Type 0 where
   Tagged : (word tag opening next : Terminal) (others : List Terminal) → IsWord (codes "struct") word → IsName tag → IsMark (codes "{") opening
       → IsTrue (not (is_mark (codes "}") next)) → IsStructWithMembers (word ∷ (tag ∷ (opening ∷ (next ∷ others))))
 
+-- whether the token closes the last bracket that is open, where so many are open before it
+abbrev pub closes_last : ℕ → Terminal → Bool
+closes_last unclosed token = closes token && nat_le unclosed 1
+
+-- the token that closes the first bracket that opens in the row, where so many are open before the row
+unfoldable pub first_closing : ℕ → List Terminal → Option Terminal
+first_closing unclosed [] = None
+first_closing unclosed (token ∷ others) = if closes_last unclosed token then Some token else first_closing (unclosed_behind unclosed token) others
+
+-- the first bracket that opens in the row is closed at or behind the line
+pub record ClosesBehind (line : ℕ) (row : List Terminal) : Type 0 where
+  pub closing : Terminal
+  pub is : first_closing 0 row ≡ Some closing
+  pub behind : line ≤ closing.place.at
+
+-- A struct is laid out at its end, with what holds there: a line between its members changes all of it. One that no
+-- bracket closes is known by its word alone.
+abbrev pub EndsBehind : ℕ → Terminal → List Terminal → Type 0
+EndsBehind line word row = (line ≤ word.place.at) ⊎ ClosesBehind line row
+
 -- the token with the number shows a changed layout, in the item from one token up to another
 pub data IsLayoutAt (t : Tokens) (from to : ℕ) : ℕ → Type 0 where
   ByAttribute : (number : ℕ) → attribute_from from (outside false) (tokens_between t from to) ≡ Some number → IsLayoutAt t from to number
   ByPragma : (at line : ℕ) (word : Terminal) → slice_get (row_between t from to) at ≡ Some word → IsStructWithMembers (drop at (row_between t from to))
-      → slice_get t.packs 0 ≡ Some line → line ≤ word.place.at → IsLayoutAt t from to word.place.at
+      → slice_get t.packs 0 ≡ Some line → EndsBehind line word (drop at (row_between t from to)) → IsLayoutAt t from to word.place.at
 
 -- the first of them, and none
 pub record IsFirstLayout (t : Tokens) (from to number : ℕ) : Type 0 where

@@ -3,7 +3,7 @@ use Rattle.std.specs.Prelude.{ℕ, nat_le, min, Bool, false, not, ◌&&◌, ◌|
 use Rattle.ctokens.specs.declared.token.Tokens.{Tokens}
 use Rattle.cgrammar.specs.Readings.{row_between}
 use Rattle.cgrammar.specs.Terminals.{Terminal, is_mark, is_name, is_word}
-use Rattle.cconstructs.specs.Layout.{attribute_from, outside, tokens_between}
+use Rattle.cconstructs.specs.Layout.{attribute_from, first_closing, outside, tokens_between}
 
 -- `{` with no `}` behind it begins the row
 abbrev pub is_filled : List Terminal → Bool
@@ -21,10 +21,19 @@ abbrev pub has_members : List Terminal → Bool
 has_members [] = false
 has_members (word ∷ others) = is_word (codes "struct") word && (is_filled others || is_tagged others)
 
--- the number of the row's first token, where it is such a `struct` and stands at or behind the line
+-- whether a token stands at or behind the line, if there is one
+abbrev pub is_behind : ℕ → Option Terminal → Bool
+is_behind line None = false
+is_behind line (Some closing) = nat_le line closing.place.at
+
+-- whether a struct that begins the row ends at or behind the line
+abbrev pub ends_behind : ℕ → Terminal → List Terminal → Bool
+ends_behind line word row = nat_le line word.place.at || is_behind line (first_closing 0 row)
+
+-- the number of the row's first token, where it is such a `struct` and ends at or behind the line
 abbrev pub struct_at : ℕ → List Terminal → Option ℕ
 struct_at line [] = None
-struct_at line (word ∷ others) = if nat_le line word.place.at && has_members (word ∷ others) then Some word.place.at else None
+struct_at line (word ∷ others) = if has_members (word ∷ others) && ends_behind line word (word ∷ others) then Some word.place.at else None
 
 abbrev pub lesser : Option ℕ → Option ℕ → Option ℕ
 lesser None other = other

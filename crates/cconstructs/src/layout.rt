@@ -57,7 +57,7 @@ fn layout_found(t: &Tokens, row: &[Terminal<'_>], from: u32, to: u32) -> Option<
 }
 
 /// The number of the first token that shows a changed layout in the item from the token `from` up to the token `to`:
-/// an attribute's name, or a `struct` with members behind a `#pragma pack` line; `None` where there is no such token.
+/// an attribute's name, or a `struct` with members that ends behind a `#pragma pack` line; `None` where there is no such token.
 /// `row` is the item's row.
 pub fn first_layout(t: &Tokens, row: &[Terminal<'_>], from: u32, to: u32) -> Option<u32>
     requires inside { LieInText t.now }

@@ -1,6 +1,8 @@
 ghost use Rattle.std.specs.Prelude.{◌≡◌, ◌≤◌, min};
-ghost use Rattle.cconstructs.specs.LayoutFinding.{has_members, is_filled, is_tagged, least_struct, lesser, packed_struct, struct_at};
+ghost use Rattle.cconstructs.specs.Layout.{closes_last, first_closing};
+ghost use Rattle.cconstructs.specs.LayoutFinding.{ends_behind, has_members, is_behind, is_filled, is_tagged, least_struct, lesser, packed_struct, struct_at};
 
+use crate::part::{closes, unclosed_behind};
 use cgrammar::Terminal;
 
 /// Whether `{` with no `}` behind it begins the row.
@@ -39,16 +41,44 @@ fn has_members(row: &[Terminal<'_>]) -> bool
     }
 }
 
-/// The number of the row's first token, where it is a `struct` with members and stands at the line or behind it.
+/// Whether the token closes the last of the open brackets, of which there are `unclosed` before it.
+fn closes_last(unclosed: usize, token: &Terminal<'_>) -> bool
+    ensures { result ≡ closes_last unclosed token.now }
+{
+    closes(token) && unclosed <= 1
+}
+
+/// Whether the first bracket that opens in the row is closed at the line or behind it.
+#[tactic(auto, unfolding(crate::specs::Layout::first_closing))]
+fn closes_behind(line: u32, row: &[Terminal<'_>]) -> bool
+    ensures { result ≡ is_behind line (first_closing 0 row.now) }
+{
+    let mut unclosed: usize = 0;
+    for token in row {
+        if closes_last(unclosed, token) {
+            return line <= token.place().at;
+        }
+        unclosed = unclosed_behind(unclosed, token);
+    }
+    false
+}
+
+/// Whether a struct that begins the row with this word ends at the line or behind it.
+fn ends_behind(line: u32, word: &Terminal<'_>, row: &[Terminal<'_>]) -> bool
+    ensures { result ≡ ends_behind line word.now row.now }
+{
+    line <= word.place().at || closes_behind(line, row)
+}
+
+/// The number of the row's first token, where it is a `struct` with members that ends at the line or behind it.
 fn struct_at(line: u32, row: &[Terminal<'_>]) -> Option<u32>
     ensures { result ≡ struct_at line row.now }
 {
     match row {
         [] => None,
         [word, ..] => {
-            let at = word.place().at;
-            if line <= at && has_members(row) {
-                return Some(at);
+            if has_members(row) && ends_behind(line, word, row) {
+                return Some(word.place().at);
             }
             None
         }
@@ -66,7 +96,7 @@ pub fn lesser(one: Option<u32>, other: Option<u32>) -> Option<u32>
     }
 }
 
-/// The least number of a `struct` with members that stands at the line or behind it.
+/// The least number of a `struct` with members that ends at the line or behind it.
 #[tactic(auto, using(crate::proofs::Least::least_next, crate::proofs::Least::least_end))]
 fn least_struct(line: u32, row: &[Terminal<'_>]) -> Option<u32>
     ensures { result ≡ least_struct line row.now }

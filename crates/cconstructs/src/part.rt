@@ -1,4 +1,4 @@
-ghost use Rattle.std.specs.Prelude.{◌≡◌, ◌≤◌, ◌||◌, map};
+ghost use Rattle.std.specs.Prelude.{◌≡◌, ◌≤◌, ◌<◌, ◌+◌, ◌^◌, ◌||◌, map};
 ghost use Rattle.std.specs.List.{list_any};
 ghost use Rattle.std.specs.Str.{bytes_eq};
 ghost use Rattle.cgrammar.specs.CodeTables.{text_read};
@@ -12,7 +12,7 @@ pub struct Part {
     /// Whether an attribute's word stands directly before it, outside of an attribute's part.
     pub behind: bool,
     /// How many brackets of an attribute's part are open before it.
-    pub unclosed: u32,
+    pub unclosed: usize,
     /// Whether a `(` or a `,` of an attribute's part stands directly before it.
     pub separated: bool,
 }
@@ -81,7 +81,7 @@ fn opens(token: &Terminal<'_>) -> bool
 }
 
 /// Whether the token closes a bracket.
-fn closes(token: &Terminal<'_>) -> bool
+pub fn closes(token: &Terminal<'_>) -> bool
     ensures { result ≡ closes token.now }
 {
     token.is_mark(b")") || token.is_mark(b"]") || token.is_mark(b"}")
@@ -102,8 +102,8 @@ fn separates(token: &Terminal<'_>) -> bool
 }
 
 /// How many brackets are open behind a token where `unclosed` were open before it.
-fn unclosed_behind(unclosed: u32, token: &Terminal<'_>) -> u32
-    requires { unclosed ≤ 4194304 }
+pub fn unclosed_behind(unclosed: usize, token: &Terminal<'_>) -> usize
+    requires { unclosed + 1 < 2 ^ 64 }
     ensures { result ≡ unclosed_behind unclosed token.now }
 {
     if opens(token) {
@@ -127,7 +127,7 @@ pub fn outside(behind: bool) -> Part
 }
 
 /// In an attribute's part.
-fn within(unclosed: u32, separated: bool) -> Part
+fn within(unclosed: usize, separated: bool) -> Part
     ensures { result ≡ within unclosed separated }
 {
     Part {

@@ -191,7 +191,7 @@ fn the_first_construct_of_rows(rt: HostRuntime) -> Result<(), Fail> {
 }
 
 /// Texts with the token that shows their first change of layout.
-static LAYOUTS: [(&str, &str); 29] = [
+static LAYOUTS: [(&str, &str); 32] = [
     ("int packed ( aligned ) ;", "-"),
     ("struct s { int a ; } __attribute__ ( ( packed ) ) ;", "10"),
     ("int x __attribute ( ( __aligned__ ( 8 ) ) ) ;", "5"),
@@ -228,6 +228,15 @@ static LAYOUTS: [(&str, &str); 29] = [
     ("#pragma pack(1)\nunion u { int a ; } ;", "-"),
     ("#pragma pack(1)\nstruct int { int a ; } ;", "-"),
     ("struct a { int x ; } ;\n#pragma pack(1)\nint y ;", "-"),
+    ("struct a { int x ;\n#pragma pack(1)\nint y ; } ;", "0"),
+    (
+        "int x ; struct a { struct { int y ; } z ;\n#pragma pack(1)\n } ;",
+        "3",
+    ),
+    (
+        "int x ; struct a { struct { int y ; } z ; }\n#pragma pack(1)\n ;",
+        "-",
+    ),
     (
         "struct a { int x ; } ;\n#pragma pack(1)\nint y ; struct b { int x ; } ;",
         "11",

@@ -15,7 +15,7 @@ use std::alloc::Global;
 pub enum ItemAnswer {
     /// The grammar spells it by this tree.
     Read(Item),
-    /// A construct of C at the place is given up, by its number.
+    /// A construct of C that is given up stands at the place: its number is 1 to 10 or 20, as `report` names them.
     Construct { number: u8, place: Place },
     /// The grammar does not spell the item that begins at the place.
     Syntax { place: Place },

@@ -16,7 +16,9 @@ use std::alloc::Global;
 /// What the items are that main needs: a program, or why the first of them that is not read is refused.
 #[derive(Drop)]
 pub enum Needed {
+    /// Each is read: their trees, in the order of the text.
     Read(Program),
+    /// The first that is not read.
     Refused(Refusal),
 }
 

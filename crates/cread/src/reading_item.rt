@@ -25,20 +25,26 @@ use std::alloc::Global;
 /// An item that was read, with the names in scope behind it and the number of expressions that end before there.
 #[derive(Drop)]
 pub struct ItemBehind {
+    /// The item's tree.
     pub item: Item,
+    /// The names of the file's scope behind it.
     pub scope: Scope,
+    /// How many expressions of the file end before its end: the number of the next one.
     pub expressions: u32,
 }
 
 /// An item of a file that was read, or why it was not.
 #[derive(Drop)]
 pub enum ReadIn {
+    /// The grammar spells it, and it changes no layout.
     Read(ItemBehind),
+    /// It is not read.
     Refused(Refusal),
 }
 
-/// Reads the item of a text, where these names are in scope and so many expressions end before it (C11 6.9). `passed` says
-/// which tokens of the text are passed over.
+/// Reads the item of a text, where these names are in scope before it (C11 6.9). `passed` says which tokens of the text are
+/// passed over, and `expressions` how many expressions of the file end before the item, from 0: it is the number of its
+/// first.
 ///
 /// A change of layout is refused first, then a row that spells no item: by its first construct, or else as it begins. The
 /// work grows with the item alone.

@@ -1,4 +1,4 @@
-ghost use Rattle.std.specs.Prelude.{◌≡◌, ℕ, true, false, Some, None, List, [], drop};
+ghost use Rattle.std.specs.Prelude.{◌≡◌, ℕ, true, false, Some, None, List, [], drop, length};
 
 use crate::copying::copy_front;
 use crate::files::{Began, Files, Taken};
@@ -104,7 +104,9 @@ impl Sink for SteadySink {
 
     ghost faults = { λ _. 0 };
 
-    fn give(&mut self, piece: &[u8]) -> Given {
+    fn give(&mut self, piece: &[u8]) -> Given
+        ensures whole { result ≡ Given.Bytes (length piece.now) }
+    {
         Given::Bytes(piece.len())
     }
 }

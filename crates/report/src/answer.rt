@@ -43,8 +43,12 @@ pub enum Answer {
 /// With `Usage` and `OutOfMemory` the name is empty and the limits are the default ones.
 #[derive(Drop)]
 pub struct Shown {
+    /// The name of the file, as the words give it.
     pub file: Text,
+    /// The names of the text's files, to which places refer by number from 0; none where no text was read to its end.
     pub names: List<Text>,
+    /// The limits that the words give.
     pub limits: Limits,
+    /// What is answered.
     pub answer: Answer,
 }
