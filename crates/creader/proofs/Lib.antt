@@ -1,7 +1,17 @@
 pub mod Fronts
+pub mod KeptByDeclarations
+pub mod KeptByOperands
+pub mod KeptByOperators
+pub mod KeptByPostfixes
+pub mod KeptByReaders
+pub mod KeptByStatements
+pub mod KeptBySteps
+pub mod KeptByTypes
+pub mod KeptRows
 pub mod LastBraces
 pub mod LabelRows
 pub mod Opening
+pub mod Passed
 pub mod Readings
 pub mod Rests
 pub mod RestsWritten

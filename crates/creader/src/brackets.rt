@@ -1,6 +1,7 @@
-ghost use Rattle.std.specs.Prelude.{◌≡◌, ◌+◌, ◌≤◌, ◌<◌, ◌^◌, OnOk, length};
+ghost use Rattle.std.specs.Prelude.{◌≡◌, ◌+◌, ◌≤◌, ◌<◌, ◌^◌, IfOk, OnOk, drop, length};
+ghost use Rattle.std.specs.List.{prefix_len};
 ghost use Rattle.creader.specs.Nests.{Nests};
-ghost use Rattle.creader.specs.OperandSteps.{over_matched, opened, opens_row, closed, all_closed, cast_behind, cast};
+ghost use Rattle.creader.specs.OperandSteps.{over_matched, opened, opens_row, is_no_word, closed, all_closed, cast_behind, cast};
 ghost use Rattle.creader.specs.ReadingSteps.{inner_at};
 ghost use Rattle.creader.specs.State.{rest};
 
@@ -91,24 +92,29 @@ impl<F: Fn(&mut Reader<'_>, u32, Wanted) -> Result<(), NoMemory>> Grammar<F> {
         ensures { OnOk result (reader.new ≡ all_closed (inner_at self.now.depth) first count reader.old) }
     {
         let mut left = count;
+        let mut passed = 0;
         'brackets: while left > 0 {
             left -= 1;
-            self.closed(reader, first + left)?;
+            passed = reader.passed_before(first + left, passed);
+            passed = self.closed(reader, first + left, passed)?;
         }
         Ok(())
     }
 
     /// The rest of an expression in brackets that begin at the token `first`, from behind its first operand on, and the
-    /// operators behind it (C11 6.5.1).
+    /// operators behind it (C11 6.5.1), and how many of the tokens from there on are known to be no words then. `known` of
+    /// them are before.
     #[tactic(auto, unfolding(crate::specs::OperandSteps::closed))]
-    fn closed(&self, reader: &mut Reader<'_>, first: usize) -> Result<(), NoMemory>
-        requires { Nests self.now.depth (F.pre self.now.inner) (F.post self.now.inner) }
-        ensures { OnOk result (reader.new ≡ closed (inner_at self.now.depth) first reader.old) }
+    fn closed(&self, reader: &mut Reader<'_>, first: usize, known: usize) -> Result<usize, NoMemory>
+        requires nests { Nests self.now.depth (F.pre self.now.inner) (F.post self.now.inner) }
+        requires known { known ≤ prefix_len is_no_word (drop first reader.old.row) }
+        ensures is { OnOk result (reader.new ≡ closed (inner_at self.now.depth) first reader.old) }
+        ensures passed { IfOk result (λ passed. passed ≤ prefix_len is_no_word (drop first reader.old.row)) }
     {
         reader.whole();
         self.expression_from(reader)?;
         reader.whole();
         reader.mark(b")");
-        self.postfixes_from(reader, first)
+        self.postfixes_passing(reader, first, known)
     }
 }

@@ -1,9 +1,10 @@
-ghost use Rattle.std.specs.Prelude.{◌≡◌, ◌≤◌, IfOk, IsTrue, OnOk, if◌then◌else◌, length};
+ghost use Rattle.std.specs.Prelude.{◌≡◌, ◌≤◌, IfOk, IsTrue, OnOk, drop, if◌then◌else◌, length};
+ghost use Rattle.std.specs.List.{prefix_len};
 ghost use Rattle.creader.specs.Nests.{Nests};
 ghost use Rattle.creader.specs.ReadingSteps.{inner_at};
 ghost use Rattle.creader.specs.State.{State, rest};
 ghost use Rattle.cgrammar.specs.ReadOperands.{goes_on};
-ghost use Rattle.creader.specs.OperandSteps.{as_operand, index_behind, argument, arguments, call_behind, member_behind, postfix_with, postfix_at, postfix_turn, all_postfixes, postfixes_from};
+ghost use Rattle.creader.specs.OperandSteps.{as_operand, index_behind, argument, arguments, call_behind, is_no_word, member_behind, postfix_with, postfix_at, postfix_turn, all_postfixes, postfixes_from};
 
 use crate::grammar::Grammar;
 use crate::listed::Listed;
@@ -96,15 +97,18 @@ impl<F: Fn(&mut Reader<'_>, u32, Wanted) -> Result<(), NoMemory>> Grammar<F> {
         reader.make(Event::Call { at })
     }
 
-    /// One operator behind an operand that begins at the token `first`.
+    /// One operator behind an operand that begins at the token `first`. Of the tokens from there on `passed` are known to
+    /// be no words.
     fn postfix_with(
         &self,
         reader: &mut Reader<'_>,
         first: usize,
+        passed: usize,
         start: PostfixStart,
     ) -> Result<(), NoMemory>
         requires nests { Nests self.now.depth (F.pre self.now.inner) (F.post self.now.inner) }
         requires there { IsTrue (goes_on start) → 1 ≤ length (rest reader.old) }
+        requires passed { passed ≤ prefix_len is_no_word (drop first reader.old.row) }
         ensures { OnOk result (reader.new ≡ postfix_with (inner_at self.now.depth) first reader.old start) }
     {
         let point = reader.point();
@@ -115,7 +119,7 @@ impl<F: Fn(&mut Reader<'_>, u32, Wanted) -> Result<(), NoMemory>> Grammar<F> {
                 self.index_behind(reader, point, at)
             }
             PostfixStart::Call => {
-                let place = reader.call_place(first);
+                let place = reader.call_place(first, passed);
                 reader.skip(1);
                 self.call_behind(reader, point, place)
             }
@@ -135,10 +139,17 @@ impl<F: Fn(&mut Reader<'_>, u32, Wanted) -> Result<(), NoMemory>> Grammar<F> {
         }
     }
 
-    /// The operator that stands behind an operand that begins at the token `first`.
+    /// The operator that stands behind an operand that begins at the token `first`. Of the tokens from there on `passed`
+    /// are known to be no words.
     #[tactic(auto, unfolding(crate::specs::OperandSteps::postfix_at))]
-    fn postfix_at(&self, reader: &mut Reader<'_>, first: usize) -> Result<(), NoMemory>
-        requires { Nests self.now.depth (F.pre self.now.inner) (F.post self.now.inner) }
+    fn postfix_at(
+        &self,
+        reader: &mut Reader<'_>,
+        first: usize,
+        passed: usize,
+    ) -> Result<(), NoMemory>
+        requires nests { Nests self.now.depth (F.pre self.now.inner) (F.post self.now.inner) }
+        requires passed { passed ≤ prefix_len is_no_word (drop first reader.old.row) }
         ensures { OnOk result (reader.new ≡ postfix_at (inner_at self.now.depth) first reader.old) }
     {
         if !reader.fits(self.depth) {
@@ -146,12 +157,19 @@ impl<F: Fn(&mut Reader<'_>, u32, Wanted) -> Result<(), NoMemory>> Grammar<F> {
             return Ok(());
         }
         let start = reader.postfix();
-        self.postfix_with(reader, first, start)
+        self.postfix_with(reader, first, passed, start)
     }
 
-    /// One operator behind an operand, and whether one more may follow it.
-    fn postfix(&self, reader: &mut Reader<'_>, first: usize) -> Result<bool, NoMemory>
-        requires { Nests self.now.depth (F.pre self.now.inner) (F.post self.now.inner) }
+    /// One operator behind an operand that begins at the token `first`, and whether one more may follow it. Of the tokens
+    /// from there on `passed` are known to be no words.
+    fn postfix(
+        &self,
+        reader: &mut Reader<'_>,
+        first: usize,
+        passed: usize,
+    ) -> Result<bool, NoMemory>
+        requires nests { Nests self.now.depth (F.pre self.now.inner) (F.post self.now.inner) }
+        requires passed { passed ≤ prefix_len is_no_word (drop first reader.old.row) }
         ensures { IfOk result (λ again. (go : State → State) → postfix_turn (inner_at self.now.depth) first go reader.old ≡ (if again then go reader.new else reader.new)) }
     {
         if !reader.goes() {
@@ -160,38 +178,65 @@ impl<F: Fn(&mut Reader<'_>, u32, Wanted) -> Result<(), NoMemory>> Grammar<F> {
         if !goes_on(reader.postfix()) {
             return Ok(false);
         }
-        self.postfix_at(reader, first)?;
+        self.postfix_at(reader, first, passed)?;
         Ok(true)
     }
 
-    /// Operators behind an operand that begins at the token `first`, each to the left (C11 6.5.2).
-    fn postfixes(&self, reader: &mut Reader<'_>, first: usize) -> Result<(), NoMemory>
-        requires { Nests self.now.depth (F.pre self.now.inner) (F.post self.now.inner) }
-        ensures { OnOk result (reader.new ≡ all_postfixes (inner_at self.now.depth) first reader.old) }
+    /// Operators behind an operand that begins at the token `first`, each to the left (C11 6.5.2), and how many of the
+    /// tokens from there on are known to be no words then. `known` of them are before.
+    fn postfixes(
+        &self,
+        reader: &mut Reader<'_>,
+        first: usize,
+        known: usize,
+    ) -> Result<usize, NoMemory>
+        requires nests { Nests self.now.depth (F.pre self.now.inner) (F.post self.now.inner) }
+        requires known { known ≤ prefix_len is_no_word (drop first reader.old.row) }
+        ensures is { OnOk result (reader.new ≡ all_postfixes (inner_at self.now.depth) first reader.old) }
+        ensures passed { IfOk result (λ passed. passed ≤ prefix_len is_no_word (drop first reader.old.row)) }
     {
         let mut left = reader.left();
+        let mut passed = known;
         'turns: loop {
-            if !self.postfix(reader, first)? {
-                return Ok(());
+            passed = reader.passed_on(first, passed);
+            if !self.postfix(reader, first, passed)? {
+                return Ok(passed);
             }
             if left == 0 {
-                return Ok(());
+                return Ok(passed);
             }
             left -= 1;
         }
     }
 
-    /// An operand that begins at the token `first`, from behind its primary expression on (C11 6.5.2).
+    /// An operand that begins at the token `first`, from behind its primary expression on (C11 6.5.2), and how many of the
+    /// tokens from there on are known to be no words then. `known` of them are before.
     #[tactic(auto, unfolding(crate::specs::OperandSteps::postfixes_from))]
+    pub fn postfixes_passing(
+        &self,
+        reader: &mut Reader<'_>,
+        first: usize,
+        known: usize,
+    ) -> Result<usize, NoMemory>
+        requires nests { Nests self.now.depth (F.pre self.now.inner) (F.post self.now.inner) }
+        requires known { known ≤ prefix_len is_no_word (drop first reader.old.row) }
+        ensures is { OnOk result (reader.new ≡ postfixes_from (inner_at self.now.depth) first reader.old) }
+        ensures passed { IfOk result (λ passed. passed ≤ prefix_len is_no_word (drop first reader.old.row)) }
+    {
+        if !reader.goes() {
+            return Ok(known);
+        }
+        let passed = self.postfixes(reader, first, known)?;
+        reader.as_operand(true);
+        Ok(passed)
+    }
+
+    /// An operand that begins at the token `first`, from behind its primary expression on (C11 6.5.2).
     pub fn postfixes_from(&self, reader: &mut Reader<'_>, first: usize) -> Result<(), NoMemory>
         requires { Nests self.now.depth (F.pre self.now.inner) (F.post self.now.inner) }
         ensures { OnOk result (reader.new ≡ postfixes_from (inner_at self.now.depth) first reader.old) }
     {
-        if !reader.goes() {
-            return Ok(());
-        }
-        self.postfixes(reader, first)?;
-        reader.as_operand(true);
+        self.postfixes_passing(reader, first, 0)?;
         Ok(())
     }
 }

@@ -1,10 +1,14 @@
-use Rattle.std.proofs.Common.{◌≡◌, ◌+◌}
-use Rattle.creader.specs.OperandSteps.{postfixes, all_postfixes}
+use Rattle.std.proofs.Common.{◌≡◌, ◌+◌, ◌≤◌, drop}
+use Rattle.std.specs.List.{prefix_len}
+use Rattle.creader.specs.OperandSteps.{postfixes, all_postfixes, is_no_word}
 use Rattle.creader.specs.ReadingSteps.{inner_at}
 use Rattle.creader.proofs.grammar.Grammar.postfixes.Given as goal
 
 abbrev pub invariant-turns : goal.invariant-turns
-invariant-turns g l = postfixes (inner_at l.self.depth) l.first (l.left + 1) l.reader ≡ all_postfixes (inner_at l.self.depth) l.first l.initial.reader
+invariant-turns g l =
+    (postfixes (inner_at l.self.depth) l.first (l.left + 1) l.reader ≡ all_postfixes (inner_at l.self.depth) l.first l.initial.reader)
+    × (l.passed ≤ prefix_len is_no_word (drop l.first l.reader.row))
+    × (l.reader.row ≡ l.initial.reader.row)
 
 abbrev pub decreases-turns : goal.decreases-turns
 decreases-turns g l = l.left
