@@ -8,3 +8,8 @@ pub mod FoundItems
 pub mod Refusals
 pub mod OneAnswer
 pub mod NeededItems
+pub mod WithNames
+pub mod Turns
+pub mod NamesOfParts
+pub mod NamesOfTrees
+pub mod NamesSpelled

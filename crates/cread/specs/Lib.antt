@@ -7,3 +7,5 @@ pub mod Answers
 pub mod RowItems
 pub mod ItemAnswers
 pub mod Needed
+pub mod NamesAfter
+pub mod SpelledNames

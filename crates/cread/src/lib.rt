@@ -3,13 +3,15 @@
 
 mod answer;
 mod laws;
+mod names_after;
 mod needed_items;
 mod reading_item;
 mod refusal;
 mod tables;
 
 pub use answer::{ItemAnswer, one_item_answer, read_item};
-pub use laws::each_row_is_one_item;
+pub use laws::{each_row_is_one_item, names_after_are_spelled};
+pub use names_after::scope_after;
 pub use needed_items::{Needed, needed_have_one_answer, read_needed};
 pub use reading_item::{ItemBehind, ReadIn, read_item_in};
 pub use refusal::Refusal;

@@ -2,7 +2,7 @@ ghost use Rattle.std.specs.Prelude.{◌≡◌, IfOk, IfSome};
 ghost use Rattle.ctokens.specs.Passed.{LieInText, passed_tokens};
 ghost use Rattle.cgrammar.specs.Readings.{AreNumbered};
 
-use crate::{ItemAnswer, ReadIn, read_item, read_item_in};
+use crate::{ItemAnswer, ReadIn, read_item, read_item_in, scope_after};
 use cbase::NoMemory;
 use cgrammar::Scope;
 use ctokens::{ItemSpan, Tokens, items as items_of, passed_over, tokens};
@@ -130,5 +130,60 @@ fn last_items_are_read_or_refused(rt: HostRuntime) -> Result<(), Fail> {
             "at {text}"
         );
     }
+    Ok(())
+}
+
+/// Whether `t` is a typedef's name behind an item, where these names are in scope before it; also where it is not read.
+fn is_typedef_behind(
+    alloc: Global,
+    t: &Tokens,
+    span: &ItemSpan,
+    scope: &Scope,
+) -> Result<bool, NoMemory>
+    requires text { LieInText t.now }
+    requires numbered { AreNumbered t.now }
+{
+    if span.first >= span.after {
+        return Ok(false);
+    }
+    if span.after as usize > t.list.len() {
+        return Ok(false);
+    }
+    match read_item(alloc, t, span, scope)? {
+        ItemAnswer::Read(item) => Ok(scope_after(alloc, scope, &item)?.is_typedef(b"t")),
+        ItemAnswer::Construct { .. } | ItemAnswer::Syntax { .. } => Ok(false),
+    }
+}
+
+/// Whether `t` is a typedef's name behind the first item of a text, where it is one before it, if `before` says so.
+fn keeps_typedef(alloc: Global, text: &[u8], before: bool) -> Result<bool, NoMemory> {
+    let mut scope = Scope::new(alloc)?;
+    if before {
+        scope.declare(alloc, b"t", true)?;
+    }
+    let Some(t) = cut(alloc, text)? else {
+        return Ok(false);
+    };
+    match items_of(alloc, &t)? {
+        Err(_) => Ok(false),
+        Ok(spans) => match spans.as_slice() {
+            [] => Ok(false),
+            [span, ..] => is_typedef_behind(alloc, &t, span, &scope),
+        },
+    }
+}
+
+#[test]
+fn items_leave_names(rt: HostRuntime) -> Result<(), Fail> {
+    let alloc = rt.alloc();
+    assert!(rt; keeps_typedef(alloc, b"typedef int t;", false)?);
+    assert!(rt; !keeps_typedef(alloc, b"int t;", false)?);
+    assert!(rt; keeps_typedef(alloc, b"int x;", true)?);
+    assert!(rt; !keeps_typedef(alloc, b"int x, t;", true)?);
+    assert!(rt; !keeps_typedef(alloc, b"int x = sizeof(enum { t });", true)?);
+    assert!(rt; !keeps_typedef(alloc, b"int t(void) { return 0; }", true)?);
+    assert!(rt; keeps_typedef(alloc, b"int x(enum { t } a);", true)?);
+    assert!(rt; keeps_typedef(alloc, b"int x = ({ enum { t } y; 1; });", true)?);
+    assert!(rt; keeps_typedef(alloc, b"int x(int t) { int t; return t; }", true)?);
     Ok(())
 }
