@@ -6,7 +6,7 @@ use crate::{ItemAnswer, ReadIn, read_item, read_item_in, scope_after};
 use cbase::NoMemory;
 use cgrammar::Scope;
 use ctokens::{ItemSpan, Tokens, items as items_of, passed_over, tokens};
-use items::ITEMS;
+use items::{HIDDEN, LAYOUTS, NO_POINTERS, PASSED, PLACES, READ, SHOWN, UNSPELLED};
 use std::alloc::Global;
 use std::test::Fail;
 
@@ -120,16 +120,72 @@ fn shown_text(alloc: Global, text: &[u8]) -> Result<String, NoMemory> {
     }
 }
 
-#[test]
-fn last_items_are_read_or_refused(rt: HostRuntime) -> Result<(), Fail> {
-    let alloc = rt.alloc();
-    for (text, want) in &ITEMS {
-        assert_eq!(rt;
-            shown_text(alloc, text.as_bytes())?.as_str(),
-            *want,
-            "at {text}"
-        );
+/// The first of the texts whose last item is answered otherwise, if there is one.
+fn first_difference<'a>(
+    alloc: Global,
+    rows: &[(&'a str, &'a str)],
+) -> Result<Option<&'a str>, NoMemory> {
+    for row in rows {
+        if shown_text(alloc, row.0.as_bytes())?.as_str() != row.1 {
+            return Ok(Some(row.0));
+        }
     }
+    Ok(None)
+}
+
+#[test]
+fn constructs_are_named_where_they_stand(rt: HostRuntime) -> Result<(), Fail> {
+    let alloc = rt.alloc();
+    assert_eq!(rt; first_difference(alloc, SHOWN.as_slice())?, None);
+    Ok(())
+}
+
+#[test]
+fn what_is_passed_over_shows_no_construct(rt: HostRuntime) -> Result<(), Fail> {
+    let alloc = rt.alloc();
+    assert_eq!(rt; first_difference(alloc, PASSED.as_slice())?, None);
+    Ok(())
+}
+
+#[test]
+fn the_first_construct_is_named(rt: HostRuntime) -> Result<(), Fail> {
+    let alloc = rt.alloc();
+    assert_eq!(rt; first_difference(alloc, HIDDEN.as_slice())?, None);
+    Ok(())
+}
+
+#[test]
+fn these_are_no_function_pointers(rt: HostRuntime) -> Result<(), Fail> {
+    let alloc = rt.alloc();
+    assert_eq!(rt; first_difference(alloc, NO_POINTERS.as_slice())?, None);
+    Ok(())
+}
+
+#[test]
+fn changes_of_layout_come_first(rt: HostRuntime) -> Result<(), Fail> {
+    let alloc = rt.alloc();
+    assert_eq!(rt; first_difference(alloc, LAYOUTS.as_slice())?, None);
+    Ok(())
+}
+
+#[test]
+fn items_are_read(rt: HostRuntime) -> Result<(), Fail> {
+    let alloc = rt.alloc();
+    assert_eq!(rt; first_difference(alloc, READ.as_slice())?, None);
+    Ok(())
+}
+
+#[test]
+fn items_that_nothing_spells_are_syntax(rt: HostRuntime) -> Result<(), Fail> {
+    let alloc = rt.alloc();
+    assert_eq!(rt; first_difference(alloc, UNSPELLED.as_slice())?, None);
+    Ok(())
+}
+
+#[test]
+fn places_follow_markers(rt: HostRuntime) -> Result<(), Fail> {
+    let alloc = rt.alloc();
+    assert_eq!(rt; first_difference(alloc, PLACES.as_slice())?, None);
     Ok(())
 }
 

@@ -1,7 +1,8 @@
-/// Texts, each with what is answered of its last item, where the names that the items before it declare are in scope: that
-/// it is read, or the number of the construct that is given up and its place, or the place at which nothing is spelled.
-pub static ITEMS: [(&str, &str); 180] = [
-    // Each token that shows a construct.
+//! Texts, each with what is answered of its last item, where the names that the items before it declare are in scope: that
+//! it is read, or the number of the construct that is given up and its place, or the place at which nothing is spelled.
+
+/// Each token that shows a construct.
+pub const SHOWN: [(&'static str, &'static str); 32] = [
     ("int f(void) { goto a; a: ; }", "construct 1 at 1:15"),
     ("int f(int a)\n{\n  switch (a) ;\n}", "construct 2 at 3:3"),
     ("union u { int a; };", "construct 3 at 1:1"),
@@ -40,7 +41,10 @@ pub static ITEMS: [(&str, &str); 180] = [
         "struct s { void (*const run)(int); };",
         "construct 20 at 1:18",
     ),
-    // Each inside what is passed over.
+];
+
+/// Each inside what is passed over.
+pub const PASSED: [(&'static str, &'static str); 21] = [
     ("int x __attribute__((a(goto)));", "read"),
     ("int x __attribute__((a(switch)));", "read"),
     ("int x __attribute__((a(union)));", "read"),
@@ -65,7 +69,10 @@ pub static ITEMS: [(&str, &str); 180] = [
         "read",
     ),
     ("/* goto */ int x; // union", "read"),
-    // Each behind an earlier one.
+];
+
+/// Each behind an earlier one.
+pub const HIDDEN: [(&'static str, &'static str); 21] = [
     ("union { goto } x;", "construct 3 at 1:1"),
     ("union { switch } x;", "construct 3 at 1:1"),
     ("union { float } x;", "construct 3 at 1:1"),
@@ -90,7 +97,10 @@ pub static ITEMS: [(&str, &str); 180] = [
         "int x = __assert_fail(\"a\") + \"b\" + 1.5;",
         "construct 10 at 1:30",
     ),
-    // Where no function pointer begins.
+];
+
+/// Where no function pointer begins.
+pub const NO_POINTERS: [(&'static str, &'static str); 8] = [
     ("int f(void) { if (*g)(x); else }", "syntax at 1:1"),
     ("int f(void) { while (*g)(x) }", "syntax at 1:1"),
     ("int f(void) { for (*g)(x); }", "syntax at 1:1"),
@@ -99,7 +109,10 @@ pub static ITEMS: [(&str, &str); 180] = [
     ("int (*p)[3];", "syntax at 1:1"),
     ("int f(void) { return (*g)(1); }", "read"),
     ("int f(void) { if (1) (*g)(1) }", "construct 20 at 1:23"),
-    // Layout, in items that the grammar spells and in others.
+];
+
+/// Changes of layout, in items that the grammar spells and in others.
+pub const LAYOUTS: [(&'static str, &'static str); 28] = [
     (
         "struct s { int a; } __attribute__((packed));",
         "construct 7 at 1:36",
@@ -179,7 +192,10 @@ pub static ITEMS: [(&str, &str); 180] = [
     ("#pragma weak x\nstruct s { int a; };", "read"),
     ("struct s { int a; };\n#pragma pack(1)\nstruct s x;", "read"),
     ("#pragma pack(1)\nunion u { int a; };", "construct 3 at 2:1"),
-    // Items that are read.
+];
+
+/// Items that are read.
+pub const READ: [(&'static str, &'static str); 32] = [
     (";", "read"),
     ("int;", "read"),
     ("struct s;", "read"),
@@ -227,7 +243,10 @@ pub static ITEMS: [(&str, &str); 180] = [
     ("typedef int t; int x = sizeof(t);", "read"),
     ("typedef int t; typedef t *u; struct s { u a; };", "read"),
     ("typedef int t; enum { t }; int x = (t);", "read"),
-    // Items that nothing spells; the place is that of the item's first token, passed over or not.
+];
+
+/// Items that nothing spells; the place is that of the item's first token, passed over or not.
+pub const UNSPELLED: [(&'static str, &'static str); 35] = [
     ("int x", "syntax at 1:1"),
     ("int x = ;", "syntax at 1:1"),
     ("inline int x = ;", "syntax at 1:1"),
@@ -275,7 +294,10 @@ pub static ITEMS: [(&str, &str); 180] = [
         "struct s { int a; };\n\n  int f(void) { struct s { } }",
         "syntax at 3:3",
     ),
-    // Places by line markers, and by columns in bytes.
+];
+
+/// Places by line markers, and by columns in bytes.
+pub const PLACES: [(&'static str, &'static str); 3] = [
     (
         "# 10 \"g.c\"\nint f(void) {\n  goto out;\nout:\n  return 0;\n}",
         "construct 1 at 11:3",
