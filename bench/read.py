@@ -157,25 +157,26 @@ def run(words):
 
 
 def texts_in(folder):
+    """How each text is made, so that one alone is kept: a child's peak counts what this program held before it."""
     # a cast has a bracket of its own, a statement expression has two, and a function's body one
     most = DEEPEST - 1
     return {
-        "headers": headers_text(folder),
-        "chain": functions_text(True),
-        "apart": functions_text(False),
-        "brackets": brackets_text(),
-        "statements": statements_text(),
-        "sum": sum_text(),
-        "casts": nests_text("(int)x", most - 1),
-        "casts_flat": nests_text("(int)x", 1),
-        "blocks": nests_text("({ x; })", most - 2),
-        "blocks_flat": nests_text("({ x; })", 1),
-        "sums": nests_text("x + 1", most),
-        "sums_flat": nests_text("x + 1", 1),
-        "callee": callee_text("1", 1_000, False),
-        "callee_word": callee_text("f", 1_000, False),
-        "callee_in": callee_text("1", 250, True),
-        "callee_in_word": callee_text("f", 250, True),
+        "headers": lambda: headers_text(folder),
+        "chain": lambda: functions_text(True),
+        "apart": lambda: functions_text(False),
+        "brackets": brackets_text,
+        "statements": statements_text,
+        "sum": sum_text,
+        "casts": lambda: nests_text("(int)x", most - 1),
+        "casts_flat": lambda: nests_text("(int)x", 1),
+        "blocks": lambda: nests_text("({ x; })", most - 2),
+        "blocks_flat": lambda: nests_text("({ x; })", 1),
+        "sums": lambda: nests_text("x + 1", most),
+        "sums_flat": lambda: nests_text("x + 1", 1),
+        "callee": lambda: callee_text("1", 1_000, False),
+        "callee_word": lambda: callee_text("f", 1_000, False),
+        "callee_in": lambda: callee_text("1", 250, True),
+        "callee_in_word": lambda: callee_text("f", 250, True),
     }
 
 
@@ -193,7 +194,8 @@ def main():
     with tempfile.TemporaryDirectory() as folder:
         print("| text | bytes | predator / gcc | predator | gcc | peak, predator | peak, gcc | status | answer |")
         print("|---|---|---|---|---|---|---|---|---|")
-        for name, text in texts_in(folder).items():
+        for name, made in texts_in(folder).items():
+            text = made()
             file = Path(folder, name + ".c")
             file.write_text(text)
             ours, theirs = [], []

@@ -10,6 +10,7 @@ use std::process::Abort;
 use std::test::Fail;
 
 mod deep;
+mod missed;
 
 /// The tokens of a text, where it has any and is not too long.
 fn cut(alloc: Global, text: &[u8]) -> Result<Option<Tokens>, NoMemory>
@@ -25,9 +26,11 @@ fn cut(alloc: Global, text: &[u8]) -> Result<Option<Tokens>, NoMemory>
     }
 }
 
-/// A file's scope without names.
+/// A file's scope, in which `T` is a typedef.
 fn file_scope(alloc: Global) -> Result<Scope, NoMemory> {
-    Scope::new(alloc)
+    let mut scope = Scope::new(alloc)?;
+    scope.declare(alloc, b"T", true)?;
+    Ok(scope)
 }
 
 /// Behind which token the expression at a token of a text ends, or 0.
@@ -98,5 +101,45 @@ fn fronts_of_texts_are_read(rt: HostRuntime) -> Result<(), Fail> {
     assert_eq!(rt; block_after(alloc, "{ ; } x", 0)?, (3, 1));
     assert_eq!(rt; block_after(alloc, "{ ; } x", 1)?, (0, 0));
     assert_eq!(rt; block_after(alloc, "{ ERROR: ; } x", 0)?, (5, 1));
+    Ok(())
+}
+
+/// The first of the texts whose longest expression ends elsewhere, if there is one.
+fn first_other_expression<'a>(
+    alloc: Global,
+    rows: &[(&'a str, u32)],
+) -> Result<Option<&'a str>, NoMemory> {
+    for row in rows {
+        if expression_after(alloc, row.0, 0)? != row.1 {
+            return Ok(Some(row.0));
+        }
+    }
+    Ok(None)
+}
+
+/// The first of the texts that begins with a block, if there is one.
+fn first_block<'a>(alloc: Global, rows: &[&'a str]) -> Result<Option<&'a str>, NoMemory> {
+    for row in rows {
+        if block_after(alloc, row, 0)?.0 != 0 {
+            return Ok(Some(*row));
+        }
+    }
+    Ok(None)
+}
+
+#[test]
+fn expressions_that_miss_a_rule_are_not_read(rt: HostRuntime) -> Result<(), Fail> {
+    let alloc = rt.alloc();
+    assert_eq!(rt;
+        first_other_expression(alloc, missed::EXPRESSIONS.as_slice())?,
+        None
+    );
+    Ok(())
+}
+
+#[test]
+fn blocks_that_miss_a_rule_are_not_read(rt: HostRuntime) -> Result<(), Fail> {
+    let alloc = rt.alloc();
+    assert_eq!(rt; first_block(alloc, missed::BLOCKS.as_slice())?, None);
     Ok(())
 }

@@ -246,7 +246,10 @@ pub const READ: [(&'static str, &'static str); 32] = [
 ];
 
 /// Items that nothing spells; the place is that of the item's first token, passed over or not.
-pub const UNSPELLED: [(&'static str, &'static str); 35] = [
+pub const UNSPELLED: [(&'static str, &'static str); 38] = [
+    ("int f ( ) [ }", "syntax at 1:1"),
+    ("int f ( ) { ]", "syntax at 1:1"),
+    ("typedef int g ( int g ) { g x ; }", "syntax at 1:1"),
     ("int x", "syntax at 1:1"),
     ("int x = ;", "syntax at 1:1"),
     ("inline int x = ;", "syntax at 1:1"),
