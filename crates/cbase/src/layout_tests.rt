@@ -11,14 +11,9 @@ enum Base {
     Struct(u32),
 }
 
-/// A field as gcc laid it.
-#[derive(Clone, Copy)]
-struct Sample {
-    base: Base,
-    /// The numbers of items of its arrays, the outer one first.
-    dimensions: &'static [u64],
-    offset: u32,
-}
+/// A field as gcc laid it: what stands in it, the numbers of items of its arrays, the outer one first, and its
+/// offset.
+type Sample = (Base, &'static [u64], u32);
 
 /// A struct as gcc laid it.
 #[derive(Clone, Copy)]
@@ -35,21 +30,9 @@ const SAMPLES: [SampleStruct; 30] = [
         size: 12,
         alignment: 4,
         fields: &[
-            Sample {
-                base: Base::Int(1),
-                dimensions: &[],
-                offset: 0,
-            },
-            Sample {
-                base: Base::Int(4),
-                dimensions: &[],
-                offset: 4,
-            },
-            Sample {
-                base: Base::Int(2),
-                dimensions: &[],
-                offset: 8,
-            },
+            (Base::Int(1), &[], 0),
+            (Base::Int(4), &[], 4),
+            (Base::Int(2), &[], 8),
         ],
     },
     SampleStruct {
@@ -60,592 +43,226 @@ const SAMPLES: [SampleStruct; 30] = [
     SampleStruct {
         size: 1,
         alignment: 1,
-        fields: &[Sample {
-            base: Base::Int(1),
-            dimensions: &[],
-            offset: 0,
-        }],
+        fields: &[(Base::Int(1), &[], 0)],
+    },
+    SampleStruct {
+        size: 16,
+        alignment: 8,
+        fields: &[(Base::Pointer, &[], 0), (Base::Int(1), &[], 8)],
     },
     SampleStruct {
         size: 16,
         alignment: 8,
         fields: &[
-            Sample {
-                base: Base::Pointer,
-                dimensions: &[],
-                offset: 0,
-            },
-            Sample {
-                base: Base::Int(1),
-                dimensions: &[],
-                offset: 8,
-            },
-        ],
-    },
-    SampleStruct {
-        size: 16,
-        alignment: 8,
-        fields: &[
-            Sample {
-                base: Base::Int(1),
-                dimensions: &[],
-                offset: 0,
-            },
-            Sample {
-                base: Base::Struct(1),
-                dimensions: &[],
-                offset: 1,
-            },
-            Sample {
-                base: Base::Int(8),
-                dimensions: &[],
-                offset: 8,
-            },
+            (Base::Int(1), &[], 0),
+            (Base::Struct(1), &[], 1),
+            (Base::Int(8), &[], 8),
         ],
     },
     SampleStruct {
         size: 36,
         alignment: 4,
-        fields: &[
-            Sample {
-                base: Base::Int(2),
-                dimensions: &[3, 5],
-                offset: 0,
-            },
-            Sample {
-                base: Base::Int(4),
-                dimensions: &[],
-                offset: 32,
-            },
-        ],
+        fields: &[(Base::Int(2), &[3, 5], 0), (Base::Int(4), &[], 32)],
     },
     SampleStruct {
         size: 16,
         alignment: 8,
         fields: &[
-            Sample {
-                base: Base::Bool,
-                dimensions: &[],
-                offset: 0,
-            },
-            Sample {
-                base: Base::Int(8),
-                dimensions: &[0],
-                offset: 8,
-            },
-            Sample {
-                base: Base::Int(1),
-                dimensions: &[],
-                offset: 8,
-            },
+            (Base::Bool, &[], 0),
+            (Base::Int(8), &[0], 8),
+            (Base::Int(1), &[], 8),
         ],
     },
     SampleStruct {
         size: 48,
         alignment: 8,
         fields: &[
-            Sample {
-                base: Base::Struct(0),
-                dimensions: &[],
-                offset: 0,
-            },
-            Sample {
-                base: Base::Int(1),
-                dimensions: &[],
-                offset: 12,
-            },
-            Sample {
-                base: Base::Struct(3),
-                dimensions: &[2],
-                offset: 16,
-            },
+            (Base::Struct(0), &[], 0),
+            (Base::Int(1), &[], 12),
+            (Base::Struct(3), &[2], 16),
         ],
     },
     SampleStruct {
         size: 1,
         alignment: 1,
         fields: &[
-            Sample {
-                base: Base::Struct(1),
-                dimensions: &[3],
-                offset: 0,
-            },
-            Sample {
-                base: Base::Struct(1),
-                dimensions: &[],
-                offset: 0,
-            },
-            Sample {
-                base: Base::Int(1),
-                dimensions: &[],
-                offset: 0,
-            },
+            (Base::Struct(1), &[3], 0),
+            (Base::Struct(1), &[], 0),
+            (Base::Int(1), &[], 0),
         ],
     },
     SampleStruct {
         size: 32,
         alignment: 8,
         fields: &[
-            Sample {
-                base: Base::Int(1),
-                dimensions: &[],
-                offset: 0,
-            },
-            Sample {
-                base: Base::Int(1),
-                dimensions: &[],
-                offset: 1,
-            },
-            Sample {
-                base: Base::Int(8),
-                dimensions: &[],
-                offset: 8,
-            },
-            Sample {
-                base: Base::Int(8),
-                dimensions: &[],
-                offset: 16,
-            },
-            Sample {
-                base: Base::Int(1),
-                dimensions: &[],
-                offset: 24,
-            },
+            (Base::Int(1), &[], 0),
+            (Base::Int(1), &[], 1),
+            (Base::Int(8), &[], 8),
+            (Base::Int(8), &[], 16),
+            (Base::Int(1), &[], 24),
         ],
     },
     SampleStruct {
         size: 56,
         alignment: 8,
         fields: &[
-            Sample {
-                base: Base::Pointer,
-                dimensions: &[],
-                offset: 0,
-            },
-            Sample {
-                base: Base::Pointer,
-                dimensions: &[5],
-                offset: 8,
-            },
-            Sample {
-                base: Base::Int(1),
-                dimensions: &[],
-                offset: 48,
-            },
-            Sample {
-                base: Base::Int(1),
-                dimensions: &[],
-                offset: 49,
-            },
-            Sample {
-                base: Base::Int(1),
-                dimensions: &[],
-                offset: 50,
-            },
-            Sample {
-                base: Base::Bool,
-                dimensions: &[],
-                offset: 51,
-            },
+            (Base::Pointer, &[], 0),
+            (Base::Pointer, &[5], 8),
+            (Base::Int(1), &[], 48),
+            (Base::Int(1), &[], 49),
+            (Base::Int(1), &[], 50),
+            (Base::Bool, &[], 51),
         ],
     },
     SampleStruct {
         size: 64,
         alignment: 8,
         fields: &[
-            Sample {
-                base: Base::Int(1),
-                dimensions: &[],
-                offset: 0,
-            },
-            Sample {
-                base: Base::Int(8),
-                dimensions: &[],
-                offset: 8,
-            },
-            Sample {
-                base: Base::Pointer,
-                dimensions: &[],
-                offset: 16,
-            },
-            Sample {
-                base: Base::Int(8),
-                dimensions: &[],
-                offset: 24,
-            },
-            Sample {
-                base: Base::Struct(9),
-                dimensions: &[],
-                offset: 32,
-            },
+            (Base::Int(1), &[], 0),
+            (Base::Int(8), &[], 8),
+            (Base::Pointer, &[], 16),
+            (Base::Int(8), &[], 24),
+            (Base::Struct(9), &[], 32),
         ],
     },
     SampleStruct {
         size: 8,
         alignment: 8,
-        fields: &[Sample {
-            base: Base::Pointer,
-            dimensions: &[],
-            offset: 0,
-        }],
+        fields: &[(Base::Pointer, &[], 0)],
     },
     SampleStruct {
         size: 80,
         alignment: 8,
         fields: &[
-            Sample {
-                base: Base::Struct(6),
-                dimensions: &[],
-                offset: 0,
-            },
-            Sample {
-                base: Base::Struct(7),
-                dimensions: &[],
-                offset: 16,
-            },
-            Sample {
-                base: Base::Pointer,
-                dimensions: &[],
-                offset: 64,
-            },
-            Sample {
-                base: Base::Bool,
-                dimensions: &[],
-                offset: 72,
-            },
+            (Base::Struct(6), &[], 0),
+            (Base::Struct(7), &[], 16),
+            (Base::Pointer, &[], 64),
+            (Base::Bool, &[], 72),
         ],
     },
     SampleStruct {
         size: 32,
         alignment: 8,
         fields: &[
-            Sample {
-                base: Base::Int(1),
-                dimensions: &[],
-                offset: 0,
-            },
-            Sample {
-                base: Base::Struct(3),
-                dimensions: &[],
-                offset: 8,
-            },
-            Sample {
-                base: Base::Int(2),
-                dimensions: &[],
-                offset: 24,
-            },
+            (Base::Int(1), &[], 0),
+            (Base::Struct(3), &[], 8),
+            (Base::Int(2), &[], 24),
         ],
     },
     SampleStruct {
         size: 20,
         alignment: 4,
         fields: &[
-            Sample {
-                base: Base::Bool,
-                dimensions: &[],
-                offset: 0,
-            },
-            Sample {
-                base: Base::Int(4),
-                dimensions: &[],
-                offset: 4,
-            },
-            Sample {
-                base: Base::Int(1),
-                dimensions: &[],
-                offset: 8,
-            },
-            Sample {
-                base: Base::Int(4),
-                dimensions: &[],
-                offset: 12,
-            },
-            Sample {
-                base: Base::Int(2),
-                dimensions: &[],
-                offset: 16,
-            },
+            (Base::Bool, &[], 0),
+            (Base::Int(4), &[], 4),
+            (Base::Int(1), &[], 8),
+            (Base::Int(4), &[], 12),
+            (Base::Int(2), &[], 16),
         ],
     },
     SampleStruct {
         size: 64,
         alignment: 8,
-        fields: &[
-            Sample {
-                base: Base::Int(1),
-                dimensions: &[3],
-                offset: 0,
-            },
-            Sample {
-                base: Base::Struct(10),
-                dimensions: &[],
-                offset: 8,
-            },
-        ],
+        fields: &[(Base::Int(1), &[3], 0), (Base::Struct(10), &[], 8)],
     },
     SampleStruct {
         size: 40,
         alignment: 8,
         fields: &[
-            Sample {
-                base: Base::Struct(15),
-                dimensions: &[],
-                offset: 0,
-            },
-            Sample {
-                base: Base::Pointer,
-                dimensions: &[],
-                offset: 24,
-            },
-            Sample {
-                base: Base::Bool,
-                dimensions: &[],
-                offset: 32,
-            },
+            (Base::Struct(15), &[], 0),
+            (Base::Pointer, &[], 24),
+            (Base::Bool, &[], 32),
         ],
     },
     SampleStruct {
         size: 3,
         alignment: 1,
-        fields: &[Sample {
-            base: Base::Struct(2),
-            dimensions: &[3],
-            offset: 0,
-        }],
+        fields: &[(Base::Struct(2), &[3], 0)],
     },
     SampleStruct {
         size: 32,
         alignment: 8,
-        fields: &[Sample {
-            base: Base::Struct(9),
-            dimensions: &[],
-            offset: 0,
-        }],
+        fields: &[(Base::Struct(9), &[], 0)],
     },
     SampleStruct {
         size: 72,
         alignment: 8,
         fields: &[
-            Sample {
-                base: Base::Pointer,
-                dimensions: &[],
-                offset: 0,
-            },
-            Sample {
-                base: Base::Struct(14),
-                dimensions: &[],
-                offset: 8,
-            },
-            Sample {
-                base: Base::Int(4),
-                dimensions: &[],
-                offset: 40,
-            },
-            Sample {
-                base: Base::Int(4),
-                dimensions: &[2],
-                offset: 44,
-            },
-            Sample {
-                base: Base::Int(8),
-                dimensions: &[],
-                offset: 56,
-            },
-            Sample {
-                base: Base::Int(1),
-                dimensions: &[],
-                offset: 64,
-            },
+            (Base::Pointer, &[], 0),
+            (Base::Struct(14), &[], 8),
+            (Base::Int(4), &[], 40),
+            (Base::Int(4), &[2], 44),
+            (Base::Int(8), &[], 56),
+            (Base::Int(1), &[], 64),
         ],
     },
     SampleStruct {
         size: 24,
         alignment: 8,
-        fields: &[
-            Sample {
-                base: Base::Struct(4),
-                dimensions: &[],
-                offset: 0,
-            },
-            Sample {
-                base: Base::Struct(12),
-                dimensions: &[],
-                offset: 16,
-            },
-        ],
+        fields: &[(Base::Struct(4), &[], 0), (Base::Struct(12), &[], 16)],
     },
     SampleStruct {
         size: 408,
         alignment: 8,
         fields: &[
-            Sample {
-                base: Base::Int(4),
-                dimensions: &[3],
-                offset: 0,
-            },
-            Sample {
-                base: Base::Int(2),
-                dimensions: &[],
-                offset: 12,
-            },
-            Sample {
-                base: Base::Struct(11),
-                dimensions: &[3, 2],
-                offset: 16,
-            },
-            Sample {
-                base: Base::Struct(12),
-                dimensions: &[],
-                offset: 400,
-            },
+            (Base::Int(4), &[3], 0),
+            (Base::Int(2), &[], 12),
+            (Base::Struct(11), &[3, 2], 16),
+            (Base::Struct(12), &[], 400),
         ],
     },
     SampleStruct {
         size: 2,
         alignment: 1,
-        fields: &[
-            Sample {
-                base: Base::Int(1),
-                dimensions: &[],
-                offset: 0,
-            },
-            Sample {
-                base: Base::Int(1),
-                dimensions: &[],
-                offset: 1,
-            },
-        ],
+        fields: &[(Base::Int(1), &[], 0), (Base::Int(1), &[], 1)],
     },
     SampleStruct {
         size: 1,
         alignment: 1,
-        fields: &[Sample {
-            base: Base::Bool,
-            dimensions: &[],
-            offset: 0,
-        }],
+        fields: &[(Base::Bool, &[], 0)],
     },
     SampleStruct {
         size: 32,
         alignment: 8,
         fields: &[
-            Sample {
-                base: Base::Int(2),
-                dimensions: &[],
-                offset: 0,
-            },
-            Sample {
-                base: Base::Int(4),
-                dimensions: &[],
-                offset: 4,
-            },
-            Sample {
-                base: Base::Bool,
-                dimensions: &[],
-                offset: 8,
-            },
-            Sample {
-                base: Base::Pointer,
-                dimensions: &[],
-                offset: 16,
-            },
-            Sample {
-                base: Base::Int(1),
-                dimensions: &[],
-                offset: 24,
-            },
+            (Base::Int(2), &[], 0),
+            (Base::Int(4), &[], 4),
+            (Base::Bool, &[], 8),
+            (Base::Pointer, &[], 16),
+            (Base::Int(1), &[], 24),
         ],
     },
     SampleStruct {
         size: 48,
         alignment: 8,
         fields: &[
-            Sample {
-                base: Base::Struct(23),
-                dimensions: &[5],
-                offset: 0,
-            },
-            Sample {
-                base: Base::Int(8),
-                dimensions: &[],
-                offset: 16,
-            },
-            Sample {
-                base: Base::Int(4),
-                dimensions: &[],
-                offset: 24,
-            },
-            Sample {
-                base: Base::Int(4),
-                dimensions: &[],
-                offset: 28,
-            },
-            Sample {
-                base: Base::Pointer,
-                dimensions: &[],
-                offset: 32,
-            },
-            Sample {
-                base: Base::Int(1),
-                dimensions: &[],
-                offset: 40,
-            },
+            (Base::Struct(23), &[5], 0),
+            (Base::Int(8), &[], 16),
+            (Base::Int(4), &[], 24),
+            (Base::Int(4), &[], 28),
+            (Base::Pointer, &[], 32),
+            (Base::Int(1), &[], 40),
         ],
     },
     SampleStruct {
         size: 2,
         alignment: 1,
-        fields: &[
-            Sample {
-                base: Base::Int(1),
-                dimensions: &[],
-                offset: 0,
-            },
-            Sample {
-                base: Base::Int(1),
-                dimensions: &[],
-                offset: 1,
-            },
-        ],
+        fields: &[(Base::Int(1), &[], 0), (Base::Int(1), &[], 1)],
     },
     SampleStruct {
         size: 1,
         alignment: 1,
-        fields: &[Sample {
-            base: Base::Int(1),
-            dimensions: &[],
-            offset: 0,
-        }],
+        fields: &[(Base::Int(1), &[], 0)],
     },
     SampleStruct {
         size: 40,
         alignment: 8,
         fields: &[
-            Sample {
-                base: Base::Int(2),
-                dimensions: &[],
-                offset: 0,
-            },
-            Sample {
-                base: Base::Pointer,
-                dimensions: &[],
-                offset: 8,
-            },
-            Sample {
-                base: Base::Int(1),
-                dimensions: &[],
-                offset: 16,
-            },
-            Sample {
-                base: Base::Pointer,
-                dimensions: &[],
-                offset: 24,
-            },
-            Sample {
-                base: Base::Int(2),
-                dimensions: &[],
-                offset: 32,
-            },
+            (Base::Int(2), &[], 0),
+            (Base::Pointer, &[], 8),
+            (Base::Int(1), &[], 16),
+            (Base::Pointer, &[], 24),
+            (Base::Int(2), &[], 32),
         ],
     },
 ];
@@ -671,8 +288,8 @@ fn type_of(alloc: Global, base: Base, dimensions: &[u64]) -> Result<CType, NoMem
 
 fn struct_of(alloc: Global, samples: &[Sample]) -> Result<StructDef, NoMemory> {
     let mut fields = List::new(alloc);
-    for (sample, letter) in samples.iter().zip(NAMES.iter()) {
-        let ctype = type_of(alloc, sample.base, sample.dimensions)?;
+    for ((base, dimensions, _), letter) in samples.iter().zip(NAMES.iter()) {
+        let ctype = type_of(alloc, *base, dimensions)?;
         let name = Text::from_slice(alloc, &[*letter])?;
         fields.push(Field { name, ctype })?;
     }
@@ -709,10 +326,10 @@ fn layouts_are_those_of_gcc(rt: HostRuntime) -> Result<(), Fail> {
             Extent::Bytes(sample.size)
         );
         assert_eq!(rt; align(&ctype, &structs, Abi::Lp64), Some(sample.alignment));
-        for (index, field) in (0u32..8).zip(sample.fields.iter()) {
+        for (index, (_, _, offset)) in (0u32..8).zip(sample.fields.iter()) {
             let letter = name_at(index);
             let want = Some(FieldAt {
-                offset: field.offset,
+                offset: *offset,
                 index,
             });
             assert_eq!(rt; field_in(number, &[letter], &structs), want);
@@ -751,11 +368,7 @@ fn what_holds_an_incomplete_type_is_incomplete(rt: HostRuntime) -> Result<(), Fa
         complete: false,
         fields: List::new(rt.alloc()),
     })?;
-    let field = Sample {
-        base: Base::Struct(0),
-        dimensions: &[2],
-        offset: 0,
-    };
+    let field = (Base::Struct(0), &[2], 0);
     structs.push(struct_of(rt.alloc(), &[field])?)?;
     for ctype in [CType::Void, CType::Struct(0), CType::Struct(1)] {
         assert_eq!(rt; size(&ctype, &structs, Abi::Lp64), Extent::Incomplete);
@@ -769,20 +382,9 @@ fn what_holds_an_incomplete_type_is_incomplete(rt: HostRuntime) -> Result<(), Fa
 #[test]
 fn sixteen_levels_of_doubling_take_no_time(rt: HostRuntime) -> Result<(), Fail> {
     let mut structs = List::new(rt.alloc());
-    structs.push(struct_of(
-        rt.alloc(),
-        &[Sample {
-            base: Base::Int(1),
-            dimensions: &[],
-            offset: 0,
-        }],
-    )?)?;
+    structs.push(struct_of(rt.alloc(), &[(Base::Int(1), &[], 0)])?)?;
     for below in 0u32..16 {
-        let twin = Sample {
-            base: Base::Struct(below),
-            dimensions: &[],
-            offset: 0,
-        };
+        let twin = (Base::Struct(below), &[], 0);
         structs.push(struct_of(rt.alloc(), &[twin, twin])?)?;
     }
     assert_eq!(rt;

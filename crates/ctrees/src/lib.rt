@@ -13,6 +13,3 @@ pub use expressions::{
     expressions_of_statements,
 };
 pub use levels::{levels_of_expression, levels_of_item, levels_of_statement, levels_of_statements};
-
-#[cfg(test)]
-mod tests;

@@ -12,8 +12,9 @@ use crate::tree::stmt::Stmt;
 pub struct Expr {
     /// The number by which the program's list of types names it.
     pub number: u32,
-    /// Its place: that of its first word or mark, but for `[`, `.`, `->`, `?:`, a postfix `++` or `--`, a binary
-    /// and an assignment operator, where it is that of the mark.
+    /// Its place. Of a binary or an assignment operator, a postfix `++` or `--`, `[`, `.`, `->` and `?:` that of the
+    /// mark; of a call that of the first word of what is called, or of its first token where that has no word; of an
+    /// expression in brackets that of what stands in them; of any other that of its first token.
     pub place: Place,
     /// What it is.
     pub form: ExprForm,
