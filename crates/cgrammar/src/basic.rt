@@ -192,7 +192,7 @@ const BASIC: [(&'static [&'static str], BasicType); 28] = [
     ),
 ];
 
-/// The type that words spell, in whatever order they stand (C11 6.7.2).
+/// The type that words spell, in whatever order they stand (C11 6.7.2); `None` where they spell none.
 pub fn basic_type(words: &[&[u8]]) -> Option<BasicType>
     ensures { result ≡ basic_of basic_rows (map text_read words.now) }
 {

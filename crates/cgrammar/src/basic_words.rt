@@ -22,7 +22,7 @@ const WORDS: [&'static str; 8] = [
 pub struct BasicWords {
     /// How many words there are.
     pub count: usize,
-    /// Their type.
+    /// The type that all of them spell together; `None` where they spell none.
     pub basic: Option<BasicType>,
 }
 

@@ -7,7 +7,9 @@ use crate::terminal::Terminal;
 use cbase::NoMemory;
 use std::alloc::Global;
 
-/// How many tokens stand up to the bracket that closes one that is open before them, where brackets are matched by kind.
+/// How many tokens stand up to the bracket that closes one that is open before them, with that bracket, where brackets are
+/// matched by kind. `closer` is that bracket's byte. `None` where brackets do not match up to there, or no
+/// bracket closes that one.
 pub fn matched_length(
     alloc: Global,
     row: &[Terminal<'_>],

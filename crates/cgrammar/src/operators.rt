@@ -69,35 +69,36 @@ fn row_of<T: Copy>(rows: &[(&str, T)], bytes: &[u8]) -> Option<T>
     None
 }
 
-/// The prefix operator that a mark is (C11 6.5.3.2, 6.5.3.3).
+/// The prefix operator that a mark is (C11 6.5.3.2, 6.5.3.3); `None` where it is none.
 pub fn unary_operator(mark: &[u8]) -> Option<UnaryOp>
     ensures { result ≡ row_of mark.now unary_rows }
 {
     row_of(UNARY.as_slice(), mark)
 }
 
-/// Whether a mark counts up or down (C11 6.5.2.4, 6.5.3.1).
+/// Whether a mark counts up, where it is `++` or `--`; `None` where it is neither (C11 6.5.2.4, 6.5.3.1).
 pub fn count_operator(mark: &[u8]) -> Option<bool>
     ensures { result ≡ row_of mark.now count_rows }
 {
     row_of(COUNT.as_slice(), mark)
 }
 
-/// Whether a mark goes to a member through a pointer (C11 6.5.2.3).
+/// Whether a mark goes to a member through a pointer, where it is `->` or `.`; `None` where it is neither (C11 6.5.2.3).
 pub fn member_operator(mark: &[u8]) -> Option<bool>
     ensures { result ≡ row_of mark.now member_rows }
 {
     row_of(MEMBER.as_slice(), mark)
 }
 
-/// The binary operator that a mark is, with its level, 0 for the loosest (C11 6.5.5 to 6.5.14).
+/// The binary operator that a mark is, behind its level, 0 for the loosest (C11 6.5.5 to 6.5.14); `None` where it is none.
 pub fn binary_operator(mark: &[u8]) -> Option<(u8, BinaryOp)>
     ensures { result ≡ row_of mark.now binary_rows }
 {
     row_of(BINARY.as_slice(), mark)
 }
 
-/// What the assignment operator that a mark is does before its store (C11 6.5.16).
+/// What the assignment operator that a mark is does before its store: `Some(None)` for `=` (C11 6.5.16). `None` where it is
+/// none.
 pub fn assignment_operator(mark: &[u8]) -> Option<Option<BinaryOp>>
     ensures { result ≡ row_of mark.now assignment_rows }
 {

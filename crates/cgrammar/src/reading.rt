@@ -1,4 +1,4 @@
-//! The reader of expressions, types, declarations and statements.
+//! What a reader tells by the first token, and what the reader of `specs/Reader.antt` gives.
 
 pub mod operand;
 pub mod specifiers;

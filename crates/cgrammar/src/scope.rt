@@ -42,7 +42,7 @@ impl Scope {
         Ok(())
     }
 
-    /// Leaves the innermost scope.
+    /// Leaves the innermost scope, with all names that it declares. Where there is no scope it changes nothing.
     #[tactic(auto, using(crate::proofs::Scopes::left_take))]
     pub fn leave(&mut self)
         ensures { self.new ≡ left self.old }

@@ -14,7 +14,7 @@ pub fn stars(row: &[Terminal<'_>]) -> usize
     stars_length(row)
 }
 
-/// How many tokens stand before the first that is no `*`.
+/// How many `*` the row begins with: how many tokens stand before the first that is no `*` (C11 6.7.6.1).
 pub fn stars_length(row: &[Terminal<'_>]) -> usize
     ensures count { result ≡ prefix_len (is_mark (codes "*")) row.now }
     ensures inside { result ≤ length row.now }

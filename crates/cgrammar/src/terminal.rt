@@ -20,8 +20,12 @@ use std::marker::Model;
 /// A token as the grammar sees it: what it is, its bytes as it is read, and where it stands.
 #[derive(Drop)]
 pub struct Terminal<'a> {
+    /// What the token is.
     pub kind: TokenKind,
+    /// Its bytes as it is read: those of the text, but that `__signed__` is read as `signed`, and `__typeof__` and
+    /// `__typeof` as `typeof`.
     pub bytes: &'a [u8],
+    /// Where it stands in the text. Its number there counts the tokens that are passed over too.
     pub place: Place,
 }
 
@@ -69,7 +73,8 @@ impl<'a> Terminal<'a> {
         matches!(self.kind, TokenKind::Word) && self.bytes == bytes
     }
 
-    /// Whether it is a word that is no keyword (C11 6.4.2).
+    /// Whether it is an identifier (C11 6.4.2): a word that is no keyword, and none of those of GNU C that no rule speaks
+    /// of, `__float128`, `__int128`, `__complex__`, `__thread` and what begins with `_Float`.
     pub fn is_name(&self) -> bool
         ensures { result ≡ is_name self.now }
     {
@@ -110,7 +115,8 @@ impl<'a> Terminal<'a> {
         None
     }
 
-    /// The binary operator that it is, with its level (C11 6.5.5 to 6.5.14).
+    /// The binary operator that it is, behind its level: from 0 for `||`, the loosest, to 9 for `*`, `/` and `%` (C11 6.5.5
+    /// to 6.5.14). The comma is none of them. `None` where it is no binary operator.
     pub fn binary(&self) -> Option<(u8, BinaryOp)>
         ensures { result ≡ mark_row binary_rows self.now }
     {
@@ -120,7 +126,8 @@ impl<'a> Terminal<'a> {
         binary_operator(self.bytes)
     }
 
-    /// What the assignment operator that it is does before its store (C11 6.5.16).
+    /// What the assignment operator that it is does before its store: `Some(None)` for `=`, which does nothing (C11
+    /// 6.5.16). `None` where it is no assignment operator.
     pub fn assignment(&self) -> Option<Option<BinaryOp>>
         ensures { result ≡ mark_row assignment_rows self.now }
     {
@@ -130,7 +137,8 @@ impl<'a> Terminal<'a> {
         assignment_operator(self.bytes)
     }
 
-    /// The prefix operator that it is (C11 6.5.3.2, 6.5.3.3).
+    /// The prefix operator that it is (C11 6.5.3.2, 6.5.3.3). `++`, `--` and `sizeof` are none of them. `None` where it is
+    /// no prefix operator.
     pub fn unary(&self) -> Option<UnaryOp>
         ensures { result ≡ mark_row unary_rows self.now }
     {
@@ -140,7 +148,7 @@ impl<'a> Terminal<'a> {
         unary_operator(self.bytes)
     }
 
-    /// Whether it counts up or down, where it is `++` or `--` (C11 6.5.2.4, 6.5.3.1).
+    /// Whether it counts up, where it is `++` or `--`; `None` where it is neither (C11 6.5.2.4, 6.5.3.1).
     pub fn counting(&self) -> Option<bool>
         ensures { result ≡ mark_row count_rows self.now }
     {
@@ -150,7 +158,7 @@ impl<'a> Terminal<'a> {
         count_operator(self.bytes)
     }
 
-    /// Whether it goes to a member through a pointer, where it goes to one (C11 6.5.2.3).
+    /// Whether it goes to a member through a pointer, where it is `->` or `.`; `None` where it is neither (C11 6.5.2.3).
     pub fn member(&self) -> Option<bool>
         ensures { result ≡ mark_row member_rows self.now }
     {

@@ -24,7 +24,8 @@ pub fn row_of<'a>(alloc: Global, t: &'a Tokens) -> Result<Vec<Terminal<'a>>, NoM
     )
 }
 
-/// The same of the tokens from one number up to another, given which tokens of the text are passed over.
+/// The tokens of a text from the number `from` up to the number `to` that are not passed over, in order. `passed` says of
+/// each token of the text whether it is passed over.
 #[tactic(auto, using(crate::proofs::Unpassed::between, crate::proofs::Unpassed::ranges_between))]
 pub fn row_of_part<'a>(
     alloc: Global,

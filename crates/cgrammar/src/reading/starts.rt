@@ -21,53 +21,82 @@ const STORAGE_WORDS: [&'static str; 3] = ["typedef", "extern", "static"];
 /// What an operand begins with (C11 6.5.1 to 6.5.4).
 #[derive(Clone, Copy)]
 pub enum OperandStart {
+    /// `(`: of an expression in brackets, a cast or a statement expression.
     Bracket,
+    /// `++` or `--`, with whether it counts up.
     Count(bool),
+    /// A prefix operator.
     Unary(UnaryOp),
+    /// The word `sizeof`.
     SizeOf,
+    /// The word `__builtin_offsetof`.
     OffsetOf,
+    /// The word `__assert_fail`.
     AssertFail,
+    /// An identifier, a typedef's name or not.
     Name,
+    /// A constant.
     Constant,
+    /// Nothing that an operand begins with.
     Other,
 }
 
 /// What goes on with an operand behind it (C11 6.5.2).
 #[derive(Clone, Copy)]
 pub enum PostfixStart {
+    /// `[`.
     Index,
+    /// `(`.
     Call,
+    /// `.` or `->`, with whether it goes through a pointer.
     Member(bool),
+    /// `++` or `--`, with whether it counts up.
     Count(bool),
+    /// Nothing that goes on with an operand in this way.
     Other,
 }
 
 /// What a type begins with (C11 6.7.2).
 #[derive(Clone, Copy)]
 pub enum TypeStart {
+    /// The word `typeof`.
     TypeOf,
+    /// The word `struct`.
     Struct,
+    /// The word `enum`.
     Enum,
+    /// A keyword that basic types are spelled by.
     Basic,
+    /// A typedef's name.
     Named,
+    /// Nothing that a type begins with.
     Other,
 }
 
 /// What a statement begins with (C11 6.8).
 #[derive(Clone, Copy)]
 pub enum StatementStart {
+    /// `{`.
     Block,
+    /// The word `if`.
     If,
+    /// The word `while`.
     While,
+    /// The word `do`.
     Do,
+    /// The word `for`.
     For,
+    /// The word `break`.
     Break,
+    /// The word `continue`.
     Continue,
+    /// The word `return`.
     Return,
+    /// Any other token: what stands there is an expression before a `;`, a `;` alone, a label, or no statement.
     Other,
 }
 
-/// With what an operand begins.
+/// With what an operand begins whose first token this is.
 #[tactic(auto, unfolding(crate::specs::ReadStarts::operand_start))]
 pub fn operand_start(token: &Terminal<'_>) -> OperandStart
     ensures { result ≡ operand_start token.now }
@@ -113,7 +142,7 @@ fn counting_start(token: &Terminal<'_>) -> OperandStart
     }
 }
 
-/// What goes on with an operand.
+/// What goes on with an operand where this token stands behind it.
 #[tactic(auto, unfolding(crate::specs::ReadStarts::postfix_start))]
 pub fn postfix_start(token: &Terminal<'_>) -> PostfixStart
     ensures { result ≡ postfix_start token.now }
@@ -147,7 +176,7 @@ fn count_start(token: &Terminal<'_>) -> PostfixStart
     }
 }
 
-/// With what a type begins.
+/// With what a type begins whose first token this is, where these names are in scope.
 #[tactic(auto, unfolding(crate::specs::ReadStarts::type_start))]
 pub fn type_start(scope: &Scope, token: &Terminal<'_>) -> TypeStart
     ensures { result ≡ type_start scope.now token.now }
@@ -170,7 +199,7 @@ pub fn type_start(scope: &Scope, token: &Terminal<'_>) -> TypeStart
     TypeStart::Other
 }
 
-/// With what a statement begins.
+/// With what a statement begins whose first token this is.
 #[tactic(auto, unfolding(crate::specs::ReadStarts::statement_start))]
 pub fn statement_start(token: &Terminal<'_>) -> StatementStart
     ensures { result ≡ statement_start token.now }
@@ -202,14 +231,14 @@ pub fn statement_start(token: &Terminal<'_>) -> StatementStart
     StatementStart::Other
 }
 
-/// Whether a type begins with the token.
+/// Whether a type begins with the token, where these names are in scope (C11 6.7.2).
 pub fn begins_type(scope: &Scope, token: &Terminal<'_>) -> bool
     ensures { result ≡ begins_type scope.now token.now }
 {
     is_type_word(token) || token.is_typedef(scope)
 }
 
-/// Whether a declaration begins with the token.
+/// Whether a declaration begins with the token, where these names are in scope (C11 6.7).
 pub fn begins_declaration(scope: &Scope, token: &Terminal<'_>) -> bool
     ensures { result ≡ begins_declaration scope.now token.now }
 {
