@@ -1,13 +1,12 @@
 -- What single tokens are read as is what the grammar says of them.
-use Rattle.std.proofs.Common.{◌≡◌, ◌↔◌, ℕ, Bool, true, false, ◌&&◌, if◌then◌else◌, List, [], ◌∷◌, None, Some, codes, take, refl, ap, ◌∙◌}
+use Rattle.std.proofs.Common.{◌≡◌, ◌↔◌, ℕ, Bool, true, false, ◌&&◌, if◌then◌else◌, List, None, Some, codes, refl, ap, ◌∙◌}
 use Rattle.std.specs.Str.{bytes_eq}
 use Rattle.std.proofs.lemmas.Slice.Eq.{bytes_eq-Decides}
 use Rattle.cbase.specs.declared.tree.decl.Storage.{Storage}
 use Rattle.cbase.specs.declared.tree.decl.Storage.TheVariants.{Plain, Typedef, Extern, Static}
-use Rattle.cgrammar.specs.Grammar.{IsTag}
-use Rattle.cgrammar.specs.Terminals.{Terminal, is_word, is_word_kind, is_name}
+use Rattle.cgrammar.specs.Terminals.{Terminal, is_word, is_word_kind}
 use Rattle.cgrammar.specs.TypeWords.{IsStorage}
-use Rattle.cgrammar.specs.TokenReadings.{storage_of, name_of}
+use Rattle.cgrammar.specs.TokenReadings.{storage_of}
 use Rattle.cgrammar.proofs.Truth.{and-left, and-right}
 
 -- a word is no other word
@@ -43,16 +42,3 @@ storage_exact token storage = (found storage, spelled storage)
     spelled Typedef is = rw is refl
     spelled Extern is = rw (one-word (codes "extern") (codes "typedef") token refl is) (rw is refl)
     spelled Static is = rw (one-word (codes "static") (codes "typedef") token refl is) (rw (one-word (codes "static") (codes "extern") token refl is) (rw is refl))
-
-pub name_exact : (row : List Terminal) (name : List ℕ) → (name_of row ≡ Some name) ↔ IsTag (take 1 row) (Some name)
-name_exact [] name = ((λ is. cc is), (λ tag. cc tag.1))
-name_exact (first ∷ others) name = (found (is_name first) refl, spelled)
-  where
-    found : (b : Bool) → is_name first ≡ b → (if b then Some first.bytes else None) ≡ Some name → IsTag (first ∷ []) (Some name)
-    found true is same = (first, refl, is, cc same)
-    found false is same = cc same
-
-    spelled : IsTag (first ∷ []) (Some name) → (if is_name first then Some first.bytes else None) ≡ Some name
-    spelled (token, row, is, same) =
-        let one : first ≡ token = cc row in
-        rw one (rw is (ap (λ (n : List ℕ). Some n) same))

@@ -1,6 +1,6 @@
 -- The tables of operators, of suffixes and of types as the code keeps them.
 use denote.Ref.{Bor}
-use Rattle.std.specs.Prelude.{ℕ, List, Option, None, Some, map}
+use Rattle.std.specs.Prelude.{ℕ, List, map}
 use Rattle.cbase.specs.declared.tree.spec.BasicType.{BasicType}
 
 abbrev pub row_read : {A : Type 0} → Bor (List ℕ) × A → List ℕ × A
@@ -11,7 +11,3 @@ text_read text = text.now
 
 abbrev pub basic_read : Bor (List (Bor (List ℕ))) × BasicType → List (List ℕ) × BasicType
 basic_read row = (map text_read row.0.now, row.1)
-
-abbrev pub bytes_seen : Option (Bor (List ℕ)) → Option (List ℕ)
-bytes_seen None = None
-bytes_seen (Some bytes) = Some bytes.now

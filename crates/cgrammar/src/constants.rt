@@ -1,8 +1,8 @@
-ghost use Rattle.std.specs.Prelude.{◌≡◌, ◌≤◌, ◌↔◌, ◌||◌, nat_eq, IsTrue, length};
+ghost use Rattle.std.specs.Prelude.{◌≡◌, ◌≤◌, ◌||◌, nat_eq, length};
 ghost use Rattle.std.specs.List.{list_any, list_all};
 ghost use Rattle.std.specs.Str.{bytes_eq};
 ghost use Rattle.ctokens.specs.Bytes.{is_digit, is_octal_digit, is_hexadecimal_digit};
-ghost use Rattle.cgrammar.specs.Constants.{IsInteger, is_hexadecimal, is_unsuffixed, suffixes};
+ghost use Rattle.cgrammar.specs.Constants.{is_hexadecimal, is_unsuffixed, suffixes};
 ghost use Rattle.cgrammar.specs.ConstantParts.{is_before_suffix, digits_length, is_integer};
 
 use crate::texts::is_one_of;
@@ -13,15 +13,7 @@ const SUFFIXES: [&'static str; 23] = [
     "lU", "Lu", "LU", "llu", "llU", "LLu", "LLU",
 ];
 
-/// Whether bytes are an integer constant (C11 6.4.4.1), however large.
-#[tactic(auto, using(crate::proofs::Integers::integer_exact))]
-pub fn is_integer(bytes: &[u8]) -> bool
-    ensures { IsTrue result ↔ IsInteger bytes.now }
-{
-    has_integer_parts(bytes)
-}
-
-/// Whether the digits of a constant and its suffix are what they may be.
+/// Whether bytes are an integer constant, however large (C11 6.4.4.1).
 pub fn has_integer_parts(bytes: &[u8]) -> bool
     ensures { result ≡ is_integer bytes.now }
 {

@@ -1,10 +1,8 @@
-ghost use Rattle.std.specs.Prelude.{◌≡◌, ◌↔◌, ◌<◌, ◌≤◌, Some, length};
-ghost use Rattle.cbase.specs.declared.tree.decl.Storage.{Storage};
+ghost use Rattle.std.specs.Prelude.{◌≡◌, ◌<◌, ◌≤◌, length};
 ghost use Rattle.ctokens.specs.Symbol.{read_as};
 ghost use Rattle.cgrammar.specs.Operators.{mark_row, binary_rows, assignment_rows, unary_rows, count_rows, member_rows};
 ghost use Rattle.cgrammar.specs.ReadStarts.{is_constant};
 ghost use Rattle.cgrammar.specs.TokenReadings.{storage_of};
-ghost use Rattle.cgrammar.specs.TypeWords.{IsStorage};
 ghost use Rattle.cgrammar.specs.Terminals.{bytes_read, is_any_word, is_mark, is_mark_kind, is_name, is_typedef, is_word, terminal_of};
 
 use crate::constants::has_integer_parts;
@@ -91,15 +89,8 @@ impl<'a> Terminal<'a> {
         self.is_name() && scope.is_typedef(self.bytes)
     }
 
-    /// The storage class that it names, where it is the word of one (C11 6.7.1).
-    #[tactic(auto, using(crate::proofs::TokenReadings::storage_exact))]
-    pub fn storage(&self) -> Option<Storage>
-        ensures { (storage : Storage) → (result ≡ Some storage) ↔ IsStorage storage self.now }
-    {
-        self.storage_word()
-    }
-
-    /// The storage class of one of the three words.
+    /// The storage class that it names, where it is the word `typedef`, `extern` or `static` (C11 6.7.1); `None` where it is
+    /// none of them.
     pub fn storage_word(&self) -> Option<Storage>
         ensures { result ≡ storage_of self.now }
     {

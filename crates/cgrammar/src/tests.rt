@@ -4,14 +4,12 @@ ghost use Rattle.ctokens.specs.Passed.{LieInText};
 use super::Scope;
 use crate::basic::basic_type;
 use crate::basic_words::read_basic_words;
-use crate::constants::is_integer;
+use crate::constants::has_integer_parts;
 use crate::label::begins_with_label;
-use crate::name::name;
 use crate::operators::{
     assignment_operator, binary_operator, count_operator, member_operator, unary_operator,
 };
-use crate::stars::stars;
-use crate::tag::tag;
+use crate::stars::stars_length;
 use crate::terminals::row_of;
 use cbase::{BasicType, BinaryOp, List, NoMemory, Place, Rank, Storage, Text, UnaryOp};
 use ctokens::{Token, TokenKind, Tokens};
@@ -72,10 +70,6 @@ fn fronts_of_rows(rt: HostRuntime) -> Result<(), Fail> {
     if let [_, _, behind @ ..] = row.as_slice() {
         assert!(rt; begins_with_label(&scope, row.as_slice()));
         assert!(rt; !begins_with_label(&scope, behind));
-        assert!(rt; name(row.as_slice()) == Some(b"x".as_slice()));
-        assert!(rt; name(behind).is_none());
-        assert!(rt; tag(b"struct", behind) == Some(b"s".as_slice()));
-        assert!(rt; tag(b"enum", behind).is_none());
         if let [_, _, words @ ..] = behind {
             let read = read_basic_words(alloc, words)?;
             assert!(rt; read.count == 3);
@@ -85,7 +79,7 @@ fn fronts_of_rows(rt: HostRuntime) -> Result<(), Fail> {
             };
             assert!(rt; read.basic == Some(long));
             if let [.., last] = words {
-                assert!(rt; last.storage() == Some(Storage::Static));
+                assert!(rt; last.storage_word() == Some(Storage::Static));
             }
         }
     }
@@ -104,7 +98,7 @@ fn tokens_of_a_text(rt: HostRuntime) -> Result<(), Fail> {
         assert!(rt; signed.is_word(b"signed") && signed.is_any_word() && !signed.is_name());
         assert!(rt; name.is_typedef(&scope) && name.kind() == TokenKind::Word);
         assert!(rt; name.bytes() == b"t".as_slice() && name.place().at == 2);
-        assert!(rt; stars(behind) == 2);
+        assert!(rt; stars_length(behind) == 2);
     }
     Ok(())
 }
@@ -143,10 +137,10 @@ fn marks_of_operators(rt: HostRuntime) -> Result<(), Fail> {
 #[test]
 fn integer_constants(rt: HostRuntime) -> Result<(), Fail> {
     for text in ["0", "7", "19uLL", "017L", "0xAfu", "0X1LLU"] {
-        assert!(rt; is_integer(text.as_bytes()), "{text}");
+        assert!(rt; has_integer_parts(text.as_bytes()), "{text}");
     }
     for text in ["08", "0b1", "1lL", "1.0", "0x", "1uu", "u", "", "1e3"] {
-        assert!(rt; !is_integer(text.as_bytes()), "{text}");
+        assert!(rt; !has_integer_parts(text.as_bytes()), "{text}");
     }
     Ok(())
 }
