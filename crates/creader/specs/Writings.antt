@@ -31,7 +31,3 @@ start_at row at scope = record { row = row; at = at; status = Going; levels = 0;
 -- at the front of a row
 abbrev pub start_of : List Terminal → List Names → State
 start_of row scope = start_at row 0 scope
-
--- how many levels a tree may have
-abbrev pub most_levels : ℕ
-most_levels = 1024

@@ -1,8 +1,9 @@
 ghost use Rattle.std.specs.Prelude.{◌≡◌, IfOk, OnOk};
+ghost use Rattle.cgrammar.specs.Readings.{most_levels};
 ghost use Rattle.creader.specs.ItemSteps.{item_alone};
 ghost use Rattle.creader.specs.ReadingSteps.{inner_at, reads};
 ghost use Rattle.creader.specs.StatementSteps.{block};
-ghost use Rattle.creader.specs.Writings.{item_written_of, most_levels, start_at, start_of, written_of};
+ghost use Rattle.creader.specs.Writings.{item_written_of, start_at, start_of, written_of};
 ghost use Rattle.creader.specs.declared.wanted.Wanted.TheVariants.{Expression};
 
 use crate::grammar::Grammar;
