@@ -2,79 +2,106 @@ use cbase::{BasicType, BinaryOp, Storage, UnaryOp};
 
 /// A part of a tree that a reader has read to its end, with the numbers of the tokens of its row that it stands at.
 ///
+/// The number of a token is how many tokens stand before it in the row. The row has no tokens that are passed over, so it is
+/// not the token's number in the text. Of the numbers here `stars` alone is none of a token: it
+/// says how many `*` a declarator has.
+///
 /// Each takes the parts that it is made of from a stack, the last one first, and leaves what it makes there. So the
 /// events of a tree are its parts in the order in which they end, and expressions have their numbers in that order.
 #[derive(Clone, Copy)]
 pub enum Event {
     /// An identifier as an expression.
     Name {
+        /// The identifier.
         at: usize,
     },
     /// A constant.
     Constant {
+        /// The constant.
         at: usize,
     },
     /// A call of `__assert_fail`, whose arguments leave no trace.
     AssertFail {
+        /// The word `__assert_fail`.
         at: usize,
     },
     /// A prefix operator: of the expression on top.
     Unary {
+        /// The operator.
         op: UnaryOp,
+        /// Its token.
         at: usize,
     },
     /// `++` or `--`, before or behind the expression on top.
     Count {
+        /// Whether it is `++`.
         up: bool,
+        /// Whether it stands behind the expression.
         after: bool,
+        /// The `++` or `--`.
         at: usize,
     },
     /// `sizeof` of the expression on top.
     SizeOf {
+        /// The word `sizeof`.
         at: usize,
     },
     /// `sizeof` of the type's name on top.
     SizeOfType {
+        /// The word `sizeof`.
         at: usize,
     },
     /// `__builtin_offsetof`: of the path on top in the type's name below it.
     OffsetOf {
+        /// The word `__builtin_offsetof`.
         at: usize,
     },
     /// A cast: of the expression on top to the type's name below it.
     Cast {
+        /// The `(` before the type's name.
         at: usize,
     },
     /// The expression on top as an index of that below it.
     Index {
+        /// The `[`.
         at: usize,
     },
     /// A member of the expression on top, through a pointer or not.
     Member {
+        /// Whether it is reached through a pointer, by `->`.
         through: bool,
+        /// The `.` or `->`.
         at: usize,
+        /// The member's name.
         name: usize,
     },
     /// A call with the arguments on top: of the expression below them.
     Call {
+        /// The first word of the expression that is called, or its first token where it has no word.
         at: usize,
     },
     /// The statements on top as a statement expression.
     Inner {
+        /// The `(` before the block.
         at: usize,
     },
     /// A binary operator: of the expression on top, to its right, and that below it.
     Binary {
+        /// The operator, which may be the comma.
         op: BinaryOp,
+        /// Its token.
         at: usize,
     },
     /// An assignment, with what it does before its store: of the expression on top, to its right, and that below it.
     Assign {
+        /// What is done before the store: nothing for `=`.
         op: Option<BinaryOp>,
+        /// The token of the assignment operator.
         at: usize,
     },
     /// `?` and `:` between the three expressions on top.
     Choose {
+        /// The `?`.
         at: usize,
     },
     /// No arguments yet.
@@ -83,36 +110,44 @@ pub enum Event {
     Argument,
     /// A path with one member.
     Path {
+        /// The member's name.
         name: usize,
     },
     /// One more member of the path on top.
     PathMember {
+        /// The member's name.
         name: usize,
     },
     /// The expression on top as one more index of the path below it.
     PathIndex,
     /// A basic type.
     Basic {
+        /// The type.
         basic: BasicType,
     },
     /// A type that a typedef's name stands for.
     Named {
+        /// The typedef's name.
         at: usize,
     },
     /// A struct by its tag alone.
     StructTag {
+        /// The tag.
         tag: usize,
     },
     /// An enum by its tag alone.
     EnumTag {
+        /// The tag.
         tag: usize,
     },
     /// A struct with the fields on top, with a tag or without.
     Struct {
+        /// The tag.
         tag: Option<usize>,
     },
     /// An enum with the enumerators on top, with a tag or without.
     Enum {
+        /// The tag.
         tag: Option<usize>,
     },
     /// `typeof` of the expression on top.
@@ -127,22 +162,28 @@ pub enum Event {
     Size,
     /// The name of a type: of the sizes on top and the type below them.
     TypeName {
+        /// How many `*` stand behind the type.
         stars: usize,
     },
     /// No declarators of fields yet.
     NoFieldNames,
     /// One more field, with the sizes on top.
     Field {
+        /// The field's name.
         name: usize,
+        /// How many `*` stand before the name.
         stars: usize,
     },
     /// One more field, with the expression on top as its number of bits and the sizes below it.
     BitField {
+        /// The field's name.
         name: usize,
+        /// How many `*` stand before the name.
         stars: usize,
     },
     /// One more field without a name, with the expression on top as its number of bits.
     Padding {
+        /// The `:` before the number of bits.
         colon: usize,
     },
     /// No declarations of fields yet.
@@ -153,38 +194,49 @@ pub enum Event {
     NoEnumerators,
     /// One more enumerator without a value.
     Enumerator {
+        /// The constant's name.
         name: usize,
     },
     /// One more enumerator with the expression on top as its value.
     EnumeratorValue {
+        /// The constant's name.
         name: usize,
     },
     /// No parameters yet.
     NoParameters,
     /// One more parameter, with a name or without: of the sizes on top and the type below them.
     Parameter {
+        /// The parameter's name.
         name: Option<usize>,
+        /// How many `*` stand behind the type.
         stars: usize,
     },
     /// No declarators yet.
     NoDeclarators,
     /// One more object, with the sizes on top.
     Object {
+        /// The object's name.
         name: usize,
+        /// How many `*` stand before the name.
         stars: usize,
     },
     /// One more object, with the initialiser on top and the sizes below it.
     InitializedObject {
+        /// The object's name.
         name: usize,
+        /// How many `*` stand before the name.
         stars: usize,
     },
     /// One more function, with the parameters on top.
     Function {
+        /// The function's name.
         name: usize,
+        /// How many `*` stand before the name.
         stars: usize,
     },
     /// A declaration: of the declarators on top and the type below them.
     Declaration {
+        /// The storage class, `Plain` where none is named.
         storage: Storage,
     },
     /// The expression on top as an initialiser.
@@ -193,6 +245,7 @@ pub enum Event {
     NoParts,
     /// The initialiser on top as one more part, for a member or for the next one.
     Part {
+        /// The member's name, where one is named.
         member: Option<usize>,
     },
     /// The parts on top as an initialiser in braces.
@@ -207,53 +260,71 @@ pub enum Event {
     Statement,
     /// The declaration on top as a statement.
     Declare {
+        /// Its first token.
         first: usize,
+        /// Its last token, the `;`.
         last: usize,
     },
     /// The expression that may be left out on top as a statement.
     Eval {
+        /// Its first token.
         first: usize,
+        /// Its last token, the `;`.
         last: usize,
     },
     /// The statements on top as a block.
     Block {
+        /// The `{`.
         first: usize,
+        /// The `}`.
         last: usize,
     },
     /// `if` with the statement on top and the test below it.
     If {
+        /// The word `if`.
         first: usize,
     },
     /// `if` with the two statements on top and the test below them.
     IfElse {
+        /// The word `if`.
         first: usize,
     },
     /// `while` with the statement on top and the test below it.
     While {
+        /// The word `while`.
         first: usize,
     },
     /// `do` with the test on top and the statement below it.
     Do {
+        /// The word `do`.
         first: usize,
+        /// Its last token, the `;`.
         last: usize,
     },
     /// `for` with the statement on top, the two expressions that may be left out below it, and the clause below them.
     For {
+        /// The word `for`.
         first: usize,
     },
     /// `break`.
     Break {
+        /// The word `break`.
         first: usize,
+        /// The `;`.
         last: usize,
     },
     /// `continue`.
     Continue {
+        /// The word `continue`.
         first: usize,
+        /// The `;`.
         last: usize,
     },
     /// `return` of the expression on top, which may be left out.
     Return {
+        /// The word `return`.
         first: usize,
+        /// The `;`.
         last: usize,
     },
     /// A `;` as an item of a file.
@@ -262,7 +333,9 @@ pub enum Event {
     DeclareItem,
     /// A function's definition, up to its last `}`: of the statements on top, its one declarator and its type below them.
     FunctionItem {
+        /// The storage class, `Plain` where none is named.
         storage: Storage,
+        /// The last `}`.
         close: usize,
     },
 }

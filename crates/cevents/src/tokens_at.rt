@@ -4,7 +4,8 @@ ghost use Rattle.cevents.specs.Workshop.{place_at, bytes_at};
 use cbase::Place;
 use cgrammar::Terminal;
 
-/// Where the token with the number stands in its text.
+/// Where the token of the row with the number `at` stands in its text. Where there is no such token it is line 0, which no
+/// token has.
 pub fn place_at(row: &[Terminal<'_>], at: usize) -> Place
     ensures { result ≡ place_at row.now at }
 {
@@ -19,7 +20,7 @@ pub fn place_at(row: &[Terminal<'_>], at: usize) -> Place
     }
 }
 
-/// The bytes of the token with the number, and none where there is no such token.
+/// The bytes of the token of the row with the number `at` as it is read, and none where there is no such token.
 pub fn bytes_at<'a>(row: &[Terminal<'a>], at: usize) -> &'a [u8]
     ensures { result.now ≡ bytes_at row.now at }
 {
