@@ -14,16 +14,26 @@ use std::marker::Model;
 
 /// A place in a row of tokens, with the names in scope there, and what is written of the tree that is read.
 ///
-/// It is seen as its fields, the row and the events as lists.
+/// It is seen as its fields, less the allocator, the row and the events as lists.
 #[derive(Drop)]
 pub struct Reader<'a> {
+    /// Where its memory comes from. It is not seen.
     pub alloc: Global,
+    /// The whole row, with the tokens that are read already.
     pub row: &'a [Terminal<'a>],
+    /// How many tokens of the row stand before its place. It is no number in the text: the row has no tokens that are passed
+    /// over.
     pub at: usize,
+    /// Whether it goes on.
     pub status: Status,
+    /// How many levels the deepest of the parts has that are read so far, of the tree that is read now.
     pub levels: usize,
+    /// Whether the operand that is read last is a unary expression, and no cast. An operator may assign to such a one alone
+    /// (C11 6.5.16).
     pub unary: bool,
+    /// The names in scope at its place (C11 6.2.1).
     pub scope: Scope,
+    /// What is written so far: the parts that are read to their end, in the order in which they end.
     pub events: Vec<Event>,
 }
 
@@ -50,7 +60,7 @@ impl<'a> Reader<'a> {
         self.rest().len()
     }
 
-    /// Whether it goes on.
+    /// Whether it goes on: what was read so far is read to its end, and more may follow.
     pub fn goes(&self) -> bool
         ensures { result ≡ goes self.now }
     {
@@ -139,7 +149,7 @@ impl<'a> Reader<'a> {
     }
 }
 
-/// The tokens of a row behind so many.
+/// The tokens of a row behind the first `count` of them; none where it has no more than these.
 #[tactic(auto, using(crate::proofs::Rests::beyond))]
 pub fn behind<'a>(row: &'a [Terminal<'a>], count: usize) -> &'a [Terminal<'a>]
     ensures { result.now ≡ drop count row.now }

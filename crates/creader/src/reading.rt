@@ -19,7 +19,8 @@ use std::alloc::Global;
 /// How many levels a tree may have.
 const MOST_LEVELS: u32 = 1024;
 
-/// Reads what is wanted, of at most so many levels.
+/// Reads what is wanted, of at most `most` levels. Where nothing of the kind begins at the reader's place, its status says
+/// so. Want of memory is the only error; nothing is said of the reader then.
 #[tactic(auto, using(crate::proofs::Readings::reads_nothing, crate::proofs::Readings::reads_more))]
 pub fn read(reader: &mut Reader<'_>, most: u32, wanted: Wanted) -> Result<(), NoMemory>
     ensures { OnOk result (reader.new ≡ reads most wanted reader.old) }
@@ -35,7 +36,8 @@ pub fn read(reader: &mut Reader<'_>, most: u32, wanted: Wanted) -> Result<(), No
     grammar.level(reader, wanted)
 }
 
-/// Reads an expression at a token of the row, with these names in scope (C11 6.5.17).
+/// Reads an expression, of at most 1,024 levels, that begins at the token of the row with the number `at`, where these names
+/// are in scope (C11 6.5.17). Want of memory is the only error.
 pub fn read_expression<'a>(
     alloc: Global,
     row: &'a [Terminal<'a>],
@@ -49,7 +51,8 @@ pub fn read_expression<'a>(
     Ok(reader.into_written())
 }
 
-/// Reads a block at a token of the row, with these names in scope around it (C11 6.8.2).
+/// Reads a block, of statements of at most 1,024 levels, that begins at the token of the row with the number `at`, where these
+/// names are in scope around it (C11 6.8.2). Want of memory is the only error.
 pub fn read_statements<'a>(
     alloc: Global,
     row: &'a [Terminal<'a>],
@@ -67,8 +70,8 @@ pub fn read_statements<'a>(
     Ok(reader.into_written())
 }
 
-/// Reads the whole row as an item of a file, where these names are in scope before it (C11 6.9). The scope goes on: it is
-/// given back as it is behind the item.
+/// Reads the whole row as an item of a file, of at most 1,024 levels, where these names are in scope before it (C11 6.9). The
+/// scope goes on: it is given back as it is behind the item. Want of memory is the only error, and then the scope is lost.
 pub fn read_item<'a>(
     alloc: Global,
     row: &'a [Terminal<'a>],
@@ -86,7 +89,7 @@ pub fn read_item<'a>(
 }
 
 impl<'a> Reader<'a> {
-    /// A reader at a token of the row, which has read nothing yet.
+    /// A reader at the token of the row with the number `at`, which has read nothing yet.
     pub fn new(alloc: Global, row: &'a [Terminal<'a>], at: usize, scope: Scope) -> Reader<'a>
         ensures { result ≡ start_at row.now at scope }
     {
