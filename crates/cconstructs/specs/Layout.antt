@@ -1,6 +1,5 @@
--- What changes the layout of an object: an attribute that says how it is laid out, and a `#pragma pack` line before the
--- end of a struct with members. Each is given up by the number 7 wherever it stands in an item, also among the tokens
--- that are passed over.
+-- What changes the layout of an object: an attribute of some names, and a `#pragma pack` line before the end of a struct
+-- with members. Each is given up by the number 7 wherever it stands in an item, also among the tokens that are passed over.
 use Rattle.std.specs.Prelude.{◌≡◌, ℕ, zero, suc, ◌+◌, ◌-◌, ◌<◌, ◌≤◌, ◌⊎◌, nat_eq, nat_le, Bool, true, false, ◌&&◌, ◌||◌, not, IsTrue, if◌then◌else◌, List, [], ◌∷◌, ◌++◌, Option, None, Some, drop, take, map, slice_get, codes}
 use Rattle.std.specs.List.{list_any}
 use Rattle.std.specs.Str.{bytes_eq}
@@ -9,7 +8,8 @@ use Rattle.cgrammar.specs.Readings.{row_between}
 use Rattle.cconstructs.specs.declared.part.Part.{Part}
 use Rattle.cgrammar.specs.Terminals.{Terminal, terminal_of, is_any_word, is_mark, is_word, IsName, IsMark, IsWord}
 
--- the names of attributes that say how something is laid out, each also with `__` on both sides
+-- The names of these attributes, each also with `__` on both sides. Two of them change no layout: `cleanup`
+-- calls a function where an object's scope ends, and by `alias` a name stands for another one.
 abbrev pub layout_names : List (List ℕ)
 layout_names = codes "packed" ∷ codes "aligned" ∷ codes "mode" ∷ codes "vector_size" ∷ codes "cleanup" ∷ codes "alias" ∷ []
 

@@ -11,7 +11,7 @@ is_filled [] = false
 is_filled (opening ∷ []) = false
 is_filled (opening ∷ (next ∷ others)) = is_mark (codes "{") opening && not (is_mark (codes "}") next)
 
--- the same behind a tag
+-- a tag, and `{` with no `}` behind it, begin the row
 abbrev pub is_tagged : List Terminal → Bool
 is_tagged [] = false
 is_tagged (tag ∷ others) = is_name tag && is_filled others
@@ -45,7 +45,7 @@ unfoldable pub least_struct : ℕ → List Terminal → Option ℕ
 least_struct line [] = None
 least_struct line (word ∷ others) = lesser (struct_at line (word ∷ others)) (least_struct line others)
 
--- the same behind the first of the lines, if there is one
+-- the least number of a `struct` with members that ends at or behind the first of the lines, if there is one
 abbrev pub packed_struct : List ℕ → List Terminal → Option ℕ
 packed_struct [] row = None
 packed_struct (line ∷ lines) row = least_struct line row

@@ -41,7 +41,8 @@ fn is_header(token: &Terminal<'_>) -> bool
         || token.is_word(b"sizeof")
 }
 
-/// How many tokens of the row stand before the bracket that closes one that is open before it; 0 where there is none.
+/// How many tokens of the row stand before the `)` that closes a `(` that is open before it, where brackets are matched by
+/// kind; 0 where none closes it so.
 #[tactic(auto, unfolding(crate::specs::Finding::guarded_front), using(crate::proofs::Guarded::inside_found, crate::proofs::Guarded::inside_none))]
 fn guarded_front(alloc: Global, row: &[Terminal<'_>]) -> Result<usize, NoMemory>
     ensures { IfOk result (λ count. count ≡ guarded_front row.now) }
@@ -71,7 +72,7 @@ fn guarded_behind(
     Ok(0)
 }
 
-/// What is known behind the row's first token.
+/// What is known behind the row's first token, of which `before` is known; the same where the row has no token.
 #[tactic(auto, unfolding(crate::specs::Finding::behind))]
 pub fn behind(alloc: Global, before: Before, row: &[Terminal<'_>]) -> Result<Before, NoMemory>
     ensures { IfOk result (λ next. next ≡ behind before row.now) }

@@ -19,7 +19,7 @@ pub fn first_construct(alloc: Global, row: &[Terminal<'_>]) -> Result<Option<Fou
     Ok(first_of_row(alloc, row)?)
 }
 
-/// The same, found token by token.
+/// The first construct of a row as it is found, token by token.
 #[tactic(auto, using(crate::proofs::Steps::first_found, crate::proofs::Steps::first_later, crate::proofs::Steps::first_none))]
 fn first_of_row(alloc: Global, row: &[Terminal<'_>]) -> Result<Option<Found>, NoMemory>
     ensures { IfOk result (λ found. found ≡ first_from 0 at_front row.now) }

@@ -55,7 +55,7 @@ fn word_number(bytes: &[u8]) -> Option<u8>
     row_of_words(bytes)
 }
 
-/// The number of a mark: `...` (C11 6.7.6.3), and the `*` of a function pointer.
+/// The number of a mark: `...` (C11 6.7.6.3), and a `*` where one of a function pointer would stand, as `pointed` says.
 fn mark_number(pointed: bool, bytes: &[u8]) -> Option<u8>
     ensures { result ≡ mark_number pointed bytes.now }
 {
@@ -68,7 +68,8 @@ fn mark_number(pointed: bool, bytes: &[u8]) -> Option<u8>
     None
 }
 
-/// The number of a token.
+/// The number of a token, if it shows a construct. `guarded` says whether it stands in the brackets of an `__assert_fail`,
+/// and `pointed` whether a `*` there is that of a function pointer.
 fn number_of(guarded: bool, pointed: bool, token: &Terminal<'_>) -> Option<u8>
     ensures { result ≡ number_of token.now.kind guarded pointed token.now.bytes }
 {
@@ -117,7 +118,7 @@ fn is_pointed(row: &[Terminal<'_>]) -> bool
     }
 }
 
-/// The number of the construct that the row's first token shows, if it shows one.
+/// The number of the construct that the row's first token shows, if it shows one. `before` is known of that token.
 pub fn number_at(before: Before, row: &[Terminal<'_>]) -> Option<u8>
     ensures { result ≡ number_at before row.now }
 {

@@ -85,7 +85,7 @@ fn struct_at(line: u32, row: &[Terminal<'_>]) -> Option<u32>
     }
 }
 
-/// The lesser of two numbers, where there are two.
+/// The lesser of two numbers, where there are two, and otherwise the one that there is.
 pub fn lesser(one: Option<u32>, other: Option<u32>) -> Option<u32>
     ensures { result ≡ lesser one other }
 {
@@ -108,7 +108,8 @@ fn least_struct(line: u32, row: &[Terminal<'_>]) -> Option<u32>
     least
 }
 
-/// The same behind the first of the lines.
+/// The least number of a `struct` with members that ends at the first of the lines or behind it; `None` where there is no
+/// line or no such `struct`. Each line is how many tokens of the text stand before it.
 pub fn packed_struct(lines: &[u32], row: &[Terminal<'_>]) -> Option<u32>
     ensures { result ≡ packed_struct lines.now row.now }
 {

@@ -17,7 +17,7 @@ pub struct Part {
     pub separated: bool,
 }
 
-/// The attributes that say how something is laid out, each in its two forms.
+/// The attributes of GNU C that an item is given up for as one whose layout changes.
 const NAMES: [&'static str; 6] = [
     "packed",
     "aligned",
@@ -27,7 +27,7 @@ const NAMES: [&'static str; 6] = [
     "alias",
 ];
 
-/// The same with `__` on both sides.
+/// The names of these attributes with `__` on both sides.
 const UNDERSCORED: [&'static str; 6] = [
     "__packed__",
     "__aligned__",
@@ -49,7 +49,7 @@ fn is_one_of(texts: &[&str], bytes: &[u8]) -> bool
     false
 }
 
-/// Whether bytes are a name of such an attribute.
+/// Whether bytes are a name of such an attribute without `__`.
 fn is_plain_name(bytes: &[u8]) -> bool
     ensures { result ≡ list_any (bytes_eq bytes.now) layout_names }
 {
@@ -115,7 +115,7 @@ pub fn unclosed_behind(unclosed: usize, token: &Terminal<'_>) -> usize
     unclosed
 }
 
-/// Outside of an attribute's part.
+/// Outside of an attribute's part. `behind` says whether an attribute's word stands directly before.
 pub fn outside(behind: bool) -> Part
     ensures { result ≡ outside behind }
 {
@@ -126,7 +126,8 @@ pub fn outside(behind: bool) -> Part
     }
 }
 
-/// In an attribute's part.
+/// In an attribute's part, of which `unclosed` brackets are open. `separated` says whether a `(` or a `,` stands directly
+/// before.
 fn within(unclosed: usize, separated: bool) -> Part
     ensures { result ≡ within unclosed separated }
 {
@@ -147,7 +148,7 @@ pub fn shows_layout(part: Part, token: &Terminal<'_>) -> bool
     part.separated && is_layout_name(token)
 }
 
-/// What is known behind a token.
+/// What is known behind a token, of which `part` is known before it.
 pub fn part_behind(part: Part, token: &Terminal<'_>) -> Part
     requires { part.unclosed ≤ 4194304 }
     ensures { result ≡ part_behind part.behind part.unclosed token.now }
