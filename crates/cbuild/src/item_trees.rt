@@ -10,12 +10,12 @@ use cevents::{Event, Piece};
 use cgrammar::Terminal;
 use std::alloc::Global;
 
-/// An item of a file that is made of events.
+/// An item of a file that is made of events (C11 6.9).
 #[derive(Drop)]
 pub struct BuiltItem {
     /// The item.
     pub item: Item,
-    /// How many expressions end behind it.
+    /// How many expressions end up to its end, those before it with them.
     pub count: u32,
 }
 
