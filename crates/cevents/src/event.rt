@@ -3,8 +3,8 @@ use cbase::{BasicType, BinaryOp, Storage, UnaryOp};
 /// A part of a tree that a reader has read to its end, with the numbers of the tokens of its row that it stands at.
 ///
 /// The number of a token is how many tokens stand before it in the row. The row has no tokens that are passed over, so it is
-/// not the token's number in the text. Of the numbers here `stars` alone is none of a token: it
-/// says how many `*` a declarator has.
+/// not the token's number in the text. Of the numbers here `stars` alone is none of a token: it says how many `*` a
+/// declarator has.
 ///
 /// Each takes the parts that it is made of from a stack, the last one first, and leaves what it makes there. So the
 /// events of a tree are its parts in the order in which they end, and expressions have their numbers in that order.

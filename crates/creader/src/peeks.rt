@@ -17,7 +17,7 @@ impl<'a> Reader<'a> {
         self.levels <= most as usize
     }
 
-    /// The binary operator that stands there, with its level (C11 6.5.5 to 6.5.14).
+    /// The binary operator that stands there, behind its level, 0 for the loosest (C11 6.5.5 to 6.5.14). The comma is none.
     pub fn binary(&self) -> Option<(u8, BinaryOp)>
         ensures is { result ≡ first_row binary_rows (rest self.now) }
         ensures more { IsSome result → 1 ≤ length (rest self.now) }
