@@ -12,7 +12,7 @@ ghost use Rattle.predator.specs.Told.{IsTold};
 ghost use Rattle.predator.specs.Verdict.{AreNames, AreWarnings, IsExact, IsVerdict, Judges, answer_of, only_item, verdict_of};
 
 use crate::decide::decide;
-use crate::read_item::{ReadItem, read_item};
+use crate::read_first_form::{ReadItem, read_first_form};
 use crate::warnings::warnings_of;
 use cbase::{List, NoMemory, Text};
 use cread::{Needed, Refusal, needed_have_one_answer, read_needed};
@@ -181,7 +181,7 @@ fn answer_of_read(
     let Some(span) = only_item(items, numbers) else {
         return Ok(Answer::NotYet);
     };
-    let Some(read) = read_item(alloc, t, span)? else {
+    let Some(read) = read_first_form(alloc, t, span)? else {
         return Ok(Answer::NotYet);
     };
     Ok(verdict_of(warnings_in(alloc, &read)?))

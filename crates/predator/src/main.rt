@@ -13,7 +13,7 @@ mod later;
 mod line;
 mod locals;
 mod losses;
-mod read_item;
+mod read_first_form;
 mod read_line;
 mod read_lines;
 mod row;

@@ -25,7 +25,11 @@ pub struct ReadItem {
 
 /// The row and the program of an item of the first form, or `None` where the item is of another form.
 #[tactic(auto, using(crate::proofs::Spellings::small_item, crate::proofs::Spellings::no_row, crate::proofs::Spellings::no_program))]
-pub fn read_item(alloc: Global, t: &Tokens, span: ItemSpan) -> Result<Option<ReadItem>, NoMemory>
+pub fn read_first_form(
+    alloc: Global,
+    t: &Tokens,
+    span: ItemSpan,
+) -> Result<Option<ReadItem>, NoMemory>
     requires text { LieInText t.now }
     requires inside { IsInside (length t.now.list) span }
     ensures formed { IfOk result (λ o. IfSome o (λ read. IsFormed t.now span read.row read.program)) }
