@@ -16,8 +16,8 @@ use Rattle.ctokens.specs.TokenList.{HasNamedFiles}
 use Rattle.ctokens.proofs.ItemsInside.{length_passed}
 use Rattle.cread.specs.Answers.{IsItemRead, IsRefusal}
 use Rattle.cread.specs.Needed.{AreAnswered, AtOnce, HasNumber, HaveOneAnswer, IsNamed, IsRefused, IsSome, Later, NoItem, OneItem, ReadsAll, at_file, place_in, spans_of, with_span}
-use Rattle.cread.specs.declared.needed_items.Needed.{Needed}
-use Rattle.cread.specs.declared.needed_items.Needed.TheVariants.{Read, Refused}
+use Rattle.cread.specs.declared.needed_items.ReadNeeded.{ReadNeeded}
+use Rattle.cread.specs.declared.needed_items.ReadNeeded.TheVariants.{Read, Refused}
 use Rattle.cread.specs.declared.refusal.Refusal.{Refusal}
 use Rattle.cread.proofs.Refusals.{one_read, one_refusal, read_or_refused, refusal_named, refusal_numbered}
 
@@ -149,6 +149,6 @@ spans_more items spans numbers at d within =
     next : (xs : List ℕ) (i : ℕ) → i < length xs → drop i xs ≡ get_or xs i d ∷ drop (i + 1) xs
     next xs i below = rw add-one (drop-cons xs i d below)
 
-pub answer_named : (t : Tokens) (spans : List ItemSpan) (needed : Needed) → HasNamedFiles t → AreAnswered t spans needed → IsNamed t.names needed
+pub answer_named : (t : Tokens) (spans : List ItemSpan) (needed : ReadNeeded) → HasNamedFiles t → AreAnswered t spans needed → IsNamed t.names needed
 answer_named t spans (Read program) named answered = tt
 answer_named t spans (Refused refusal) named answered = (refused_numbered answered, refused_named named answered)

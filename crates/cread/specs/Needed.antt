@@ -11,8 +11,8 @@ use Rattle.ctokens.specs.declared.token.Tokens.{Tokens}
 use Rattle.cread.specs.Answers.{IsItemRead, IsRefusal}
 use Rattle.cread.specs.declared.refusal.Refusal.{Refusal}
 use Rattle.cread.specs.declared.refusal.Refusal.TheVariants.{Construct, Syntax}
-use Rattle.cread.specs.declared.needed_items.Needed.{Needed}
-use Rattle.cread.specs.declared.needed_items.Needed.TheVariants.{Read, Refused}
+use Rattle.cread.specs.declared.needed_items.ReadNeeded.{ReadNeeded}
+use Rattle.cread.specs.declared.needed_items.ReadNeeded.TheVariants.{Read, Refused}
 
 -- before the first declaration of a file
 abbrev pub at_file : Context
@@ -43,7 +43,7 @@ pub data IsRefused (t : Tokens) : List ItemSpan → Context → Refusal → Type
       → IsRefused t (span ∷ spans) before refusal
 
 -- what is found of the spans of a file
-abbrev pub AreAnswered : Tokens → List ItemSpan → Needed → Type 0
+abbrev pub AreAnswered : Tokens → List ItemSpan → ReadNeeded → Type 0
 AreAnswered t spans (Read program) = (after : Context) × ReadsAll t spans at_file program after
 AreAnswered t spans (Refused refusal) = IsRefused t spans at_file refusal
 
@@ -53,7 +53,7 @@ AreRead t spans = (program : List Item) × (after : Context) × ReadsAll t spans
 
 -- of one list of spans at most one answer is true
 abbrev pub HaveOneAnswer : Type 0
-HaveOneAnswer = (t : Tokens) (spans : List ItemSpan) (one other : Needed) → AreAnswered t spans one → AreAnswered t spans other → one ≡ other
+HaveOneAnswer = (t : Tokens) (spans : List ItemSpan) (one other : ReadNeeded) → AreAnswered t spans one → AreAnswered t spans other → one ≡ other
 
 -- the span has a token, and lies among so many
 abbrev pub IsSome : ℕ → ItemSpan → Type 0
@@ -69,6 +69,6 @@ HasNumber (Construct number place) = (1 ≤ number) × (number ≤ 21)
 HasNumber (Syntax place) = Unit {0}
 
 -- what is refused can be named: its construct has a number, and the file of its place a name
-abbrev pub IsNamed : List (List ℕ) → Needed → Type 0
+abbrev pub IsNamed : List (List ℕ) → ReadNeeded → Type 0
 IsNamed names (Read program) = Unit {0}
 IsNamed names (Refused refusal) = HasNumber refusal × ((place_in refusal).file < length names)

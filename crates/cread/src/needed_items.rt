@@ -15,7 +15,7 @@ use std::alloc::Global;
 
 /// What the items are that main needs: a program, or why the first of them that is not read is refused.
 #[derive(Drop)]
-pub enum Needed {
+pub enum ReadNeeded {
     /// Each is read: their trees, in the order of the text.
     Read(Program),
     /// The first that is not read.
@@ -32,7 +32,7 @@ pub fn read_needed(
     t: &Tokens,
     items: &[ItemSpan],
     numbers: &[u32],
-) -> Result<Needed, NoMemory>
+) -> Result<ReadNeeded, NoMemory>
     requires text { LieInText t.now }
     requires numbered { AreNumbered t.now }
     requires spans { IsItems t.now (Ok items.now) }
@@ -74,7 +74,7 @@ fn push_found(spans: &mut List<ItemSpan>, found: Option<ItemSpan>) -> Result<(),
 }
 
 /// Reads these items, one behind the other, from the beginning of a file.
-fn read_all(alloc: Global, t: &Tokens, spans: &[ItemSpan]) -> Result<Needed, NoMemory>
+fn read_all(alloc: Global, t: &Tokens, spans: &[ItemSpan]) -> Result<ReadNeeded, NoMemory>
     requires text { LieInText t.now }
     requires numbered { AreNumbered t.now }
     requires some { All (IsSome (length t.now.list)) spans.now }
@@ -96,10 +96,10 @@ fn read_all(alloc: Global, t: &Tokens, spans: &[ItemSpan]) -> Result<Needed, NoM
                 scope = within;
                 expressions = count;
             }
-            ReadIn::Refused(refusal) => return Ok(Needed::Refused(refusal)),
+            ReadIn::Refused(refusal) => return Ok(ReadNeeded::Refused(refusal)),
         }
     }
-    Ok(Needed::Read(program))
+    Ok(ReadNeeded::Read(program))
 }
 
 /// Of one list of items at most one answer is true: one program, or one refusal.

@@ -9,8 +9,8 @@ use Rattle.ctokens.specs.TokenList.{AreTokens, IsLexical}
 use Rattle.ctokens.specs.Items.{IsItems}
 use Rattle.ctokens.specs.Need.{IsNeed, item_rows}
 use Rattle.cread.specs.Needed.{AreAnswered, AreRead, IsRefused, at_file, spans_of}
-use Rattle.cread.specs.declared.needed_items.Needed.{Needed}
-use Rattle.cread.specs.declared.needed_items.Needed.TheVariants.{Read, Refused}
+use Rattle.cread.specs.declared.needed_items.ReadNeeded.{ReadNeeded}
+use Rattle.cread.specs.declared.needed_items.ReadNeeded.TheVariants.{Read, Refused}
 use Rattle.cread.specs.declared.refusal.Refusal.{Refusal}
 use Rattle.cread.specs.declared.refusal.Refusal.TheVariants as refusal
 use Rattle.report.specs.declared.answer.Why.TheVariants as why
@@ -131,7 +131,7 @@ module _ (one_list : (file text : List ℕ) (tokens others : Tokens) → AreToke
     (one_place : (file text : List ℕ) (lexical other : Lexical) → IsLexical file text lexical → IsLexical file text other → lexical ≡ other)
     (never_both : (file text : List ℕ) (tokens : Tokens) (lexical : Lexical) → AreTokens file text tokens → IsLexical file text lexical → ⊥)
     (one_items : (t : Tokens) (answer other : Result (List ItemSpan) Deep) → IsItems t answer → IsItems t other → answer ≡ other)
-    (one_needed : (t : Tokens) (spans : List ItemSpan) (needed other : Needed) → AreAnswered t spans needed → AreAnswered t spans other → needed ≡ other)
+    (one_needed : (t : Tokens) (spans : List ItemSpan) (needed other : ReadNeeded) → AreAnswered t spans needed → AreAnswered t spans other → needed ≡ other)
     (file bytes : List ℕ) where
   -- of the items that main needs one answer is true
   read_or_refused : (t : Tokens) (items : List ItemSpan) (numbers : List ℕ) (refused : Refusal) → AreRead t (spans_of items numbers)

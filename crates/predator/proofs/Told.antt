@@ -10,7 +10,7 @@ use Rattle.ctokens.specs.TokenList.{HasNamedFiles}
 use Rattle.ctokens.specs.Items.{IsFirstDeep, IsItems}
 use Rattle.ctokens.specs.Need.{IsNeed, item_rows}
 use Rattle.cread.specs.Needed.{AreRead, IsNamed, IsRefused, at_file, spans_of}
-use Rattle.cread.specs.declared.needed_items.Needed.TheVariants.{Refused}
+use Rattle.cread.specs.declared.needed_items.ReadNeeded.TheVariants.{Refused}
 use Rattle.cread.specs.declared.refusal.Refusal.{Refusal}
 use Rattle.cread.specs.declared.refusal.Refusal.TheVariants as refusal
 use Rattle.std.proofs.lemmas.Option.{slice_get_cases, get_or_from_slice_get}

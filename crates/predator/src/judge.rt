@@ -15,7 +15,7 @@ use crate::decide::decide;
 use crate::read_first_form::{ReadItem, read_first_form};
 use crate::warnings::warnings_of;
 use cbase::{List, NoMemory, Text};
-use cread::{Needed, Refusal, needed_have_one_answer, read_needed};
+use cread::{ReadNeeded, Refusal, needed_have_one_answer, read_needed};
 use ctokens::{
     Deep, ItemSpan, Lexical, Tokens, items, needed, one_item_list, one_token_list, tokens_of_bytes,
 };
@@ -145,8 +145,8 @@ fn answer_of_needed(
     ensures { IfOk result (IsTold t.now) }
 {
     match read_needed(alloc, t, items, numbers)? {
-        Needed::Refused(refusal) => Ok(answer_of(refusal)),
-        Needed::Read(_) => answer_of_read(alloc, t, items, numbers),
+        ReadNeeded::Refused(refusal) => Ok(answer_of(refusal)),
+        ReadNeeded::Read(_) => answer_of_read(alloc, t, items, numbers),
     }
 }
 
