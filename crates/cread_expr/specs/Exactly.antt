@@ -1,11 +1,10 @@
 -- What the reader writes at a token of a text, and what the grammar has there.
-use Rattle.std.specs.Prelude.{◌≡◌, ℕ, ◌+◌, true, false, nat_lt, Bool, List, [], ◌∷◌, take, Option, Some}
+use Rattle.std.specs.Prelude.{◌≡◌, ℕ, ◌+◌, true, false, nat_lt, Bool, List, [], take, Some}
 use Rattle.std.specs.List.{prefix_len}
 use Rattle.cbase.specs.declared.tree.expr.Expr.{Expr}
 use Rattle.cbase.specs.declared.tree.stmt.Stmt.{Stmt}
 use Rattle.cevents.specs.Building.{built_all}
-use Rattle.cevents.specs.Workshop.{Workshop}
-use Rattle.cevents.specs.declared.piece.Piece.{Piece}
+use Rattle.cevents.specs.Workshop.{pushed, start}
 use Rattle.cevents.specs.declared.piece.Piece.TheVariants as piece
 use Rattle.cgrammar.specs.Readings.{AreNumbered, IsExpressionAt, IsLongestExpressionAt, IsBlockAt}
 use Rattle.cgrammar.specs.Scope.{Names}
@@ -36,21 +35,14 @@ block_written most t scope at = written_of (block (inner_at most) (at_token t sc
 abbrev pub end_of : Tokens → Writing → ℕ
 end_of t written = (last_place (take written.at (terminals t))).at + 1
 
--- nothing is made yet, and one piece alone is made
-abbrev pub nothing_made : Option Workshop
-nothing_made = Some (record { count = 0; pieces = [] })
-
-abbrev pub alone : ℕ → Piece → Option Workshop
-alone count piece = Some (record { count = count; pieces = piece ∷ [] })
-
 -- what is written makes the expression, and nothing beside it
 pub record MakesExpression (t : Tokens) (written : Writing) (expr : Expr) : Type 0 where
   pub count : ℕ
-  pub made : built_all (terminals t) written.events nothing_made ≡ alone count (piece.Expr expr)
+  pub made : built_all (terminals t) written.events (Some start) ≡ pushed count (piece.Expr expr) []
 
 pub record MakesBlock (t : Tokens) (written : Writing) (body : List Stmt) : Type 0 where
   pub count : ℕ
-  pub made : built_all (terminals t) written.events nothing_made ≡ alone count (piece.Statements body)
+  pub made : built_all (terminals t) written.events (Some start) ≡ pushed count (piece.Statements body) []
 
 -- the longest expression of so many levels is written, or none begins there
 pub record IsExactExpression (most : ℕ) (t : Tokens) (scope : List Names) (at : ℕ) (written : Writing) : Type 0 where
