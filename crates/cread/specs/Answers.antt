@@ -22,6 +22,7 @@ pub record IsItemRead (t : Tokens) (from to : ℕ) (before : Context) (item : It
   pub spelled : SpellsItem item before (row_between t from to) after
   pub small : item_levels item ≤ most_levels
 
+-- the tokens are no item of at most 1,024 levels
 abbrev pub IsNoItem : Tokens → ℕ → ℕ → Context → Type 0
 IsNoItem t from to before = (item : Item) (after : Context) → SpellsItem item before (row_between t from to) after → item_levels item ≤ most_levels → ⊥
 
@@ -64,6 +65,7 @@ abbrev pub IsRefusal : Tokens → ℕ → ℕ → Context → Refusal → Type 0
 IsRefusal t from to before (Construct number place) = ShowsLayout t from to number place ⊎ ShowsConstruct t from to before number place
 IsRefusal t from to before (Syntax place) = ShowsNothing t from to before place
 
+-- what is answered of the tokens where they are read in a file: the item with what stands behind it, or why there is none
 abbrev pub IsReadIn : Tokens → ℕ → ℕ → Context → ReadIn → Type 0
 IsReadIn t from to before (Read behind) = IsItemRead t from to before behind.item (record { scope = behind.scope; expressions = behind.expressions })
 IsReadIn t from to before (Refused refusal) = IsRefusal t from to before refusal

@@ -15,11 +15,12 @@ pub record ItemRow : Type 0 where
   pub names : List (List ℕ)
   pub expected : Option Item
 
-abbrev pub IsNoItem : List Names → List Terminal → Type 0
-IsNoItem scope row = (item : Item) (behind : Context) → SpellsItem item (at_first scope) row behind → item_levels item ≤ few_levels → ⊥
+-- the row spells no item of at most twelve levels
+abbrev pub IsNoItemOfFewLevels : List Names → List Terminal → Type 0
+IsNoItemOfFewLevels scope row = (item : Item) (behind : Context) → SpellsItem item (at_first scope) row behind → item_levels item ≤ few_levels → ⊥
 
 abbrev pub IsItem : List Names → List Terminal → Option Item → Type 0
-IsItem scope row None = IsNoItem scope row
+IsItem scope row None = IsNoItemOfFewLevels scope row
 IsItem scope row (Some item) = (behind : Context) × SpellsItem item (at_first scope) row behind
 
 abbrev pub HaveItems : List ItemRow → Type 0
