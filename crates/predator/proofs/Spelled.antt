@@ -6,7 +6,9 @@ use Rattle.std.proofs.Common.{refl, sym, ◌∙◌, ap, subst, arith}
 use Rattle.std.proofs.lemmas.Bool.{le-leb, leb-true, lt-leb, eqb-true}
 use Rattle.std.proofs.lemmas.Slice.Eq.{bytes_eq-Decides}
 use Rattle.predator.proofs.Choices.{from_choice, both_true, true_and, chosen_yes, chosen_no, false_and}
-use Rattle.predator.specs.Tokens.{is_lower, is_digit, decimal_value, has_no_leading_zero, IsSize, IsSpelling}
+use Rattle.ctokens.specs.Bytes.{is_digit}
+use Rattle.ctokens.specs.Directive.{decimal_value}
+use Rattle.predator.specs.Tokens.{is_lower, has_no_leading_zero, IsSize, IsSpelling}
 use Rattle.predator.specs.Spelling.{size_after, size_of, keyword_of, mark_of, single_of, token_of}
 use Rattle.predator.specs.declared.token.Token.{Token}
 use Rattle.predator.specs.declared.token.Token.TheVariants.{Int, Main, Void, Return, Malloc, Free, Name, Number, LeftParenthesis, RightParenthesis, LeftBrace, RightBrace, Star, Equals, Semicolon}

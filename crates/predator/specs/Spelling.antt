@@ -1,7 +1,8 @@
 -- What rows of bytes spell, as a function: one token of the first form or none.
 use Rattle.std.specs.Prelude.{ℕ, ◌+◌, ◌-◌, ◌*◌, ◌&&◌, if◌then◌else◌, List, [], ◌∷◌, Option, None, Some, nat_eq, nat_le, option_map, codes}
 use Rattle.std.specs.Str.{bytes_eq}
-use Rattle.predator.specs.Tokens.{is_lower, is_digit, has_no_leading_zero}
+use Rattle.ctokens.specs.Bytes.{is_digit}
+use Rattle.predator.specs.Tokens.{is_lower, has_no_leading_zero}
 use Rattle.ctokens.specs.declared.token.Token.{Token as Lexeme}
 use Rattle.ctokens.specs.Symbol.{bytes_of}
 use Rattle.predator.specs.declared.token.PlacedToken.{PlacedToken}

@@ -1,24 +1,14 @@
 -- The tokens of the first form: which bytes spell each (C11 6.4.1, 6.4.2, 6.4.4.1, 6.4.6).
-use Rattle.std.specs.Prelude.{◌≡◌, ℕ, ◌+◌, ◌-◌, ◌*◌, ◌≤◌, Bool, true, false, ◌&&◌, List, [], ◌∷◌, nat_le, IsTrue, codes}
+use Rattle.std.specs.Prelude.{◌≡◌, ℕ, ◌≤◌, Bool, true, false, List, [], ◌∷◌, nat_le, IsTrue, codes}
 use Rattle.std.specs.List.{list_all}
+use Rattle.ctokens.specs.Bytes.{is_between, is_digit}
+use Rattle.ctokens.specs.Directive.{decimal_value}
 use Rattle.predator.specs.declared.token.Token.{Token}
 use Rattle.predator.specs.declared.token.Token.TheVariants.{Int, Main, Void, Return, Malloc, Free, Name, Number, LeftParenthesis, RightParenthesis, LeftBrace, RightBrace, Star, Equals, Semicolon}
-
-abbrev pub is_between : ℕ → ℕ → ℕ → Bool
-is_between low high byte = nat_le low byte && nat_le byte high
-
--- `0` to `9`
-abbrev pub is_digit : ℕ → Bool
-is_digit byte = is_between 48 57 byte
 
 -- `a` to `z`
 abbrev pub is_lower : ℕ → Bool
 is_lower byte = is_between 97 122 byte
-
--- the value of decimal digits, after digits with the value `before`
-abbrev pub decimal_value : ℕ → List ℕ → ℕ
-decimal_value before [] = before
-decimal_value before (digit ∷ rest) = decimal_value (10 * before + (digit - 48)) rest
 
 -- whether digits are `0` alone or begin with no zero
 abbrev pub has_no_leading_zero : List ℕ → Bool

@@ -1,6 +1,7 @@
 -- What an answer says of a text: the theorem that the program carries.
 use Rattle.std.specs.Prelude.{◌≡◌, ℕ, ◌+◌, ◌<◌, ◌≤◌, ◌↔◌, Bool, true, IsTrue, Option, None, Some, Ok, Err, List, [], ◌∷◌, ◌++◌, length, map, slice_get, option_map, unwrap_or}
 use Rattle.cbase.specs.declared.place.Place.{Place}
+use Rattle.command_line.specs.CommandLine.{default_budget, default_int_limit}
 use Rattle.command_line.specs.declared.command.Command.{Command}
 use Rattle.ctokens.specs.declared.token.Tokens.{Tokens}
 use Rattle.ctokens.specs.declared.token.Lexical.{Lexical}
@@ -200,7 +201,7 @@ file_in (Some command) = command.file
 
 -- the limits of the words, and the default ones where they ask for no command
 abbrev pub limits_in : Option Command → Limits
-limits_in None = record { budget = 10000; int_limit = 10 }
+limits_in None = record { budget = default_budget; int_limit = default_int_limit }
 limits_in (Some command) = record { budget = command.budget; int_limit = command.int_limit }
 
 -- FILE; with `Usage` and `OutOfMemory` nothing

@@ -1,7 +1,8 @@
 //! The classes of bytes that the tokens of the first form are made of.
 
 ghost use Rattle.std.specs.Prelude.{◌≡◌};
-ghost use Rattle.predator.specs.Tokens.{is_digit, is_lower};
+ghost use Rattle.ctokens.specs.Bytes.{is_digit};
+ghost use Rattle.predator.specs.Tokens.{is_lower};
 
 /// `0` to `9`.
 pub fn is_digit(byte: u8) -> bool
