@@ -11,6 +11,7 @@ use std::test::Fail;
 
 mod deep;
 mod missed;
+mod trees;
 
 /// The tokens of a text, where it has any and is not too long.
 fn cut(alloc: Global, text: &[u8]) -> Result<Option<Tokens>, NoMemory>

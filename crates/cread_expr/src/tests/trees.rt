@@ -1,9 +1,11 @@
-use crate::{
+//! Small trees, with their levels and expressions, and their copies.
+
+use cbase::{Boxed, Expr, ExprForm, Item, List, NoMemory, Place, Stmt, StmtForm, Text, UnaryOp};
+use ctrees::{
     copy_of_expression, copy_of_item, copy_of_statement, expressions_of_expression,
     expressions_of_item, expressions_of_statement, expressions_of_statements, levels_of_expression,
     levels_of_item, levels_of_statement, levels_of_statements,
 };
-use cbase::{Boxed, Expr, ExprForm, Item, List, NoMemory, Place, Stmt, StmtForm, Text, UnaryOp};
 use std::alloc::Global;
 use std::process::Abort;
 use std::test::Fail;
