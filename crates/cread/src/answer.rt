@@ -13,11 +13,12 @@ use std::alloc::Global;
 /// What is answered of an item of a file.
 #[derive(Drop)]
 pub enum ItemAnswer {
-    /// The grammar spells it by this tree.
+    /// The grammar spells it by this tree, of at most 1,024 levels.
     Read(Item),
-    /// A construct of C that is given up stands at the place: its number is 1 to 10 or 20, as `report` names them.
+    /// A construct of C that is given up stands at the place: the first change of layout, whose number is 7, or else the
+    /// first construct, whose number is 1 to 6, 8 to 10 or 20 (`docs/report.md` names them).
     Construct { number: u8, place: Place },
-    /// The grammar does not spell the item that begins at the place.
+    /// The grammar spells the item by no tree of at most 1,024 levels, and it has no such construct. It begins at the place.
     Syntax { place: Place },
 }
 
@@ -25,7 +26,7 @@ pub enum ItemAnswer {
 ///
 /// Where the layout of an object is changed the answer is `Construct` with the number 7. Else it is `Read` exactly where
 /// the grammar spells the item by a tree of at most 1,024 levels, `Construct` at the first construct that is given up, and
-/// `Syntax` at the first token where there is none.
+/// `Syntax` at the first token where there is none. An error says that memory is wanting.
 #[tactic(auto, using(crate::proofs::OneAnswer::answer_is))]
 pub fn read_item(
     alloc: Global,

@@ -1,4 +1,7 @@
-//! The items of a file: which rows of tokens spell declarations and definitions, and their trees.
+//! The items of a file: which rows of tokens spell declarations and definitions, with their trees, and what is answered of
+//! those that main needs.
+//!
+//! It knows the names that an item leaves in scope, and not how an item is used, nor types of expressions.
 #![tactic(auto)]
 
 mod answer;

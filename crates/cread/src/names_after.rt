@@ -14,7 +14,7 @@ use std::alloc::Global;
 /// The names in scope behind an item, from those before it: enumerators and declared names, each with whether it is a
 /// typedef's (C11 6.2.1p4, 6.2.1p7, 6.7.2.2, 6.7.8).
 ///
-/// The scope before the item stays as it was. An error says that memory was wanting.
+/// The scope before the item stays as it was. An error says that memory is wanting.
 pub fn scope_after(alloc: Global, scope: &Scope, item: &Item) -> Result<Scope, NoMemory>
     ensures { IfOk result (λ after. after ≡ names_after scope.now item.now) }
 {

@@ -13,19 +13,20 @@ use cgrammar::Scope;
 use ctokens::{ItemSpan, Tokens, passed_over};
 use std::alloc::Global;
 
-/// What the items are that main needs: a program, or why the first of them that is not read is refused.
+/// What is answered of the items that main needs: a program, or why one of them is refused.
 #[derive(Drop)]
 pub enum ReadNeeded {
-    /// Each is read: their trees, in the order of the text.
+    /// Each is read: their trees, in the order in which they were read.
     Read(Program),
-    /// The first that is not read.
+    /// One is not read: why the first such is refused.
     Refused(Refusal),
 }
 
 /// Reads the items with these numbers, one behind the other: each where the names that those before it declare are in
 /// scope, and as many expressions end before it as they have (C11 6.9).
 ///
-/// The first that is not read is refused. The work grows with the text and with the items that are read alone.
+/// The first that is not read is refused. A number past the last item stands for none. The work grows with the text and with the
+/// items that are read alone. An error says that memory is wanting.
 #[tactic(auto, using(crate::proofs::NeededItems::answer_named, crate::proofs::NeededItems::spans_some))]
 pub fn read_needed(
     alloc: Global,

@@ -27,7 +27,7 @@ use std::alloc::Global;
 pub struct ItemBehind {
     /// The item's tree.
     pub item: Item,
-    /// The names of the file's scope behind it.
+    /// The names in scope behind it: those before it, and those that it declares.
     pub scope: Scope,
     /// How many expressions of the file end before its end: the number of the next one.
     pub expressions: u32,
@@ -38,7 +38,7 @@ pub struct ItemBehind {
 pub enum ReadIn {
     /// The grammar spells it, and it changes no layout.
     Read(ItemBehind),
-    /// It is not read.
+    /// It is not read, as this says.
     Refused(Refusal),
 }
 
@@ -47,7 +47,7 @@ pub enum ReadIn {
 /// first.
 ///
 /// A change of layout is refused first, then a row that spells no item: by its first construct, or else as it begins. The
-/// work grows with the item alone.
+/// work grows with the item alone. An error says that memory is wanting.
 #[tactic(auto, using(crate::proofs::FoundItems::passed_length))]
 pub fn read_item_in(
     alloc: Global,

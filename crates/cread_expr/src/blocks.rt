@@ -17,14 +17,16 @@ use std::alloc::Global;
 /// A block that is read at a token of a text.
 #[derive(Drop)]
 pub struct ReadBlock {
-    /// Its declarations and statements.
+    /// Its declarations and statements, in order. Its expressions are numbered from 0, each where it ends.
     pub body: List<Stmt>,
-    /// The number of the token behind its `}`.
+    /// One more than the number of its `}`, among the tokens of the text.
     pub after: u32,
 }
 
 /// The block of at most 1,024 levels that begins at the token `at` of a text, where these names are in scope around it
-/// (C11 6.8.2). None where no such block begins there. The tokens are those of some text.
+/// (C11 6.8.2). `None` where no such block begins there. The tokens are those of some text, numbered from 0.
+///
+/// An error says that memory is wanting.
 pub fn read_block(
     alloc: Global,
     t: &Tokens,

@@ -17,14 +17,16 @@ use std::alloc::Global;
 /// An expression that is read at a token of a text.
 #[derive(Drop)]
 pub struct ReadExpr {
-    /// The expression.
+    /// Its tree. The expressions in it are numbered from 0, each where it ends.
     pub expr: Expr,
-    /// The number of the token behind its last one.
+    /// One more than the number of its last token, among the tokens of the text.
     pub after: u32,
 }
 
 /// The longest expression of at most 1,024 levels that begins at the token `at` of a text, where these names are in scope
-/// (C11 6.5). None where no such expression begins there. The tokens are those of some text.
+/// (C11 6.5). `None` where no such expression begins there. The tokens are those of some text, numbered from 0.
+///
+/// An error says that memory is wanting.
 pub fn read_expr(
     alloc: Global,
     t: &Tokens,

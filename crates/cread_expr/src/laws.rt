@@ -9,8 +9,8 @@ pub fn expressions_are_written_exactly()
     ensures { ExpressionsAreExact }
 {}
 
-/// The same of blocks: where the reader finds one, what it writes makes the block of so many levels that begins there; where
-/// it finds none, none begins there (C11 6.8.2).
+/// Where the reader of blocks finds one at a token, what it writes makes the block of so many levels that begins there, and it
+/// stands behind the last token of that block; where it finds none, none begins there (C11 6.8.2).
 #[tactic(auto, using(crate::proofs::Agreement::blocks_are_exact))]
 pub fn blocks_are_written_exactly()
     ensures { BlocksAreExact }

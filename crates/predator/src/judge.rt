@@ -25,7 +25,10 @@ use std::alloc::Global;
 /// An answer with the names of the files to which its places refer.
 #[derive(Drop)]
 pub struct Judged {
+    /// The answer.
     pub answer: Answer,
+    /// The names of the text's files, which places give by number: of the whole text, or up to the first place without a
+    /// token; none where no text was read to its end.
     pub names: List<Text>,
 }
 

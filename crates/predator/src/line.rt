@@ -41,6 +41,8 @@ pub enum Line {
 /// tokens that is read.
 #[derive(Drop)]
 pub struct Program {
+    /// The lines, in the order of the text, the return aside.
     pub lines: List<Line>,
+    /// The number of the word `return` in the row, from 0.
     pub return_at: u32,
 }

@@ -16,14 +16,18 @@ use cbase::{List, NoMemory};
 use ctokens::{ItemSpan, Tokens};
 use std::alloc::Global;
 
-/// An item that was read: its row of tokens, with their places, and its program.
+/// An item of the first form that was read.
 #[derive(Drop)]
 pub struct ReadItem {
+    /// Its tokens with their places, those aside that are passed over.
     pub row: List<PlacedToken>,
+    /// The program that they spell: its tokens are numbered in that row, from 0.
     pub program: Program,
 }
 
 /// The row and the program of an item of the first form, or `None` where the item is of another form.
+///
+/// An error says that memory is wanting.
 #[tactic(auto, using(crate::proofs::Spellings::small_item, crate::proofs::Spellings::no_row, crate::proofs::Spellings::no_program))]
 pub fn read_first_form(
     alloc: Global,

@@ -13,6 +13,8 @@ pub enum Value {
 /// A local of main with what it holds.
 #[derive(Clone, Copy, Debug, PartialEq, Eq)]
 pub struct Local {
+    /// Its name, a lower-case letter, by its code.
     pub name: u8,
+    /// What it holds.
     pub value: Value,
 }

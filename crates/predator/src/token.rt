@@ -38,6 +38,8 @@ pub enum Token {
 /// A token with the place at which it stands, whose `at` is its number in the text.
 #[derive(Clone, Copy, Debug, PartialEq, Eq)]
 pub struct PlacedToken {
+    /// The token.
     pub token: Token,
+    /// Where it stands in the text.
     pub place: Place,
 }

@@ -36,7 +36,9 @@ pub struct Outcome {
 /// An answer with its report.
 #[derive(Drop)]
 struct Plan {
+    /// The answer, with the file that it is about.
     shown: Shown,
+    /// The report's bytes.
     text: Text,
 }
 
