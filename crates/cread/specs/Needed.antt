@@ -18,6 +18,7 @@ use Rattle.cread.specs.declared.needed_items.ReadNeeded.TheVariants.{Read, Refus
 abbrev pub at_file : Context
 at_file = at_first file_scope
 
+-- the span, if there is one, before the others
 abbrev pub with_span : Option ItemSpan → List ItemSpan → List ItemSpan
 with_span None spans = spans
 with_span (Some span) spans = span ∷ spans
@@ -59,6 +60,7 @@ HaveOneAnswer = (t : Tokens) (spans : List ItemSpan) (one other : ReadNeeded) �
 abbrev pub IsSome : ℕ → ItemSpan → Type 0
 IsSome count span = (span.first < span.after) × (span.after ≤ count)
 
+-- the place at which an item is refused
 abbrev pub place_in : Refusal → Place
 place_in (Construct number place) = place
 place_in (Syntax place) = place
