@@ -13,7 +13,8 @@ enum Base {
 
 /// A field as gcc laid it: what stands in it, the numbers of items of its arrays, the outer one first, and its
 /// offset.
-type Sample = (Base, &'static [u64], u32);
+#[derive(Clone, Copy)]
+struct Sample(Base, &'static [u64], u32);
 
 /// A struct as gcc laid it.
 #[derive(Clone, Copy)]
@@ -30,9 +31,9 @@ const SAMPLES: [SampleStruct; 30] = [
         size: 12,
         alignment: 4,
         fields: &[
-            (Base::Int(1), &[], 0),
-            (Base::Int(4), &[], 4),
-            (Base::Int(2), &[], 8),
+            Sample(Base::Int(1), &[], 0),
+            Sample(Base::Int(4), &[], 4),
+            Sample(Base::Int(2), &[], 8),
         ],
     },
     SampleStruct {
@@ -43,226 +44,235 @@ const SAMPLES: [SampleStruct; 30] = [
     SampleStruct {
         size: 1,
         alignment: 1,
-        fields: &[(Base::Int(1), &[], 0)],
+        fields: &[Sample(Base::Int(1), &[], 0)],
     },
     SampleStruct {
         size: 16,
         alignment: 8,
-        fields: &[(Base::Pointer, &[], 0), (Base::Int(1), &[], 8)],
+        fields: &[Sample(Base::Pointer, &[], 0), Sample(Base::Int(1), &[], 8)],
     },
     SampleStruct {
         size: 16,
         alignment: 8,
         fields: &[
-            (Base::Int(1), &[], 0),
-            (Base::Struct(1), &[], 1),
-            (Base::Int(8), &[], 8),
+            Sample(Base::Int(1), &[], 0),
+            Sample(Base::Struct(1), &[], 1),
+            Sample(Base::Int(8), &[], 8),
         ],
     },
     SampleStruct {
         size: 36,
         alignment: 4,
-        fields: &[(Base::Int(2), &[3, 5], 0), (Base::Int(4), &[], 32)],
+        fields: &[
+            Sample(Base::Int(2), &[3, 5], 0),
+            Sample(Base::Int(4), &[], 32),
+        ],
     },
     SampleStruct {
         size: 16,
         alignment: 8,
         fields: &[
-            (Base::Bool, &[], 0),
-            (Base::Int(8), &[0], 8),
-            (Base::Int(1), &[], 8),
+            Sample(Base::Bool, &[], 0),
+            Sample(Base::Int(8), &[0], 8),
+            Sample(Base::Int(1), &[], 8),
         ],
     },
     SampleStruct {
         size: 48,
         alignment: 8,
         fields: &[
-            (Base::Struct(0), &[], 0),
-            (Base::Int(1), &[], 12),
-            (Base::Struct(3), &[2], 16),
+            Sample(Base::Struct(0), &[], 0),
+            Sample(Base::Int(1), &[], 12),
+            Sample(Base::Struct(3), &[2], 16),
         ],
     },
     SampleStruct {
         size: 1,
         alignment: 1,
         fields: &[
-            (Base::Struct(1), &[3], 0),
-            (Base::Struct(1), &[], 0),
-            (Base::Int(1), &[], 0),
+            Sample(Base::Struct(1), &[3], 0),
+            Sample(Base::Struct(1), &[], 0),
+            Sample(Base::Int(1), &[], 0),
         ],
     },
     SampleStruct {
         size: 32,
         alignment: 8,
         fields: &[
-            (Base::Int(1), &[], 0),
-            (Base::Int(1), &[], 1),
-            (Base::Int(8), &[], 8),
-            (Base::Int(8), &[], 16),
-            (Base::Int(1), &[], 24),
+            Sample(Base::Int(1), &[], 0),
+            Sample(Base::Int(1), &[], 1),
+            Sample(Base::Int(8), &[], 8),
+            Sample(Base::Int(8), &[], 16),
+            Sample(Base::Int(1), &[], 24),
         ],
     },
     SampleStruct {
         size: 56,
         alignment: 8,
         fields: &[
-            (Base::Pointer, &[], 0),
-            (Base::Pointer, &[5], 8),
-            (Base::Int(1), &[], 48),
-            (Base::Int(1), &[], 49),
-            (Base::Int(1), &[], 50),
-            (Base::Bool, &[], 51),
+            Sample(Base::Pointer, &[], 0),
+            Sample(Base::Pointer, &[5], 8),
+            Sample(Base::Int(1), &[], 48),
+            Sample(Base::Int(1), &[], 49),
+            Sample(Base::Int(1), &[], 50),
+            Sample(Base::Bool, &[], 51),
         ],
     },
     SampleStruct {
         size: 64,
         alignment: 8,
         fields: &[
-            (Base::Int(1), &[], 0),
-            (Base::Int(8), &[], 8),
-            (Base::Pointer, &[], 16),
-            (Base::Int(8), &[], 24),
-            (Base::Struct(9), &[], 32),
+            Sample(Base::Int(1), &[], 0),
+            Sample(Base::Int(8), &[], 8),
+            Sample(Base::Pointer, &[], 16),
+            Sample(Base::Int(8), &[], 24),
+            Sample(Base::Struct(9), &[], 32),
         ],
     },
     SampleStruct {
         size: 8,
         alignment: 8,
-        fields: &[(Base::Pointer, &[], 0)],
+        fields: &[Sample(Base::Pointer, &[], 0)],
     },
     SampleStruct {
         size: 80,
         alignment: 8,
         fields: &[
-            (Base::Struct(6), &[], 0),
-            (Base::Struct(7), &[], 16),
-            (Base::Pointer, &[], 64),
-            (Base::Bool, &[], 72),
+            Sample(Base::Struct(6), &[], 0),
+            Sample(Base::Struct(7), &[], 16),
+            Sample(Base::Pointer, &[], 64),
+            Sample(Base::Bool, &[], 72),
         ],
     },
     SampleStruct {
         size: 32,
         alignment: 8,
         fields: &[
-            (Base::Int(1), &[], 0),
-            (Base::Struct(3), &[], 8),
-            (Base::Int(2), &[], 24),
+            Sample(Base::Int(1), &[], 0),
+            Sample(Base::Struct(3), &[], 8),
+            Sample(Base::Int(2), &[], 24),
         ],
     },
     SampleStruct {
         size: 20,
         alignment: 4,
         fields: &[
-            (Base::Bool, &[], 0),
-            (Base::Int(4), &[], 4),
-            (Base::Int(1), &[], 8),
-            (Base::Int(4), &[], 12),
-            (Base::Int(2), &[], 16),
+            Sample(Base::Bool, &[], 0),
+            Sample(Base::Int(4), &[], 4),
+            Sample(Base::Int(1), &[], 8),
+            Sample(Base::Int(4), &[], 12),
+            Sample(Base::Int(2), &[], 16),
         ],
     },
     SampleStruct {
         size: 64,
         alignment: 8,
-        fields: &[(Base::Int(1), &[3], 0), (Base::Struct(10), &[], 8)],
+        fields: &[
+            Sample(Base::Int(1), &[3], 0),
+            Sample(Base::Struct(10), &[], 8),
+        ],
     },
     SampleStruct {
         size: 40,
         alignment: 8,
         fields: &[
-            (Base::Struct(15), &[], 0),
-            (Base::Pointer, &[], 24),
-            (Base::Bool, &[], 32),
+            Sample(Base::Struct(15), &[], 0),
+            Sample(Base::Pointer, &[], 24),
+            Sample(Base::Bool, &[], 32),
         ],
     },
     SampleStruct {
         size: 3,
         alignment: 1,
-        fields: &[(Base::Struct(2), &[3], 0)],
+        fields: &[Sample(Base::Struct(2), &[3], 0)],
     },
     SampleStruct {
         size: 32,
         alignment: 8,
-        fields: &[(Base::Struct(9), &[], 0)],
+        fields: &[Sample(Base::Struct(9), &[], 0)],
     },
     SampleStruct {
         size: 72,
         alignment: 8,
         fields: &[
-            (Base::Pointer, &[], 0),
-            (Base::Struct(14), &[], 8),
-            (Base::Int(4), &[], 40),
-            (Base::Int(4), &[2], 44),
-            (Base::Int(8), &[], 56),
-            (Base::Int(1), &[], 64),
+            Sample(Base::Pointer, &[], 0),
+            Sample(Base::Struct(14), &[], 8),
+            Sample(Base::Int(4), &[], 40),
+            Sample(Base::Int(4), &[2], 44),
+            Sample(Base::Int(8), &[], 56),
+            Sample(Base::Int(1), &[], 64),
         ],
     },
     SampleStruct {
         size: 24,
         alignment: 8,
-        fields: &[(Base::Struct(4), &[], 0), (Base::Struct(12), &[], 16)],
+        fields: &[
+            Sample(Base::Struct(4), &[], 0),
+            Sample(Base::Struct(12), &[], 16),
+        ],
     },
     SampleStruct {
         size: 408,
         alignment: 8,
         fields: &[
-            (Base::Int(4), &[3], 0),
-            (Base::Int(2), &[], 12),
-            (Base::Struct(11), &[3, 2], 16),
-            (Base::Struct(12), &[], 400),
+            Sample(Base::Int(4), &[3], 0),
+            Sample(Base::Int(2), &[], 12),
+            Sample(Base::Struct(11), &[3, 2], 16),
+            Sample(Base::Struct(12), &[], 400),
         ],
     },
     SampleStruct {
         size: 2,
         alignment: 1,
-        fields: &[(Base::Int(1), &[], 0), (Base::Int(1), &[], 1)],
+        fields: &[Sample(Base::Int(1), &[], 0), Sample(Base::Int(1), &[], 1)],
     },
     SampleStruct {
         size: 1,
         alignment: 1,
-        fields: &[(Base::Bool, &[], 0)],
+        fields: &[Sample(Base::Bool, &[], 0)],
     },
     SampleStruct {
         size: 32,
         alignment: 8,
         fields: &[
-            (Base::Int(2), &[], 0),
-            (Base::Int(4), &[], 4),
-            (Base::Bool, &[], 8),
-            (Base::Pointer, &[], 16),
-            (Base::Int(1), &[], 24),
+            Sample(Base::Int(2), &[], 0),
+            Sample(Base::Int(4), &[], 4),
+            Sample(Base::Bool, &[], 8),
+            Sample(Base::Pointer, &[], 16),
+            Sample(Base::Int(1), &[], 24),
         ],
     },
     SampleStruct {
         size: 48,
         alignment: 8,
         fields: &[
-            (Base::Struct(23), &[5], 0),
-            (Base::Int(8), &[], 16),
-            (Base::Int(4), &[], 24),
-            (Base::Int(4), &[], 28),
-            (Base::Pointer, &[], 32),
-            (Base::Int(1), &[], 40),
+            Sample(Base::Struct(23), &[5], 0),
+            Sample(Base::Int(8), &[], 16),
+            Sample(Base::Int(4), &[], 24),
+            Sample(Base::Int(4), &[], 28),
+            Sample(Base::Pointer, &[], 32),
+            Sample(Base::Int(1), &[], 40),
         ],
     },
     SampleStruct {
         size: 2,
         alignment: 1,
-        fields: &[(Base::Int(1), &[], 0), (Base::Int(1), &[], 1)],
+        fields: &[Sample(Base::Int(1), &[], 0), Sample(Base::Int(1), &[], 1)],
     },
     SampleStruct {
         size: 1,
         alignment: 1,
-        fields: &[(Base::Int(1), &[], 0)],
+        fields: &[Sample(Base::Int(1), &[], 0)],
     },
     SampleStruct {
         size: 40,
         alignment: 8,
         fields: &[
-            (Base::Int(2), &[], 0),
-            (Base::Pointer, &[], 8),
-            (Base::Int(1), &[], 16),
-            (Base::Pointer, &[], 24),
-            (Base::Int(2), &[], 32),
+            Sample(Base::Int(2), &[], 0),
+            Sample(Base::Pointer, &[], 8),
+            Sample(Base::Int(1), &[], 16),
+            Sample(Base::Pointer, &[], 24),
+            Sample(Base::Int(2), &[], 32),
         ],
     },
 ];
@@ -288,7 +298,7 @@ fn type_of(alloc: Global, base: Base, dimensions: &[u64]) -> Result<CType, NoMem
 
 fn struct_of(alloc: Global, samples: &[Sample]) -> Result<StructDef, NoMemory> {
     let mut fields = List::new(alloc);
-    for ((base, dimensions, _), letter) in samples.iter().zip(NAMES.iter()) {
+    for (Sample(base, dimensions, _), letter) in samples.iter().zip(NAMES.iter()) {
         let ctype = type_of(alloc, *base, dimensions)?;
         let name = Text::from_slice(alloc, &[*letter])?;
         fields.push(Field { name, ctype })?;
@@ -326,7 +336,7 @@ fn layouts_are_those_of_gcc(rt: HostRuntime) -> Result<(), Fail> {
             Extent::Bytes(sample.size)
         );
         assert_eq!(rt; align(&ctype, &structs, Abi::Lp64), Some(sample.alignment));
-        for (index, (_, _, offset)) in (0u32..8).zip(sample.fields.iter()) {
+        for (index, Sample(_, _, offset)) in (0u32..8).zip(sample.fields.iter()) {
             let letter = name_at(index);
             let want = Some(FieldAt {
                 offset: *offset,
@@ -368,7 +378,7 @@ fn what_holds_an_incomplete_type_is_incomplete(rt: HostRuntime) -> Result<(), Fa
         complete: false,
         fields: List::new(rt.alloc()),
     })?;
-    let field = (Base::Struct(0), &[2], 0);
+    let field = Sample(Base::Struct(0), &[2], 0);
     structs.push(struct_of(rt.alloc(), &[field])?)?;
     for ctype in [CType::Void, CType::Struct(0), CType::Struct(1)] {
         assert_eq!(rt; size(&ctype, &structs, Abi::Lp64), Extent::Incomplete);
@@ -382,9 +392,9 @@ fn what_holds_an_incomplete_type_is_incomplete(rt: HostRuntime) -> Result<(), Fa
 #[test]
 fn sixteen_levels_of_doubling_take_no_time(rt: HostRuntime) -> Result<(), Fail> {
     let mut structs = List::new(rt.alloc());
-    structs.push(struct_of(rt.alloc(), &[(Base::Int(1), &[], 0)])?)?;
+    structs.push(struct_of(rt.alloc(), &[Sample(Base::Int(1), &[], 0)])?)?;
     for below in 0u32..16 {
-        let twin = (Base::Struct(below), &[], 0);
+        let twin = Sample(Base::Struct(below), &[], 0);
         structs.push(struct_of(rt.alloc(), &[twin, twin])?)?;
     }
     assert_eq!(rt;
