@@ -8,10 +8,10 @@ use Rattle.std.proofs.lemmas.Option.{slice_get_past, slice_get-get_or}
 use Rattle.cbase.specs.declared.place.Place.{Place}
 use Rattle.report.specs.Report.{IsPrintable}
 use Rattle.report.specs.declared.warning.Warning.{Warning}
-use Rattle.predator.specs.declared.fault.Fault.{Fault}
-use Rattle.predator.specs.declared.token.PlacedToken.{PlacedToken}
-use Rattle.predator.specs.declared.token.Token.TheVariants.{Int}
-use Rattle.predator.specs.declared.line.Program.{Program}
+use Rattle.first_form.specs.declared.fault.Fault.{Fault}
+use Rattle.first_form.specs.declared.token.PlacedToken.{PlacedToken}
+use Rattle.first_form.specs.declared.token.Token.TheVariants.{Int}
+use Rattle.first_form.specs.declared.line.Program.{Program}
 use Rattle.predator.specs.Verdict.{AreWarnings, first_place, place_of, warning_of}
 
 abbrev place_in : Option PlacedToken → Place

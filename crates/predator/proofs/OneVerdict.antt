@@ -17,13 +17,13 @@ use Rattle.report.specs.declared.answer.Why.TheVariants as why
 use Rattle.report.specs.declared.answer.Answer.{Answer}
 use Rattle.report.specs.declared.answer.Answer.TheVariants.{Safe, Warned, NotRead, Construct, NotYet, TooLong, Usage, ReadFault, OutOfMemory}
 use Rattle.report.specs.declared.warning.Warning.{Warning}
-use Rattle.predator.specs.declared.line.Program.{Program}
-use Rattle.predator.specs.declared.token.PlacedToken.{PlacedToken}
-use Rattle.predator.specs.FirstForm.{IsFormed, IsProgram}
+use Rattle.first_form.specs.declared.line.Program.{Program}
+use Rattle.first_form.specs.declared.token.PlacedToken.{PlacedToken}
+use Rattle.first_form.specs.FirstForm.{IsFormed, IsProgram}
 use Rattle.predator.specs.Verdict.{AreWarnings, HasNoMain, HasNoToken, IsExact, IsFirstForm, IsRead, IsSound, IsTooDeep, IsVerdict, Judges, answer_of, verdict_of, warning_of}
-use Rattle.predator.proofs.Ascending.{same_faults, same_numbers, no_member}
-use Rattle.predator.proofs.ReadLines.{one_program}
-use Rattle.predator.proofs.Spellings.{same_spelled}
+use Rattle.first_form.proofs.Ascending.{same_faults, same_numbers, no_member}
+use Rattle.first_form.proofs.ReadLines.{one_program}
+use Rattle.first_form.proofs.Spellings.{same_spelled}
 
 -- what is found out of the bytes of a file, up to the items that main needs
 data Stage : Type 0 where

@@ -17,17 +17,17 @@ use Rattle.std.proofs.lemmas.Option.{slice_get_cases, get_or_from_slice_get}
 use Rattle.report.specs.declared.answer.Why.TheVariants as why
 use Rattle.report.specs.declared.answer.Answer.TheVariants.{NotRead, NotYet}
 use Rattle.report.specs.declared.warning.Warning.{Warning}
-use Rattle.predator.specs.declared.fault.Fault.{Fault}
-use Rattle.predator.specs.declared.line.Program.{Program}
-use Rattle.predator.specs.declared.token.PlacedToken.{PlacedToken}
-use Rattle.predator.specs.FirstForm.{IsFormed}
-use Rattle.predator.specs.Faults.{AreFaults}
-use Rattle.predator.specs.Row.{item_tokens}
+use Rattle.first_form.specs.declared.fault.Fault.{Fault}
+use Rattle.first_form.specs.declared.line.Program.{Program}
+use Rattle.first_form.specs.declared.token.PlacedToken.{PlacedToken}
+use Rattle.first_form.specs.FirstForm.{IsFormed}
+use Rattle.first_form.specs.Faults.{AreFaults}
+use Rattle.first_form.specs.Row.{item_tokens}
 use Rattle.predator.specs.Told.{IsTold}
 use Rattle.predator.specs.Verdict.{AreWarnings, IsFirstForm, IsSound, answer_of, only_item, verdict_of, warning_of}
-use Rattle.predator.proofs.Ascending.{no_member}
+use Rattle.first_form.proofs.Ascending.{no_member}
 use Rattle.predator.proofs.FaultPlaces.{warnings_printable}
-use Rattle.predator.proofs.Spellings.{item_tokens-All, row_places}
+use Rattle.first_form.proofs.Spellings.{item_tokens-All, row_places}
 
 -- a token of a text has a name for its file
 token_named : (t : Tokens) (at : ℕ) (token : Lexeme) → HasNamedFiles t → slice_get t.list at ≡ Some token → token.place.file < length t.names

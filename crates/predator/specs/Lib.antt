@@ -1,14 +1,3 @@
-pub mod Tokens
-pub mod Spelling
-pub mod Row
-pub mod FirstForm
-pub mod FrontLine
-pub mod ReadLines
-pub mod Scope
-pub mod Machine
-pub mod Search
-pub mod Found
-pub mod Faults
 pub mod Words
 pub mod Verdict
 pub mod Told

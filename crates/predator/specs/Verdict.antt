@@ -17,12 +17,12 @@ use Rattle.report.specs.declared.answer.Answer.{Answer}
 use Rattle.report.specs.declared.answer.Answer.TheVariants.{Safe, Warned, NotRead, Construct, NotYet, TooLong, Usage, ReadFault, OutOfMemory}
 use Rattle.report.specs.declared.limits.Limits.{Limits}
 use Rattle.report.specs.declared.warning.Warning.{Warning}
-use Rattle.predator.specs.declared.fault.Fault.{Fault}
-use Rattle.predator.specs.declared.line.Program.{Program}
-use Rattle.predator.specs.declared.token.PlacedToken.{PlacedToken}
-use Rattle.predator.specs.FirstForm.{IsFormed}
-use Rattle.predator.specs.Machine.{Reaches}
-use Rattle.predator.specs.Faults.{AreFaults}
+use Rattle.first_form.specs.declared.fault.Fault.{Fault}
+use Rattle.first_form.specs.declared.line.Program.{Program}
+use Rattle.first_form.specs.declared.token.PlacedToken.{PlacedToken}
+use Rattle.first_form.specs.FirstForm.{IsFormed}
+use Rattle.first_form.specs.Machine.{Reaches}
+use Rattle.first_form.specs.Faults.{AreFaults}
 
 -- no run of the program, with any choices and however long, meets a fault
 abbrev pub IsSound : Program → Type 0

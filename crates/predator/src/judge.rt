@@ -7,18 +7,17 @@ ghost use Rattle.cgrammar.specs.Readings.{AreNumbered};
 ghost use Rattle.cread.specs.Needed.{AreRead, spans_of};
 ghost use Rattle.ctokens.specs.TokenList.{HasNamedFiles};
 ghost use Rattle.report.specs.Report.{HasPrintable};
-ghost use Rattle.predator.specs.FirstForm.{IsSmall};
+ghost use Rattle.first_form.specs.FirstForm.{IsSmall};
 ghost use Rattle.predator.specs.Told.{IsTold};
 ghost use Rattle.predator.specs.Verdict.{AreNames, AreWarnings, IsExact, IsVerdict, Judges, answer_of, only_item, verdict_of};
 
-use crate::decide::decide;
-use crate::read_first_form::{ReadItem, read_first_form};
 use crate::warnings::warnings_of;
 use cbase::{List, NoMemory, Text};
 use cread::{ReadNeeded, Refusal, needed_have_one_answer, read_needed};
 use ctokens::{
     Deep, ItemSpan, Lexical, Tokens, items, needed, one_item_list, one_token_list, tokens_of_bytes,
 };
+use first_form::{ReadFirstForm, decide, read_first_form};
 use report::{Answer, Warning, Why};
 use std::alloc::Global;
 
@@ -202,7 +201,7 @@ fn only_item(items: &[ItemSpan], numbers: &[u32]) -> Option<ItemSpan>
 
 /// The warnings of an item that was read.
 #[tactic(auto, using(crate::proofs::FaultPlaces::warnings_have_kinds))]
-fn warnings_in(alloc: Global, read: &ReadItem) -> Result<List<Warning>, NoMemory>
+fn warnings_in(alloc: Global, read: &ReadFirstForm) -> Result<List<Warning>, NoMemory>
     requires { IsSmall read.now.program.lines }
     ensures warnings { IfOk result (AreWarnings read.now.row read.now.program) }
     ensures kinds { IfOk result (All (λ warning. (5 ≤ warning.kind) × (warning.kind ≤ 7))) }

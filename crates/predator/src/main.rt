@@ -3,27 +3,9 @@
 
 ghost use Rattle.std.specs.Prelude.{◌≡◌, drop};
 
-mod byte;
-mod decide;
-mod fault;
-mod found;
 mod judge;
-mod kinds;
-mod later;
-mod line;
-mod locals;
-mod losses;
-mod read_first_form;
-mod read_line;
-mod read_lines;
-mod row;
-mod scope;
-mod search;
-mod situation;
-mod spelling;
 #[cfg(test)]
 mod tests;
-mod token;
 mod top;
 mod warnings;
 

@@ -1,9 +1,8 @@
 ghost use Rattle.std.specs.Prelude.{◌≡◌, IfOk, map};
 ghost use Rattle.predator.specs.Verdict.{place_of, warning_of};
 
-use crate::fault::Fault;
-use crate::token::PlacedToken;
 use cbase::{List, NoMemory, Place};
+use first_form::{Fault, PlacedToken};
 use report::Warning;
 use std::alloc::Global;
 

@@ -1,0 +1,30 @@
+//! Texts of the first form: a `main` that declares `void *` locals and uses `malloc`, assignment and `free`. Which items
+//! are of that form, what their runs are, and which faults some run meets.
+//!
+//! It knows tokens and memory, and no other form of C, no files and no reports.
+#![tactic(auto)]
+
+mod byte;
+mod decide;
+mod fault;
+mod found;
+mod kinds;
+mod later;
+mod line;
+mod locals;
+mod losses;
+mod read_first_form;
+mod read_line;
+mod read_lines;
+mod row;
+mod scope;
+mod search;
+mod situation;
+mod spelling;
+mod token;
+
+pub use decide::decide;
+pub use fault::Fault;
+pub use line::{Line, Program, Source};
+pub use read_first_form::{ReadFirstForm, read_first_form};
+pub use token::{PlacedToken, Token};

@@ -1,5 +1,0 @@
-use Rattle.predator.proofs.FoundLemmas.{has-updated}
-use Rattle.predator.proofs.found.add.Goals as goal
-
-pub returns : goal.returns
-returns c = has-updated c.args.found.now c.insert.new.self (record { at = c.args.at; kind = c.args.kind }) c.in_ok-insert.ensures.updates

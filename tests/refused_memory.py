@@ -1,0 +1,101 @@
+#!/usr/bin/env python3
+"""Runs the built program with one allocation refused, each in turn, and looks that it says so and writes nothing.
+
+Usage, at the project's root: tests/refused_memory.py [FILE ..]
+Without words it takes the examples and the preprocessed programs. It needs gcc, which makes a library that stands before
+the C library's allocator. For each file it prints how many allocations its run makes, and at how many of them the
+program, refused that one alone, did not end with status 7 and without a byte. The status is 1 where one did not.
+"""
+import os
+import subprocess
+import sys
+import tempfile
+from concurrent.futures import ThreadPoolExecutor
+from pathlib import Path
+
+HOME = Path(__file__).resolve().parent.parent
+PROGRAM = HOME / "crates/predator/out/predator"
+SECONDS = 60
+WANTED = (7, b"")
+
+ALLOCATOR = r"""
+#include <errno.h>
+#include <stddef.h>
+#include <stdio.h>
+#include <stdlib.h>
+
+void *__libc_malloc(size_t);
+void *__libc_calloc(size_t, size_t);
+void *__libc_realloc(void *, size_t);
+void *__libc_memalign(size_t, size_t);
+
+static unsigned long asked, refused;
+
+/* Counts one request, and says whether it is the refused one. */
+static int is_refused(void) { return ++asked == refused; }
+
+__attribute__((constructor)) static void begin(void)
+{
+    const char *number = getenv("REFUSED");
+    refused = number ? strtoul(number, NULL, 10) : 0;
+    asked = 0;
+}
+
+__attribute__((destructor)) static void end(void)
+{
+    const char *name = getenv("ASKED");
+    FILE *file = name ? fopen(name, "w") : NULL;
+    if (file) { fprintf(file, "%lu", asked); fclose(file); }
+}
+
+void *malloc(size_t size) { return is_refused() ? NULL : __libc_malloc(size); }
+void *calloc(size_t count, size_t size) { return is_refused() ? NULL : __libc_calloc(count, size); }
+void *realloc(void *at, size_t size) { return is_refused() ? NULL : __libc_realloc(at, size); }
+void *memalign(size_t align, size_t size) { return is_refused() ? NULL : __libc_memalign(align, size); }
+void *aligned_alloc(size_t align, size_t size) { return is_refused() ? NULL : __libc_memalign(align, size); }
+int posix_memalign(void **at, size_t align, size_t size)
+{
+    *at = is_refused() ? NULL : __libc_memalign(align, size);
+    return *at ? 0 : ENOMEM;
+}
+"""
+
+
+def ran(library, file, **more):
+    """The status and what was written, with some variables set."""
+    done = subprocess.run([PROGRAM, file.name], cwd=file.parent, stdin=subprocess.DEVNULL, stdout=subprocess.PIPE,
+                          stderr=subprocess.PIPE, timeout=SECONDS, env={**os.environ, "LD_PRELOAD": library, **more})
+    return done.returncode, done.stdout
+
+
+def asked_in(library, file, folder):
+    """How many allocations a run with none of them refused makes."""
+    count = Path(folder, "asked")
+    ran(library, file, ASKED=str(count))
+    return int(count.read_text())
+
+
+def others(library, file, asked):
+    """The runs, by number, that did not end as they should."""
+    with ThreadPoolExecutor(os.cpu_count()) as pool:
+        got = pool.map(lambda number: ran(library, file, REFUSED=str(number)), range(1, asked + 1))
+        return [(number, run) for number, run in enumerate(got, 1) if run != WANTED]
+
+
+def main():
+    files = [Path(word).resolve() for word in sys.argv[1:]]
+    files = files or sorted([*HOME.glob("examples/*.c"), *HOME.glob("tests/preprocessed/*.i")])
+    differs = 0
+    with tempfile.TemporaryDirectory() as folder:
+        source, library = Path(folder, "allocator.c"), str(Path(folder, "allocator.so"))
+        source.write_text(ALLOCATOR)
+        subprocess.run(["gcc", "-O2", "-shared", "-fPIC", "-o", library, source], check=True)
+        for file in files:
+            asked = asked_in(library, file, folder)
+            wrong = others(library, file, asked)
+            differs += bool(wrong) or asked == 0
+            print(f"{file.name}: {asked} allocations, {len(wrong)} not as wanted" + (f": {wrong[:3]!r}" if wrong else ""), flush=True)
+    sys.exit(1 if differs else 0)
+
+
+main()
