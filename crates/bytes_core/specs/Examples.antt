@@ -30,6 +30,7 @@ example =
     ∷ record { base = 12288; kind = Heap; live = false; bytes = zeros 8 }
     ∷ []
 
+-- what is computed of them
 pub record AreExamples : Type 0 where
   -- a pointer's eight parts in order are read as the pointer
   pub eight_parts : pointer_read example parts ≡ To 1 (pos 0)

@@ -8,6 +8,7 @@ use Rattle.bytes_core.specs.declared.block.BlockKind.TheVariants.{Static, Local,
 use Rattle.bytes_core.specs.declared.block.Block.{Block}
 use Rattle.bytes_core.specs.Fault.{double_free, invalid_free}
 
+-- whether a block of this kind was allocated
 abbrev pub is_heap : BlockKind → Bool
 is_heap Static = false
 is_heap Local = false

@@ -18,6 +18,7 @@ abbrev pub WordNamesBelow : ℕ → Word → Type 0
 WordNamesBelow count (Plain number) = Unit {0}
 WordNamesBelow count (To block offset) = block < count
 
+-- what holds of the blocks of each memory
 pub record IsMemory (memory : List Block) : Type 0 where
   -- each block lies where a block may lie
   pub placed : All (λ block. IsTrue (is_placed block)) memory

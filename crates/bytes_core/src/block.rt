@@ -15,11 +15,11 @@ pub enum BlockKind {
 /// A block of memory: an object of the program, or what an allocation gave.
 #[derive(Drop)]
 pub struct Block {
-    /// The address of the first byte.
+    /// The address of the first byte: a multiple of 16, and at least 16.
     pub base: u64,
     /// How its storage ends.
     pub kind: BlockKind,
-    /// Whether it may be accessed. A dead block keeps its number, and its addresses may be used again.
+    /// Whether it may be accessed (C11 6.2.4p2). A dead block keeps its number, and its addresses may be used again.
     pub live: bool,
     /// Its contents; the size in bytes is their number.
     pub bytes: List<Byte>,

@@ -3,7 +3,11 @@
 pub enum Word {
     /// A number. As a pointer it leads to no block; 0 is the null pointer (C11 6.3.2.3p3).
     Plain(u64),
-    /// The pointer to a block, named by its place in the memory, at an offset in bytes. The offset may lie
-    /// outside the block.
-    To { block: u32, offset: i64 },
+    /// A pointer into a block (C11 6.2.5p20).
+    To {
+        /// The number of the block: its place in the memory, from 0.
+        block: u32,
+        /// Where in the block it leads, in bytes from its first one. It may lie outside the block.
+        offset: i64,
+    },
 }
