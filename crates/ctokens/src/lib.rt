@@ -1,7 +1,9 @@
 //! What tokens a preprocessed C text has and where they stand, which items they make up, and which items main
 //! needs.
 //!
-//! It knows bytes, places and brackets, and no grammar.
+//! It knows bytes, places and brackets; which words are keywords, which are passed over and which name built-in
+//! functions; and by which tokens an item names what it declares. It knows no more of the grammar: neither what an
+//! item spells nor which names are typedefs.
 #![tactic(auto)]
 
 mod byte;

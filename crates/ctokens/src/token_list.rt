@@ -27,7 +27,10 @@ pub fn tokens(alloc: Global, text: &[u8], file: &str) -> Result<Result<Tokens, L
     tokens_of_bytes(alloc, text, file.as_bytes())
 }
 
-/// The same for a name of a file that is any bytes.
+/// The tokens of a text, the names of its files and its `#pragma pack` lines; or the first place at which no
+/// token, blank or known directive line begins.
+///
+/// `file` is the name of the file in which the text begins, any bytes. All else is as `tokens` says.
 #[tactic(auto, using(crate::proofs::NamedFiles::tokens_named, crate::proofs::NamedFiles::lexical_named))]
 pub fn tokens_of_bytes(
     alloc: Global,
