@@ -4,6 +4,7 @@ use Rattle.ctokens.specs.Bytes.{is_blank, is_digit, is_word_byte, is_octal_digit
 use Rattle.ctokens.specs.declared.byte.Class.{Class}
 use Rattle.ctokens.specs.declared.byte.Class.TheVariants.{Blank, Digit, Octal, Hexadecimal, Word, Line}
 
+-- whether a byte is of the class
 abbrev pub is_of : Class → ℕ → Bool
 is_of Blank byte = is_blank byte
 is_of Digit byte = is_digit byte

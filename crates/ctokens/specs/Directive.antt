@@ -9,6 +9,7 @@ use Rattle.ctokens.specs.Bytes.{is_empty, is_blank, is_digit, is_word_byte}
 abbrev pub unblanked : List ℕ → List ℕ
 unblanked text = drop (prefix_len is_blank text) text
 
+-- the text begins with a blank
 abbrev pub begins_with_blank : List ℕ → Bool
 begins_with_blank [] = false
 begins_with_blank (byte ∷ others) = is_blank byte
@@ -59,6 +60,7 @@ pub record AreDigits (digits : List ℕ) (number : ℕ) : Type 0 where
   pub value : decimal_value 0 digits ≡ number
   pub in_range : number ≤ greatest_line
 
+-- a byte that may stand behind the name of a marker: a digit or a blank
 abbrev pub is_flag_byte : ℕ → Bool
 is_flag_byte byte = is_digit byte || is_blank byte
 

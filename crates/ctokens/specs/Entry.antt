@@ -10,12 +10,15 @@ use Rattle.ctokens.specs.Numbering.{IsNumbering}
 use Rattle.ctokens.specs.Passed.{read_symbols}
 use Rattle.ctokens.specs.Symbol.{symbols, words}
 
+-- the entry of an item with this row of tokens
 abbrev pub entry_of : List (Lexeme ℕ) → Entry
 entry_of row = record { main = defines_main row; offers = needed_by row; contains = contained Other row }
 
+-- the entries of the items of a row, in order
 abbrev pub entries_of : List (Lexeme ℕ) → List ItemSpan → List Entry
 entries_of row items = map (λ span. entry_of (item_row row span)) items
 
+-- the item of the entry defines main
 abbrev pub is_main_entry : Entry → Bool
 is_main_entry entry = entry.main
 

@@ -19,6 +19,7 @@ next_spot spot byte =
     then record { file = spot.file; line = spot.line + 1; column = 1 }
     else record { file = spot.file; line = spot.line; column = spot.column + 1 }
 
+-- where the byte behind these bytes stands, the first of which stands at `spot`
 abbrev pub spot_behind : Spot → List ℕ → Spot
 spot_behind spot [] = spot
 spot_behind spot (byte ∷ others) = spot_behind (next_spot spot byte) others
@@ -27,6 +28,7 @@ spot_behind spot (byte ∷ others) = spot_behind (next_spot spot byte) others
 abbrev pub number_of : List ℕ → List (List ℕ) → ℕ
 number_of name names = position_or_len (bytes_eq name) names
 
+-- the name stands among the names
 abbrev pub is_among : List ℕ → List (List ℕ) → Bool
 is_among name names = list_any (bytes_eq name) names
 
@@ -43,6 +45,7 @@ place_of progress = record {
   at = length progress.list;
 }
 
+-- the token of the kind with these bytes, behind what was read
 abbrev pub lexeme_of : TokenKind → List ℕ → Progress → Token
 lexeme_of kind bytes progress = record {
   kind = kind;
@@ -51,6 +54,7 @@ lexeme_of kind bytes progress = record {
   place = place_of progress;
 }
 
+-- these bytes are read, and give nothing
 abbrev pub moved : List ℕ → Progress → Progress
 moved bytes progress = record progress { from = progress.from + length bytes; spot = spot_behind progress.spot bytes }
 

@@ -37,14 +37,17 @@ abbrev pub continued_length : ℕ → List ℕ → ℕ
 continued_length before [] = 0
 continued_length before (byte ∷ others) = if continues before byte then 1 + continued_length byte others else 0
 
+-- a word (C11 6.4.2)
 unfoldable pub word_length : List ℕ → ℕ
 word_length [] = 0
 word_length (first ∷ others) = if begins_word first then 1 + prefix_len is_word_byte others else 0
 
+-- a preprocessing number that begins with a digit
 unfoldable pub digits_length : List ℕ → ℕ
 digits_length [] = 0
 digits_length (first ∷ others) = if is_digit first then 1 + continued_length first others else 0
 
+-- a preprocessing number (C11 6.4.8)
 unfoldable pub number_length : List ℕ → ℕ
 number_length [] = 0
 number_length (first ∷ others) =
@@ -52,6 +55,7 @@ number_length (first ∷ others) =
     then (if nat_eq (digits_length others) 0 then 0 else 1 + digits_length others)
     else digits_length (first ∷ others)
 
+-- an escape behind its `\` (C11 6.4.4.4)
 unfoldable pub escape_length : List ℕ → ℕ
 escape_length [] = 0
 escape_length (first ∷ others) =
@@ -61,6 +65,7 @@ escape_length (first ∷ others) =
     then (if nat_eq (prefix_len is_hexadecimal_digit others) 0 then 0 else 1 + prefix_len is_hexadecimal_digit others)
     else 0))
 
+-- what a character constant has between its quotes
 unfoldable pub character_length : List ℕ → ℕ
 character_length [] = 0
 character_length (first ∷ others) =
@@ -68,6 +73,7 @@ character_length (first ∷ others) =
     then (if nat_eq (escape_length others) 0 then 0 else 1 + escape_length others)
     else (if is_plain first then 1 else 0)
 
+-- a character constant, its quotes with it (C11 6.4.4.4)
 unfoldable pub letter_length : List ℕ → ℕ
 letter_length [] = 0
 letter_length (first ∷ others) =
@@ -75,17 +81,21 @@ letter_length (first ∷ others) =
     then 2 + character_length others
     else 0
 
+-- a string literal, its quotes with it (C11 6.4.5)
 unfoldable pub quoted_length : List ℕ → ℕ
 quoted_length [] = 0
 quoted_length (first ∷ others) =
     if nat_eq first 34 then unwrap_or (option_map (λ n. 1 + n) (closing_length Quote false others)) 0 else 0
 
+-- a mark of one byte
 unfoldable pub single_length : ℕ → ℕ
 single_length first = if is_mark (first ∷ []) then 1 else 0
 
+-- a mark of two bytes, or else one of the first byte alone
 unfoldable pub double_length : ℕ → ℕ → ℕ
 double_length first second = if is_mark (first ∷ (second ∷ [])) then 2 else single_length first
 
+-- the longest mark (C11 6.4.6)
 unfoldable pub mark_length : List ℕ → ℕ
 mark_length [] = 0
 mark_length (first ∷ []) = single_length first
@@ -93,6 +103,7 @@ mark_length (first ∷ (second ∷ [])) = double_length first second
 mark_length (first ∷ (second ∷ (third ∷ others))) =
     if is_mark (first ∷ (second ∷ (third ∷ []))) then 3 else double_length first second
 
+-- a token of the kind
 abbrev pub token_length : TokenKind → List ℕ → ℕ
 token_length Word text = word_length text
 token_length Number text = number_length text

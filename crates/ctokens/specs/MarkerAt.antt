@@ -27,6 +27,7 @@ abbrev pub role_in_name : Bool → ℕ → Role
 role_in_name true byte = if nat_eq byte 34 || nat_eq byte 92 then Holds else Breaks
 role_in_name false byte = if nat_eq byte 34 then Ends else (if nat_eq byte 92 then Skips else Holds)
 
+-- what follows from a role, by its four cases
 abbrev pub by_role : {A : Type 0} → Role → A → A → A → A → A
 by_role Holds holds skips ends breaks = holds
 by_role Skips holds skips ends breaks = skips
@@ -50,6 +51,7 @@ unfoldable pub name_and_flags : ℕ → List ℕ → Option FoundMarker
 name_and_flags number [] = None
 name_and_flags number (first ∷ others) = if nat_eq first 34 then flagged number others (name_at false others) else None
 
+-- the name and the flags behind a number, where there is one
 abbrev pub numbered : List ℕ → Option ℕ → Option FoundMarker
 numbered rest None = None
 numbered rest (Some number) = name_and_flags number rest

@@ -41,6 +41,7 @@ follows_declared _ = false
 abbrev pub set_after : ℕ → Bool → Symbol → Bool
 set_after depth set symbol = if nat_eq depth 0 then (is_equals symbol || (not (is_comma symbol) && set)) else set
 
+-- the word `main`
 abbrev pub is_main : Symbol → Bool
 is_main Main = true
 is_main _ = false
@@ -110,6 +111,7 @@ module _ {N : Type 0} where
       has_body (depth_after depth token.symbol) token.symbol (body_after depth before body token.symbol)
       (ends_body depth body token.symbol) rest
 
+  -- whether an item with this row of tokens ends with a body
   abbrev pub ends_with_body : List (Lexeme N) → Bool
   ends_with_body row = has_body 0 Other false false row
 

@@ -12,9 +12,11 @@ pub record State : Type 0 where
   pub marked : List Bool
   pub waiting : List (List ℕ)
 
+-- the entry past the last item: it offers and contains nothing
 abbrev pub no_entry : Entry
 no_entry = record { main = false; offers = []; contains = [] }
 
+-- the entry of the item of that number
 abbrev pub entry_at : List Entry → ℕ → Entry
 entry_at entries number = slice_index_or entries number no_entry
 
@@ -26,6 +28,7 @@ waiting_at waiting name = slice_index_or waiting name []
 abbrev pub put : ℕ → List (List ℕ) → ℕ → List (List ℕ)
 put item waiting name = slice_set waiting name (waiting_at waiting name ++ item ∷ [])
 
+-- one more item that waits for each of these names
 abbrev pub put_all : ℕ → List (List ℕ) → List ℕ → List (List ℕ)
 put_all item waiting [] = waiting
 put_all item waiting (name ∷ names) = put_all item (put item waiting name) names
@@ -41,6 +44,7 @@ mark item state =
     if slice_index_or state.marked item true then state
     else record { order = state.order ++ item ∷ []; marked = slice_set state.marked item true; waiting = state.waiting }
 
+-- these items are found, one behind the other
 abbrev pub mark_all : List ℕ → State → State
 mark_all [] state = state
 mark_all (item ∷ items) state = mark_all items (mark item state)
@@ -55,6 +59,7 @@ unfoldable pub follow : ℕ → State → State
 follow name state =
     mark_all (waiting_at state.waiting name) (record { order = state.order; marked = state.marked; waiting = slice_set state.waiting name [] })
 
+-- these names bring in the items that wait for them, one behind the other
 abbrev pub follow_all : List ℕ → State → State
 follow_all [] state = state
 follow_all (name ∷ names) state = follow_all names (follow name state)
@@ -73,9 +78,11 @@ places place [] = []
 places place (true ∷ rest) = place ∷ places (place + 1) rest
 places place (false ∷ rest) = places (place + 1) rest
 
+-- for each of so many names, the items that wait for it at first
 unfoldable pub waiting_for : List Entry → ℕ → List (List ℕ)
 waiting_for entries count = put_entries 0 (replicate count []) entries
 
+-- what has been found at first: the items that define main
 unfoldable pub started : List Entry → ℕ → State
 started entries count =
     mark_mains 0 entries (record { order = []; marked = replicate (length entries) false; waiting = waiting_for entries count })

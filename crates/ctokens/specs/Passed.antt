@@ -28,6 +28,7 @@ read_from behind zero (symbol ∷ rest) =
     else (if is_attribute symbol then PassedOver ∷ read_from true 0 rest else symbol ∷ read_from false 0 rest)
 read_from behind (suc unclosed) (symbol ∷ rest) = PassedOver ∷ read_from false (depth_after (suc unclosed) symbol) rest
 
+-- the symbols of a whole text with `PassedOver` for each token that is passed over
 abbrev pub read_symbols : List Symbol → List Symbol
 read_symbols symbols = read_from false 0 symbols
 

@@ -19,9 +19,11 @@ first_line text = take (prefix_len is_inside_line text) text
 abbrev pub line_taken : List ℕ → ℕ
 line_taken text = min (length text) (prefix_len is_inside_line text + 1)
 
+-- the text begins with `//`
 abbrev pub begins_line_comment : List ℕ → Bool
 begins_line_comment text = starts_with nat_eq text (codes "//")
 
+-- the text begins with `/*`
 abbrev pub begins_block_comment : List ℕ → Bool
 begins_block_comment text = starts_with nat_eq text (codes "/*")
 
@@ -64,6 +66,7 @@ BeginsAs still_blank text Pack taken = IsDirective still_blank text taken × IsT
 BeginsAs still_blank text (Marker number name) taken = IsDirective still_blank text taken × IsMarker (first_line text) number name
 BeginsAs still_blank text (Lexeme kind) taken = IsToken kind text taken
 
+-- the text begins with this piece, which has at least one byte and lies in the text
 pub record BeginsWith (still_blank : Bool) (text : List ℕ) (piece : Piece) : Type 0 where
   pub some : 0 < piece.taken
   pub inside : piece.taken ≤ length text

@@ -15,6 +15,7 @@ is_word (first ∷ others) = begins_word first && list_all is_word_byte others
 abbrev pub continues : ℕ → ℕ → Bool
 continues before byte = is_number_byte byte || (is_sign byte && is_exponent before)
 
+-- the bytes go on with a preprocessing number, behind the byte `before`
 abbrev pub are_continued : ℕ → List ℕ → Bool
 are_continued before [] = true
 are_continued before (byte ∷ others) = continues before byte && are_continued byte others
