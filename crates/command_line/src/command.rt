@@ -6,14 +6,32 @@ use crate::parser::parsed;
 use cbase::{NoMemory, Text};
 use std::alloc::Global;
 
+/// The least N that `--budget` takes.
+const LEAST_BUDGET: u32 = 1;
+
+/// The greatest N that `--budget` takes.
+const MOST_BUDGET: u32 = 200_000;
+
+/// N where `--budget` is not given.
+const DEFAULT_BUDGET: u32 = 10_000;
+
+/// The least K that `--int-limit` takes.
+const LEAST_INT_LIMIT: u32 = 0;
+
+/// The greatest K that `--int-limit` takes.
+const MOST_INT_LIMIT: u32 = 1_000;
+
+/// K where `--int-limit` is not given.
+const DEFAULT_INT_LIMIT: u32 = 10;
+
 /// What the words of a command line ask for.
 #[derive(Drop)]
 pub struct Command {
-    /// The name of the file, with at least one byte.
+    /// The bytes of FILE, the name of the file that is analysed. There is at least one.
     pub file: Text,
-    /// N, from 1 to 200,000; 10,000 where it is not given.
+    /// N of `--budget`, a number of states, from 1 to 200,000; 10,000 where the option is not given.
     pub budget: u32,
-    /// K, from 0 to 1,000; 10 where it is not given.
+    /// K of `--int-limit`, an amount of an integer, from 0 to 1,000; 10 where the option is not given.
     pub int_limit: u32,
 }
 
@@ -28,10 +46,15 @@ fn command_from(
         o ≡ command_from (option_copied file.entry) (option_copied budget.entry)
         (option_copied int_limit.entry)) }
 {
-    let Some(budget) = number_or(10_000, 1, 200_000, budget) else {
+    let Some(budget) = number_or(DEFAULT_BUDGET, LEAST_BUDGET, MOST_BUDGET, budget) else {
         return Ok(None);
     };
-    let Some(int_limit) = number_or(10, 0, 1_000, int_limit) else {
+    let Some(int_limit) = number_or(
+        DEFAULT_INT_LIMIT,
+        LEAST_INT_LIMIT,
+        MOST_INT_LIMIT,
+        int_limit,
+    ) else {
         return Ok(None);
     };
     let Some(file) = file else {
