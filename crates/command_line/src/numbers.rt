@@ -51,7 +51,7 @@ fn number_in(least: u32, most: u32, word: &[u8]) -> Option<u32>
 }
 
 /// The number that an option's word spells, and `default` where the option was not given.
-pub fn number_or(default: u32, least: u32, most: u32, word: Option<&str>) -> Option<u32>
+pub(crate) fn number_or(default: u32, least: u32, most: u32, word: Option<&str>) -> Option<u32>
     ensures { result ≡ number_or default least most (option_copied word.entry) }
 {
     match word {

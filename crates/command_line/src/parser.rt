@@ -24,7 +24,10 @@ fn parser<'a>(alloc: Global) -> Result<Command<'a>, AllocError>
 }
 
 /// What the parser makes of the words, and `None` where it refuses them.
-pub fn parsed<'a>(alloc: Global, words: &'a [String]) -> Result<Option<ArgMatches<'a>>, NoMemory>
+pub(crate) fn parsed<'a>(
+    alloc: Global,
+    words: &'a [String],
+) -> Result<Option<ArgMatches<'a>>, NoMemory>
     ensures none { IfOk result (λ o. IfNone o
         (fault_of predator_app (map string_bytes words.entry.now) ≢ [])) }
     ensures taken { IfOk result (λ o. IfSome o (λ m.
