@@ -5,14 +5,24 @@ use cbase::{List, Place, Text};
 /// Why a text is not read.
 #[derive(Clone, Copy, Debug, PartialEq, Eq)]
 pub enum Why {
-    /// No token begins at the place.
-    Lexical { place: Place },
-    /// A bracket opens at depth 257 at the place.
-    Deep { place: Place },
-    /// No item defines main.
+    /// At a place of the text begins nothing that it may hold: no token, blank, comment or known directive line
+    /// (C11 5.1.1.2, 6.4, 6.10).
+    Lexical {
+        /// The first such place.
+        place: Place,
+    },
+    /// A bracket opens at depth 257, itself counted, the three kinds of brackets counted together.
+    Deep {
+        /// That of the first such bracket.
+        place: Place,
+    },
+    /// No item defines main (C11 5.1.2.2.1).
     NoMain,
-    /// An item that main needs, which begins at the place, is not spelled by the grammar.
-    Syntax { place: Place },
+    /// An item that main needs is not spelled by the grammar, and has no construct that is given up.
+    Syntax {
+        /// That of the first token of the item.
+        place: Place,
+    },
 }
 
 /// What the program answers.
@@ -20,19 +30,33 @@ pub enum Why {
 pub enum Answer {
     /// No run meets a fault.
     Safe,
-    /// Some run meets each of these faults, one for each token and kind, ordered by token number, then kind.
-    Warned { warnings: List<Warning> },
+    /// Some run meets each of these faults, and none meets another.
+    Warned {
+        /// One for each token and kind, ordered by token number, then kind.
+        warnings: List<Warning>,
+    },
     /// The file holds no program that can be read.
-    NotRead { why: Why },
-    /// An item that main needs has a construct of C at the place that is given up, by its number.
-    Construct { number: u8, place: Place },
+    NotRead {
+        /// What is wrong with it.
+        why: Why,
+    },
+    /// An item that main needs has a construct of C that is given up.
+    Construct {
+        /// The number of the construct, from 1, goto, to 21, bit-field; each has a printed name.
+        number: u8,
+        /// That of the token that shows the construct.
+        place: Place,
+    },
     /// The one item that main needs is not of the form that is read today, or main needs more than one.
     NotYet,
-    /// The file has more bytes than are read: so many were taken.
-    TooLong { taken: u32 },
+    /// The file has more bytes than are read.
+    TooLong {
+        /// How many bytes of it were taken.
+        taken: u32,
+    },
     /// The words are not of the form that the usage line tells.
     Usage,
-    /// The file could not be read.
+    /// The file could not be opened or read.
     ReadFault,
     /// More memory was wanted than there is.
     OutOfMemory,
@@ -40,15 +64,17 @@ pub enum Answer {
 
 /// An answer with the file that it is about, the names that places refer to, and the limits.
 ///
-/// With `Usage` and `OutOfMemory` the name is empty and the limits are the default ones.
+/// `Usage` and `OutOfMemory` are about no file: the name is empty and the limits are the default ones. With them, with
+/// `ReadFault` and with `TooLong` no text was read to its end, and there are no names of files.
 #[derive(Drop)]
 pub struct Shown {
-    /// The name of the file, as the words give it.
+    /// The bytes of the file's name, as the words give it; none with `Usage` and `OutOfMemory`.
     pub file: Text,
-    /// The names of the text's files, to which places refer by number from 0; none where no text was read to its end.
+    /// The names of the text's files, to which places refer by number from 0. With `Why::Lexical` they are those up to
+    /// its place; with `TooLong`, `Usage`, `ReadFault` and `OutOfMemory` there are none.
     pub names: List<Text>,
-    /// The limits that the words give.
+    /// The limits that the words give; the default ones with `Usage` and `OutOfMemory`.
     pub limits: Limits,
-    /// What is answered.
+    /// What is answered. Each place in it refers to one of `names`.
     pub answer: Answer,
 }

@@ -3,7 +3,9 @@ ghost use Rattle.report.specs.Report.{status_of};
 
 use crate::answer::Answer;
 
-/// The exit status of an answer that was written whole. It takes no memory.
+/// The exit status of an answer whose report was written whole: 0 to 5, or 7. It takes no memory.
+///
+/// A report that was not written whole has a status of its own, 6, which no answer has.
 pub fn status(answer: &Answer) -> u8
     ensures { result ≡ status_of answer.now }
 {

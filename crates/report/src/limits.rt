@@ -1,4 +1,4 @@
-/// The limits of an analysis.
+/// The limits of an analysis. They are kept with an answer, and nothing of them is printed.
 #[derive(Clone, Copy, Debug, PartialEq, Eq)]
 pub struct Limits {
     /// How many states are kept at most, from 1 to 200,000.
@@ -8,7 +8,7 @@ pub struct Limits {
 }
 
 impl Limits {
-    /// The limits where the words give none.
+    /// The limits where the words give none: 10,000 states, and amounts up to 10.
     pub const DEFAULT: Limits = Limits {
         budget: 10_000,
         int_limit: 10,

@@ -1,12 +1,12 @@
 use cbase::Place;
 
-/// A fault that some run meets.
+/// A fault at a token, which some run meets or may meet.
 #[derive(Clone, Copy, Debug, PartialEq, Eq)]
 pub struct Warning {
-    /// The token at which the run meets it.
+    /// That of the token at which the run meets it.
     pub place: Place,
-    /// Its kind, from 1 to 8.
+    /// Its kind, from 1, a null pointer dereference, to 8, an overlapping copy; each has a printed text.
     pub kind: u8,
-    /// Whether a run is known that meets it.
+    /// Whether a run is known that meets it: it is printed as an error then, and else as a warning.
     pub error: bool,
 }
