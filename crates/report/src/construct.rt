@@ -1,8 +1,8 @@
 ghost use Rattle.std.specs.Prelude.{◌≡◌};
 ghost use Rattle.report.specs.Construct.{IsConstruct, construct_name};
 
-/// The printed name of a construct of C that is given up.
-pub fn name_of_construct(number: u8) -> &'static [u8]
+/// The printed name of a construct of C that is given up, by its number, from 1 to 21.
+pub(crate) fn name_of_construct(number: u8) -> &'static [u8]
     requires { IsConstruct number }
     ensures { result.now ≡ construct_name number }
 {

@@ -1,8 +1,8 @@
 ghost use Rattle.std.specs.Prelude.{◌≡◌};
 ghost use Rattle.report.specs.Kind.{IsKind, kind_text};
 
-/// The printed text of a kind of fault, without its number.
-pub fn text_of_kind(kind: u8) -> &'static [u8]
+/// The printed text of a kind of fault, from 1 to 8, without its number.
+pub(crate) fn text_of_kind(kind: u8) -> &'static [u8]
     requires { IsKind kind }
     ensures { result.now ≡ kind_text kind }
 {

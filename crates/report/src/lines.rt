@@ -26,7 +26,7 @@ fn name_of(names: &[Text], place: Place) -> &Text
 
 /// Appends `file:line:column`.
 #[tactic(auto, using(std::proofs::Common::append_assoc))]
-pub fn push_place(
+pub(crate) fn push_place(
     alloc: Global,
     text: &mut Text,
     names: &[Text],
@@ -66,7 +66,7 @@ fn push_kind(alloc: Global, text: &mut Text, kind: u8) -> Result<(), NoMemory>
 
 /// Appends the line of a warning, without its newline.
 #[tactic(auto, using(std::proofs::Common::append_assoc))]
-pub fn push_warning(
+pub(crate) fn push_warning(
     alloc: Global,
     text: &mut Text,
     names: &[Text],

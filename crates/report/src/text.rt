@@ -10,7 +10,7 @@ use crate::warning::Warning;
 use cbase::{NoMemory, Place, Text};
 use std::alloc::Global;
 
-/// The report of an answer: its lines, each with a newline at its end.
+/// The report of an answer: its lines, each with a newline at its end. With `ReadFault` and `OutOfMemory` it has none.
 ///
 /// The file of each place that is printed must have a name among those shown, a warning's kind must be one of the
 /// eight, and a construct's number one of the twenty-one.
@@ -59,7 +59,12 @@ fn file_line(alloc: Global, file: &Text, rest: &[u8]) -> Result<Text, NoMemory>
 }
 
 /// The line that tells why a text is not read, with its newline.
-pub fn why_text(alloc: Global, file: &Text, names: &[Text], why: Why) -> Result<Text, NoMemory>
+pub(crate) fn why_text(
+    alloc: Global,
+    file: &Text,
+    names: &[Text],
+    why: Why,
+) -> Result<Text, NoMemory>
     requires { HasPlace names.now why }
     ensures { IfOk result (λ text. text ≡ lines_text (why_line file.now names.now why ∷ [])) }
 {
@@ -95,7 +100,7 @@ fn line_at(
 
 /// The line that tells which construct is given up, with its newline.
 #[tactic(auto, using(std::proofs::Common::append_assoc))]
-pub fn construct_text(
+pub(crate) fn construct_text(
     alloc: Global,
     file: &Text,
     names: &[Text],
