@@ -1,16 +1,9 @@
-use Rattle.std.specs.Prelude.{◌≡◌, ℕ, ◌+◌, ◌-◌, ◌^◌, ◌<◌, ◌≤◌, min, Bool, true, false, IsTrue, List, [], ◌++◌, length, take}
+-- What the answers of files say: whether a file was opened, whether a read failed, and what a read took.
+use Rattle.std.specs.Prelude.{◌≡◌, ℕ, ◌<◌, ◌≤◌, Bool, true, false, IsTrue, List, [], ◌++◌, length, take}
 use Rattle.outside.specs.declared.files.Began.{Began}
 use Rattle.outside.specs.declared.files.Began.TheVariants.{Ready, Failed as Refused}
 use Rattle.outside.specs.declared.files.Taken.{Taken}
 use Rattle.outside.specs.declared.files.Taken.TheVariants.{Bytes, End, Failed}
-
--- one more, up to the last value of a count, where it stands still
-abbrev pub counted : ℕ → ℕ
-counted count = min (count + 1) (2 ^ 64 - 1)
-
--- A count rose, or stands at its last value.
-abbrev pub Rose : ℕ → ℕ → Type 0
-Rose before now = counted before ≤ now
 
 -- the file was opened
 abbrev pub is_ready : Began → Bool

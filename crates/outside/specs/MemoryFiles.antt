@@ -2,7 +2,7 @@ use Rattle.std.specs.Prelude.{ℕ, ◌==◌, ◌||◌, min, Bool, true, false, i
 use Rattle.std.specs.List.{list_any}
 use Rattle.std.specs.Option.{option_map, option_map_or}
 use Rattle.std.specs.Cmp.Lexicographic.{pointwise}
-use Rattle.outside.specs.Files.{counted}
+use Rattle.outside.specs.Faults.{counted}
 use Rattle.outside.specs.declared.files.Began.{Began}
 use Rattle.outside.specs.declared.files.Began.TheVariants.{Ready, Failed as Refused}
 use Rattle.outside.specs.declared.files.Taken.{Taken}

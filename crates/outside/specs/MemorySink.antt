@@ -1,6 +1,6 @@
 use Rattle.std.specs.Prelude.{ℕ, ◌-◌, ◌==◌, ◌||◌, min, nat_le, Bool, if◌then◌else◌, List, ◌++◌, length, take}
 use Rattle.std.specs.List.{list_any}
-use Rattle.outside.specs.Files.{counted}
+use Rattle.outside.specs.Faults.{counted}
 use Rattle.outside.specs.declared.sink.Given.{Given}
 use Rattle.outside.specs.declared.sink.Given.TheVariants.{Bytes, Failed}
 

@@ -1,6 +1,6 @@
 ghost use Rattle.std.specs.Prelude.{◌≡◌, ◌==◌, if◌then◌else◌};
 ghost use Rattle.std.specs.List.{list_any};
-ghost use Rattle.outside.specs.Files.{counted};
+ghost use Rattle.outside.specs.Faults.{counted};
 
 /// One more than `count`, up to the last value, where a count stands still.
 pub(crate) fn counted(count: u64) -> u64

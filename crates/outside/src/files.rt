@@ -1,5 +1,6 @@
 ghost use Rattle.std.specs.Prelude.{◌≡◌, ℕ, ◌^◌, ◌<◌, ◌≤◌, Bool, true, IsTrue, List, Option, Some, length};
-ghost use Rattle.outside.specs.Files.{Rose, Takes, is_ready, is_refused, is_failed};
+ghost use Rattle.outside.specs.Faults.{Rose};
+ghost use Rattle.outside.specs.Files.{Takes, is_ready, is_refused, is_failed};
 
 use cbase::Text;
 

@@ -1,5 +1,5 @@
 ghost use Rattle.std.specs.Prelude.{◌≡◌, ℕ, ◌+◌, ◌^◌, ◌<◌, ◌≤◌, ◌||◌, [], ◌++◌, IfOk, Some, length, min, nat_le, vec_len, vec_capacity};
-ghost use Rattle.outside.specs.Files.{Rose};
+ghost use Rattle.outside.specs.Faults.{Rose};
 ghost use Rattle.outside.specs.Sink.{Gives};
 ghost use Rattle.outside.specs.MemorySink.{SinkMemory, after_give, answer_of};
 

@@ -1,5 +1,5 @@
 ghost use Rattle.std.specs.Prelude.{◌≡◌, ◌≢◌, ℕ, ◌+◌, ◌≤◌, true, false, IsTrue, IfOk, OnErr, Some, List, ◌++◌, length};
-ghost use Rattle.outside.specs.Files.{Rose};
+ghost use Rattle.outside.specs.Faults.{Rose};
 ghost use Rattle.outside.specs.Reading.{IsWithin, LeavesAtMost, Reads, is_failed, reading_of};
 
 use crate::files::{Began, Files, Taken};

@@ -1,5 +1,5 @@
 ghost use Rattle.std.specs.Prelude.{◌≡◌, ℕ, ◌<◌, ◌≤◌, true, false, length, take, []};
-ghost use Rattle.outside.specs.Files.{Rose};
+ghost use Rattle.outside.specs.Faults.{Rose};
 ghost use Rattle.outside.specs.Sink.{appended};
 
 use crate::sink::{Given, Sink};

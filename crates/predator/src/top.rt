@@ -1,6 +1,6 @@
 ghost use Rattle.std.specs.Prelude.{◌≡◌, ◌≢◌, ◌↔◌, ◌⊎◌, ℕ, ◌<◌, true, false, IsTrue, IfOk, None, Some};
 ghost use Rattle.std.specs.Prelude.{List as Items, [], length, map, take, string_bytes};
-ghost use Rattle.outside.specs.Files.{Rose};
+ghost use Rattle.outside.specs.Faults.{Rose};
 ghost use Rattle.outside.specs.Reading.{IsWithin, LeavesAtMost};
 ghost use Rattle.outside.specs.Sink.{appended};
 ghost use Rattle.command_line.specs.CommandLine.{command_of};
