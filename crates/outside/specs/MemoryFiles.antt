@@ -1,3 +1,4 @@
+-- Files in memory: what each call of `begin` and `take` answers, and how it leaves them.
 use Rattle.std.specs.Prelude.{ℕ, ◌==◌, ◌||◌, min, Bool, true, false, if◌then◌else◌, Option, None, Some, is_none, unwrap_or, find, List, [], ◌++◌, length, take, drop, slice_get, nat_eq}
 use Rattle.std.specs.List.{list_any}
 use Rattle.std.specs.Option.{option_map, option_map_or}

@@ -1,3 +1,4 @@
+-- A sink in memory: what each call of `give` answers, and how it leaves the sink.
 use Rattle.std.specs.Prelude.{ℕ, ◌-◌, ◌==◌, ◌||◌, min, nat_le, Bool, if◌then◌else◌, List, ◌++◌, length, take}
 use Rattle.std.specs.List.{list_any}
 use Rattle.outside.specs.Faults.{counted}

@@ -1,3 +1,4 @@
+-- What the reading of a whole file says: how many bytes were read, and of which content they are the front.
 use Rattle.std.specs.Prelude.{◌≡◌, ℕ, ◌+◌, ◌≤◌, nat_le, Bool, true, false, if◌then◌else◌, Option, Some, List, [], ◌++◌, length, take}
 use Rattle.outside.specs.declared.reading.Reading.{Reading}
 use Rattle.outside.specs.declared.reading.Reading.TheVariants.{Whole, Long, Failed}

@@ -1,3 +1,4 @@
+-- What the answer of a sink says of the bytes that were written.
 use Rattle.std.specs.Prelude.{◌≡◌, ℕ, ◌<◌, ◌≤◌, Option, None, Some, List, ◌++◌, length, take}
 use Rattle.outside.specs.declared.sink.Given.{Given}
 use Rattle.outside.specs.declared.sink.Given.TheVariants.{Bytes, Failed}

@@ -1,3 +1,4 @@
+-- What is told of the files that answer every name with the same bytes, beyond what all files tell.
 use Rattle.std.specs.Prelude.{ℕ, List}
 use Rattle.outside.specs.declared.steady.SteadyFiles.{SteadyFiles}
 
