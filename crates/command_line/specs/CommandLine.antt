@@ -43,12 +43,14 @@ pub data Next : Type 0 where
   int_limit_value : Next
   files : Next
 
+-- the words that were given for FILE and for the two options, and what the next word may be
 pub record Seen : Type 0 where
   pub file : Option Word
   pub budget : Option Word
   pub int_limit : Option Word
   pub next : Next
 
+-- before the first word
 abbrev pub nothing_seen : Seen
 nothing_seen = record { file = None; budget = None; int_limit = None; next = anything }
 
@@ -71,9 +73,11 @@ abbrev pub with_int_limit : Seen → Option Word → Option Seen
 with_int_limit seen None = None
 with_int_limit seen (Some word) = Some (record seen { int_limit = Some word; next = anything })
 
+-- the word is FILE, unless there was one before
 abbrev pub file_given : Seen → Word → Option Seen
 file_given seen word = with_file seen (once seen.file word)
 
+-- the word is the value of the option, unless it has one
 abbrev pub budget_given : Seen → Word → Option Seen
 budget_given seen word = with_budget seen (once seen.budget word)
 
@@ -96,6 +100,7 @@ abbrev pub option_met : Seen → Word → Option Word → Option Seen
 option_met seen name value = if bytes_eq (codes "--budget") name then budget_met seen value
     else (if bytes_eq (codes "--int-limit") name then int_limit_met seen value else None)
 
+-- one more word where any may stand: `--`, an option, or FILE
 abbrev pub any_word : Seen → Word → Option Seen
 any_word seen word = if is_end_of_options word then Some (record seen { next = files })
     else (if has_hyphen word then option_met seen (option_name word) (option_value word)
@@ -108,17 +113,20 @@ budget_word seen word = if has_hyphen word then None else budget_given seen word
 abbrev pub int_limit_word : Seen → Word → Option Seen
 int_limit_word seen word = if has_hyphen word then None else int_limit_given seen word
 
+-- one more word, as what it may be
 abbrev pub word_as : Next → Seen → Word → Option Seen
 word_as anything seen word = any_word seen word
 word_as budget_value seen word = budget_word seen word
 word_as int_limit_value seen word = int_limit_word seen word
 word_as files seen word = file_given seen word
 
+-- what the words have given behind one more
 abbrev pub after_word : Seen → Word → Option Seen
 after_word seen word = word_as seen.next seen word
 
 -- ---- all the words
 
+-- what the words have given behind these, where none of them is refused
 abbrev pub after_words : Seen → List Word → Option Seen
 after_words seen [] = Some seen
 after_words seen (word ∷ rest) =
@@ -131,6 +139,7 @@ is_settled budget_value = false
 is_settled int_limit_value = false
 is_settled files = true
 
+-- N is from 1 to 200,000, and 10,000 where it is not given
 abbrev pub least_budget : ℕ
 least_budget = 1
 
@@ -140,6 +149,7 @@ most_budget = 200000
 abbrev pub default_budget : ℕ
 default_budget = 10000
 
+-- K is from 0 to 1,000, and 10 where it is not given
 abbrev pub least_int_limit : ℕ
 least_int_limit = 0
 
@@ -155,11 +165,13 @@ command_with (Some (byte ∷ bytes)) (Some budget) (Some int_limit) =
     Some (record { file = byte ∷ bytes; budget = budget; int_limit = int_limit })
 command_with _ _ _ = None
 
+-- the command of the words that were given for FILE and for the two options
 abbrev pub command_from : Option Word → Option Word → Option Word → Option Command
 command_from file budget int_limit = command_with file
     (number_or default_budget least_budget most_budget budget)
     (number_or default_int_limit least_int_limit most_int_limit int_limit)
 
+-- the command of all the words together
 abbrev pub command_seen : Seen → Option Command
 command_seen seen = if is_settled seen.next
     then command_from seen.file seen.budget seen.int_limit else None

@@ -12,6 +12,7 @@ abbrev pub decimal_after : ℕ → List ℕ → ℕ
 decimal_after before [] = before
 decimal_after before (digit ∷ rest) = decimal_after (before * 10 + (digit - 48)) rest
 
+-- the value of decimal digits
 abbrev pub decimal : List ℕ → ℕ
 decimal digits = decimal_after 0 digits
 
@@ -24,6 +25,7 @@ abbrev pub is_numeral_in : ℕ → ℕ → List ℕ → Bool
 is_numeral_in least most word =
     is_numeral word && (nat_le least (decimal word) && nat_le (decimal word) most)
 
+-- the value of a word that is such a numeral
 abbrev pub number_in : ℕ → ℕ → List ℕ → Option ℕ
 number_in least most word = if is_numeral_in least most word then Some (decimal word) else None
 

@@ -13,5 +13,6 @@ construct_names =
     ∷ codes "struct by value" ∷ codes "size not constant" ∷ codes "pointer cast" ∷ codes "pointer order" ∷ codes "pointer difference"
     ∷ codes "variable length array" ∷ codes "large object" ∷ codes "function pointer" ∷ codes "bit-field" ∷ []
 
+-- the printed name of the construct with this number
 abbrev pub construct_name : ℕ → List ℕ
 construct_name number = unwrap_or (slice_get construct_names (number - 1)) []

@@ -5,6 +5,7 @@ use Rattle.std.specs.Prelude.{ℕ, zero, suc, ◌≤◌, List, codes}
 abbrev pub IsKind : ℕ → Type 0
 IsKind kind = (1 ≤ kind) × (kind ≤ 8)
 
+-- the printed text of the kind with this number
 abbrev pub kind_text : ℕ → List ℕ
 kind_text zero = codes ""
 kind_text (suc zero) = codes "null pointer dereference"

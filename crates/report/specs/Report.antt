@@ -17,6 +17,7 @@ abbrev pub place_text : List (List ℕ) → Place → List ℕ
 place_text names place =
     unwrap_or (slice_get names place.file) [] ++ (codes ":" ++ (decimal place.line ++ (codes ":" ++ decimal place.column)))
 
+-- `error` where a run is known that meets the fault, and else `warning`
 abbrev pub severity : Bool → List ℕ
 severity error = if error then codes "error" else codes "warning"
 
@@ -57,6 +58,7 @@ abbrev pub lines_text : List (List ℕ) → List ℕ
 lines_text [] = []
 lines_text (line ∷ rest) = line ++ (codes "\n" ++ lines_text rest)
 
+-- the report of an answer
 abbrev pub report_bytes : Shown → List ℕ
 report_bytes shown = lines_text (answer_lines shown.file shown.names shown.answer)
 
@@ -84,6 +86,7 @@ HasPrintable names Usage = Unit {0}
 HasPrintable names ReadFault = Unit {0}
 HasPrintable names OutOfMemory = Unit {0}
 
+-- the exit status of an answer that was written whole
 abbrev pub status_of : Answer → ℕ
 status_of Safe = 0
 status_of (Warned warnings) = 1
