@@ -5,7 +5,7 @@
 #![tactic(auto)]
 
 mod byte;
-mod decide;
+mod decision;
 mod fault;
 mod found;
 mod kinds;
@@ -13,9 +13,9 @@ mod later;
 mod line;
 mod locals;
 mod losses;
-mod read_first_form;
 mod read_line;
 mod read_lines;
+mod reading;
 mod row;
 mod scope;
 mod search;
@@ -23,8 +23,8 @@ mod situation;
 mod spelling;
 mod token;
 
-pub use decide::decide;
+pub use decision::decide;
 pub use fault::Fault;
 pub use line::{Line, Program, Source};
-pub use read_first_form::{ReadFirstForm, read_first_form};
+pub use reading::{ReadFirstForm, read_first_form};
 pub use token::{PlacedToken, Token};

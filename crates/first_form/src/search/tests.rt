@@ -1,7 +1,7 @@
 ghost use Rattle.std.specs.Prelude.{◌≤◌, length};
 
 use super::*;
-use crate::decide::decide;
+use crate::decision::decide;
 use crate::found::listed;
 use cbase::List;
 use std::test::Fail;

@@ -1,6 +1,6 @@
 -- The search finds exactly the faults that some run meets.
 use Rattle.first_form.proofs.Exact.{faults_are_exact, faults_have_kinds}
-use Rattle.first_form.proofs.decide.decide.Goals as goal
+use Rattle.first_form.proofs.decision.decide.Goals as goal
 
 pub returns-clause-exact : goal.returns-clause-exact
 returns-clause-exact c =

@@ -1,5 +1,5 @@
 use Rattle.std.proofs.Common.{◌≡◌, ◌++◌, map, drop}
-use Rattle.first_form.proofs.read_first_form.plain_tokens.Given as goal
+use Rattle.first_form.proofs.reading.plain_tokens.Given as goal
 
 -- the tokens so far and those that are left make up the whole
 abbrev pub invariant-loop-token : goal.invariant-loop-token
