@@ -20,6 +20,8 @@ blocks         statement expressions in as many brackets, in such functions
 blocks_flat    as much text of statement expressions in one bracket each
 sums           sums in as many brackets, in such functions
 sums_flat      as much text of sums in one bracket each
+scopes         names in the innermost of as many blocks as may be open, each of which declares a name
+scopes_flat    as many names in one block
 callee         a thousand calls, each of what the one before it gives, where the first has a million tokens and no word
 callee_word    the same, where the first token is a word
 callee_in      250 such calls, each in brackets of its own with all before it
@@ -133,6 +135,13 @@ def nests_text(inner, count):
     return needed_text("".join(f"x = {nest}; " if number % 2 else f"int y{number} = {nest}; " for number in range(most)))
 
 
+def scopes_text(count):
+    """Statements that are a name alone, which the outermost of so many blocks declares; each other block declares another."""
+    inner = "x0; " * 900_000
+    blocks = "".join(f"{{ int x{number}; " for number in range(count))
+    return f"int main(void) {blocks}{inner}{'} ' * count}\n"
+
+
 def sum_text():
     parts = (("+", "b"), ("*", "c"), ("-", "a"))
     others = "".join("".join(parts[number % 3]) for number in range(TOKENS // 2))
@@ -173,6 +182,8 @@ def texts_in(folder):
         "blocks_flat": lambda: nests_text("({ x; })", 1),
         "sums": lambda: nests_text("x + 1", most),
         "sums_flat": lambda: nests_text("x + 1", 1),
+        "scopes": lambda: scopes_text(DEEPEST),
+        "scopes_flat": lambda: scopes_text(1),
         "callee": lambda: callee_text("1", 1_000, False),
         "callee_word": lambda: callee_text("f", 1_000, False),
         "callee_in": lambda: callee_text("1", 250, True),
@@ -183,8 +194,8 @@ def texts_in(folder):
 # what gcc refuses, since it calls what is no function
 REFUSED = ("callee", "callee_word", "callee_in", "callee_in_word")
 # texts made to be slow, each with one of the same size that is not
-PAIRS = (("casts", "casts_flat"), ("blocks", "blocks_flat"), ("sums", "sums_flat"), ("callee", "callee_word"),
-         ("callee_in", "callee_in_word"))
+PAIRS = (("casts", "casts_flat"), ("blocks", "blocks_flat"), ("sums", "sums_flat"), ("scopes", "scopes_flat"),
+         ("callee", "callee_word"), ("callee_in", "callee_in_word"))
 
 
 def main():
