@@ -1,10 +1,11 @@
 #!/usr/bin/env python3
-"""Runs the built program with one allocation refused, each in turn, and looks that it says so and writes nothing.
+"""Runs the built program with one allocation refused, each in turn, and looks that its answer is want of memory or true.
 
 Usage, at the project's root: tests/refused_memory.py [FILE ..]
 Without words it takes the examples and the preprocessed programs. It needs gcc, which makes a library that stands before
-the C library's allocator. For each file it prints how many allocations its run makes, and at how many of them the
-program, refused that one alone, did not end with status 7 and without a byte. The status is 1 where one did not.
+the C library's allocator. Refused one allocation, a run has to end with status 7 and without a byte, or, where the
+program can do without that allocation, as the run that is refused none. For each file it prints how many allocations
+there are, and how many runs ended in each way; the status is 1 where one ended otherwise.
 """
 import os
 import subprocess
@@ -16,7 +17,7 @@ from pathlib import Path
 HOME = Path(__file__).resolve().parent.parent
 PROGRAM = HOME / "crates/predator/out/predator"
 SECONDS = 60
-WANTED = (7, b"")
+NO_MEMORY = (7, b"")
 
 ALLOCATOR = r"""
 #include <errno.h>
@@ -44,8 +45,9 @@ __attribute__((constructor)) static void begin(void)
 __attribute__((destructor)) static void end(void)
 {
     const char *name = getenv("ASKED");
+    unsigned long until_here = asked;
     FILE *file = name ? fopen(name, "w") : NULL;
-    if (file) { fprintf(file, "%lu", asked); fclose(file); }
+    if (file) { fprintf(file, "%lu", until_here); fclose(file); }
 }
 
 void *malloc(size_t size) { return is_refused() ? NULL : __libc_malloc(size); }
@@ -69,17 +71,16 @@ def ran(library, file, **more):
 
 
 def asked_in(library, file, folder):
-    """How many allocations a run with none of them refused makes."""
+    """How many allocations a run makes that is refused none, and its end."""
     count = Path(folder, "asked")
-    ran(library, file, ASKED=str(count))
-    return int(count.read_text())
+    end = ran(library, file, ASKED=str(count))
+    return int(count.read_text()), end
 
 
-def others(library, file, asked):
-    """The runs, by number, that did not end as they should."""
+def ends(library, file, asked):
+    """The ends of the runs that are refused one allocation, in the order of its number."""
     with ThreadPoolExecutor(os.cpu_count()) as pool:
-        got = pool.map(lambda number: ran(library, file, REFUSED=str(number)), range(1, asked + 1))
-        return [(number, run) for number, run in enumerate(got, 1) if run != WANTED]
+        return list(pool.map(lambda number: ran(library, file, REFUSED=str(number)), range(1, asked + 1)))
 
 
 def main():
@@ -91,10 +92,12 @@ def main():
         source.write_text(ALLOCATOR)
         subprocess.run(["gcc", "-O2", "-shared", "-fPIC", "-o", library, source], check=True)
         for file in files:
-            asked = asked_in(library, file, folder)
-            wrong = others(library, file, asked)
-            differs += bool(wrong) or asked == 0
-            print(f"{file.name}: {asked} allocations, {len(wrong)} not as wanted" + (f": {wrong[:3]!r}" if wrong else ""), flush=True)
+            asked, whole = asked_in(library, file, folder)
+            got = ends(library, file, asked)
+            wrong = [(number, end) for number, end in enumerate(got, 1) if end not in (NO_MEMORY, whole)]
+            differs += bool(wrong) or NO_MEMORY not in got
+            print(f"{file.name}: {asked} allocations, {got.count(NO_MEMORY)} ends for want of memory, {got.count(whole)} as with all"
+                  f" memory, {len(wrong)} otherwise" + (f": {wrong[:3]!r}" if wrong else ""), flush=True)
     sys.exit(1 if differs else 0)
 
 

@@ -1,0 +1,2 @@
+#define X
+int main(void) { return 0; }

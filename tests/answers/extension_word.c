@@ -1,0 +1,1 @@
+__extension__ struct s { int a[]; }; int main(void) { struct s *p; return 0; }

@@ -1,0 +1,1 @@
+double d; int main(void) { return d; }

@@ -1,0 +1,1 @@
+int main(void) { int (*f)(void); return 0; }

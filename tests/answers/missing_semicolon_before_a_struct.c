@@ -1,0 +1,2 @@
+int main(void) { return 0 }
+struct u { int a; };

@@ -1,0 +1,1 @@
+int main(void) { void *p; void *p; return 0; }

@@ -1,0 +1,1 @@
+int main(void) { __int128 x; return 0; }
