@@ -1,4 +1,5 @@
 pub mod BasicRows
+pub mod Bounded
 pub mod CompletingOutcomes
 pub mod CompletingParts
 pub mod CompletingTokens

@@ -109,7 +109,7 @@ in-same name typedef (entry ∷ others) = step (bytes_eq name entry.0) refl (in-
     step true is rest = ap (λ (b : Bool). if b then Some typedef else found_in name others) is
     step false is rest = ap (λ (b : Bool). if b then Some entry.1 else found_in name (declared_in name typedef others)) is ∙ rest
 
-in-other : (name other : List ℕ) (typedef : Bool) (names : Names) → bytes_eq other name ≡ false → found_in other (declared_in name typedef names) ≡ found_in other names
+pub in-other : (name other : List ℕ) (typedef : Bool) (names : Names) → bytes_eq other name ≡ false → found_in other (declared_in name typedef names) ≡ found_in other names
 in-other name other typedef [] apart = ap (λ (b : Bool). if b then Some typedef else None) apart
 in-other name other typedef (entry ∷ others) apart = step (bytes_eq name entry.0) refl (in-other name other typedef others apart)
   where

@@ -1,3 +1,4 @@
+pub mod Bounds
 pub mod Brackets
 pub mod ConstantParts
 pub mod Constants

@@ -5,12 +5,14 @@
 
 mod basic;
 mod basic_words;
+mod bounds;
 mod closers;
 mod constants;
 mod label;
 mod laws;
 mod left_out;
 mod names;
+mod numbers;
 mod operators;
 mod reading;
 mod rows;

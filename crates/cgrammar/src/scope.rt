@@ -1,6 +1,7 @@
 ghost use Rattle.std.specs.Prelude.{◌≡◌, List, length, ◌≤◌, IfOk, OnOk, OnErr};
 ghost use Rattle.cgrammar.specs.Scope.{found, is_typedef_name, declared, declared_around, file_scope, entered, left};
 
+use crate::bounds::Bounds;
 use crate::names::Names;
 use cbase::NoMemory;
 use std::alloc::Global;
@@ -13,6 +14,9 @@ use std::marker::Model;
 #[derive(Drop)]
 pub struct Scope {
     sets: Vec<Names>,
+
+    // Where a look-up begins, so that it does not go through each scope.
+    bounds: Bounds,
 }
 
 impl Model for Scope {
@@ -20,7 +24,11 @@ impl Model for Scope {
 
     ghost Value = { List (List (List ℕ × Bool)) };
 
+    ghost use Rattle.cgrammar.specs.Bounds.{IsBounded};
+
     ghost view = { λ scope. scope.sets.items };
+
+    ghost invariant = { λ scope. IsBounded scope.sets.items scope.bounds.current scope.bounds.earlier.items };
 }
 
 impl Scope {
@@ -30,7 +38,10 @@ impl Scope {
     {
         let mut sets = Vec::new(alloc);
         sets.push(Names::new(alloc))?;
-        Ok(Scope { sets })
+        Ok(Scope {
+            sets,
+            bounds: Bounds::new(alloc)?,
+        })
     }
 
     /// Enters a scope in which nothing is declared. Where memory is wanting all stays as it was.
@@ -39,6 +50,10 @@ impl Scope {
         ensures err { OnErr result (self.new ≡ self.old) }
     {
         self.sets.push(Names::new(alloc))?;
+        if self.bounds.enter(alloc).is_err() {
+            let _entered = self.sets.pop();
+            return Err(NoMemory);
+        }
         Ok(())
     }
 
@@ -48,6 +63,7 @@ impl Scope {
         ensures { self.new ≡ left self.old }
     {
         let _names = self.sets.pop();
+        self.bounds.leave();
     }
 
     /// Declares a name in the innermost scope, as a typedef or as anything else. Where memory is wanting all stays as it
@@ -56,6 +72,7 @@ impl Scope {
         ensures ok { OnOk result (self.new ≡ declared name.now typedef self.old) }
         ensures err { OnErr result (self.new ≡ self.old) }
     {
+        self.bounds.declare(alloc, name)?;
         declare_last(alloc, &mut self.sets, name, typedef)
     }
 
@@ -70,6 +87,7 @@ impl Scope {
         ensures ok { OnOk result (self.new ≡ declared_around name.now typedef self.old) }
         ensures err { OnErr result (self.new ≡ self.old) }
     {
+        self.bounds.declare_around(alloc, name)?;
         declare_around_last(alloc, &mut self.sets, name, typedef)
     }
 
@@ -79,6 +97,7 @@ impl Scope {
     {
         Ok(Scope {
             sets: copied(alloc, self.sets.as_slice())?,
+            bounds: self.bounds.copied(alloc)?,
         })
     }
 
@@ -86,7 +105,8 @@ impl Scope {
     pub fn is_typedef(&self, name: &[u8]) -> bool
         ensures { result ≡ is_typedef_name self.now name.now }
     {
-        found(self.sets.as_slice(), name).unwrap_or(false)
+        let bound = self.bounds.bound(name).min(self.sets.len());
+        found(&self.sets.as_slice()[..bound], name).unwrap_or(false)
     }
 }
 

@@ -123,6 +123,34 @@ fn names_in_scopes(rt: HostRuntime) -> Result<(), Fail> {
 }
 
 #[test]
+fn names_in_many_scopes(rt: HostRuntime) -> Result<(), Fail> {
+    let alloc = rt.alloc();
+    let mut scope = Scope::new(alloc)?;
+    scope.declare(alloc, b"outer", true)?;
+    scope.declare(alloc, b"hidden", true)?;
+    for depth in 0u8..250 {
+        scope.enter(alloc)?;
+        scope.declare(alloc, [b'v', depth].as_slice(), depth > 100)?;
+    }
+    assert!(rt; scope.is_typedef(b"outer"));
+    assert!(rt; scope.is_typedef(b"hidden"));
+    assert!(rt; scope.is_typedef(b"v\xf0") && !scope.is_typedef(b"v\x10"));
+    scope.enter(alloc)?;
+    scope.declare(alloc, b"hidden", false)?;
+    assert!(rt; !scope.is_typedef(b"hidden"));
+    scope.leave();
+    assert!(rt; scope.is_typedef(b"hidden"));
+    scope.declare_around(alloc, b"hidden", false)?;
+    assert!(rt; !scope.is_typedef(b"hidden"));
+    scope.leave();
+    assert!(rt; !scope.is_typedef(b"hidden"));
+    scope.leave();
+    assert!(rt; scope.is_typedef(b"hidden"));
+    assert!(rt; scope.is_typedef(b"outer") && !scope.is_typedef(b"v\xf9"));
+    Ok(())
+}
+
+#[test]
 fn marks_of_operators(rt: HostRuntime) -> Result<(), Fail> {
     assert!(rt; binary_operator(b"<<") == Some((7, BinaryOp::Left)));
     assert!(rt; binary_operator(b"?").is_none());

@@ -1,0 +1,14 @@
+use Rattle.std.proofs.Common.{◌∙◌, ap, map, ℕ, List}
+use Rattle.cgrammar.specs.Bounds.{put_in}
+use Rattle.cgrammar.proofs.Bounded.{put-map, shown}
+use Rattle.cgrammar.proofs.Scopes.{err-holds}
+use Rattle.cgrammar.proofs.numbers.put_in.Goals as goal
+
+pub returns-in_err-insert-clause-err : goal.returns-in_err-insert-clause-err
+returns-in_err-insert-clause-err c = err-holds c.from_residual-in_err-insert.result c.in_err-insert.ensures.err
+
+pub returns-clause-ok : goal.returns-clause-ok
+returns-clause-ok c =
+    ap (map (shown (λ v. v.items))) c.in_ok-insert.ensures.entries
+    ∙ (put-map (λ v. v.items) c.in_ok-copy.copy c.args.number c.args.table.now.entries
+    ∙ ap (λ (n : List ℕ). put_in n c.args.number (map (shown (λ v. v.items)) c.args.table.now.entries)) c.in_ok-copy.ensures.items)
