@@ -1,11 +1,12 @@
 #!/usr/bin/env python3
 """Compares the reading of large texts with gcc's, in one run.
 
-Usage, at the project's root: bench/read.py
-Writes texts of some 4 MiB into a folder of its own, runs ./predator and `gcc -fpreprocessed -fsyntax-only` on each
-in turn, five times, and prints for each text the ratio of the medians of their times, the peak memory of both, and the
-status and the answer of ./predator. Then it prints, for each text that is made to be slow, how many times as long
-./predator takes as on a text of the same size that is not: each of these ratios has to be a small number.
+Usage, at the project's root: bench/read.py [TEXT ..]
+Without words it takes all texts. It writes texts of some 4 MiB into a folder of its own, runs ./predator and
+`gcc -fpreprocessed -fsyntax-only` on each in turn, five times, and prints for each text the ratio of the medians of their
+times, the peak memory of both, and the status and the answer of ./predator. Then it prints, for each text that is made to
+be slow, how many times as long ./predator takes as on a text of the same size that is not: each of these ratios has to be
+a small number.
 The texts:
 
 headers        what glibc's headers declare, many times over under changed names, then a main
@@ -205,8 +206,9 @@ def main():
     with tempfile.TemporaryDirectory() as folder:
         print("| text | bytes | predator / gcc | predator | gcc | peak, predator | peak, gcc | status | answer |")
         print("|---|---|---|---|---|---|---|---|---|")
-        for name, made in texts_in(folder).items():
-            text = made()
+        texts = texts_in(folder)
+        for name in sys.argv[1:] or texts:
+            text = texts[name]()
             file = Path(folder, name + ".c")
             file.write_text(text)
             ours, theirs = [], []
@@ -228,7 +230,8 @@ def main():
     print("\n| text | against | ratio of predator's times |")
     print("|---|---|---|")
     for name, against in PAIRS:
-        print(f"| {name} | {against} | {seconds_of[name] / seconds_of[against]:.2f} |")
+        if name in seconds_of and against in seconds_of:
+            print(f"| {name} | {against} | {seconds_of[name] / seconds_of[against]:.2f} |")
 
 
 main()
