@@ -5,11 +5,11 @@ use Rattle.std.specs.Str.{bytes_eq}
 use Rattle.std.proofs.lemmas.Slice.Eq.{bytes_eq-Decides}
 use Rattle.std.specs.Map.{lookup, set_value}
 use Rattle.std.specs.Option.{unwrap_or}
-use Rattle.std.proofs.lemmas.List.{get_or_past, get_or_default, get_or-set_same, length-set}
+use Rattle.std.proofs.lemmas.List.{get_or_past, get_or_default, get_or-take, get_or-set_same, length-set}
 use Rattle.indexmap.specs.IndexMap.{insert_entry}
 use Rattle.std.specs.Result.{is_err}
-use Rattle.cgrammar.specs.Scope.{Names, says_typedef, is_typedef_name, found_in, first_answer, found, declared_in, declared, declared_around, left, entered, file_scope}
-use Rattle.cgrammar.specs.Bounds.{Numbers, number_in, put_in, or_one, bound_in, IsSilent, IsAbove, AreEarlier, IsBounded, IsRestored, Rises, Remembers, Grow}
+use Rattle.cgrammar.specs.Scope.{Names, says_typedef, is_typedef_name, found_in, first_answer, found, declared_in, declared, declared_around, left, entered}
+use Rattle.cgrammar.specs.Bounds.{Numbers, number_in, put_in, or_one, bound_in, IsSilent, IsAbove, AreEarlier, IsBounded, AreBounds, IsRestored, SameButFirst, Rises, Remembers, Grow}
 use Rattle.cgrammar.proofs.Scopes.{in-other, left_take, left_entered, declared-last, declared-around}
 
 le-or : (a b : ℕ) → (a ≤ b) ⊎ (b < a)
@@ -274,18 +274,6 @@ bounded_left scopes old new earlier is restored = record {
       | inr within ↦ silent-left name scopes at (is.before (length earlier - 1) name number had at (omega (arith, ap or_one now, low)) (omega (arith, within, is.count)))
     ]
 
--- the file's scope
-pub bounded_file : IsBounded file_scope [] ([] ∷ [])
-bounded_file = record { count = refl; above = above; before = before }
-  where
-    above : IsAbove file_scope []
-    above name zero low = refl
-    above name (suc at) low = refl
-
-    before : AreEarlier file_scope ([] ∷ [])
-    before zero name bound has at low inside = cc has
-    before (suc scope) name bound has at low inside = cc has
-
 -- a call that may fail left what it changes new or old
 pub settled : {T E X : Type 0} (P : X → Type 0) (result : Result T E) (now new old : X) → OnOk result (now ≡ new) → OnErr result (now ≡ old) → P new → P old → P now
 settled P (Ok value) now new old ok err after before = subst P (sym ok) after
@@ -451,3 +439,64 @@ typedef_bounded name scopes bounds earlier bound count answer is high all says =
     told : (answer : Option Bool) → unwrap_or answer false ≡ says_typedef answer
     told None = refl
     told (Some typedef) = refl
+
+-- other bounds stand first
+pub bounds_first : (scopes : List Names) (bounds : Numbers) (old new : List Numbers) → IsBounded scopes bounds old → length new ≡ length old → SameButFirst old new → IsBounded scopes bounds new
+bounds_first scopes bounds old new is count same = record { count = count ∙ is.count; above = is.above; before = before }
+  where
+    before : AreEarlier scopes new
+    before zero name bound has at low inside = absurd (omega (arith, inside))
+    before (suc scope) name bound has at low inside =
+        is.before (suc scope) name bound (ap (number_in name) (sym (same (suc scope) (omega arith))) ∙ has) at low inside
+
+pub bounds_none : (scopes : List Names) → length scopes ≤ 1 → AreBounds (left scopes) []
+bounds_none scopes few = record {
+  count = omega (arith, few, length-left scopes);
+  above = λ name at low. silent-last name scopes at (omega (arith, few));
+  before = λ scope name bound has at low inside. cc has;
+}
+
+-- what stands first where the first is changed
+pub first_set : (levels : List Numbers) (numbers : Numbers) → 0 < length levels → get_or (set levels 0 numbers) 0 [] ≡ numbers
+first_set levels numbers some = get_or-set_same levels 0 numbers [] some
+
+-- the bounds that stand first stay
+pub bounds_stay : (scopes : List Names) (old new : List Numbers) → IsBounded scopes (get_or old 0 []) new → get_or new 0 [] ≡ get_or old 0 [] → AreBounds scopes new
+bounds_stay scopes old new is same =
+    let P : Numbers → Type 0 = λ bounds. IsBounded scopes bounds new in
+    subst P (sym same) is
+
+pub bounds_rise : (scopes : List Names) (old new : List Numbers) → AreBounds scopes old → length new ≡ length old → Rises (get_or old 0 []) (get_or new 0 []) → SameButFirst old new → AreBounds scopes new
+bounds_rise scopes old new is count rises same =
+    bounds_first scopes (get_or new 0 []) old new (bounded_rise scopes (get_or old 0 []) (get_or new 0 []) old is rises) count same
+
+pub bounds_left : (scopes : List Names) (before rest new : List Numbers) (last : Numbers) → AreBounds scopes before → last ≡ get_or before (length before - 1) []
+    → rest ≡ take (length before - 1) before → length new ≡ length rest → IsRestored last (get_or rest 0 []) (get_or new 0 []) → SameButFirst rest new
+    → AreBounds (left scopes) new
+bounds_left scopes before rest new last is here taken count restored same = elim (le-or (length before) 1) [
+  | inl few ↦ none new few (omega (arith, few, count, ap length taken, length-take (length before - 1) before))
+  | inr many ↦ some many
+]
+  where
+    none : (new : List Numbers) → length before ≤ 1 → length new ≡ 0 → AreBounds (left scopes) new
+    none [] few empty = bounds_none scopes (omega (arith, is.count, few))
+    none (first ∷ others) few empty = absurd (omega (arith, empty))
+
+    some : 1 < length before → AreBounds (left scopes) new
+    some many =
+        let first : get_or rest 0 [] ≡ get_or before 0 [] = ap (λ (l : List Numbers). get_or l 0 []) taken ∙ get_or-take (length before - 1) before 0 [] (omega (arith, many)) in
+        let P : Numbers → Type 0 = λ numbers. IsRestored last numbers (get_or new 0 []) in
+        let Q : Numbers → Type 0 = λ numbers. IsRestored numbers (get_or before 0 []) (get_or new 0 []) in
+        let R : List Numbers → Type 0 = λ l. IsBounded (left scopes) (get_or new 0 []) l in
+        bounds_first (left scopes) (get_or new 0 []) rest new
+        (subst R (sym taken) (bounded_left scopes (get_or before 0 []) (get_or new 0 []) before is (subst Q here (subst P first restored)))) count same
+
+pub raise_put : {T E : Type 0} (result : Result T E) (levels : List Numbers) (name : List ℕ) (least : ℕ) (seen now before : Numbers) → 0 < length levels
+    → seen ≡ get_or levels 0 seen → before ≡ get_or levels 0 before → bound_in name seen ≤ least
+    → OnOk result (now ≡ put_in name least before) → OnErr result (now ≡ before) → Rises (get_or levels 0 []) (get_or (set levels 0 now) 0 [])
+raise_put result levels name least seen now before some one two less ok err =
+    let same : before ≡ seen = two ∙ (get_or_default levels 0 before seen some ∙ sym one) in
+    let rises : Rises before now = rises_put result name least now before (omega (arith, ap (bound_in name) same, less)) ok err in
+    let P : Numbers → Type 0 = λ numbers. Rises numbers (get_or (set levels 0 now) 0 []) in
+    let Q : Numbers → Type 0 = λ numbers. Rises before numbers in
+    subst P (two ∙ get_or_default levels 0 before [] some) (subst Q (sym (first_set levels now some)) rises)

@@ -48,6 +48,14 @@ pub record IsBounded (scopes : List Names) (bounds : Numbers) (earlier : List Nu
   pub above : IsAbove scopes bounds
   pub before : AreEarlier scopes earlier
 
+-- the first of the numbers are the bounds, and each further are the earlier ones of the scope with that number
+abbrev pub AreBounds : List Names → List Numbers → Type 0
+AreBounds scopes levels = IsBounded scopes (slice_index_or levels 0 []) levels
+
+-- the numbers of two lists are the same but the first
+abbrev pub SameButFirst : List Numbers → List Numbers → Type 0
+SameButFirst old new = (at : ℕ) → 0 < at → slice_index_or new at [] ≡ slice_index_or old at []
+
 -- each name has the number that it had, or that which others gives it
 abbrev pub IsRestored : Numbers → Numbers → Numbers → Type 0
 IsRestored others old new =

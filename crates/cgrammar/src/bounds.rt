@@ -1,6 +1,6 @@
 ghost use Rattle.std.specs.Prelude.{◌≡◌, ◌++◌, ◌∷◌, ◌≤◌, ◌<◌, ℕ, Bool, List, [], Some, length, slice_index_or, IfOk, OnOk, OnErr};
 ghost use Rattle.cgrammar.specs.Scope.{Names, declared, declared_around, file_scope, left};
-ghost use Rattle.cgrammar.specs.Bounds.{number_in, bound_in, IsBounded, Rises, Remembers, Grow};
+ghost use Rattle.cgrammar.specs.Bounds.{number_in, bound_in, AreBounds, IsRestored, SameButFirst, Rises, Remembers, Grow};
 
 use crate::numbers::Numbers;
 use cbase::NoMemory;
@@ -11,94 +11,102 @@ use std::alloc::Global;
 /// declares take no memory.
 #[derive(Drop)]
 pub struct Bounds {
-    current: Numbers,
-
-    // Of each open scope the bounds that names had before it declared them, with which it is left.
-    earlier: Vec<Numbers>,
+    // First the bounds. Then of each open scope but the outermost the bounds that names had before it declared them, with
+    // which it is left: nothing is looked up outside the outermost scope, so that its place is free.
+    levels: Vec<Numbers>,
 }
 
 impl Bounds {
     /// The bounds in the scope of a file before its first declaration.
     pub fn new(alloc: Global) -> Result<Bounds, NoMemory>
-        ensures { IfOk result (λ bounds. IsBounded file_scope bounds.current bounds.earlier.items) }
+        ensures { IfOk result (λ bounds. AreBounds file_scope bounds.levels.items) }
     {
-        let mut earlier = Vec::new(alloc);
-        earlier.push(Numbers::new(alloc))?;
-        Ok(Bounds {
-            current: Numbers::new(alloc),
-            earlier,
-        })
+        let mut levels = Vec::new(alloc);
+        levels.push(Numbers::new(alloc))?;
+        Ok(Bounds { levels })
     }
 
     /// The bound of a name.
     pub fn bound(&self, name: &[u8]) -> usize
-        ensures { result ≡ bound_in name.now self.now.current }
+        ensures { result ≡ bound_in name.now (slice_index_or self.now.levels.items 0 []) }
     {
-        self.current.bound(name)
+        if self.levels.len() == 0 {
+            return 1;
+        }
+        self.levels[0].bound(name)
     }
 
     /// Enters a scope. Where memory is wanting all stays as it was.
     pub fn enter(&mut self, alloc: Global) -> Result<(), NoMemory>
-        ensures current { self.new.current ≡ self.old.current }
-        ensures ok { OnOk result (self.new.earlier.items ≡ self.old.earlier.items ++ [] ∷ []) }
-        ensures err { OnErr result (self.new.earlier.items ≡ self.old.earlier.items) }
+        ensures ok { OnOk result (self.new.levels.items ≡ self.old.levels.items ++ [] ∷ []) }
+        ensures err { OnErr result (self.new.levels.items ≡ self.old.levels.items) }
     {
-        self.earlier.push(Numbers::new(alloc))?;
+        self.levels.push(Numbers::new(alloc))?;
         Ok(())
     }
 
     /// Leaves the innermost scope: the names that it declared have their earlier bounds again.
     pub fn leave(&mut self)
-        ensures { (scopes : List Names) → IsBounded scopes self.old.current self.old.earlier.items → IsBounded (left scopes) self.new.current self.new.earlier.items }
+        ensures { (scopes : List Names) → AreBounds scopes self.old.levels.items → AreBounds (left scopes) self.new.levels.items }
     {
-        let last = self.earlier.pop();
+        let last = self.levels.pop();
         if let Some(earlier) = last {
-            self.current.restore(&earlier);
+            restore(&mut self.levels, &earlier);
         }
     }
 
     /// Raises the bound of a name above the innermost scope, which then may declare it. Where memory is wanting the bounds
     /// stay right for the scopes as they are.
     pub fn declare(&mut self, alloc: Global, name: &[u8]) -> Result<(), NoMemory>
-        ensures kept { (scopes : List Names) → IsBounded scopes self.old.current self.old.earlier.items → IsBounded scopes self.new.current self.new.earlier.items }
-        ensures ok { OnOk result ((scopes : List Names) (typedef : Bool) → IsBounded scopes self.old.current self.old.earlier.items → IsBounded (declared name.now typedef scopes) self.new.current self.new.earlier.items) }
+        ensures kept { (scopes : List Names) → AreBounds scopes self.old.levels.items → AreBounds scopes self.new.levels.items }
+        ensures ok { OnOk result ((scopes : List Names) (typedef : Bool) → AreBounds scopes self.old.levels.items → AreBounds (declared name.now typedef scopes) self.new.levels.items) }
     {
-        let count = self.earlier.len();
+        let count = self.levels.len();
         if count == 0 {
             return Ok(());
         }
         let bound = self.bound(name);
-        remember(alloc, &mut self.earlier, count - 1, name, bound)?;
-        raise(alloc, &mut self.current, name, count)
+        remember(alloc, &mut self.levels, count - 1, name, bound)?;
+        raise(alloc, &mut self.levels, name, count)
     }
 
     /// Raises the bound of a name above the scope around the innermost one, which then may declare it. Where memory is
     /// wanting the bounds stay right for the scopes as they are.
     pub fn declare_around(&mut self, alloc: Global, name: &[u8]) -> Result<(), NoMemory>
-        ensures kept { (scopes : List Names) → IsBounded scopes self.old.current self.old.earlier.items → IsBounded scopes self.new.current self.new.earlier.items }
-        ensures ok { OnOk result ((scopes : List Names) (typedef : Bool) → IsBounded scopes self.old.current self.old.earlier.items → IsBounded (declared_around name.now typedef scopes) self.new.current self.new.earlier.items) }
+        ensures kept { (scopes : List Names) → AreBounds scopes self.old.levels.items → AreBounds scopes self.new.levels.items }
+        ensures ok { OnOk result ((scopes : List Names) (typedef : Bool) → AreBounds scopes self.old.levels.items → AreBounds (declared_around name.now typedef scopes) self.new.levels.items) }
     {
-        let count = self.earlier.len();
+        let count = self.levels.len();
         if count < 2 {
             return Ok(());
         }
         let bound = self.bound(name);
-        let around = self.earlier[count - 1].get(name).unwrap_or(bound);
-        remember(alloc, &mut self.earlier, count - 2, name, around)?;
-        raise_earlier(alloc, &mut self.earlier, count - 1, name, count - 1)?;
-        raise(alloc, &mut self.current, name, count - 1)
+        let around = self.levels[count - 1].get(name).unwrap_or(bound);
+        remember(alloc, &mut self.levels, count - 2, name, around)?;
+        raise_earlier(alloc, &mut self.levels, count - 1, name, count - 1)?;
+        raise(alloc, &mut self.levels, name, count - 1)
     }
 
     /// A copy, with the same bounds.
     pub fn copied(&self, alloc: Global) -> Result<Bounds, NoMemory>
-        ensures current { IfOk result (λ copy. copy.current ≡ self.now.current) }
-        ensures earlier { IfOk result (λ copy. copy.earlier.items ≡ self.now.earlier.items) }
+        ensures { IfOk result (λ copy. copy.levels.items ≡ self.now.levels.items) }
     {
         Ok(Bounds {
-            current: self.current.copied()?,
-            earlier: copied(alloc, self.earlier.as_slice())?,
+            levels: copied(alloc, self.levels.as_slice())?,
         })
     }
+}
+
+/// Gives names their earlier bounds, where there are bounds.
+fn restore(levels: &mut Vec<Numbers>, earlier: &Numbers)
+    ensures count { length levels.new.items ≡ length levels.old.items }
+    ensures first { IsRestored earlier.now (slice_index_or levels.old.items 0 []) (slice_index_or levels.new.items 0 []) }
+    ensures others { SameButFirst levels.old.items levels.new.items }
+{
+    if levels.len() == 0 {
+        return;
+    }
+    levels[0].restore(earlier);
 }
 
 /// Notes the bound that a name had before a scope declared it, where none is noted yet. Of the outermost scope none is
@@ -112,6 +120,7 @@ fn remember(
 ) -> Result<(), NoMemory>
     requires { at < length earlier.old.items }
     ensures count { length earlier.new.items ≡ length earlier.old.items }
+    ensures first { slice_index_or earlier.new.items 0 [] ≡ slice_index_or earlier.old.items 0 [] }
     ensures noted { Remembers earlier.old.items at name.now bound earlier.new.items }
 {
     if at == 0 {
@@ -131,8 +140,10 @@ fn raise_earlier(
     name: &[u8],
     least: usize,
 ) -> Result<(), NoMemory>
-    requires { at < length earlier.old.items }
+    requires within { at < length earlier.old.items }
+    requires inner { 0 < at }
     ensures count { length earlier.new.items ≡ length earlier.old.items }
+    ensures first { slice_index_or earlier.new.items 0 [] ≡ slice_index_or earlier.old.items 0 [] }
     ensures kept { Grow earlier.old.items earlier.new.items }
     ensures ok { OnOk result ((number : ℕ) → number_in name.now (slice_index_or earlier.new.items at []) ≡ Some number → least ≤ number) }
 {
@@ -147,23 +158,30 @@ fn raise_earlier(
 }
 
 /// Makes the bound of a name at least `least`.
-fn raise(alloc: Global, bounds: &mut Numbers, name: &[u8], least: usize) -> Result<(), NoMemory>
-    ensures kept { Rises bounds.old bounds.new }
-    ensures ok { OnOk result (least ≤ bound_in name.now bounds.new) }
+fn raise(
+    alloc: Global,
+    levels: &mut Vec<Numbers>,
+    name: &[u8],
+    least: usize,
+) -> Result<(), NoMemory>
+    requires { 0 < length levels.old.items }
+    ensures count { length levels.new.items ≡ length levels.old.items }
+    ensures kept { Rises (slice_index_or levels.old.items 0 []) (slice_index_or levels.new.items 0 []) }
+    ensures others { SameButFirst levels.old.items levels.new.items }
+    ensures ok { OnOk result (least ≤ bound_in name.now (slice_index_or levels.new.items 0 [])) }
 {
-    let bound = bounds.bound(name);
-    if bound >= least {
+    if levels[0].bound(name) >= least {
         return Ok(());
     }
-    bounds.put(alloc, name, least)
+    levels[0].put(alloc, name, least)
 }
 
-/// Copies of the bounds of each scope.
-fn copied(alloc: Global, earlier: &[Numbers]) -> Result<Vec<Numbers>, NoMemory>
-    ensures { IfOk result (λ copy. copy.items ≡ earlier.now) }
+/// Copies of the bounds, and of those of each scope.
+fn copied(alloc: Global, levels: &[Numbers]) -> Result<Vec<Numbers>, NoMemory>
+    ensures { IfOk result (λ copy. copy.items ≡ levels.now) }
 {
-    let mut copy = Vec::with_capacity(alloc, earlier.len())?;
-    for numbers in earlier {
+    let mut copy = Vec::with_capacity(alloc, levels.len())?;
+    for numbers in levels {
         copy.push(numbers.copied()?)?;
     }
     Ok(copy)

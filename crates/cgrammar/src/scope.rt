@@ -24,11 +24,11 @@ impl Model for Scope {
 
     ghost Value = { List (List (List ℕ × Bool)) };
 
-    ghost use Rattle.cgrammar.specs.Bounds.{IsBounded};
+    ghost use Rattle.cgrammar.specs.Bounds.{AreBounds};
 
     ghost view = { λ scope. scope.sets.items };
 
-    ghost invariant = { λ scope. IsBounded scope.sets.items scope.bounds.current scope.bounds.earlier.items };
+    ghost invariant = { λ scope. AreBounds scope.sets.items scope.bounds.levels.items };
 }
 
 impl Scope {

@@ -8,12 +8,12 @@ pub returns-clause-kept : goal.returns-clause-kept
 returns-clause-kept c =
     let known : number_in c.args.name.now c.index_mut.result.now ≡ Some c.in-Some.bound =
     same_read c.args.name.now c.args.earlier.now.items c.args.at c.index.result.now c.index_mut.result.now (Some c.in-Some.bound)
-    c.requires c.index.ensures c.index_mut.ensures.value c.in-Some.ensures in
+    c.requires.within c.index.ensures c.index_mut.ensures.value c.in-Some.ensures in
     grow_put c.put.result c.args.earlier.now.items c.args.at c.args.name.now c.args.least c.in-Some.bound c.put.new.self c.index_mut.result.now
-    c.requires c.index_mut.ensures.value known (omega (arith, c.if-bound-least.false)) c.put.ensures.ok c.put.ensures.err
+    c.requires.within c.index_mut.ensures.value known (omega (arith, c.if-bound-least.false)) c.put.ensures.ok c.put.ensures.err
 
 pub returns-clause-ok : goal.returns-clause-ok
 returns-clause-ok c = on_ok_weaker c.put.result
     (λ is number has.
     let P : Numbers → Type 0 = λ numbers. number_in c.args.name.now (get_or (set c.args.earlier.now.items c.args.at numbers) c.args.at []) ≡ Some number in
-    put_at c.args.earlier.now.items c.args.at c.args.name.now c.args.least c.index_mut.result.now number c.requires (subst P is has)) c.put.ensures.ok
+    put_at c.args.earlier.now.items c.args.at c.args.name.now c.args.least c.index_mut.result.now number c.requires.within (subst P is has)) c.put.ensures.ok

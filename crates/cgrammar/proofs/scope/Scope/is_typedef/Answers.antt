@@ -1,4 +1,4 @@
-use Rattle.std.proofs.Common.{◌≡◌, ◌∙◌, ℕ, List, length, take, ap, arith}
+use Rattle.std.proofs.Common.{◌≡◌, ◌∙◌, ℕ, List, [], slice_index_or, length, take, ap, arith}
 use Rattle.cgrammar.specs.Scope.{Names, found, is_typedef_name}
 use Rattle.cgrammar.proofs.Bounded.{typedef_bounded}
 use Rattle.cgrammar.proofs.scope.Scope.is_typedef.Goals as goal
@@ -7,7 +7,7 @@ pub returns : goal.returns
 returns c =
     let all : c.len.result ≡ length c.self.inside.sets.items = omega (arith, c.len.ensures) in
     c.unwrap_or.ensures
-    ∙ (typedef_bounded c.args.name.now c.self.inside.sets.items c.self.inside.bounds.current c.self.inside.bounds.earlier.items c.bound.result c.len.result c.found.result
+    ∙ (typedef_bounded c.args.name.now c.self.inside.sets.items (slice_index_or c.self.inside.bounds.levels.items 0 []) c.self.inside.bounds.levels.items c.bound.result c.len.result c.found.result
     c.self.invariant c.bound.ensures all
     (c.found.ensures ∙ (ap (λ (s : List Names). found c.args.name.now (take c.min-bound.result s)) c.as_slice.ensures.value
     ∙ ap (λ (n : ℕ). found c.args.name.now (take n c.self.inside.sets.items)) c.min-bound.ensures))
