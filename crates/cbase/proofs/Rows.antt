@@ -9,7 +9,8 @@ use Rattle.cbase.specs.declared.layout.Layout.{Layout}
 use Rattle.cbase.specs.declared.row.Row.{Row}
 use Rattle.cbase.specs.declared.row.RowPart.TheVariants.{Unsized, Scalar, Struct as StructPart}
 use Rattle.cbase.specs.Layout.{type_layout, repeated, scalar, is_integer_size, pointer_bytes}
-use Rattle.cbase.specs.Kept.{capped, part_layout, row_layout, one, integer_row, array_row}
+use Rattle.cbase.specs.Kept.{capped}
+use Rattle.cbase.specs.KeptRows.{part_layout, row_layout, one, integer_row, array_row}
 use Rattle.cbase.proofs.Capped.{capped-repeated, capped-repeated_count}
 use Rattle.cbase.proofs.Types.{type_layout-Void, type_layout-Bool, type_layout-Int, type_layout-Pointer, type_layout-Struct, type_layout-Array}
 

@@ -1,10 +1,6 @@
--- What is kept of layouts while they are computed: sizes up to a bound, and arrays of arrays as one row.
-use Rattle.std.specs.Prelude.{ℕ, ◌*◌, ◌<◌, ◌≤◌, min, Option, Some, None, option_map, if◌then◌else◌}
+-- Layouts as they are kept while others are computed: sizes up to a bound.
+use Rattle.std.specs.Prelude.{◌<◌, ◌≤◌, min}
 use Rattle.cbase.specs.declared.layout.Layout.{Layout}
-use Rattle.cbase.specs.declared.row.Row.{Row}
-use Rattle.cbase.specs.declared.row.RowPart.{RowPart}
-use Rattle.cbase.specs.declared.row.RowPart.TheVariants.{Unsized, Scalar, Struct}
-use Rattle.cbase.specs.Layout.{scalar, repeated, is_integer_size}
 
 -- a layout as it is kept: 65,537 stands for every larger size as well
 abbrev pub capped : Layout → Layout
@@ -13,29 +9,3 @@ capped layout = record { size = min layout.size 65537; alignment = layout.alignm
 -- what the code keeps: its sums fit, and it divides by no zero
 abbrev pub IsSmall : Layout → Type 0
 IsSmall layout = (layout.size ≤ 65537) × (0 < layout.alignment) × (layout.alignment ≤ 8)
-
-abbrev pub part_layout : (ℕ → Option Layout) → RowPart → Option Layout
-part_layout of_struct Unsized = None
-part_layout of_struct (Scalar bytes) = Some (scalar bytes)
-part_layout of_struct (Struct number) = of_struct number
-
--- the layout of a row, as it is kept
-abbrev pub row_layout : (ℕ → Option Layout) → Row → Option Layout
-row_layout of_struct row = option_map (λ part. capped (repeated row.count part)) (part_layout of_struct row.part)
-
-abbrev pub one : RowPart → Row
-one part = record { count = 1; part = part }
-
-abbrev pub integer_row : ℕ → Row
-integer_row bytes = if is_integer_size bytes then one (Scalar bytes) else one Unsized
-
-abbrev pub array_row : Row → ℕ → Row
-array_row item count = record { count = min (count * item.count) 65537; part = item.part }
-
-abbrev pub IsSmallPart : RowPart → Type 0
-IsSmallPart Unsized = Unit {0}
-IsSmallPart (Scalar bytes) = (0 < bytes) × (bytes ≤ 8)
-IsSmallPart (Struct number) = Unit {0}
-
-abbrev pub IsSmallRow : Row → Type 0
-IsSmallRow row = (row.count ≤ 65537) × IsSmallPart row.part

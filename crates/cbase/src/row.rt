@@ -2,7 +2,7 @@ ghost use Rattle.std.specs.Prelude.{◌≡◌, ℕ, ◌≤◌, Option, option_ma
 ghost use Rattle.cbase.specs.Layout.{type_layout, pointer_bytes};
 ghost use Rattle.cbase.specs.declared.layout.Layout.{Layout};
 ghost use Rattle.cbase.specs.Kept.{capped};
-ghost use Rattle.cbase.specs.Kept.{row_layout, integer_row, array_row, IsSmallRow};
+ghost use Rattle.cbase.specs.KeptRows.{row_layout, integer_row, array_row, IsSmallRow};
 
 use crate::abi::Abi;
 use crate::ctype::CType;
