@@ -3,7 +3,7 @@ use Rattle.std.proofs.Common.{◌≡◌, ℕ, ◌+◌, ◌-◌, ◌<◌, ◌≤�
 use Rattle.std.proofs.lemmas.List.{drop_min, drop-map, length-take, take-map, take_min, take_rest}
 use Rattle.std.proofs.lemmas.List.Elements.{All-drop, All-take}
 use Rattle.std.specs.List.{All}
-use Rattle.ctokens.specs.Passed.{LieInText}
+use Rattle.ctokens.specs.InText.{LieInText, most_bytes}
 use Rattle.ctokens.specs.declared.token.Token.{Token}
 use Rattle.ctokens.specs.declared.token.Tokens.{Tokens}
 use Rattle.cgrammar.specs.Terminals.{terminal_of}
@@ -26,7 +26,7 @@ between_ranges t from count lie =
     All-take (λ (token : Token). (token.from < token.to) × (token.to ≤ length t.text)) count (drop from t.list)
     (All-drop (λ (token : Token). (token.from < token.to) × (token.to ≤ length t.text)) from t.list lie.ranges)
 
-pub between_few : (t : Tokens) (from count : ℕ) → LieInText t → length (take count (drop from t.list)) ≤ 4194304
+pub between_few : (t : Tokens) (from count : ℕ) → LieInText t → length (take count (drop from t.list)) ≤ most_bytes
 between_few t from count lie = omega (arith, length-take count (drop from t.list), length-drop from t.list, lie.few)
 
 pub between_fits : (t : Tokens) (from count : ℕ) → LieInText t → from < 2 ^ 32 → from + length (take count (drop from t.list)) < 2 ^ 32

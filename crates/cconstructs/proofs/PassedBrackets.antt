@@ -7,7 +7,9 @@ use Rattle.ctokens.specs.Symbol as symbol
 use Rattle.ctokens.specs.declared.token.Token.{Token}
 use Rattle.ctokens.specs.declared.token.TokenKind.{TokenKind}
 use Rattle.ctokens.specs.declared.token.TokenKind.TheVariants.{Word, Number, Letter, Quoted, Mark}
-use Rattle.ctokens.specs.Symbol.{Rows, symbol_in, mark_rows, mark_symbol, passed_rows, keyword_rows, name_rows, passed_symbol, keyword_symbol, name_symbol, word_symbol, read_as, symbol_of, token_symbol, is_opening, is_closing, bytes_of as token_bytes}
+use Rattle.ctokens.specs.Symbol.{is_opening, is_closing}
+use Rattle.ctokens.specs.TokenSymbols.{token_symbol, bytes_of as token_bytes}
+use Rattle.ctokens.specs.SymbolTables.{Rows, symbol_in, mark_rows, mark_symbol, passed_rows, keyword_rows, name_rows, passed_symbol, keyword_symbol, name_symbol, word_symbol, read_as, symbol_of}
 use Rattle.cgrammar.proofs.Truth.{and-left, and-right}
 use Rattle.cgrammar.specs.Terminals.{bytes_read, terminal_of}
 use Rattle.cconstructs.specs.Layout.{closes, is_attribute, opens}

@@ -1,5 +1,6 @@
 ghost use Rattle.std.specs.Prelude.{◌≡◌, ℕ, List};
-ghost use Rattle.ctokens.specs.Symbol.{is_attribute as begins_attribute, is_closing, is_opening, token_symbol};
+ghost use Rattle.ctokens.specs.Symbol.{is_attribute as begins_attribute, is_closing, is_opening};
+ghost use Rattle.ctokens.specs.TokenSymbols.{token_symbol};
 ghost use Rattle.ctokens.specs.declared.token.Token.{Token};
 ghost use Rattle.cgrammar.specs.Terminals.{terminal_of};
 ghost use Rattle.cconstructs.specs.Layout.{closes, is_attribute, opens};

@@ -1,6 +1,6 @@
 ghost use Rattle.std.specs.Prelude.{◌≡◌, ◌↔◌, ◌≤◌, ◌<◌, ◌+◌, ◌-◌, ◌^◌, ℕ, Some, None, false, length, map, take, drop};
 ghost use Rattle.std.specs.List.{All};
-ghost use Rattle.ctokens.specs.Passed.{LieInText};
+ghost use Rattle.ctokens.specs.InText.{LieInText, most_bytes};
 ghost use Rattle.ctokens.specs.declared.token.Token.{Token};
 ghost use Rattle.cgrammar.specs.Readings.{row_between};
 ghost use Rattle.cgrammar.specs.Terminals.{terminal_of};
@@ -27,7 +27,7 @@ fn between<'a>(list: &'a [Token], from: u32, to: u32) -> &'a [Token]
 #[tactic(auto, using(crate::proofs::Attributes::attribute_none))]
 fn first_attribute(text: &[u8], list: &[Token], from: u32) -> Option<u32>
     requires ranges { All (λ (token : Token). (token.from < token.to) × (token.to ≤ length text.now)) list.now }
-    requires few { length list.now ≤ 4194304 }
+    requires few { length list.now ≤ most_bytes }
     requires fits { from + length list.now < 2 ^ 32 }
     ensures { result ≡ attribute_from from (outside false) (map (terminal_of text.now) list.now) }
 {

@@ -1,4 +1,5 @@
 ghost use Rattle.std.specs.Prelude.{◌≡◌, ◌≤◌, ◌<◌, ◌+◌, ◌^◌, ◌||◌, map};
+ghost use Rattle.ctokens.specs.InText.{most_bytes};
 ghost use Rattle.std.specs.List.{list_any};
 ghost use Rattle.std.specs.Str.{bytes_eq};
 ghost use Rattle.cgrammar.specs.CodeTables.{text_read};
@@ -150,7 +151,7 @@ pub fn shows_layout(part: Part, token: &Terminal<'_>) -> bool
 
 /// What is known behind a token, of which `part` is known before it.
 pub fn part_behind(part: Part, token: &Terminal<'_>) -> Part
-    requires { part.unclosed ≤ 4194304 }
+    requires { part.unclosed ≤ most_bytes }
     ensures { result ≡ part_behind part.behind part.unclosed token.now }
 {
     if part.unclosed > 0 {

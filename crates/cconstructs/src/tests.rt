@@ -1,5 +1,5 @@
 ghost use Rattle.std.specs.Prelude.{◌≡◌, ◌≤◌, ◌<◌, length, IfOk, IfSome};
-ghost use Rattle.ctokens.specs.Passed.{LieInText};
+ghost use Rattle.ctokens.specs.InText.{LieInText, most_bytes};
 
 use crate::{first_construct, first_layout};
 use cbase::NoMemory;
@@ -11,7 +11,7 @@ use std::test::Fail;
 /// The tokens of a text, if it has a list.
 #[tactic(auto, using(crate::proofs::WholeText::tokens_lie))]
 fn read(alloc: Global, text: &[u8]) -> Result<Option<Tokens>, NoMemory>
-    requires { length text.now ≤ 4194304 }
+    requires { length text.now ≤ most_bytes }
     ensures lie { IfOk result (λ found. IfSome found LieInText) }
 {
     match tokens(alloc, text, "t.c")? {
@@ -23,7 +23,7 @@ fn read(alloc: Global, text: &[u8]) -> Result<Option<Tokens>, NoMemory>
 /// The first construct of a text as `number@token`, or `-`; the token is numbered in the row. `?` where the text is
 /// no list of tokens.
 fn shown_construct(alloc: Global, text: &[u8]) -> Result<String, NoMemory>
-    requires { length text.now ≤ 4194304 }
+    requires { length text.now ≤ most_bytes }
 {
     let Some(t) = read(alloc, text)? else {
         return Ok(String::from_str(alloc, "?")?);
@@ -38,7 +38,7 @@ fn shown_construct(alloc: Global, text: &[u8]) -> Result<String, NoMemory>
 /// The number of the token that shows the first change of layout of a text, or `-`.
 #[tactic(auto, using(crate::proofs::WholeText::whole_row))]
 fn shown_layout(alloc: Global, text: &[u8]) -> Result<String, NoMemory>
-    requires { length text.now ≤ 4194304 }
+    requires { length text.now ≤ most_bytes }
 {
     let Some(t) = read(alloc, text)? else {
         return Ok(String::from_str(alloc, "?")?);

@@ -13,7 +13,8 @@ use Rattle.cgrammar.specs.Firsts.{Begins, is_plain, begins_type, type_words}
 use Rattle.cgrammar.specs.Grammar.{Spells, OnePostfix, CountBefore, UnaryOperator, SizeOfExpression, SizeOfTypeName, OnePrimary, IndexOperator, CallOfNothing, CallOperator, MemberOperator, CountBehind, OneName, OneConstant, Bracketed, StatementExpression, OffsetOfMember, FailedAssertion}
 use Rattle.cgrammar.specs.Phrases.{Phrase, Context, Expression, UnaryExpression, PostfixExpression, PrimaryExpression}
 use Rattle.cgrammar.specs.Scope.{Names, is_typedef_name}
-use Rattle.ctokens.specs.Symbol.{is_identifier, word_symbol}
+use Rattle.ctokens.specs.Symbol.{is_identifier}
+use Rattle.ctokens.specs.SymbolTables.{word_symbol}
 use Rattle.cgrammar.specs.Starts.{begins_operand}
 use Rattle.cgrammar.specs.Terminals.{Terminal, is_mark, IsMark, is_left_out, IsNoType}
 

@@ -9,7 +9,7 @@ use Rattle.cbase.specs.declared.tree.expr.Expr.{Expr}
 use Rattle.cbase.specs.declared.tree.stmt.Stmt.{Stmt}
 use Rattle.cbase.specs.declared.tree.stmt.StmtForm.TheVariants.{Declare, Eval, Block, If, While, Do, For, Break, Continue, Return}
 use Rattle.ctokens.specs.declared.token.TokenKind.TheVariants.{Word}
-use Rattle.ctokens.specs.Symbol.{keyword_symbol, name_symbol, passed_symbol}
+use Rattle.ctokens.specs.SymbolTables.{keyword_symbol, name_symbol, passed_symbol}
 use Rattle.ctrees.specs.Weight.{joined}
 use Rattle.ctrees.specs.Levels.{depth, decl_levels, expr_levels, maybe_levels, stmt_levels}
 use Rattle.cgrammar.proofs.CompletingOutcomes.{go_true, go_false, go_read, go_past, is_not, not_is, no_truth, never_true, braces_of_none, braces_of_more, row_of_two, row_of_three}

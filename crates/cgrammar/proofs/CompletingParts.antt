@@ -5,7 +5,8 @@ use Rattle.std.specs.Str.{bytes_eq}
 use Rattle.std.proofs.lemmas.List.{length-append}
 use Rattle.cbase.specs.declared.tree.expr.Expr.{Expr}
 use Rattle.ctokens.specs.declared.token.TokenKind.TheVariants.{Mark}
-use Rattle.ctokens.specs.Symbol.{is_identifier, word_symbol}
+use Rattle.ctokens.specs.Symbol.{is_identifier}
+use Rattle.ctokens.specs.SymbolTables.{word_symbol}
 use Rattle.ctrees.specs.Levels.{expr_levels}
 use Rattle.cgrammar.proofs.CompletingOutcomes.{is_not, not_is, exactly}
 use Rattle.cgrammar.proofs.Reached.{Completes, Ends, goes_on_conditional, goes_on_assignment, goes_on_expression}

@@ -4,7 +4,8 @@ use Rattle.std.specs.List.{list_any, list_all}
 use Rattle.std.specs.Str.{bytes_eq}
 use Rattle.ctokens.specs.declared.token.TokenKind.{TokenKind}
 use Rattle.ctokens.specs.declared.token.TokenKind.TheVariants.{Word, Number, Letter, Quoted, Mark}
-use Rattle.ctokens.specs.Symbol.{keyword_symbol, name_symbol, passed_symbol, is_identifier, word_symbol}
+use Rattle.ctokens.specs.Symbol.{is_identifier}
+use Rattle.ctokens.specs.SymbolTables.{keyword_symbol, name_symbol, passed_symbol, word_symbol}
 use Rattle.cgrammar.proofs.CompletingOutcomes.{never_true, neither}
 use Rattle.cgrammar.proofs.Fronts.{stars_before, stars_before_nothing, drop_front}
 use Rattle.cgrammar.proofs.Reached.{goes_on_type, goes_on_specifiers, is_storage}

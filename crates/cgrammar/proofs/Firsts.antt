@@ -9,7 +9,8 @@ use Rattle.cbase.specs.declared.tree.decl.Storage.TheVariants.{Plain, Typedef, E
 use Rattle.cbase.specs.declared.tree.spec.BasicType.{BasicType}
 use Rattle.ctokens.specs.declared.token.TokenKind.{TokenKind}
 use Rattle.ctokens.specs.declared.token.TokenKind.TheVariants.{Word, Number, Letter, Quoted, Mark}
-use Rattle.ctokens.specs.Symbol.{keyword_symbol, name_symbol, passed_symbol, is_identifier, word_symbol}
+use Rattle.ctokens.specs.Symbol.{is_identifier}
+use Rattle.ctokens.specs.SymbolTables.{keyword_symbol, name_symbol, passed_symbol, word_symbol}
 use Rattle.cgrammar.proofs.Truth.{and-left, and-right, or-left, or-right, of-any}
 use Rattle.cgrammar.specs.Constants.{IsConstant, IsOfKind}
 use Rattle.cgrammar.specs.Firsts.{type_words, storage_words, is_among, begins_type, begins_declaration, is_plain, Begins, BeginsAs, FirstTokens, DeclarationsAreNoStatements, TypesAreNoExpressions}

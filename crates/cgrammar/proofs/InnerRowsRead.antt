@@ -1,6 +1,6 @@
 -- The reader on the rows of the table, computed.
 use Rattle.std.proofs.Common.{refl}
-use Rattle.ctokens.specs.Symbol.{keyword_symbol, name_symbol, passed_symbol}
+use Rattle.ctokens.specs.SymbolTables.{keyword_symbol, name_symbol, passed_symbol}
 use Rattle.cgrammar.proofs.TextRowsRead.{have_expressions}
 use Rattle.cgrammar.specs.ReadLevels.{read_list, read_until_brace}
 use Rattle.cgrammar.specs.ReadOperators.{read_operations, read_choice, assignment_from, read_commas}

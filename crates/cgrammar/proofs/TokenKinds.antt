@@ -6,7 +6,8 @@ use Rattle.std.specs.Str.{bytes_eq}
 use Rattle.std.proofs.lemmas.Slice.Eq.{bytes_eq-Decides}
 use Rattle.ctokens.specs.declared.token.TokenKind.{TokenKind}
 use Rattle.ctokens.specs.declared.token.TokenKind.TheVariants.{Word, Number, Letter, Quoted, Mark}
-use Rattle.ctokens.specs.Symbol.{keyword_symbol, name_symbol, passed_symbol, is_identifier, word_symbol}
+use Rattle.ctokens.specs.Symbol.{is_identifier}
+use Rattle.ctokens.specs.SymbolTables.{keyword_symbol, name_symbol, passed_symbol, word_symbol}
 use Rattle.cgrammar.proofs.Truth.{and-left, and-right, of-any}
 use Rattle.cgrammar.specs.Constants.{IsConstant, IsOfKind}
 use Rattle.cgrammar.specs.Operators.{row_of, mark_row}

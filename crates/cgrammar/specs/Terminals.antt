@@ -9,7 +9,9 @@ use Rattle.ctokens.specs.declared.token.Token.{Token}
 use Rattle.ctokens.specs.declared.token.TokenKind.{TokenKind}
 use Rattle.ctokens.specs.declared.token.TokenKind.TheVariants.{Word, Number, Letter, Quoted, Mark}
 use Rattle.ctokens.specs.declared.token.Tokens.{Tokens}
-use Rattle.ctokens.specs.Symbol.{bytes_of as token_bytes, read_as, word_symbol, is_identifier}
+use Rattle.ctokens.specs.Symbol.{is_identifier}
+use Rattle.ctokens.specs.TokenSymbols.{bytes_of as token_bytes}
+use Rattle.ctokens.specs.SymbolTables.{read_as, word_symbol}
 use Rattle.ctokens.specs.Passed.{passed_tokens}
 use Rattle.cgrammar.specs.Scope.{Names, is_typedef_name}
 

@@ -1,5 +1,5 @@
 ghost use Rattle.std.specs.Prelude.{◌≡◌, ◌<◌, ◌≤◌, length};
-ghost use Rattle.ctokens.specs.Symbol.{read_as};
+ghost use Rattle.ctokens.specs.SymbolTables.{read_as};
 ghost use Rattle.cgrammar.specs.Operators.{mark_row, binary_rows, assignment_rows, unary_rows, count_rows, member_rows};
 ghost use Rattle.cgrammar.specs.ReadStarts.{is_constant};
 ghost use Rattle.cgrammar.specs.TokenReadings.{storage_of};

@@ -1,6 +1,7 @@
 ghost use Rattle.std.specs.Prelude.{◌≡◌, ◌<◌, ◌≤◌, length, map, IfOk};
 ghost use Rattle.std.specs.List.{All};
-ghost use Rattle.ctokens.specs.Passed.{LieInText, passed_tokens};
+ghost use Rattle.ctokens.specs.Passed.{passed_tokens};
+ghost use Rattle.ctokens.specs.InText.{LieInText};
 ghost use Rattle.ctokens.specs.declared.token.Token.{Token};
 ghost use Rattle.cgrammar.specs.Readings.{row_between};
 ghost use Rattle.cgrammar.specs.Terminals.{terminal_of, terminals, unpassed};

@@ -1,5 +1,5 @@
 ghost use Rattle.std.specs.Prelude.{◌≤◌, length, IfOk};
-ghost use Rattle.ctokens.specs.Passed.{LieInText};
+ghost use Rattle.ctokens.specs.InText.{LieInText};
 
 use super::Scope;
 use crate::basic::basic_type;

@@ -11,7 +11,8 @@ use Rattle.ctokens.specs.declared.item_span.ItemSpan.{ItemSpan}
 use Rattle.ctokens.specs.declared.token.Tokens.{Tokens}
 use Rattle.ctokens.specs.Items.{AreItems, NoToken, LeftOver, Ending, IsItems}
 use Rattle.ctokens.specs.Passed.{read_symbols}
-use Rattle.ctokens.specs.Symbol.{is_passed_over, symbols}
+use Rattle.ctokens.specs.Symbol.{is_passed_over}
+use Rattle.ctokens.specs.TokenSymbols.{symbols}
 use Rattle.ctokens.specs.TokenList.{HasNamedFiles}
 use Rattle.ctokens.proofs.ItemsInside.{length_passed}
 use Rattle.cread.specs.Answers.{IsItemRead, IsRefusal}

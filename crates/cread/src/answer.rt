@@ -1,5 +1,5 @@
 ghost use Rattle.std.specs.Prelude.{◌≡◌, ◌<◌, ◌≤◌, IfOk, length};
-ghost use Rattle.ctokens.specs.Passed.{LieInText};
+ghost use Rattle.ctokens.specs.InText.{LieInText};
 ghost use Rattle.cgrammar.specs.Readings.{AreNumbered, at_first};
 ghost use Rattle.cread.specs.ItemAnswers.{HasOneAnswer, IsAnswer, answer_of};
 

@@ -1,7 +1,7 @@
 ghost use Rattle.std.specs.Prelude.{◌≡◌, ◌++◌, [], Ok, IfOk, OnOk, length, slice_get};
 ghost use Rattle.std.specs.List.{All};
 ghost use Rattle.ctokens.specs.Items.{IsItems};
-ghost use Rattle.ctokens.specs.Passed.{LieInText};
+ghost use Rattle.ctokens.specs.InText.{LieInText};
 ghost use Rattle.ctokens.specs.TokenList.{HasNamedFiles};
 ghost use Rattle.cgrammar.specs.Readings.{AreNumbered};
 ghost use Rattle.cread.specs.Needed.{AreAnswered, HaveOneAnswer, IsNamed, IsSome, spans_of, with_span};

@@ -1,5 +1,6 @@
 ghost use Rattle.std.specs.Prelude.{◌≡◌, ◌<◌, ◌≤◌, IfNone, IfOk, IfSome, List, length, true};
-ghost use Rattle.ctokens.specs.Passed.{LieInText, passed_tokens};
+ghost use Rattle.ctokens.specs.Passed.{passed_tokens};
+ghost use Rattle.ctokens.specs.InText.{LieInText};
 ghost use Rattle.cgrammar.specs.Phrases.{Context};
 ghost use Rattle.cgrammar.specs.Scope.{Names};
 ghost use Rattle.cgrammar.specs.Readings.{AreNumbered, most_levels, row_between};

@@ -1,5 +1,6 @@
 ghost use Rattle.std.specs.Prelude.{◌≡◌, IfOk, IfSome};
-ghost use Rattle.ctokens.specs.Passed.{LieInText, passed_tokens};
+ghost use Rattle.ctokens.specs.Passed.{passed_tokens};
+ghost use Rattle.ctokens.specs.InText.{LieInText};
 ghost use Rattle.cgrammar.specs.Readings.{AreNumbered};
 
 use crate::{ItemAnswer, ReadIn, read_item, read_item_in, scope_after};

@@ -4,7 +4,7 @@ ghost use Rattle.cevents.specs.Building.{built_all};
 ghost use Rattle.cevents.specs.Workshop.{expr_alone, start};
 ghost use Rattle.cgrammar.specs.Readings.{AreNumbered, IsExpressionAt, IsLongestExpressionAt, most_levels};
 ghost use Rattle.cgrammar.specs.Terminals.{last_place};
-ghost use Rattle.ctokens.specs.Passed.{LieInText};
+ghost use Rattle.ctokens.specs.InText.{LieInText};
 
 use crate::ends::{number_behind, tokens_before};
 use cbase::{Expr, NoMemory};

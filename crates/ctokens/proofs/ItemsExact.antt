@@ -10,7 +10,8 @@ use Rattle.ctokens.specs.declared.symbol.Symbol.{Symbol}
 use Rattle.ctokens.specs.declared.symbol.Symbol.TheVariants.{PassedOver, RightBrace, Semicolon, Other}
 use Rattle.ctokens.specs.declared.token.Token.{Token}
 use Rattle.ctokens.specs.declared.token.Tokens.{Tokens}
-use Rattle.ctokens.specs.Symbol.{symbols, is_opening, is_closing, is_passed_over, is_left_brace, is_right_brace, is_right_parenthesis, is_semicolon}
+use Rattle.ctokens.specs.Symbol.{is_opening, is_closing, is_passed_over, is_left_brace, is_right_brace, is_right_parenthesis, is_semicolon}
+use Rattle.ctokens.specs.TokenSymbols.{symbols}
 use Rattle.ctokens.specs.Passed.{depth_after, read_symbols}
 use Rattle.ctokens.specs.Items.{symbol_at, depth_behind, depth_at, IsBehindParenthesis, BeginsBody, EndsAt, WithSemicolon, WithBody, AreItems, NoToken, LeftOver, Ending, IsDeepAt, IsFirstDeep, AreSpans, IsItems}
 use Rattle.ctokens.specs.ItemEnds.{ends_declaration, ends_body, body_after, item_ends, spans, spans_of, first_deep}

@@ -9,7 +9,8 @@ use Rattle.ctokens.specs.declared.symbol.Symbol.TheVariants.{PassedOver}
 use Rattle.ctokens.specs.declared.token.Tokens.{Tokens}
 use Rattle.ctokens.specs.Items.{AreItems, NoToken, LeftOver, Ending, IsInside, IsItems}
 use Rattle.ctokens.specs.Passed.{depth_after, passed_tokens, read_from, read_symbols}
-use Rattle.ctokens.specs.Symbol.{is_attribute, is_opening, is_passed_over, symbols, token_symbol}
+use Rattle.ctokens.specs.Symbol.{is_attribute, is_opening, is_passed_over}
+use Rattle.ctokens.specs.TokenSymbols.{symbols, token_symbol}
 
 read_by : (b c : Bool) (symbol : Symbol) (xs ys zs : List Symbol) (n : ℕ) → length xs ≡ n → length ys ≡ n → length zs ≡ n
     → length (cond b (PassedOver ∷ xs) (cond c (PassedOver ∷ ys) (symbol ∷ zs))) ≡ suc n

@@ -11,11 +11,12 @@ use Rattle.ctokens.specs.declared.symbol.Symbol.{Symbol}
 use Rattle.ctokens.specs.declared.symbol.Symbol.TheVariants.{Other}
 use Rattle.ctokens.specs.declared.token.Tokens.{Tokens}
 use Rattle.ctokens.specs.Entry.{IsTextRow, entry_of, entries_of, is_main_entry}
-use Rattle.ctokens.specs.Need.{AreNeeded, IsNeed, Needed, Defining, Offering, contained, defines_main, item_at, item_row, item_rows, lexemes, needed_by}
+use Rattle.ctokens.specs.Need.{AreNeeded, IsNeed, Needed, Defining, Offering, contained, defines_main, item_at, needed_by}
+use Rattle.ctokens.specs.ItemRows.{item_row, item_rows, lexemes}
 use Rattle.ctokens.specs.NeedSearch.{Reached, Starting, Leading, entry_at, found, need_of, no_entry}
 use Rattle.ctokens.specs.Numbering.{IsNumbering, name_at}
 use Rattle.ctokens.specs.Passed.{read_symbols}
-use Rattle.ctokens.specs.Symbol.{symbols, words}
+use Rattle.ctokens.specs.TokenSymbols.{symbols, words}
 use Rattle.ctokens.proofs.Found.{AreNamed, found_all, found_ascending, found_only}
 use Rattle.ctokens.proofs.Marks.{contains_cons, contains_none}
 use Rattle.ctokens.proofs.Renamed.{all_renamed, defines_main-renamed, needed_by-renamed, contained-renamed, lexemes-renamed, item_row-renamed}

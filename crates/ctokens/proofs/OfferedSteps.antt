@@ -1,7 +1,7 @@
 -- The names that a row offers at one of its tokens, and at those behind it.
 use Rattle.std.proofs.Common.{◌≡◌, ℕ, ◌+◌, List, [], ◌∷◌, ◌++◌, drop, zero, suc, refl, sym, ap, ◌∙◌, add-one, append_assoc}
 use Rattle.ctokens.specs.declared.symbol.Lexeme.{Lexeme}
-use Rattle.ctokens.specs.Need.{tag_at, tags}
+use Rattle.ctokens.specs.Offered.{tag_at, tags}
 
 tags-suc : {N : Type 0} (row : List (Lexeme N)) (i : ℕ) → tags (drop i row) ≡ tag_at (drop i row) ++ tags (drop (suc i) row)
 tags-suc [] zero = refl

@@ -4,6 +4,7 @@ use Rattle.std.proofs.Common.{refl, sym, ◌∙◌, ap, subst, arith, get_or, le
 use Rattle.std.proofs.lemmas.Bool.{eqb-true, eqb-false}
 use Rattle.std.proofs.lemmas.List.{drop-drop, get_or_append_left, get_or_push}
 use Rattle.std.proofs.lemmas.List.Elements.{All-push}
+use Rattle.ctokens.specs.InText.{most_bytes}
 use Rattle.ctokens.specs.Spelled.{Spells}
 use Rattle.ctokens.specs.Pieces.{BeginsAs, BeginsWith, BeginsNot, Splits, still_blank_behind}
 use Rattle.ctokens.specs.PieceAt.{piece_of}
@@ -70,7 +71,7 @@ with_name-length name names = step (is_among name names)
     step true = omega arith
     step false = omega (arith, length-append names (name ∷ []))
 
-moved_room : (bytes : List ℕ) (progress : Progress) → HasRoom progress → progress.from + length bytes ≤ 4194304 → HasRoom (moved bytes progress)
+moved_room : (bytes : List ℕ) (progress : Progress) → HasRoom progress → progress.from + length bytes ≤ most_bytes → HasRoom (moved bytes progress)
 moved_room bytes progress room fits = record {
   bytes = fits;
   line = omega (arith, room.line, (spot_bounds progress.spot bytes).0);
@@ -80,7 +81,7 @@ moved_room bytes progress room fits = record {
 }
 
 gathered_room : (still_blank : Bool) (rest : List ℕ) (kind : PieceKind) (taken : ℕ) (bytes : List ℕ) (progress : Progress) → HasRoom progress → 0 < length bytes
-    → progress.from + length bytes ≤ 4194304 → BeginsAs still_blank rest kind taken → HasRoom (gathered kind bytes progress)
+    → progress.from + length bytes ≤ most_bytes → BeginsAs still_blank rest kind taken → HasRoom (gathered kind bytes progress)
 gathered_room still_blank rest Blank taken bytes progress room some fits begins = moved_room bytes progress room fits
 gathered_room still_blank rest Comment taken bytes progress room some fits begins = moved_room bytes progress room fits
 gathered_room still_blank rest PassedOver taken bytes progress room some fits begins = moved_room bytes progress room fits
@@ -159,11 +160,11 @@ pub record Reached (file text : List ℕ) (progress : Progress) (still_blank : B
   pub splits : Splits true pieces text still_blank rest
   pub given : progress ≡ all_gathered pieces text (at_start file)
   pub behind : rest ≡ drop progress.from text
-  pub within : progress.from + length rest ≤ 4194304
+  pub within : progress.from + length rest ≤ most_bytes
   pub room : HasRoom progress
   pub of_text : AreOfText text progress.list
 
-pub reached_start : (file text : List ℕ) → length text ≤ 4194304 → Reached file text (at_start file) true text
+pub reached_start : (file text : List ℕ) → length text ≤ most_bytes → Reached file text (at_start file) true text
 reached_start file text small = record {
   pieces = [];
   splits = (refl, refl);

@@ -5,10 +5,11 @@ use Rattle.ctokens.specs.declared.item_span.ItemSpan.{ItemSpan}
 use Rattle.ctokens.specs.declared.symbol.Lexeme.{Lexeme}
 use Rattle.ctokens.specs.declared.symbol.Symbol.TheVariants.{Other}
 use Rattle.ctokens.specs.declared.token.Tokens.{Tokens}
-use Rattle.ctokens.specs.Need.{contained, defines_main, item_row, lexemes, needed_by}
+use Rattle.ctokens.specs.Need.{contained, defines_main, needed_by}
+use Rattle.ctokens.specs.ItemRows.{item_row, lexemes}
 use Rattle.ctokens.specs.Numbering.{IsNumbering}
 use Rattle.ctokens.specs.Passed.{read_symbols}
-use Rattle.ctokens.specs.Symbol.{symbols, words}
+use Rattle.ctokens.specs.TokenSymbols.{symbols, words}
 
 -- the entry of an item with this row of tokens
 abbrev pub entry_of : List (Lexeme ℕ) → Entry

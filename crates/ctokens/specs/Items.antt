@@ -7,7 +7,8 @@ use Rattle.ctokens.specs.declared.item_span.ItemSpan.{ItemSpan}
 use Rattle.ctokens.specs.declared.item_span.Deep.{Deep}
 use Rattle.ctokens.specs.declared.symbol.Symbol.{Symbol}
 use Rattle.ctokens.specs.declared.symbol.Symbol.TheVariants.{Other}
-use Rattle.ctokens.specs.Symbol.{symbols, is_opening, is_passed_over, is_left_brace, is_right_brace, is_right_parenthesis, is_semicolon}
+use Rattle.ctokens.specs.Symbol.{is_opening, is_passed_over, is_left_brace, is_right_brace, is_right_parenthesis, is_semicolon}
+use Rattle.ctokens.specs.TokenSymbols.{symbols}
 use Rattle.ctokens.specs.Passed.{depth_after, read_symbols}
 
 -- the token of that number in a row

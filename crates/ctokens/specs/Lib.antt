@@ -1,3 +1,4 @@
+pub mod InText
 pub mod Bytes
 pub mod Marks
 pub mod Spelled
@@ -10,10 +11,15 @@ pub mod PieceAt
 pub mod Gathered
 pub mod Room
 pub mod TokenList
+pub mod SymbolTables
+pub mod TokenSymbols
 pub mod Symbol
 pub mod Passed
 pub mod Items
 pub mod ItemEnds
+pub mod Offered
+pub mod Bodies
+pub mod ItemRows
 pub mod Need
 pub mod SymbolRows
 pub mod Entry

@@ -1,16 +1,10 @@
 -- The tokens that are passed over before items and grammar look at a text.
-use Rattle.std.specs.Prelude.{ℕ, ◌+◌, ◌-◌, ◌<◌, ◌≤◌, Bool, true, false, ◌&&◌, if◌then◌else◌, List, [], ◌∷◌, map, length, zero, suc}
-use Rattle.std.specs.List.{All}
-use Rattle.ctokens.specs.declared.token.Token.{Token}
+use Rattle.std.specs.Prelude.{ℕ, ◌+◌, ◌-◌, Bool, true, false, ◌&&◌, if◌then◌else◌, List, [], ◌∷◌, map, zero, suc}
 use Rattle.ctokens.specs.declared.token.Tokens.{Tokens}
 use Rattle.ctokens.specs.declared.symbol.Symbol.{Symbol}
 use Rattle.ctokens.specs.declared.symbol.Symbol.TheVariants.{PassedOver}
-use Rattle.ctokens.specs.Symbol.{symbols, is_opening, is_closing, is_attribute, is_passed_over}
-
--- each token has a first byte, and ends in the text; and there are so few that their numbers fit
-pub record LieInText (t : Tokens) : Type 0 where
-  pub ranges : All (λ (token : Token). (token.from < token.to) × (token.to ≤ length t.text)) t.list
-  pub few : length t.list ≤ 4194304
+use Rattle.ctokens.specs.Symbol.{is_opening, is_closing, is_attribute, is_passed_over}
+use Rattle.ctokens.specs.TokenSymbols.{symbols}
 
 -- how many brackets, of the three kinds together, are open after a token where so many were open before it; a
 -- closing bracket where none is open leaves none

@@ -3,8 +3,11 @@
 
 ghost use Rattle.std.specs.Prelude.{◌≡◌, ◌≤◌, ◌++◌, [], false, length, map, IfOk, OnOk};
 ghost use Rattle.std.specs.List.{list_all, list_any};
+ghost use Rattle.ctokens.specs.InText.{most_bytes};
 ghost use Rattle.ctokens.specs.Entry.{entry_of};
-ghost use Rattle.ctokens.specs.Need.{contained, declared, declares_built_in, defines_main, ends_with_body, needed_by, offers_built_in, offers_main};
+ghost use Rattle.ctokens.specs.Need.{contained, declares_built_in, defines_main, needed_by, offers_built_in, offers_main};
+ghost use Rattle.ctokens.specs.Offered.{declared};
+ghost use Rattle.ctokens.specs.Bodies.{ends_with_body};
 ghost use Rattle.ctokens.specs.declared.symbol.Symbol.TheVariants.{Other};
 
 use crate::item_spans::{body_after, ends_body};
@@ -27,7 +30,7 @@ pub(crate) struct Entry {
 
 /// Whether the row of an item ends with a body.
 fn ends_with_body(row: &[Lexeme<u32>]) -> bool
-    requires { length row.now ≤ 4194304 }
+    requires { length row.now ≤ most_bytes }
     ensures { result ≡ ends_with_body row.now }
 {
     let mut depth: u32 = 0;
@@ -70,7 +73,7 @@ fn offers_built_in(words: &[Lexeme<u32>]) -> bool
 /// Whether the item defines main.
 #[tactic(auto, unfolding(crate::specs::Need::defines_main))]
 fn defines_main(alloc: Global, row: &[Lexeme<u32>]) -> Result<bool, NoMemory>
-    requires { length row.now ≤ 4194304 }
+    requires { length row.now ≤ most_bytes }
     ensures { IfOk result (λ main. main ≡ defines_main row.now) }
 {
     if !ends_with_body(row) {
@@ -95,7 +98,7 @@ fn words(alloc: Global, tokens: &[Lexeme<u32>]) -> Result<List<u32>, NoMemory>
 /// The names by which the item is needed: those that it offers, and none where it declares built-in functions alone.
 #[tactic(auto, unfolding(crate::specs::Need::needed_by))]
 fn needed_by(alloc: Global, row: &[Lexeme<u32>]) -> Result<List<u32>, NoMemory>
-    requires { length row.now ≤ 4194304 }
+    requires { length row.now ≤ most_bytes }
     ensures { IfOk result (λ names. names ≡ needed_by row.now) }
 {
     let offered = offered(alloc, row)?;
@@ -122,7 +125,7 @@ fn contained(alloc: Global, row: &[Lexeme<u32>]) -> Result<List<u32>, NoMemory>
 
 /// The entry of an item with this row of tokens.
 pub(crate) fn entry_of(alloc: Global, row: &[Lexeme<u32>]) -> Result<Entry, NoMemory>
-    requires { length row.now ≤ 4194304 }
+    requires { length row.now ≤ most_bytes }
     ensures { IfOk result (λ entry. entry ≡ entry_of row.now) }
 {
     Ok(Entry {

@@ -1,8 +1,8 @@
-ghost use Rattle.std.specs.Prelude.{◌≡◌, ◌≤◌, ◌<◌, false, ℕ, List as Items, Some, Result, IfOk, IfSome, length, slice_get};
+ghost use Rattle.std.specs.Prelude.{◌≡◌, ◌≤◌, ◌<◌, false, Some, IfOk, IfSome, length, slice_get};
 ghost use Rattle.ctokens.specs.ItemEnds.{body_after, ends_body, ends_declaration, first_deep, item_ends, spans, spans_of};
 ghost use Rattle.std.specs.List.{All};
 ghost use Rattle.ctokens.specs.Items.{IsInside, IsItems};
-ghost use Rattle.ctokens.specs.Passed.{LieInText};
+ghost use Rattle.ctokens.specs.InText.{LieInText, most_bytes};
 ghost use Rattle.ctokens.specs.declared.item_span.ItemSpan.{ItemSpan};
 ghost use Rattle.ctokens.specs.declared.item_span.Deep.{Deep};
 ghost use Rattle.ctokens.specs.declared.symbol.Symbol.{Symbol};
@@ -44,7 +44,7 @@ pub(crate) fn body_after(depth: u32, before: Symbol, body: bool, symbol: Symbol)
 
 /// For each token, whether an item ends at it.
 fn item_ends(alloc: Global, read: &[Symbol]) -> Result<Vec<bool>, NoMemory>
-    requires { length read.now ≤ 4194304 }
+    requires { length read.now ≤ most_bytes }
     ensures value { IfOk result (λ ends. ends.items ≡ item_ends 0 Other false read.now) }
     ensures len { IfOk result (λ ends. length ends.items ≡ length read.now) }
 {
@@ -67,7 +67,7 @@ fn item_ends(alloc: Global, read: &[Symbol]) -> Result<Vec<bool>, NoMemory>
 
 /// The spans into which a row of tokens is cut, one at each token where an item ends, and the rest.
 fn spans(alloc: Global, ends: &[bool]) -> Result<List<ItemSpan>, NoMemory>
-    requires { length ends.now ≤ 4194304 }
+    requires { length ends.now ≤ most_bytes }
     ensures { IfOk result (λ items. items ≡ spans 0 0 ends.now) }
 {
     let mut items = Vec::new(alloc);
@@ -88,7 +88,7 @@ fn spans(alloc: Global, ends: &[bool]) -> Result<List<ItemSpan>, NoMemory>
 
 /// The number of the first token that is a bracket which opens at depth 257.
 fn first_deep(symbols: &[Symbol]) -> Option<usize>
-    requires { length symbols.now ≤ 4194304 }
+    requires { length symbols.now ≤ most_bytes }
     ensures deep { result ≡ first_deep 0 0 symbols.now }
     ensures inside { IfSome result (λ at. at < length symbols.now) }
 {
@@ -104,7 +104,7 @@ fn first_deep(symbols: &[Symbol]) -> Option<usize>
 
 /// The spans of the items of a row of tokens.
 fn spans_of(alloc: Global, symbols: &[Symbol]) -> Result<List<ItemSpan>, NoMemory>
-    requires { length symbols.now ≤ 4194304 }
+    requires { length symbols.now ≤ most_bytes }
     ensures { IfOk result (λ items. items ≡ spans_of symbols.now) }
 {
     let read = read_symbols(alloc, symbols)?;
@@ -139,9 +139,3 @@ pub fn items(alloc: Global, t: &Tokens) -> Result<Result<List<ItemSpan>, Deep>, 
         None => Ok(Ok(spans_of(alloc, row)?)),
     }
 }
-
-/// A text has one list of items, or one first bracket that opens too deep, and not both.
-#[tactic(auto, using(crate::proofs::ItemsExact::answers_unique))]
-pub fn one_item_list()
-    ensures { (t : Tokens) (answer other : Result (Items ItemSpan) Deep) → IsItems t answer → IsItems t other → answer ≡ other }
-{}

@@ -1,5 +1,5 @@
 ghost use Rattle.std.specs.Prelude.{◌≤◌, length, IfOk};
-ghost use Rattle.ctokens.specs.Passed.{LieInText};
+ghost use Rattle.ctokens.specs.InText.{LieInText};
 
 use crate::{ItemSpan, Token, TokenKind, Tokens, items, needed, passed_over};
 use cbase::{List, NoMemory, Place, Text};

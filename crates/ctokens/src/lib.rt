@@ -32,9 +32,9 @@ mod token;
 mod token_list;
 
 pub use item_span::{Deep, ItemSpan};
-pub use item_spans::{items, one_item_list};
+pub use item_spans::items;
 pub use need::needed;
-pub use one_list::one_token_list;
+pub use one_list::{one_item_list, one_token_list};
 pub use passed::passed_over;
 pub use symbol_of::{is_identifier, read_as};
 pub use token::{Lexical, Token, TokenKind, Tokens};

@@ -2,9 +2,10 @@ ghost use Rattle.std.specs.Prelude.{◌≡◌, ◌≤◌, Ok, length, map, IfOk}
 ghost use Rattle.std.specs.List.{All, list_any};
 ghost use Rattle.ctokens.specs.Entry.{IsTextRow, entries_of, is_main_entry};
 ghost use Rattle.ctokens.specs.Items.{IsInside, IsItems};
-ghost use Rattle.ctokens.specs.Need.{IsNeed, kept, item_row, item_rows, lexemes};
+ghost use Rattle.ctokens.specs.Need.{IsNeed};
+ghost use Rattle.ctokens.specs.ItemRows.{kept, item_row, item_rows, lexemes};
 ghost use Rattle.ctokens.specs.NeedSearch.{need_of};
-ghost use Rattle.ctokens.specs.Passed.{LieInText};
+ghost use Rattle.ctokens.specs.InText.{LieInText, most_bytes};
 
 use crate::entry::{Entry, entry_of};
 use crate::item_span::ItemSpan;
@@ -62,7 +63,7 @@ fn kept(alloc: Global, row: &[Lexeme<u32>]) -> Result<Vec<Lexeme<u32>>, NoMemory
 
 /// What counts of each item for need.
 fn entries(alloc: Global, row: &[Lexeme<u32>], items: &[ItemSpan]) -> Result<Vec<Entry>, NoMemory>
-    requires few { length row.now ≤ 4194304 }
+    requires few { length row.now ≤ most_bytes }
     requires inside { All (IsInside (length row.now)) items.now }
     ensures value { IfOk result (λ entries. entries.items ≡ entries_of row.now items.now) }
     ensures len { IfOk result (λ entries. length entries.items ≡ length items.now) }
@@ -112,7 +113,7 @@ fn text_row(alloc: Global, t: &Tokens) -> Result<TextRow, NoMemory>
 
 /// The numbers of the items that are found, or `None` where no item defines main.
 fn need_of(alloc: Global, entries: &[Entry], count: u32) -> Result<Option<List<u32>>, NoMemory>
-    requires { length entries.now ≤ 4194304 }
+    requires { length entries.now ≤ most_bytes }
     ensures { IfOk result (λ answer. answer ≡ need_of entries.now count) }
 {
     if !defines_main(entries) {

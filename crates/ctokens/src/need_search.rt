@@ -1,6 +1,7 @@
 //! The least set of items that main needs, found from one item to the next.
 
 ghost use Rattle.std.specs.Prelude.{◌≡◌, ◌+◌, ◌<◌, ◌≤◌, ◌^◌, [], false, length, slice_set, IfOk, OnOk};
+ghost use Rattle.ctokens.specs.InText.{most_bytes};
 ghost use Rattle.ctokens.specs.NeedSearch.{entry_at, found, follow, follow_all, mark, mark_all, mark_mains, places, put, put_all, put_entries, started, waiting_at, waiting_for, walk};
 
 use crate::entry::Entry;
@@ -50,7 +51,7 @@ fn put_all(waiting: &mut Vec<List<u32>>, item: u32, names: &[u32]) -> Result<(),
 /// For each of `count` names, the items that are needed by it.
 #[tactic(auto, unfolding(crate::specs::NeedSearch::waiting_for))]
 fn waiting_for(alloc: Global, entries: &[Entry], count: u32) -> Result<Vec<List<u32>>, NoMemory>
-    requires { length entries.now ≤ 4194304 }
+    requires { length entries.now ≤ most_bytes }
     ensures { IfOk result (λ waiting. waiting.items ≡ waiting_for entries.now count) }
 {
     let mut waiting = Vec::with_capacity(alloc, count as usize)?;
@@ -93,7 +94,7 @@ impl Search {
 
     /// Finds the items that define main.
     fn mark_mains(&mut self, entries: &[Entry]) -> Result<(), NoMemory>
-        requires { length entries.now ≤ 4194304 }
+        requires { length entries.now ≤ most_bytes }
         ensures { OnOk result (self.new ≡ mark_mains 0 entries.now self.old) }
     {
         for (item, entry) in entries.iter().enumerate() {
@@ -165,7 +166,7 @@ impl Search {
 
     /// The numbers of the items that have been found, ascending.
     fn numbers(&self, alloc: Global) -> Result<List<u32>, NoMemory>
-        requires { length self.now.marked ≤ 4194304 }
+        requires { length self.now.marked ≤ most_bytes }
         ensures { IfOk result (λ numbers. numbers ≡ places 0 self.now.marked) }
     {
         places(alloc, self.marked.as_slice())
@@ -175,7 +176,7 @@ impl Search {
 /// What is found at the start: the items that define main.
 #[tactic(auto, unfolding(crate::specs::NeedSearch::started))]
 fn started(alloc: Global, entries: &[Entry], count: u32) -> Result<Search, NoMemory>
-    requires { length entries.now ≤ 4194304 }
+    requires { length entries.now ≤ most_bytes }
     ensures { IfOk result (λ found. found ≡ started entries.now count) }
 {
     let waiting = waiting_for(alloc, entries, count)?;
@@ -194,7 +195,7 @@ fn started(alloc: Global, entries: &[Entry], count: u32) -> Result<Search, NoMem
 
 /// The places at which a list is true, ascending.
 fn places(alloc: Global, marked: &[bool]) -> Result<List<u32>, NoMemory>
-    requires { length marked.now ≤ 4194304 }
+    requires { length marked.now ≤ most_bytes }
     ensures { IfOk result (λ places_. places_ ≡ places 0 marked.now) }
 {
     let mut places = Vec::new(alloc);
@@ -211,7 +212,7 @@ fn places(alloc: Global, marked: &[bool]) -> Result<List<u32>, NoMemory>
 /// Each item is looked at once, and each name brings in the items that wait for it once.
 #[tactic(auto, unfolding(crate::specs::NeedSearch::found))]
 pub(crate) fn found(alloc: Global, entries: &[Entry], count: u32) -> Result<List<u32>, NoMemory>
-    requires { length entries.now ≤ 4194304 }
+    requires { length entries.now ≤ most_bytes }
     ensures { IfOk result (λ numbers. numbers ≡ found entries.now count) }
 {
     let mut found = started(alloc, entries, count)?;

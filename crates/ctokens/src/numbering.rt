@@ -2,8 +2,8 @@
 
 ghost use Rattle.std.specs.Prelude.{◌≡◌, IfOk, length};
 ghost use Rattle.ctokens.specs.Numbering.{IsNumbering};
-ghost use Rattle.ctokens.specs.Passed.{LieInText};
-ghost use Rattle.ctokens.specs.Symbol.{words};
+ghost use Rattle.ctokens.specs.InText.{LieInText};
+ghost use Rattle.ctokens.specs.TokenSymbols.{words};
 
 use crate::symbol_of::token_word;
 use crate::token::Tokens;

@@ -2,7 +2,8 @@
 
 ghost use Rattle.std.specs.Prelude.{◌≡◌, ◌≤◌, ◌++◌, [], false, length, IfOk, OnOk};
 ghost use Rattle.std.specs.Option.{option_to_list};
-ghost use Rattle.ctokens.specs.Need.{behind_stars, brackets_after, declared, declared_at, enumerator_at, enumerators, is_in_enum, offered, opens_enum, pointers, set_after, tag_at, tags};
+ghost use Rattle.ctokens.specs.InText.{most_bytes};
+ghost use Rattle.ctokens.specs.Offered.{behind_stars, brackets_after, declared, declared_at, enumerator_at, enumerators, is_in_enum, offered, opens_enum, pointers, set_after, tag_at, tags};
 ghost use Rattle.ctokens.specs.declared.symbol.Symbol.TheVariants.{Other};
 
 use crate::passed::depth_after;
@@ -75,7 +76,7 @@ pub(crate) fn push_declared(
     found: &mut Vec<Lexeme<u32>>,
     row: &[Lexeme<u32>],
 ) -> Result<(), NoMemory>
-    requires { length row.now ≤ 4194304 }
+    requires { length row.now ≤ most_bytes }
     ensures { OnOk result (found.new.items ≡ found.old.items ++ declared 0 false row.now) }
 {
     let mut depth: u32 = 0;
@@ -107,7 +108,7 @@ fn behind_stars(row: &[Lexeme<u32>]) -> Option<Lexeme<u32>>
 
 /// Appends the words that stand behind `(` and stars, where the `(` stands at depth 0.
 fn push_pointers(found: &mut Vec<Lexeme<u32>>, row: &[Lexeme<u32>]) -> Result<(), NoMemory>
-    requires { length row.now ≤ 4194304 }
+    requires { length row.now ≤ most_bytes }
     ensures { OnOk result (found.new.items ≡ found.old.items ++ pointers 0 row.now) }
 {
     let mut depth: u32 = 0;
@@ -193,7 +194,7 @@ fn push_enumerators(
 
 /// The words that a row of tokens offers as names, in the four ways.
 pub(crate) fn offered(alloc: Global, row: &[Lexeme<u32>]) -> Result<Vec<Lexeme<u32>>, NoMemory>
-    requires { length row.now ≤ 4194304 }
+    requires { length row.now ≤ most_bytes }
     ensures { IfOk result (λ found. found.items ≡ offered row.now) }
 {
     let mut found = Vec::new(alloc);

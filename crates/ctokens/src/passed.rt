@@ -1,5 +1,6 @@
 ghost use Rattle.std.specs.Prelude.{◌≡◌, ◌≤◌, IfOk, length, map};
-ghost use Rattle.ctokens.specs.Passed.{LieInText, depth_after, passed_tokens, read_from, read_symbols};
+ghost use Rattle.ctokens.specs.Passed.{depth_after, passed_tokens, read_from, read_symbols};
+ghost use Rattle.ctokens.specs.InText.{LieInText, most_bytes};
 ghost use Rattle.ctokens.specs.Symbol.{is_passed_over};
 
 use crate::symbol::Symbol;
@@ -10,7 +11,7 @@ use std::alloc::Global;
 
 /// How many brackets are open after a token where `depth` were open before it.
 pub(crate) fn depth_after(depth: u32, symbol: Symbol) -> u32
-    requires { depth ≤ 4194304 }
+    requires { depth ≤ most_bytes }
     ensures { result ≡ depth_after depth symbol }
 {
     if symbol.is_opening() {
@@ -25,7 +26,7 @@ pub(crate) fn depth_after(depth: u32, symbol: Symbol) -> u32
 /// The symbols with `PassedOver` for each token that is passed over.
 #[tactic(auto, using(crate::proofs::PassedSteps::read_inside))]
 pub(crate) fn read_symbols(alloc: Global, symbols: &[Symbol]) -> Result<Vec<Symbol>, NoMemory>
-    requires { length symbols.now ≤ 4194304 }
+    requires { length symbols.now ≤ most_bytes }
     ensures value { IfOk result (λ read. read.items ≡ read_symbols symbols.now) }
     ensures len { IfOk result (λ read. length read.items ≡ length symbols.now) }
 {

@@ -1,4 +1,5 @@
 ghost use Rattle.std.specs.Prelude.{◌≡◌, ◌+◌, ◌≤◌, ◌<◌, ◌^◌, not, length, IfOk};
+ghost use Rattle.ctokens.specs.InText.{most_bytes};
 ghost use Rattle.ctokens.specs.Gathered.{next_spot, spot_behind, number_of, is_among, with_name, moved, gathered, at_start};
 ghost use Rattle.std.specs.List.{list_all};
 ghost use Rattle.ctokens.specs.Bytes.{is_inside_line};
@@ -66,7 +67,7 @@ pub(crate) fn gathered(
     bytes: &[u8],
 ) -> Result<Progress, NoMemory>
     requires room { HasRoom progress }
-    requires inside { progress.from + length bytes.now ≤ 4194304 }
+    requires inside { progress.from + length bytes.now ≤ most_bytes }
     requires known { known.old ≡ progress.names }
     ensures more { IfOk result (λ more. more ≡ gathered kind bytes.now progress) }
     ensures known { IfOk result (λ more. known.new ≡ more.names) }
@@ -84,7 +85,7 @@ pub(crate) fn gathered(
 /// Past some bytes.
 fn moved(progress: Progress, bytes: &[u8]) -> Progress
     requires room { HasRoom progress }
-    requires inside { progress.from + length bytes.now ≤ 4194304 }
+    requires inside { progress.from + length bytes.now ≤ most_bytes }
     ensures { result ≡ moved bytes.now progress }
 {
     let Progress {
@@ -106,7 +107,7 @@ fn moved(progress: Progress, bytes: &[u8]) -> Progress
 /// Past a `#pragma pack` line.
 fn with_pack(progress: Progress, bytes: &[u8]) -> Result<Progress, NoMemory>
     requires room { HasRoom progress }
-    requires inside { progress.from + length bytes.now ≤ 4194304 }
+    requires inside { progress.from + length bytes.now ≤ most_bytes }
     ensures { IfOk result (λ more. more ≡ gathered Pack bytes.now progress) }
 {
     let Progress {
@@ -129,7 +130,7 @@ fn with_pack(progress: Progress, bytes: &[u8]) -> Result<Progress, NoMemory>
 /// Past a token.
 fn with_lexeme(progress: Progress, bytes: &[u8], kind: TokenKind) -> Result<Progress, NoMemory>
     requires room { HasRoom progress }
-    requires inside { progress.from + length bytes.now ≤ 4194304 }
+    requires inside { progress.from + length bytes.now ≤ most_bytes }
     ensures { IfOk result (λ more. more ≡ gathered (Lexeme kind) bytes.now progress) }
 {
     let Progress {
@@ -171,7 +172,7 @@ fn with_marker(
     name: Text,
 ) -> Result<Progress, NoMemory>
     requires room { HasRoom progress }
-    requires inside { progress.from + length bytes.now ≤ 4194304 }
+    requires inside { progress.from + length bytes.now ≤ most_bytes }
     requires known { known.old ≡ progress.names }
     ensures known { IfOk result (λ more. known.new ≡ more.names) }
     ensures more { IfOk result (λ more. more ≡ gathered (Marker number name) bytes.now progress) }

@@ -1,5 +1,7 @@
 ghost use Rattle.std.specs.Prelude.{◌≡◌, ◌<◌, ◌≤◌, length, map};
-ghost use Rattle.ctokens.specs.Symbol.{is_identifier, keyword_symbol, mark_symbol, name_symbol, passed_symbol, read_as, symbol_in, symbol_of, token_symbol, token_word, word_of, word_symbol};
+ghost use Rattle.ctokens.specs.Symbol.{is_identifier};
+ghost use Rattle.ctokens.specs.TokenSymbols.{token_symbol, token_word, word_of};
+ghost use Rattle.ctokens.specs.SymbolTables.{keyword_symbol, mark_symbol, name_symbol, passed_symbol, read_as, symbol_in, symbol_of, word_symbol};
 ghost use Rattle.ctokens.specs.SymbolRows.{row_read};
 
 use crate::symbol::Symbol;

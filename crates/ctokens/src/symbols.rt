@@ -1,6 +1,6 @@
 ghost use Rattle.std.specs.Prelude.{◌≡◌, IfOk, length};
-ghost use Rattle.ctokens.specs.Passed.{LieInText};
-ghost use Rattle.ctokens.specs.Symbol.{symbols};
+ghost use Rattle.ctokens.specs.InText.{LieInText};
+ghost use Rattle.ctokens.specs.TokenSymbols.{symbols};
 
 use crate::symbol::Symbol;
 use crate::symbol_of::token_symbol;

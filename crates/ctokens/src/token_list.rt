@@ -1,4 +1,5 @@
 ghost use Rattle.std.specs.Prelude.{◌≡◌, ◌≤◌, ◌<◌, ◌+◌, length, IfOk, IfErr};
+ghost use Rattle.ctokens.specs.InText.{most_bytes};
 ghost use Rattle.ctokens.specs.Gathered.{place_of};
 ghost use Rattle.ctokens.specs.Room.{HasRoom};
 ghost use Rattle.ctokens.specs.TokenList.{AreTokens, HasNamedFiles, IsLexical, AreOfText};
@@ -17,7 +18,7 @@ use std::alloc::Global;
 /// `file` is the name of the file in which the text begins. Comments and blanks are passed over, and each token
 /// is the longest that begins at its place (C11 6.4). It reads each byte a few times, whatever the text.
 pub fn tokens(alloc: Global, text: &[u8], file: &str) -> Result<Result<Tokens, Lexical>, NoMemory>
-    requires { length text.now ≤ 4194304 }
+    requires { length text.now ≤ most_bytes }
     ensures tokens { IfOk result (λ answer. IfOk answer (λ tokens. AreTokens file.now text.now tokens)) }
     ensures of_text { IfOk result (λ answer. IfOk answer (λ tokens. AreOfText text.now tokens.list)) }
     ensures named { IfOk result (λ answer. IfOk answer HasNamedFiles) }
@@ -37,7 +38,7 @@ pub fn tokens_of_bytes(
     text: &[u8],
     file: &[u8],
 ) -> Result<Result<Tokens, Lexical>, NoMemory>
-    requires { length text.now ≤ 4194304 }
+    requires { length text.now ≤ most_bytes }
     ensures tokens { IfOk result (λ answer. IfOk answer (λ tokens. AreTokens file.now text.now tokens)) }
     ensures of_text { IfOk result (λ answer. IfOk answer (λ tokens. AreOfText text.now tokens.list)) }
     ensures named { IfOk result (λ answer. IfOk answer HasNamedFiles) }
@@ -53,7 +54,7 @@ pub fn tokens_of_bytes(
 /// The pieces of the text are read one by one, and what they give is gathered.
 #[tactic(auto, using(crate::proofs::Reading::reached_start, crate::proofs::Reading::reached_next, crate::proofs::Reading::tokens_at_end, crate::proofs::Reading::lexical_where_none))]
 fn read(alloc: Global, text: &[u8], file: &[u8]) -> Result<Result<Tokens, Lexical>, NoMemory>
-    requires { length text.now ≤ 4194304 }
+    requires { length text.now ≤ most_bytes }
     ensures tokens { IfOk result (λ answer. IfOk answer (λ tokens. AreTokens file.now text.now tokens)) }
     ensures of_text { IfOk result (λ answer. IfOk answer (λ tokens. AreOfText text.now tokens.list)) }
     ensures lexical { IfOk result (λ answer. IfErr answer (λ lexical. IsLexical file.now text.now lexical)) }

@@ -1,5 +1,6 @@
 -- The search finds a fault exactly where some run meets it.
 use Rattle.std.proofs.Common.{◌≡◌, ℕ, ◌+◌, ◌≤◌, Option, None, Some, Bool, true, List, [], ◌∷◌, length, refl, sym, ap, ◌∙◌, arith, get_or}
+use Rattle.ctokens.specs.InText.{most_bytes}
 use Rattle.std.proofs.lemmas.List.{get_or_default}
 use Rattle.first_form.specs.declared.line.Line.{Line}
 use Rattle.first_form.specs.declared.line.Line.TheVariants.{Declare, Assign, Free}
@@ -54,7 +55,7 @@ few_blocks : (lines : List Line) → IsSmall lines → length (declared_names li
 few_blocks lines small =
     let names : length (declared_names lines) ≤ length lines = length-declared_names lines in
     let blocks : allocations lines ≤ length lines = length-allocations lines in
-    let few_lines : length lines ≤ 4194304 = small.few_lines in omega arith
+    let few_lines : length lines ≤ most_bytes = small.few_lines in omega arith
 
 -- whether the search finds the fault at the start of a program
 abbrev pub finds_from_start : Fault → Program → Bool

@@ -12,8 +12,9 @@ use Rattle.first_form.specs.declared.line.Line.{Line}
 use Rattle.first_form.specs.declared.line.Line.TheVariants.{Declare, Assign, Free}
 use Rattle.first_form.specs.declared.line.Program.{Program}
 use Rattle.first_form.specs.FirstForm.{line_tokens, body_tokens, program_tokens, is_small_line, IsProgram, IsSmall}
+use Rattle.ctokens.specs.InText.{most_bytes}
 use Rattle.ctokens.specs.declared.token.Token.{Token as Lexeme}
-use Rattle.ctokens.specs.Symbol.{bytes_of}
+use Rattle.ctokens.specs.TokenSymbols.{bytes_of}
 use Rattle.first_form.specs.Row.{AreSpelled}
 use Rattle.first_form.specs.Tokens.{IsSpelling}
 
@@ -96,7 +97,7 @@ length_lines (Assign name source end ∷ lines) =
 length_lines (Free name at end ∷ lines) = omega (arith, length_lines lines, length-append (line_tokens (Free name at end)) (body_tokens lines))
 
 -- the lines of a row that is spelled are small
-pub small_row : (text : List ℕ) (lexemes : List Lexeme) (placed : List PlacedToken) (program : Program) → AreSpelled text lexemes placed → length placed ≤ 4194304
+pub small_row : (text : List ℕ) (lexemes : List Lexeme) (placed : List PlacedToken) (program : Program) → AreSpelled text lexemes placed → length placed ≤ most_bytes
     → IsProgram (map (λ p. p.token) placed) program → IsSmall program.lines
 small_row text lexemes placed program are short spells =
     let tokens : List Token = map (λ p. p.token) placed in

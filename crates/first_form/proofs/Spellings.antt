@@ -6,8 +6,9 @@ use Rattle.cbase.specs.declared.place.Place.{Place}
 use Rattle.ctokens.specs.declared.token.Token.{Token as Lexeme}
 use Rattle.ctokens.specs.declared.token.Tokens.{Tokens}
 use Rattle.ctokens.specs.declared.item_span.ItemSpan.{ItemSpan}
-use Rattle.ctokens.specs.Passed.{LieInText, passed_tokens}
-use Rattle.ctokens.specs.Symbol.{bytes_of}
+use Rattle.ctokens.specs.Passed.{passed_tokens}
+use Rattle.ctokens.specs.InText.{LieInText, most_bytes}
+use Rattle.ctokens.specs.TokenSymbols.{bytes_of}
 use Rattle.first_form.specs.declared.line.Program.{Program}
 use Rattle.first_form.specs.declared.token.PlacedToken.{PlacedToken}
 use Rattle.first_form.specs.declared.token.Token.{Token}
@@ -141,14 +142,14 @@ spelled-few text [] (first ∷ row) are = absurd are
 spelled-few text (token ∷ tokens) [] are = absurd are
 spelled-few text (token ∷ tokens) (first ∷ row) (spelled, placed, rest) = let few = spelled-few text tokens row rest in omega (arith, few)
 
-pub short_row : (t : Tokens) (span : ItemSpan) (row : List PlacedToken) → LieInText t → AreSpelled t.text (item_tokens t span) row → length row ≤ 4194304
+pub short_row : (t : Tokens) (span : ItemSpan) (row : List PlacedToken) → LieInText t → AreSpelled t.text (item_tokens t span) row → length row ≤ most_bytes
 short_row t span row lie are = omega (arith, spelled-few t.text (item_tokens t span) row are, item_tokens-few t span, lie.few)
 
 -- what `row_of` gives for an item
 pub item_spelled : (t : Tokens) (span : ItemSpan) (row : List PlacedToken) → Some row ≡ row_of t.text (item_tokens t span) → AreSpelled t.text (item_tokens t span) row
 item_spelled t span row is = spelled_row t.text (item_tokens t span) row (sym is)
 
-pub item_short : (t : Tokens) (span : ItemSpan) (row : List PlacedToken) → LieInText t → Some row ≡ row_of t.text (item_tokens t span) → length row ≤ 4194304
+pub item_short : (t : Tokens) (span : ItemSpan) (row : List PlacedToken) → LieInText t → Some row ≡ row_of t.text (item_tokens t span) → length row ≤ most_bytes
 item_short t span row lie is = short_row t span row lie (item_spelled t span row is)
 
 pub small_item : (t : Tokens) (span : ItemSpan) (row : List PlacedToken) (program : Program) → LieInText t → AreSpelled t.text (item_tokens t span) row

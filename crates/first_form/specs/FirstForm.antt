@@ -13,6 +13,7 @@ use Rattle.first_form.specs.declared.line.Source.TheVariants.{Null, Local, Alloc
 use Rattle.first_form.specs.declared.line.Line.{Line}
 use Rattle.first_form.specs.declared.line.Line.TheVariants.{Declare, Assign, Free}
 use Rattle.first_form.specs.declared.line.Program.{Program}
+use Rattle.ctokens.specs.InText.{most_bytes}
 use Rattle.ctokens.specs.declared.token.Tokens.{Tokens}
 use Rattle.ctokens.specs.declared.item_span.ItemSpan.{ItemSpan}
 use Rattle.first_form.specs.Row.{AreSpelled, item_tokens}
@@ -106,7 +107,7 @@ is_small_line (Free name at end) = true
 
 -- what the number of tokens and the sizes that they spell mean for the lines
 pub record IsSmall (lines : List Line) : Type 0 where
-  pub few_lines : length lines ≤ 4194304
+  pub few_lines : length lines ≤ most_bytes
   pub small_sizes : IsTrue (list_all is_small_line lines)
 
 -- the item is of the first form: its tokens that are not passed over spell this row, and the row this program

@@ -3,7 +3,7 @@ use Rattle.std.specs.Prelude.{◌≡◌, ℕ, Bool, true, false, List, [], ◌�
 use Rattle.ctokens.specs.declared.token.Token.{Token as Lexeme}
 use Rattle.ctokens.specs.declared.token.Tokens.{Tokens}
 use Rattle.ctokens.specs.declared.item_span.ItemSpan.{ItemSpan}
-use Rattle.ctokens.specs.Symbol.{bytes_of}
+use Rattle.ctokens.specs.TokenSymbols.{bytes_of}
 use Rattle.ctokens.specs.Passed.{passed_tokens}
 use Rattle.first_form.specs.declared.token.PlacedToken.{PlacedToken}
 use Rattle.first_form.specs.Tokens.{IsSpelling}

@@ -4,7 +4,7 @@ use Rattle.std.specs.Str.{bytes_eq}
 use Rattle.ctokens.specs.Bytes.{is_digit}
 use Rattle.first_form.specs.Tokens.{is_lower, has_no_leading_zero}
 use Rattle.ctokens.specs.declared.token.Token.{Token as Lexeme}
-use Rattle.ctokens.specs.Symbol.{bytes_of}
+use Rattle.ctokens.specs.TokenSymbols.{bytes_of}
 use Rattle.first_form.specs.declared.token.PlacedToken.{PlacedToken}
 use Rattle.first_form.specs.declared.token.Token.{Token}
 use Rattle.first_form.specs.declared.token.Token.TheVariants.{Int, Main, Void, Return, Malloc, Free, Name, Number, LeftParenthesis, RightParenthesis, LeftBrace, RightBrace, Star, Equals, Semicolon}

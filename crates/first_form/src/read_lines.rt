@@ -1,4 +1,5 @@
 ghost use Rattle.std.specs.Prelude.{◌≡◌, ◌≤◌, [], length, IfOk, IfSome, IfNone, IsTrue};
+ghost use Rattle.ctokens.specs.InText.{most_bytes};
 ghost use Rattle.first_form.specs.declared.line.Program.{Program};
 ghost use Rattle.first_form.specs.FirstForm.{IsProgram, AreNumbered, body_tokens, is_scoped, allocations};
 
@@ -17,7 +18,7 @@ const FIRST_OF_BODY: u32 = 6;
 
 /// The program whose body these tokens are, with its end, or `None` where they are no body.
 fn read_body(alloc: Global, tokens: &[Token]) -> Result<Option<Program>, NoMemory>
-    requires { length tokens.now ≤ 4194304 }
+    requires { length tokens.now ≤ most_bytes }
     ensures spelled { IfOk result (λ o. IfSome o (λ program. body_tokens program.lines ≡ tokens.now)) }
     ensures numbered { IfOk result (λ o. IfSome o (λ program. AreNumbered 6 program.lines program.return_at)) }
     ensures none { IfOk result (λ o. IfNone o ((program : Program) → body_tokens program.lines ≡ tokens.now
@@ -43,7 +44,7 @@ fn read_body(alloc: Global, tokens: &[Token]) -> Result<Option<Program>, NoMemor
 
 /// The program that these tokens spell, or `None` where they spell none.
 fn read_program(alloc: Global, tokens: &[Token]) -> Result<Option<Program>, NoMemory>
-    requires { length tokens.now ≤ 4194304 }
+    requires { length tokens.now ≤ most_bytes }
     ensures program { IfOk result (λ o. IfSome o (IsProgram tokens.now)) }
     ensures none { IfOk result (λ o. IfNone o ((program : Program) → IsProgram tokens.now program → ⊥)) }
 {
@@ -57,7 +58,7 @@ fn read_program(alloc: Global, tokens: &[Token]) -> Result<Option<Program>, NoMe
 ///
 /// The program declares each name once and before its use, and `malloc` stands in it 8 times at most.
 pub fn read_lines(alloc: Global, tokens: &[Token]) -> Result<Option<Program>, NoMemory>
-    requires { length tokens.now ≤ 4194304 }
+    requires { length tokens.now ≤ most_bytes }
     ensures program { IfOk result (λ o. IfSome o (IsProgram tokens.now)) }
     ensures scoped { IfOk result (λ o. IfSome o (λ program. IsTrue (is_scoped [] program.lines))) }
     ensures few_allocations { IfOk result (λ o. IfSome o (λ program. allocations program.lines ≤ 8)) }

@@ -2,7 +2,7 @@ ghost use Rattle.std.specs.Prelude.{◌≡◌, ◌<◌, ◌≤◌, ℕ, [], leng
 ghost use Rattle.std.specs.Prelude.{List as Items};
 ghost use Rattle.std.specs.List.{All};
 ghost use Rattle.ctokens.specs.Items.{IsInside};
-ghost use Rattle.ctokens.specs.Passed.{LieInText};
+ghost use Rattle.ctokens.specs.InText.{LieInText, most_bytes};
 ghost use Rattle.first_form.specs.declared.line.Program.{Program};
 ghost use Rattle.first_form.specs.declared.token.PlacedToken.{PlacedToken};
 ghost use Rattle.first_form.specs.FirstForm.{IsFormed, IsProgram, IsSmall, allocations, is_scoped};
@@ -53,7 +53,7 @@ pub fn read_first_form(
 /// The program that these tokens spell, wherever they stand, or `None` where they spell no program of the
 /// first form.
 fn read_placed(alloc: Global, placed: &[PlacedToken]) -> Result<Option<Program>, NoMemory>
-    requires { length placed.now ≤ 4194304 }
+    requires { length placed.now ≤ most_bytes }
     ensures program { IfOk result (λ o. IfSome o (IsProgram (map (λ placed. placed.token) placed.now))) }
     ensures scoped { IfOk result (λ o. IfSome o (λ program. IsTrue (is_scoped [] program.lines))) }
     ensures few_allocations { IfOk result (λ o. IfSome o (λ program. allocations program.lines ≤ 8)) }

@@ -2,7 +2,7 @@ ghost use Rattle.std.specs.Prelude.{◌≡◌, ◌<◌, ◌≤◌, length, IfOk,
 ghost use Rattle.std.specs.Prelude.{List as Items};
 ghost use Rattle.std.specs.List.{All};
 ghost use Rattle.ctokens.specs.Items.{IsInside};
-ghost use Rattle.ctokens.specs.Passed.{LieInText};
+ghost use Rattle.ctokens.specs.InText.{LieInText, most_bytes};
 ghost use Rattle.first_form.specs.declared.token.PlacedToken.{PlacedToken};
 ghost use Rattle.first_form.specs.Row.{AreSpelled, item_tokens, kept};
 ghost use Rattle.first_form.specs.Spelling.{placed_of, row_of};
@@ -24,7 +24,7 @@ pub fn row_of_item(
     requires text { LieInText t.now }
     requires inside { IsInside (length t.now.list) span }
     ensures spelled { IfOk result (λ o. IfSome o (AreSpelled t.now.text (item_tokens t.now span))) }
-    ensures short { IfOk result (λ o. IfSome o (λ row. length row ≤ 4194304)) }
+    ensures short { IfOk result (λ o. IfSome o (λ row. length row ≤ most_bytes)) }
     ensures none { IfOk result (λ o. IfNone o ((row : Items PlacedToken)
         → AreSpelled t.now.text (item_tokens t.now span) row → ⊥)) }
 {

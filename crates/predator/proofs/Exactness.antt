@@ -1,5 +1,6 @@
 -- What is said of the bytes of a file that was read is said of the file.
 use Rattle.std.proofs.Common.{◌≡◌, ℕ, ◌≤◌, Bool, IsTrue, IfOk, ap, ◌∙◌, option_map, Option, Some, Result, Ok, Err, List, length, refl, subst, sym, arith}
+use Rattle.ctokens.specs.InText.{most_bytes}
 use Rattle.command_line.specs.CommandLine.{command_of}
 use Rattle.command_line.specs.declared.command.Command.{Command}
 use Rattle.report.specs.declared.answer.Answer.{Answer}
@@ -11,7 +12,7 @@ use Rattle.predator.specs.Verdict.{AreNames, IsAnswered, IsVerdict, IsWhole, Jud
 use Rattle.predator.specs.Words.{file_of}
 
 answered_whole : (tells : Bool) (content : Option (List ℕ)) (left file bytes : List ℕ) (names : List (List ℕ)) (answer : Answer)
-    → (IsTrue tells → IsWhole content left bytes) → length bytes ≤ 4194304 → IsVerdict answer → Judges file bytes answer → AreNames file bytes answer names
+    → (IsTrue tells → IsWhole content left bytes) → length bytes ≤ most_bytes → IsVerdict answer → Judges file bytes answer → AreNames file bytes answer names
     → IsAnswered tells content left file names answer
 answered_whole tells content left file bytes names Safe whole short verdict judged named = (bytes, whole, judged, named)
 answered_whole tells content left file bytes names (Warned warnings) whole short verdict judged named = (bytes, whole, judged, named)
@@ -24,7 +25,7 @@ answered_whole tells content left file bytes names ReadFault whole short verdict
 answered_whole tells content left file bytes names OutOfMemory whole short verdict judged named = absurd verdict
 
 pub answered_result : {E : Type 0} (tells : Bool) (content : Option (List ℕ)) (left file bytes : List ℕ) (result : Result Judged E)
-    → (IsTrue tells → IsWhole content left bytes) → length bytes ≤ 4194304 → IfOk result (λ judged. IsVerdict judged.answer)
+    → (IsTrue tells → IsWhole content left bytes) → length bytes ≤ most_bytes → IfOk result (λ judged. IsVerdict judged.answer)
     → IfOk result (λ judged. Judges file bytes judged.answer) → IfOk result (λ judged. AreNames file bytes judged.answer judged.names)
     → IfOk result (λ judged. IsAnswered tells content left file judged.names judged.answer)
 answered_result tells content left file bytes (Ok judged) whole short verdict judges named =

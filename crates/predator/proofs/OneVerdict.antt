@@ -1,13 +1,15 @@
 -- Of one file at most one verdict is true.
 use Rattle.std.proofs.Common.{◌≡◌, ℕ, ◌<◌, ◌≤◌, ◌⊎◌, inl, inr, Option, None, Some, Result, Ok, Err, List, [], ◌∷◌, length, map, ◌↔◌, refl, ap, sym, ◌∙◌, subst, arith}
 use Rattle.cbase.specs.declared.place.Place.{Place}
+use Rattle.ctokens.specs.InText.{most_bytes}
 use Rattle.ctokens.specs.declared.token.Tokens.{Tokens}
 use Rattle.ctokens.specs.declared.token.Lexical.{Lexical}
 use Rattle.ctokens.specs.declared.item_span.ItemSpan.{ItemSpan}
 use Rattle.ctokens.specs.declared.item_span.Deep.{Deep}
 use Rattle.ctokens.specs.TokenList.{AreTokens, IsLexical}
 use Rattle.ctokens.specs.Items.{IsItems}
-use Rattle.ctokens.specs.Need.{IsNeed, item_rows}
+use Rattle.ctokens.specs.Need.{IsNeed}
+use Rattle.ctokens.specs.ItemRows.{item_rows}
 use Rattle.cread.specs.Needed.{AreAnswered, AreRead, IsRefused, at_file, spans_of}
 use Rattle.cread.specs.declared.needed_items.ReadNeeded.{ReadNeeded}
 use Rattle.cread.specs.declared.needed_items.ReadNeeded.TheVariants.{Read, Refused}
@@ -34,10 +36,10 @@ data Stage : Type 0 where
   AtLong : Stage
 
 abbrev IsStage : List ℕ → List ℕ → Stage → Type 0
-IsStage file bytes (AtLexical place) = (length bytes ≤ 4194304) × HasNoToken file bytes place
-IsStage file bytes (AtDeep place) = (length bytes ≤ 4194304) × IsTooDeep file bytes place
-IsStage file bytes AtNoMain = (length bytes ≤ 4194304) × HasNoMain file bytes
-IsStage file bytes (AtRead t items numbers) = (length bytes ≤ 4194304) × IsRead file bytes t items numbers
+IsStage file bytes (AtLexical place) = (length bytes ≤ most_bytes) × HasNoToken file bytes place
+IsStage file bytes (AtDeep place) = (length bytes ≤ most_bytes) × IsTooDeep file bytes place
+IsStage file bytes AtNoMain = (length bytes ≤ most_bytes) × HasNoMain file bytes
+IsStage file bytes (AtRead t items numbers) = (length bytes ≤ most_bytes) × IsRead file bytes t items numbers
 IsStage file bytes AtLong = 4194305 ≤ length bytes
 
 abbrev HasForm : Tokens → List ItemSpan → List ℕ → Answer → Type 0
@@ -247,7 +249,7 @@ module _ (one_list : (file text : List ℕ) (tokens others : Tokens) → AreToke
   }
 
 -- of more than 4,194,304 bytes it is true that they are too many, and nothing else
-long_only : (file bytes : List ℕ) → 4194304 < length bytes → (other : Answer) → IsVerdict other → (TooLong 4194305 ≡ other) ↔ Judges file bytes other
+long_only : (file bytes : List ℕ) → most_bytes < length bytes → (other : Answer) → IsVerdict other → (TooLong 4194305 ≡ other) ↔ Judges file bytes other
 long_only file bytes long Safe verdict = (λ same. absurd cc, λ (short, judged). absurd (omega arith))
 long_only file bytes long (Warned warnings) verdict = (λ same. absurd cc, λ (short, judged, some). absurd (omega arith))
 long_only file bytes long (NotRead (why.Lexical place)) verdict = (λ same. absurd cc, λ (short, judged). absurd (omega arith))
@@ -262,5 +264,5 @@ long_only file bytes long Usage verdict = absurd verdict
 long_only file bytes long ReadFault verdict = absurd verdict
 long_only file bytes long OutOfMemory verdict = absurd verdict
 
-pub long_exact : (file bytes : List ℕ) → 4194304 < length bytes → IsExact file bytes (TooLong 4194305)
+pub long_exact : (file bytes : List ℕ) → most_bytes < length bytes → IsExact file bytes (TooLong 4194305)
 long_exact file bytes long = record { only = long_only file bytes long }

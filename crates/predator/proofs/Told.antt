@@ -8,7 +8,8 @@ use Rattle.ctokens.specs.declared.item_span.ItemSpan.{ItemSpan}
 use Rattle.ctokens.specs.declared.item_span.Deep.{Deep}
 use Rattle.ctokens.specs.TokenList.{HasNamedFiles}
 use Rattle.ctokens.specs.Items.{IsFirstDeep, IsItems}
-use Rattle.ctokens.specs.Need.{IsNeed, item_rows}
+use Rattle.ctokens.specs.Need.{IsNeed}
+use Rattle.ctokens.specs.ItemRows.{item_rows}
 use Rattle.cread.specs.Needed.{AreRead, IsNamed, IsRefused, at_file, spans_of}
 use Rattle.cread.specs.declared.needed_items.ReadNeeded.TheVariants.{Refused}
 use Rattle.cread.specs.declared.refusal.Refusal.{Refusal}

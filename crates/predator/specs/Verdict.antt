@@ -3,12 +3,14 @@ use Rattle.std.specs.Prelude.{◌≡◌, ℕ, ◌+◌, ◌<◌, ◌≤◌, ◌�
 use Rattle.cbase.specs.declared.place.Place.{Place}
 use Rattle.command_line.specs.CommandLine.{default_budget, default_int_limit}
 use Rattle.command_line.specs.declared.command.Command.{Command}
+use Rattle.ctokens.specs.InText.{most_bytes}
 use Rattle.ctokens.specs.declared.token.Tokens.{Tokens}
 use Rattle.ctokens.specs.declared.token.Lexical.{Lexical}
 use Rattle.ctokens.specs.declared.item_span.ItemSpan.{ItemSpan}
 use Rattle.ctokens.specs.TokenList.{AreTokens, IsLexical}
 use Rattle.ctokens.specs.Items.{IsItems}
-use Rattle.ctokens.specs.Need.{IsNeed, item_rows}
+use Rattle.ctokens.specs.Need.{IsNeed}
+use Rattle.ctokens.specs.ItemRows.{item_rows}
 use Rattle.cread.specs.declared.refusal.Refusal.{Refusal}
 use Rattle.cread.specs.declared.refusal.Refusal.TheVariants as refusal
 use Rattle.cread.specs.Needed.{AreRead, IsRefused, at_file, spans_of}
@@ -46,10 +48,6 @@ pub record AreWarnings (row : List PlacedToken) (program : Program) (warnings : 
   pub faults : List Fault
   pub are_faults : AreFaults program faults
   pub are_warnings : warnings ≡ map (warning_of row) faults
-
--- how many bytes of a file are read at most, the one aside that shows that it is longer
-abbrev pub most_bytes : ℕ
-most_bytes = 4194304
 
 -- the bytes of this file have these tokens and these items, and main needs the items with these numbers
 pub record IsRead (file bytes : List ℕ) (t : Tokens) (items : List ItemSpan) (numbers : List ℕ) : Type 0 where

@@ -1,8 +1,9 @@
 ghost use Rattle.std.specs.Prelude.{◌≡◌, ◌≤◌, Ok, Some, length, IfOk};
 ghost use Rattle.std.specs.List.{All};
 ghost use Rattle.ctokens.specs.Items.{IsInside, IsItems};
-ghost use Rattle.ctokens.specs.Need.{IsNeed, item_rows};
-ghost use Rattle.ctokens.specs.Passed.{LieInText};
+ghost use Rattle.ctokens.specs.Need.{IsNeed};
+ghost use Rattle.ctokens.specs.ItemRows.{item_rows};
+ghost use Rattle.ctokens.specs.InText.{LieInText, most_bytes};
 ghost use Rattle.cgrammar.specs.Readings.{AreNumbered};
 ghost use Rattle.cread.specs.Needed.{AreRead, spans_of};
 ghost use Rattle.ctokens.specs.TokenList.{HasNamedFiles};
@@ -38,7 +39,7 @@ pub struct Judged {
 /// main needs one item alone, which is of the first form; and else `NotYet`.
 #[tactic(auto, using(crate::proofs::OneVerdict::exact_verdict))]
 pub fn judge(alloc: Global, file: &[u8], text: &[u8]) -> Result<Judged, NoMemory>
-    requires { length text.now ≤ 4194304 }
+    requires { length text.now ≤ most_bytes }
     ensures judged { IfOk result (λ judged. Judges file.now text.now judged.answer) }
     ensures names { IfOk result (λ judged. AreNames file.now text.now judged.answer judged.names) }
     ensures printable { IfOk result (λ judged. HasPrintable judged.names judged.answer) }
@@ -54,7 +55,7 @@ pub fn judge(alloc: Global, file: &[u8], text: &[u8]) -> Result<Judged, NoMemory
 
 /// The answer to the bytes of a whole file, as one that is true of them.
 fn answer_of_text(alloc: Global, file: &[u8], text: &[u8]) -> Result<Judged, NoMemory>
-    requires { length text.now ≤ 4194304 }
+    requires { length text.now ≤ most_bytes }
     ensures judged { IfOk result (λ judged. Judges file.now text.now judged.answer) }
     ensures names { IfOk result (λ judged. AreNames file.now text.now judged.answer judged.names) }
     ensures printable { IfOk result (λ judged. HasPrintable judged.names judged.answer) }

@@ -1,5 +1,5 @@
 use Rattle.std.proofs.Common.{◌≡◌, ◌≤◌, drop}
-use Rattle.ctokens.specs.Need.{has_body, ends_with_body}
+use Rattle.ctokens.specs.Bodies.{has_body, ends_with_body}
 use Rattle.ctokens.proofs.entry.ends_with_body.Given as goal
 
 abbrev pub invariant-loop-token : goal.invariant-loop-token

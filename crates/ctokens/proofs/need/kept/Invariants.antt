@@ -1,5 +1,5 @@
 use Rattle.std.proofs.Common.{◌≡◌, ◌≤◌, take, vec_len}
-use Rattle.ctokens.specs.Need.{kept}
+use Rattle.ctokens.specs.ItemRows.{kept}
 use Rattle.ctokens.proofs.need.kept.Given as goal
 
 abbrev pub invariant-loop-token : goal.invariant-loop-token

@@ -1,5 +1,5 @@
 use Rattle.std.proofs.Common.{◌≡◌, ◌++◌, drop, vec_len}
-use Rattle.ctokens.specs.Need.{lexemes}
+use Rattle.ctokens.specs.ItemRows.{lexemes}
 use Rattle.ctokens.proofs.need.lexemes.Given as goal
 
 abbrev pub invariant-loop-i : goal.invariant-loop-i

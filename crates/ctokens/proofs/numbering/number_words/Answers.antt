@@ -1,6 +1,6 @@
 use Rattle.std.proofs.Common.{◌≡◌, ◌∷◌, ◌++◌, ◌+◌, [], map, take, arith, refl}
 use Rattle.std.proofs.lemmas.Grind.{common_steps}
-use Rattle.ctokens.specs.Symbol.{token_word}
+use Rattle.ctokens.specs.TokenSymbols.{token_word}
 use Rattle.ctokens.proofs.Numbered.{numbered_more, numbering_of, same_numbered}
 use Rattle.ctokens.proofs.numbering.number_words.Goals as goal
 

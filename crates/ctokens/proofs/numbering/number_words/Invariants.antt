@@ -1,5 +1,5 @@
 use Rattle.std.proofs.Common.{map, take}
-use Rattle.ctokens.specs.Symbol.{token_word}
+use Rattle.ctokens.specs.TokenSymbols.{token_word}
 use Rattle.ctokens.proofs.Numbered.{Numbered}
 use Rattle.ctokens.proofs.numbering.number_words.Given as goal
 

@@ -1,5 +1,5 @@
 use Rattle.std.proofs.Common.{◌≡◌, false, drop}
-use Rattle.ctokens.specs.Need.{behind_stars}
+use Rattle.ctokens.specs.Offered.{behind_stars}
 use Rattle.ctokens.proofs.offered.behind_stars.Given as goal
 
 abbrev pub invariant-loop-token : goal.invariant-loop-token

@@ -1,5 +1,5 @@
 use Rattle.std.proofs.Common.{◌≡◌, ◌≤◌, ◌++◌, false, drop}
-use Rattle.ctokens.specs.Need.{declared}
+use Rattle.ctokens.specs.Offered.{declared}
 use Rattle.ctokens.proofs.offered.push_declared.Given as goal
 
 abbrev pub invariant-loop-i : goal.invariant-loop-i

@@ -1,5 +1,5 @@
 use Rattle.std.proofs.Common.{◌≡◌, ◌++◌, [], drop}
-use Rattle.ctokens.specs.Need.{enumerators}
+use Rattle.ctokens.specs.Offered.{enumerators}
 use Rattle.ctokens.specs.declared.symbol.Symbol.TheVariants.{Other}
 use Rattle.ctokens.proofs.offered.push_enumerators.Given as goal
 

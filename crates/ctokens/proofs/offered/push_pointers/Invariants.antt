@@ -1,5 +1,5 @@
 use Rattle.std.proofs.Common.{◌≡◌, ◌≤◌, ◌++◌, drop}
-use Rattle.ctokens.specs.Need.{pointers}
+use Rattle.ctokens.specs.Offered.{pointers}
 use Rattle.ctokens.proofs.offered.push_pointers.Given as goal
 
 abbrev pub invariant-loop-i : goal.invariant-loop-i

@@ -1,5 +1,5 @@
 use Rattle.std.proofs.Common.{◌≡◌, ◌++◌, drop}
-use Rattle.ctokens.specs.Need.{tags}
+use Rattle.ctokens.specs.Offered.{tags}
 use Rattle.ctokens.proofs.offered.push_tags.Given as goal
 
 abbrev pub invariant-loop-i : goal.invariant-loop-i

@@ -1,5 +1,5 @@
 use Rattle.std.proofs.Common.{◌≡◌, map, drop}
-use Rattle.ctokens.specs.Symbol.{symbol_in}
+use Rattle.ctokens.specs.SymbolTables.{symbol_in}
 use Rattle.ctokens.specs.SymbolRows.{row_read}
 use Rattle.ctokens.proofs.symbol_of.symbol_in.Given as goal
 

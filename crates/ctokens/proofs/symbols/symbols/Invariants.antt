@@ -1,5 +1,5 @@
 use Rattle.std.proofs.Common.{◌≡◌, map, take}
-use Rattle.ctokens.specs.Symbol.{token_symbol}
+use Rattle.ctokens.specs.TokenSymbols.{token_symbol}
 use Rattle.ctokens.proofs.symbols.symbols.Given as goal
 
 abbrev pub invariant-loop-token : goal.invariant-loop-token
