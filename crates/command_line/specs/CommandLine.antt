@@ -1,6 +1,6 @@
 -- Which words `predator [--budget N] [--int-limit K] FILE` takes, and what they ask for.
 use Rattle.std.specs.Prelude.{◌==◌, ℕ, Bool, true, false, List, [], ◌∷◌, Option, Some, None}
-use Rattle.std.specs.Prelude.{if◌then◌else◌, codes, option_and_then}
+use Rattle.std.specs.Prelude.{if◌then◌else◌, codes, option_and_then, option_map}
 use Rattle.std.specs.List.{list_any, before_first, after_first}
 use Rattle.std.specs.Str.{bytes_eq}
 use Rattle.command_line.specs.Numbers.{number_or}
@@ -179,3 +179,7 @@ command_seen seen = if is_settled seen.next
 -- the command that the words ask for, and nothing where the usage line is the answer
 abbrev pub command_of : List Word → Option Command
 command_of words = option_and_then command_seen (after_words nothing_seen words)
+
+-- FILE, where the words are of the form of the usage line
+abbrev pub file_of : List Word → Option Word
+file_of words = option_map (λ command. command.file) (command_of words)

@@ -29,7 +29,8 @@ use Rattle.creader.specs.ReadingSteps.{inner_at}
 use Rattle.creader.specs.State.{State}
 use Rattle.creader.specs.Writings.{ItemWriting, item_written_of, start_of}
 use Rattle.cread.proofs.ReadRows.{RowRead, row_read, no_row_read}
-use Rattle.cread.specs.Answers.{IsItemRead, IsPlaceOf, IsPlaceIn, IsRefusal, ShowsLayout}
+use Rattle.cread.specs.Refusals.{IsPlaceOf, IsPlaceIn, IsRefusal, ShowsLayout}
+use Rattle.cread.specs.ItemsRead.{IsItemRead}
 use Rattle.cread.specs.Items.{SpellsItem}
 use Rattle.cbuild.specs.ItemsMade.{item_made, nothing_made}
 use Rattle.cread.specs.RowItems.{context_at, IsItemOf, IsItemOfNone, IsConstructOf, MakeItem}

@@ -19,10 +19,11 @@ use Rattle.ctokens.specs.declared.token.Token.{Token}
 use Rattle.ctokens.specs.declared.token.Tokens.{Tokens}
 use Rattle.ctokens.specs.Passed.{passed_tokens}
 use Rattle.ctokens.specs.TokenList.{HasNamedFiles}
-use Rattle.cread.specs.Answers.{IsItemRead, IsPlaceIn, IsPlaceOf, IsRefusal, ShowsConstruct, ShowsLayout}
+use Rattle.cread.specs.Refusals.{IsPlaceIn, IsPlaceOf, IsRefusal, ShowsConstruct, ShowsLayout}
+use Rattle.cread.specs.ItemsRead.{IsItemRead}
 use Rattle.cread.specs.declared.refusal.Refusal.{Refusal}
 use Rattle.cread.specs.declared.refusal.Refusal.TheVariants.{Construct, Syntax}
-use Rattle.cread.specs.Needed.{HasNumber, place_in}
+use Rattle.cread.specs.Named.{HasNumber, place_in}
 use Rattle.cread.proofs.Complete.{one_item}
 
 -- one row is read in one way

@@ -2,7 +2,8 @@
 use Rattle.std.specs.Prelude.{◌≡◌, ℕ}
 use Rattle.ctokens.specs.declared.token.Tokens.{Tokens}
 use Rattle.cgrammar.specs.Phrases.{Context}
-use Rattle.cread.specs.Answers.{IsItemRead, IsRefusal}
+use Rattle.cread.specs.Refusals.{IsRefusal}
+use Rattle.cread.specs.ItemsRead.{IsItemRead}
 use Rattle.cread.specs.declared.answer.ItemAnswer.{ItemAnswer}
 use Rattle.cread.specs.declared.answer.ItemAnswer.TheVariants.{Read, Construct, Syntax}
 use Rattle.cread.specs.declared.reading_item.ReadIn.{ReadIn}

@@ -3,9 +3,12 @@ pub mod OneItem
 pub mod ReadItem
 pub mod TextItems
 pub mod ItemRows
+pub mod ItemsRead
+pub mod Refusals
 pub mod Answers
 pub mod RowItems
 pub mod ItemAnswers
+pub mod Named
 pub mod Needed
 pub mod NamesAfter
 pub mod SpelledNames

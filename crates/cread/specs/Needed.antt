@@ -1,16 +1,15 @@
 -- Items of a text that are read in its order: each where the names that those before it declare are in scope, and as
 -- many expressions end before it as they have. The first that is not read is refused.
-use Rattle.std.specs.Prelude.{◌≡◌, ℕ, ◌<◌, ◌≤◌, List, [], ◌∷◌, length, Option, None, Some, slice_get}
-use Rattle.cbase.specs.declared.place.Place.{Place}
+use Rattle.std.specs.Prelude.{◌≡◌, ℕ, ◌<◌, ◌≤◌, List, [], ◌∷◌, Option, None, Some, slice_get}
 use Rattle.cbase.specs.declared.tree.item.Item.{Item}
 use Rattle.cgrammar.specs.Phrases.{Context}
 use Rattle.cgrammar.specs.Readings.{at_first}
 use Rattle.cgrammar.specs.Scope.{file_scope}
 use Rattle.ctokens.specs.declared.item_span.ItemSpan.{ItemSpan}
 use Rattle.ctokens.specs.declared.token.Tokens.{Tokens}
-use Rattle.cread.specs.Answers.{IsItemRead, IsRefusal}
+use Rattle.cread.specs.Refusals.{IsRefusal}
+use Rattle.cread.specs.ItemsRead.{IsItemRead}
 use Rattle.cread.specs.declared.refusal.Refusal.{Refusal}
-use Rattle.cread.specs.declared.refusal.Refusal.TheVariants.{Construct, Syntax}
 use Rattle.cread.specs.declared.needed_items.ReadNeeded.{ReadNeeded}
 use Rattle.cread.specs.declared.needed_items.ReadNeeded.TheVariants.{Read, Refused}
 
@@ -57,20 +56,5 @@ abbrev pub HaveOneAnswer : Type 0
 HaveOneAnswer = (t : Tokens) (spans : List ItemSpan) (one other : ReadNeeded) → AreAnswered t spans one → AreAnswered t spans other → one ≡ other
 
 -- the span has a token, and lies among so many
-abbrev pub IsSome : ℕ → ItemSpan → Type 0
-IsSome count span = (span.first < span.after) × (span.after ≤ count)
-
--- the place at which an item is refused
-abbrev pub place_in : Refusal → Place
-place_in (Construct number place) = place
-place_in (Syntax place) = place
-
--- the numbers of the constructs that are given up
-abbrev pub HasNumber : Refusal → Type 0
-HasNumber (Construct number place) = (1 ≤ number) × (number ≤ 21)
-HasNumber (Syntax place) = Unit {0}
-
--- what is refused can be named: its construct has a number, and the file of its place a name
-abbrev pub IsNamed : List (List ℕ) → ReadNeeded → Type 0
-IsNamed names (Read program) = Unit {0}
-IsNamed names (Refused refusal) = HasNumber refusal × ((place_in refusal).file < length names)
+abbrev pub IsSpanAmong : ℕ → ItemSpan → Type 0
+IsSpanAmong count span = (span.first < span.after) × (span.after ≤ count)

@@ -13,7 +13,7 @@ use Rattle.cgrammar.specs.Phrases.{Context}
 use Rattle.cgrammar.specs.Readings.{most_levels}
 use Rattle.cgrammar.specs.Scope.{Names}
 use Rattle.cgrammar.specs.Terminals.{Terminal}
-use Rattle.cread.specs.Answers.{IsPlaceIn}
+use Rattle.cread.specs.Refusals.{IsPlaceIn}
 use Rattle.cread.specs.Items.{SpellsItem}
 
 -- these names are in scope, and so many expressions end before

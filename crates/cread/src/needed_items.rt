@@ -4,7 +4,8 @@ ghost use Rattle.ctokens.specs.Items.{IsItems};
 ghost use Rattle.ctokens.specs.InText.{LieInText};
 ghost use Rattle.ctokens.specs.TokenList.{HasNamedFiles};
 ghost use Rattle.cgrammar.specs.Readings.{AreNumbered};
-ghost use Rattle.cread.specs.Needed.{AreAnswered, HaveOneAnswer, IsNamed, IsSome, spans_of, with_span};
+ghost use Rattle.cread.specs.Needed.{AreAnswered, HaveOneAnswer, IsSpanAmong, spans_of, with_span};
+ghost use Rattle.cread.specs.Named.{IsNamed};
 
 use crate::reading_item::{ItemBehind, ReadIn, read_item_in};
 use crate::refusal::Refusal;
@@ -78,7 +79,7 @@ fn push_found(spans: &mut List<ItemSpan>, found: Option<ItemSpan>) -> Result<(),
 fn read_all(alloc: Global, t: &Tokens, spans: &[ItemSpan]) -> Result<ReadNeeded, NoMemory>
     requires text { LieInText t.now }
     requires numbered { AreNumbered t.now }
-    requires some { All (IsSome (length t.now.list)) spans.now }
+    requires some { All (IsSpanAmong (length t.now.list)) spans.now }
     ensures { IfOk result (AreAnswered t.now spans.now) }
 {
     let passed = passed_over(alloc, t)?;

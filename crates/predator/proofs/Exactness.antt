@@ -1,15 +1,16 @@
 -- What is said of the bytes of a file that was read is said of the file.
 use Rattle.std.proofs.Common.{◌≡◌, ℕ, ◌≤◌, Bool, IsTrue, IfOk, ap, ◌∙◌, option_map, Option, Some, Result, Ok, Err, List, length, refl, subst, sym, arith}
 use Rattle.ctokens.specs.InText.{most_bytes}
-use Rattle.command_line.specs.CommandLine.{command_of}
+use Rattle.command_line.specs.CommandLine.{command_of, file_of}
 use Rattle.command_line.specs.declared.command.Command.{Command}
 use Rattle.report.specs.declared.answer.Answer.{Answer}
 use Rattle.report.specs.declared.answer.Answer.TheVariants.{Safe, Warned, NotRead, Construct, NotYet, TooLong, Usage, ReadFault, OutOfMemory}
 use Rattle.report.specs.declared.answer.Shown.{Shown}
 use Rattle.predator.specs.declared.top.Plan.{Plan}
 use Rattle.predator.specs.declared.judge.Judged.{Judged}
-use Rattle.predator.specs.Verdict.{AreNames, IsAnswered, IsVerdict, IsWhole, Judges}
-use Rattle.predator.specs.Words.{file_of}
+use Rattle.predator.specs.Verdict.{IsVerdict, Judges}
+use Rattle.predator.specs.Answered.{IsAnswered, IsWhole}
+use Rattle.predator.specs.Shown.{AreNames}
 
 answered_whole : (tells : Bool) (content : Option (List ℕ)) (left file bytes : List ℕ) (names : List (List ℕ)) (answer : Answer)
     → (IsTrue tells → IsWhole content left bytes) → length bytes ≤ most_bytes → IsVerdict answer → Judges file bytes answer → AreNames file bytes answer names

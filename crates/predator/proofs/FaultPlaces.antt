@@ -12,22 +12,23 @@ use Rattle.first_form.specs.declared.fault.Fault.{Fault}
 use Rattle.first_form.specs.declared.token.PlacedToken.{PlacedToken}
 use Rattle.first_form.specs.declared.token.Token.TheVariants.{Int}
 use Rattle.first_form.specs.declared.line.Program.{Program}
-use Rattle.predator.specs.Verdict.{AreWarnings, first_place, place_of, warning_of}
+use Rattle.cgrammar.specs.Terminals.{no_place}
+use Rattle.predator.specs.Warnings.{AreWarnings, place_of, warning_of}
 
 abbrev place_in : Option PlacedToken → Place
-place_in found = unwrap_or (option_map (λ placed. placed.place) found) (first_place)
+place_in found = unwrap_or (option_map (λ placed. placed.place) found) no_place
 
 pub place_within : (tokens : List PlacedToken) (number : ℕ) (d : PlacedToken) → number < length tokens → (get_or tokens number d).place ≡ place_of tokens number
 place_within tokens number d within = sym (ap place_in (slice_get-get_or tokens number d within))
 
-pub place_past : (tokens : List PlacedToken) (number : ℕ) → length tokens ≤ number → first_place ≡ place_of tokens number
+pub place_past : (tokens : List PlacedToken) (number : ℕ) → length tokens ≤ number → no_place ≡ place_of tokens number
 place_past tokens number past = sym (ap place_in (slice_get_past tokens number past))
 
 file_at : (row : List PlacedToken) (number count : ℕ) (within : Bool) → within ≡ ltb number (length row) → 0 < count
     → All (λ (placed : PlacedToken). placed.place.file < count) row → (place_of row number).file < count
 file_at row number count true is some files =
     let below : number < length row = grind (arith, nat_tests) in
-    let none : PlacedToken = record { token = Int; place = first_place } in
+    let none : PlacedToken = record { token = Int; place = no_place } in
     subst (λ (p : Place). p.file < count) (place_within row number none below) (files number none below)
 file_at row number count false is some files =
     let past : length row ≤ number = grind (arith, nat_tests) in

@@ -10,7 +10,8 @@ use Rattle.ctokens.specs.TokenList.{HasNamedFiles}
 use Rattle.ctokens.specs.Items.{IsFirstDeep, IsItems}
 use Rattle.ctokens.specs.Need.{IsNeed}
 use Rattle.ctokens.specs.ItemRows.{item_rows}
-use Rattle.cread.specs.Needed.{AreRead, IsNamed, IsRefused, at_file, spans_of}
+use Rattle.cread.specs.Needed.{AreRead, IsRefused, at_file, spans_of}
+use Rattle.cread.specs.Named.{IsNamed}
 use Rattle.cread.specs.declared.needed_items.ReadNeeded.TheVariants.{Refused}
 use Rattle.cread.specs.declared.refusal.Refusal.{Refusal}
 use Rattle.cread.specs.declared.refusal.Refusal.TheVariants as refusal
@@ -25,7 +26,8 @@ use Rattle.first_form.specs.FirstForm.{IsFormed}
 use Rattle.first_form.specs.Faults.{AreFaults}
 use Rattle.first_form.specs.Row.{item_tokens}
 use Rattle.predator.specs.Told.{IsTold}
-use Rattle.predator.specs.Verdict.{AreWarnings, IsFirstForm, IsSound, answer_of, only_item, verdict_of, warning_of}
+use Rattle.predator.specs.Verdict.{IsFirstForm, IsSound, answer_of, only_item, verdict_of}
+use Rattle.predator.specs.Warnings.{AreWarnings, warning_of}
 use Rattle.first_form.proofs.Ascending.{no_member}
 use Rattle.predator.proofs.FaultPlaces.{warnings_printable}
 use Rattle.first_form.proofs.Spellings.{item_tokens-All, row_places}

@@ -1,3 +1,5 @@
-pub mod Words
+pub mod Warnings
+pub mod Shown
 pub mod Verdict
+pub mod Answered
 pub mod Told

@@ -10,7 +10,9 @@ ghost use Rattle.ctokens.specs.TokenList.{HasNamedFiles};
 ghost use Rattle.report.specs.Report.{HasPrintable};
 ghost use Rattle.first_form.specs.FirstForm.{IsSmall};
 ghost use Rattle.predator.specs.Told.{IsTold};
-ghost use Rattle.predator.specs.Verdict.{AreNames, AreWarnings, IsExact, IsVerdict, Judges, answer_of, only_item, verdict_of};
+ghost use Rattle.predator.specs.Verdict.{IsExact, IsVerdict, Judges, answer_of, only_item, verdict_of};
+ghost use Rattle.predator.specs.Shown.{AreNames};
+ghost use Rattle.predator.specs.Warnings.{AreWarnings};
 
 use crate::warnings::warnings_of;
 use cbase::{List, NoMemory, Text};

@@ -1,13 +1,15 @@
-ghost use Rattle.std.specs.Prelude.{◌≡◌, ◌≢◌, ◌↔◌, ◌⊎◌, ℕ, ◌<◌, true, false, IsTrue, IfOk, None, Some};
+ghost use Rattle.std.specs.Prelude.{◌≡◌, ◌≢◌, ◌↔◌, ◌⊎◌, ℕ, ◌+◌, ◌<◌, true, false, IsTrue, IfOk, None, Some};
 ghost use Rattle.std.specs.Prelude.{List as Items, [], length, map, take, string_bytes};
 ghost use Rattle.outside.specs.Faults.{Rose};
 ghost use Rattle.outside.specs.Reading.{IsWithin, LeavesAtMost};
 ghost use Rattle.outside.specs.Sink.{appended};
-ghost use Rattle.command_line.specs.CommandLine.{command_of};
+ghost use Rattle.ctokens.specs.InText.{most_bytes};
+ghost use Rattle.command_line.specs.CommandLine.{command_of, file_of};
 ghost use Rattle.report.specs.Report.{HasPrintable, report_bytes, status_of};
 ghost use Rattle.report.specs.declared.answer.Answer.{Answer};
-ghost use Rattle.predator.specs.Verdict.{IsAnswered, IsExact, IsVerdict, Judges, file_in, file_shown, limits_in, limits_shown};
-ghost use Rattle.predator.specs.Words.{file_of};
+ghost use Rattle.predator.specs.Verdict.{IsExact, IsVerdict, Judges};
+ghost use Rattle.predator.specs.Answered.{IsAnswered};
+ghost use Rattle.predator.specs.Shown.{file_in, file_shown, limits_in, limits_shown};
 
 use crate::judge::{Judged, judge};
 use cbase::{List, NoMemory, Text};
@@ -86,7 +88,7 @@ pub fn predator<F: Files, K: Sink>(
     // At most 4,194,305 bytes of the file are taken.
     ensures taken { (file : Items ℕ) → file_of (map string_bytes words.now) ≡ Some file
         → IsTrue (F.tells files.old) → F.failed files.new ≡ false
-        → (files.new ≡ files.old) ⊎ LeavesAtMost 4194305 (F.bytes_of files.old file) (F.left files.new) }
+        → (files.new ≡ files.old) ⊎ LeavesAtMost (most_bytes + 1) (F.bytes_of files.old file) (F.left files.new) }
 
     // The report is written, whole or up to a write fault.
     ensures status { result.sent ≡ true → result.status ≡ status_of result.shown.answer }
@@ -161,7 +163,7 @@ fn planned<F: Files>(alloc: Global, words: &[String], files: &mut F) -> Result<P
         → IfOk result (λ plan. plan.shown.answer ≢ Answer.ReadFault → IsExact file whole plan.shown.answer) }
     ensures taken { (file : Items ℕ) → file_of (map string_bytes words.now) ≡ Some file
         → IsTrue (F.tells files.old) → F.failed files.new ≡ false
-        → (files.new ≡ files.old) ⊎ LeavesAtMost 4194305 (F.bytes_of files.old file) (F.left files.new) }
+        → (files.new ≡ files.old) ⊎ LeavesAtMost (most_bytes + 1) (F.bytes_of files.old file) (F.left files.new) }
     ensures untouched { file_of (map string_bytes words.now) ≡ None → files.new ≡ files.old }
 {
     match command_of(alloc, words)? {
@@ -203,7 +205,7 @@ fn planned_command<F: Files>(
         → F.bytes_of files.old command.file ≡ Some whole
         → IfOk result (λ plan. plan.shown.answer ≢ Answer.ReadFault → IsExact command.file whole plan.shown.answer) }
     ensures taken { IsTrue (F.tells files.old) → F.failed files.new ≡ false
-        → (files.new ≡ files.old) ⊎ LeavesAtMost 4194305 (F.bytes_of files.old command.file) (F.left files.new) }
+        → (files.new ≡ files.old) ⊎ LeavesAtMost (most_bytes + 1) (F.bytes_of files.old command.file) (F.left files.new) }
 {
     let Command {
         file,
@@ -248,7 +250,7 @@ fn answer_of_file<F: Files>(alloc: Global, file: &[u8], files: &mut F) -> Result
         → F.bytes_of files.old file.now ≡ Some whole
         → IfOk result (λ judged. judged.answer ≢ Answer.ReadFault → IsExact file.now whole judged.answer) }
     ensures taken { IsTrue (F.tells files.old) → F.failed files.new ≡ false
-        → (files.new ≡ files.old) ⊎ LeavesAtMost 4194305 (F.bytes_of files.old file.now) (F.left files.new) }
+        → (files.new ≡ files.old) ⊎ LeavesAtMost (most_bytes + 1) (F.bytes_of files.old file.now) (F.left files.new) }
 {
     let name = Text::from_slice(alloc, file)?;
     match read_file(alloc, files, name, MOST_BYTES)? {

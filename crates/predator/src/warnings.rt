@@ -1,16 +1,16 @@
 ghost use Rattle.std.specs.Prelude.{◌≡◌, IfOk, map};
-ghost use Rattle.predator.specs.Verdict.{place_of, warning_of};
+ghost use Rattle.predator.specs.Warnings.{place_of, warning_of};
 
 use cbase::{List, NoMemory, Place};
 use first_form::{Fault, PlacedToken};
 use report::Warning;
 use std::alloc::Global;
 
-/// The place at which a file begins.
-const FIRST: Place = Place {
+/// The place of no token.
+const NO_PLACE: Place = Place {
     file: 0,
-    line: 1,
-    column: 1,
+    line: 0,
+    column: 0,
     at: 0,
 };
 
@@ -40,7 +40,7 @@ fn warning_of(row: &[PlacedToken], fault: Fault) -> Warning
     }
 }
 
-/// The place of that token of the row, or where there is no such token, that at which a file begins.
+/// The place of that token of the row, or where there is no such token, that of none.
 #[tactic(auto, using(crate::proofs::FaultPlaces::place_within, crate::proofs::FaultPlaces::place_past))]
 fn place_of(row: &[PlacedToken], number: u32) -> Place
     ensures { result ≡ place_of row.now number }
@@ -49,5 +49,5 @@ fn place_of(row: &[PlacedToken], number: u32) -> Place
     if at < row.len() {
         return row[at].place;
     }
-    FIRST
+    NO_PLACE
 }

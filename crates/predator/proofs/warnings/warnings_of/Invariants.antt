@@ -1,5 +1,5 @@
 use Rattle.std.proofs.Common.{◌≡◌, ◌++◌, map, drop}
-use Rattle.predator.specs.Verdict.{warning_of}
+use Rattle.predator.specs.Warnings.{warning_of}
 use Rattle.predator.proofs.warnings.warnings_of.Given as goal
 
 -- the warnings so far and those of the faults that are left make up the whole
