@@ -131,7 +131,7 @@ fn symbol_in(rows: &[(&str, Symbol)], otherwise: Symbol, bytes: &[u8]) -> Symbol
 }
 
 /// A word as C spells it: `__signed__` is read as `signed`, `__typeof__` and `__typeof` as `typeof`.
-#[tactic(auto, unfolding(crate::specs::Symbol::read_as))]
+#[tactic(auto, unfolding(crate::specs::SymbolTables::read_as))]
 pub fn read_as(bytes: &[u8]) -> &[u8]
     ensures { result.now ≡ read_as bytes.now }
 {
@@ -148,7 +148,7 @@ pub fn read_as(bytes: &[u8]) -> &[u8]
 }
 
 /// The symbol of a word that is a keyword or passed over in no row.
-#[tactic(auto, unfolding(crate::specs::Symbol::name_symbol))]
+#[tactic(auto, unfolding(crate::specs::SymbolTables::name_symbol))]
 fn name_symbol(bytes: &[u8]) -> Symbol
     ensures { result ≡ name_symbol bytes.now }
 {
@@ -156,7 +156,7 @@ fn name_symbol(bytes: &[u8]) -> Symbol
 }
 
 /// The symbol of a keyword, or `otherwise` where the word is none.
-#[tactic(auto, unfolding(crate::specs::Symbol::keyword_symbol))]
+#[tactic(auto, unfolding(crate::specs::SymbolTables::keyword_symbol))]
 fn keyword_symbol(otherwise: Symbol, bytes: &[u8]) -> Symbol
     ensures { result ≡ keyword_symbol otherwise bytes.now }
 {
@@ -164,7 +164,7 @@ fn keyword_symbol(otherwise: Symbol, bytes: &[u8]) -> Symbol
 }
 
 /// The symbol of a word that is passed over or begins an attribute, or `otherwise` where the word does neither.
-#[tactic(auto, unfolding(crate::specs::Symbol::passed_symbol))]
+#[tactic(auto, unfolding(crate::specs::SymbolTables::passed_symbol))]
 fn passed_symbol(otherwise: Symbol, bytes: &[u8]) -> Symbol
     ensures { result ≡ passed_symbol otherwise bytes.now }
 {
@@ -172,7 +172,7 @@ fn passed_symbol(otherwise: Symbol, bytes: &[u8]) -> Symbol
 }
 
 /// The symbol of a mark.
-#[tactic(auto, unfolding(crate::specs::Symbol::mark_symbol))]
+#[tactic(auto, unfolding(crate::specs::SymbolTables::mark_symbol))]
 fn mark_symbol(bytes: &[u8]) -> Symbol
     ensures { result ≡ mark_symbol bytes.now }
 {
@@ -195,7 +195,7 @@ pub fn is_identifier(word: &[u8]) -> bool
 }
 
 /// The symbol of a token with these bytes.
-#[tactic(auto, unfolding(crate::specs::Symbol::symbol_of))]
+#[tactic(auto, unfolding(crate::specs::SymbolTables::symbol_of))]
 fn symbol_of(kind: TokenKind, bytes: &[u8]) -> Symbol
     ensures { result ≡ symbol_of kind bytes.now }
 {
@@ -216,7 +216,7 @@ pub(crate) fn token_symbol(text: &[u8], token: Token) -> Symbol
 }
 
 /// The word of a token with these bytes, as it is read; none for a token of another kind.
-#[tactic(auto, unfolding(crate::specs::Symbol::word_of))]
+#[tactic(auto, unfolding(crate::specs::TokenSymbols::word_of))]
 fn word_of(kind: TokenKind, bytes: &[u8]) -> &[u8]
     ensures { result.now ≡ word_of kind bytes.now }
 {
