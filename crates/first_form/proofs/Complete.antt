@@ -20,7 +20,8 @@ use Rattle.first_form.specs.declared.situation.Local.{Local}
 use Rattle.first_form.specs.declared.fault.Fault.{Fault}
 use Rattle.first_form.specs.FirstForm.{source_allocations, allocations, has_small_size, is_small_line}
 use Rattle.bytes_core.specs.Placement.{is_new_block, new_block}
-use Rattle.first_form.specs.Machine.{Choice, NoBlock, Place, Task, Execute, AddressOf, LoadPointer, Constant, Allocate, StorePointer, Release, EndFullExpression, ReturnFromMain, Variable, State, Went, Ended, Faulted, fault_of, RunFaults, step, store_tasks, free_tasks}
+use Rattle.first_form.specs.Machine.{Choice, NoBlock, Place, Task, Execute, AddressOf, LoadPointer, Constant, Allocate, StorePointer, Release, EndFullExpression, ReturnFromMain, Variable, State, Went, Ended, Faulted, fault_of, step, store_tasks, free_tasks}
+use Rattle.first_form.specs.Runs.{RunFaults}
 use Rattle.first_form.specs.Search.{value_of, assigned, nulled, loses, is_fault, can_fault, can_fault_with, can_fault_into, can_fault_copying, can_fault_freeing, can_fault_block}
 use Rattle.first_form.proofs.FaultTests.{is_fault-is}
 use Rattle.first_form.proofs.Runs.{RunFaults-before, RunFaults-at}

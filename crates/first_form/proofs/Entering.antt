@@ -10,7 +10,8 @@ use Rattle.bytes_core.specs.Placement.{can_be_placed}
 use Rattle.first_form.specs.declared.situation.Local.{Local}
 use Rattle.first_form.specs.declared.fault.Fault.{Fault}
 use Rattle.bytes_core.specs.Placement.{is_new_block, new_block}
-use Rattle.first_form.specs.Machine.{Choice, NoBlock, Place, Input, Task, Enter, Variable, State, Went, Ended, RunFaults, step}
+use Rattle.first_form.specs.Machine.{Choice, NoBlock, Place, Input, Task, Enter, Variable, State, Went, Ended, step}
+use Rattle.first_form.specs.Runs.{RunFaults}
 use Rattle.first_form.specs.Search.{unwritten_from}
 use Rattle.first_form.proofs.Runs.{RunFaults-next, RunFaults-before, RunFaults-waits, RunFaults-ended}
 use Rattle.first_form.proofs.Stands.{IsWord, AreWords, HoldsWord, LocalsStand, Stands, variables_from, state_at, guessed}

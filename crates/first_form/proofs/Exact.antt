@@ -10,7 +10,8 @@ use Rattle.first_form.specs.FirstForm.{IsSmall, source_allocations, allocations,
 use Rattle.first_form.specs.declared.line.Source.TheVariants.{Null, Local, Allocation}
 use Rattle.first_form.specs.declared.line.Source.{Source}
 use Rattle.std.specs.List.{list_all}
-use Rattle.first_form.specs.Machine.{Reaches, declared_names}
+use Rattle.first_form.specs.Machine.{declared_names}
+use Rattle.first_form.specs.Runs.{Reaches}
 use Rattle.first_form.specs.Search.{can_fault, unwritten_from}
 use Rattle.first_form.proofs.Stands.{Stands}
 use Rattle.first_form.proofs.LineSteps.{tasks_of}

@@ -4,7 +4,7 @@ use Rattle.std.proofs.lemmas.Bool.{eqb-true}
 use Rattle.first_form.specs.declared.fault.Fault.{Fault}
 use Rattle.first_form.specs.Machine.{fault_of}
 use Rattle.first_form.specs.Search.{is_fault}
-use Rattle.first_form.proofs.Choices.{both_true}
+use Rattle.ctokens.proofs.Choices.{both_true}
 
 pub is_fault-same : (at kind : ℕ) → is_fault (fault_of at kind) at kind ≡ true
 is_fault-same at kind = rw (eq-eqb at at refl) (eq-eqb kind kind refl)

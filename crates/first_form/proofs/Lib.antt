@@ -1,7 +1,5 @@
 pub mod Ascending
 pub mod Rising
-pub mod Choices
-pub mod Rows
 pub mod Spelled
 pub mod FrontLine
 pub mod ReadLines

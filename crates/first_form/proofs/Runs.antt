@@ -1,7 +1,8 @@
 -- Runs as chains of steps.
 use Rattle.std.proofs.Common.{◌≡◌, zero, suc, List, refl, sym, subst}
 use Rattle.first_form.specs.declared.fault.Fault.{Fault}
-use Rattle.first_form.specs.Machine.{State, Choice, Outcome, Went, Waits, Ended, Faulted, step, go_on, run, RunFaults}
+use Rattle.first_form.specs.Machine.{State, Choice, Outcome, Went, Waits, Ended, Faulted, step}
+use Rattle.first_form.specs.Runs.{go_on, run, RunFaults}
 
 -- the second state is reached from the first by some steps, which leave these choices
 pub data Steps : State → List Choice → State → List Choice → Type 0 where

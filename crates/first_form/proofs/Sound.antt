@@ -19,7 +19,8 @@ use Rattle.first_form.specs.declared.situation.Value.TheVariants as value
 use Rattle.first_form.specs.declared.situation.Local.{Local}
 use Rattle.first_form.specs.declared.fault.Fault.{Fault}
 use Rattle.bytes_core.specs.Placement.{is_new_block, new_block}
-use Rattle.first_form.specs.Machine.{Choice, NoBlock, Place, Input, Task, Execute, AddressOf, LoadPointer, Constant, Allocate, StorePointer, Release, EndFullExpression, ReturnFromMain, Variable, State, Went, Ended, fault_of, RunFaults, block_of, step, store_tasks}
+use Rattle.first_form.specs.Machine.{Choice, NoBlock, Place, Input, Task, Execute, AddressOf, LoadPointer, Constant, Allocate, StorePointer, Release, EndFullExpression, ReturnFromMain, Variable, State, Went, Ended, fault_of, block_of, step, store_tasks}
+use Rattle.first_form.specs.Runs.{RunFaults}
 use Rattle.first_form.specs.Search.{value_of, assigned, nulled, loses, is_fault, can_fault, can_fault_with, can_fault_into, can_fault_storing, can_fault_copying, can_fault_freeing, can_fault_block}
 use Rattle.first_form.proofs.FaultTests.{is_fault-met}
 use Rattle.first_form.proofs.Runs.{RunFaults-next, RunFaults-fault, RunFaults-waits, RunFaults-ended}

@@ -5,7 +5,7 @@ use Rattle.std.specs.Str.{bytes_eq}
 use Rattle.std.proofs.Common.{refl, sym, ◌∙◌, ap, subst, arith}
 use Rattle.std.proofs.lemmas.Bool.{le-leb, leb-true, lt-leb, eqb-true}
 use Rattle.std.proofs.lemmas.Slice.Eq.{bytes_eq-Decides}
-use Rattle.first_form.proofs.Choices.{from_choice, both_true, true_and, chosen_yes, chosen_no, false_and}
+use Rattle.ctokens.proofs.Choices.{from_choice, both_true, true_and, chosen_yes, chosen_no, false_and}
 use Rattle.ctokens.specs.Bytes.{is_digit}
 use Rattle.ctokens.specs.Directive.{decimal_value}
 use Rattle.first_form.specs.Tokens.{is_lower, has_no_leading_zero, IsSize, IsSpelling}

@@ -3,7 +3,7 @@ use Rattle.std.specs.Prelude.{◌≡◌, ◌<◌, ◌⊎◌, ◌↔◌, List}
 use Rattle.std.specs.List.{Contains, AllPairs}
 use Rattle.first_form.specs.declared.fault.Fault.{Fault}
 use Rattle.first_form.specs.declared.line.Program.{Program}
-use Rattle.first_form.specs.Machine.{Reaches}
+use Rattle.first_form.specs.Runs.{Reaches}
 
 -- the fault stands at an earlier token, or at the same one with a lower kind
 abbrev pub ComesBefore : Fault → Fault → Type 0

@@ -6,6 +6,7 @@ pub mod FrontLine
 pub mod ReadLines
 pub mod Scope
 pub mod Machine
+pub mod Runs
 pub mod Search
 pub mod Found
 pub mod Faults

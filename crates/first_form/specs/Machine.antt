@@ -4,7 +4,7 @@
 -- the memory. A step takes the first thing off the list. Some steps take a choice: which base and contents a
 -- new block gets, and whether an allocation fails. A choice that breaks the placement of blocks, or has
 -- another form than the one asked for, ends the run. A fault ends it too, at the number of a token.
-use Rattle.std.specs.Prelude.{◌≡◌, ℕ, zero, suc, true, List, [], ◌∷◌, ◌++◌, map, length, nat_eq, pos, Option, None, Some, if◌then◌else◌}
+use Rattle.std.specs.Prelude.{ℕ, true, List, [], ◌∷◌, ◌++◌, map, length, nat_eq, pos, Option, None, Some, if◌then◌else◌}
 use Rattle.bytes_core.specs.declared.word.Word.{Word}
 use Rattle.bytes_core.specs.declared.word.Word.TheVariants.{Plain, To}
 use Rattle.bytes_core.specs.declared.block.BlockKind.TheVariants as storage
@@ -212,23 +212,3 @@ start program = record {
   locals = [];
   memory = [];
 }
-
--- goes on from what a step left
-abbrev pub go_on : (State → List Choice → Outcome) → Outcome → Outcome
-go_on later (Went state choices) = later state choices
-go_on later Waits = Waits
-go_on later Ended = Ended
-go_on later (Faulted fault) = Faulted fault
-
--- what stands after at most so many steps, with the choices taken in order
-abbrev pub run : ℕ → State → List Choice → Outcome
-run zero state choices = Went state choices
-run (suc steps) state choices = go_on (run steps) (step state choices)
-
--- some run from here on meets this fault: with these choices, or with some
-abbrev pub RunFaults : State → List Choice → Fault → Type 0
-RunFaults state choices fault = (steps : ℕ) × (run steps state choices ≡ Faulted fault)
-
--- some run of the program meets this fault
-abbrev pub Reaches : Program → Fault → Type 0
-Reaches program fault = (choices : List Choice) × RunFaults (start program) choices fault

@@ -20,7 +20,7 @@ use Rattle.first_form.specs.declared.fault.Fault.{Fault}
 use Rattle.first_form.specs.declared.line.Program.{Program}
 use Rattle.first_form.specs.declared.token.PlacedToken.{PlacedToken}
 use Rattle.first_form.specs.FirstForm.{IsFormed}
-use Rattle.first_form.specs.Machine.{Reaches}
+use Rattle.first_form.specs.Runs.{Reaches}
 use Rattle.predator.specs.Warnings.{AreWarnings}
 
 -- no run of the program, with any choices and however long, meets a fault
