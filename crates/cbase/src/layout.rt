@@ -1,4 +1,4 @@
-ghost use Rattle.std.specs.Prelude.{◌≡◌, ◌<◌, ◌≤◌};
+ghost use Rattle.std.specs.Prelude.{◌≡◌};
 ghost use Rattle.cbase.specs.Layout.{no_fields, scalar, repeated, with_field, padded};
 ghost use Rattle.cbase.specs.Kept.{capped, IsSmall};
 

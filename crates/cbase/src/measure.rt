@@ -1,4 +1,4 @@
-ghost use Rattle.std.specs.Prelude.{◌≡◌, ◌≤◌, ◌<◌, ◌*◌, ◌+◌, map, length, IfSome, option_map, slice_get, Option};
+ghost use Rattle.std.specs.Prelude.{◌≡◌, ◌<◌, ◌*◌, ◌+◌, map, IfSome, option_map, slice_get, Option};
 ghost use Rattle.std.specs.Option.{option_copied};
 ghost use Rattle.cbase.specs.Layout.{type_layout, struct_at, layout_of, extent_of, alignment_of, no_fields, fields_layout};
 ghost use Rattle.cbase.specs.Kept.{capped, IsSmall};

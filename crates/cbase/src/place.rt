@@ -10,3 +10,13 @@ pub struct Place {
     /// How many tokens stand before it in the text.
     pub at: u32,
 }
+
+impl Place {
+    /// The place of no token: no token has column 0.
+    pub const NONE: Place = Place {
+        file: 0,
+        line: 0,
+        column: 0,
+        at: 0,
+    };
+}

@@ -1,4 +1,4 @@
-ghost use Rattle.std.specs.Prelude.{◌≡◌, ℕ, ◌≤◌, Option, option_map};
+ghost use Rattle.std.specs.Prelude.{◌≡◌, ℕ, Option, option_map};
 ghost use Rattle.cbase.specs.Layout.{type_layout, pointer_bytes};
 ghost use Rattle.cbase.specs.declared.layout.Layout.{Layout};
 ghost use Rattle.cbase.specs.Kept.{capped};

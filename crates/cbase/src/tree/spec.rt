@@ -84,7 +84,7 @@ pub struct FieldName {
     pub name: Option<Text>,
     /// How many `*` stand before its name.
     pub stars: u32,
-    /// The array sizes behind its name, outermost first; none where brackets are empty.
+    /// The array sizes behind its name, outermost first. Those of a field are never left out.
     pub sizes: List<Option<Expr>>,
     /// How many bits it has, where it is a field of bits.
     pub bits: Option<Expr>,
