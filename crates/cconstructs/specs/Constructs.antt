@@ -1,7 +1,5 @@
 -- Forms of C11 and of GNU C that the grammar has no rule for, each by the token that shows it, and the number by which
--- it is given up: 1 goto, 2 switch, 3 union, 4 floating types, 5 variable arguments, 6 inline assembly, 8 complex
--- types, 9 thread-local objects, 10 string literals, 20 function pointers. The row is that of an item, less the tokens
--- that are passed over.
+-- it is given up. The row is that of an item, less the tokens that are passed over.
 use Rattle.std.specs.Prelude.{◌≡◌, ℕ, suc, ◌+◌, ◌<◌, Bool, false, not, ◌||◌, IsTrue, List, [], ◌∷◌, Some, length, drop, slice_get, codes}
 use Rattle.std.specs.List.{starts_with}
 use Rattle.std.specs.Prelude.{nat_eq}
@@ -10,13 +8,15 @@ use Rattle.cgrammar.specs.ConstantParts.{is_integer}
 use Rattle.cgrammar.specs.Operators.{row_of}
 use Rattle.cgrammar.specs.ReadOperands.{behind_matched}
 use Rattle.cgrammar.specs.Terminals.{Terminal, is_any_word, is_word, IsWord, IsMark, IsName}
+use Rattle.cconstructs.specs.Numbers.{goto_statement, switch_statement, union_type, floating_type, variable_arguments, inline_assembly, complex_type, thread_local_object, string_literal, function_pointer}
 
 -- words that show one, whatever stands around them (C11 6.4.1, 6.7.2, 6.8.4.2, 6.8.6.1)
 abbrev pub word_rows : List (List ℕ × ℕ)
 word_rows =
-    (codes "goto", 1) ∷ (codes "switch", 2) ∷ (codes "union", 3) ∷ (codes "float", 4) ∷ (codes "double", 4) ∷ (codes "__float128", 4)
-    ∷ (codes "asm", 6) ∷ (codes "__asm", 6) ∷ (codes "__asm__", 6) ∷ (codes "_Complex", 8) ∷ (codes "__complex__", 8)
-    ∷ (codes "_Thread_local", 9) ∷ (codes "__thread", 9) ∷ []
+    (codes "goto", goto_statement) ∷ (codes "switch", switch_statement) ∷ (codes "union", union_type) ∷ (codes "float", floating_type)
+    ∷ (codes "double", floating_type) ∷ (codes "__float128", floating_type) ∷ (codes "asm", inline_assembly)
+    ∷ (codes "__asm", inline_assembly) ∷ (codes "__asm__", inline_assembly) ∷ (codes "_Complex", complex_type)
+    ∷ (codes "__complex__", complex_type) ∷ (codes "_Thread_local", thread_local_object) ∷ (codes "__thread", thread_local_object) ∷ []
 
 -- the token stands between the brackets of an `__assert_fail`, which are matched by kind
 pub record IsAsserted (row : List Terminal) (at : ℕ) : Type 0 where
@@ -56,13 +56,13 @@ IsNotHeaded row at = (before : ℕ) (token : Terminal) → at ≡ suc before →
 
 pub data IsConstructAt (row : List Terminal) : ℕ → ℕ → Type 0 where
   NamedWord : {at number : ℕ} (token : Terminal) → slice_get row at ≡ Some token → IsTrue (is_any_word token) → row_of token.bytes word_rows ≡ Some number → IsConstructAt row at number
-  FloatingWord : {at : ℕ} (token : Terminal) → slice_get row at ≡ Some token → IsTrue (is_any_word token) → IsTrue (starts_with nat_eq token.bytes (codes "_Float")) → IsConstructAt row at 4
-  FloatingConstant : {at : ℕ} (token : Terminal) → slice_get row at ≡ Some token → token.kind ≡ Number → is_integer token.bytes ≡ false → IsConstructAt row at 4
-  VariableArguments : {at : ℕ} (token : Terminal) → slice_get row at ≡ Some token → IsMark (codes "...") token → IsConstructAt row at 5
-  StringLiteral : {at : ℕ} (token : Terminal) → slice_get row at ≡ Some token → token.kind ≡ Quoted → (IsAsserted row at → ⊥) → IsConstructAt row at 10
+  FloatingWord : {at : ℕ} (token : Terminal) → slice_get row at ≡ Some token → IsTrue (is_any_word token) → IsTrue (starts_with nat_eq token.bytes (codes "_Float")) → IsConstructAt row at floating_type
+  FloatingConstant : {at : ℕ} (token : Terminal) → slice_get row at ≡ Some token → token.kind ≡ Number → is_integer token.bytes ≡ false → IsConstructAt row at floating_type
+  VariableArguments : {at : ℕ} (token : Terminal) → slice_get row at ≡ Some token → IsMark (codes "...") token → IsConstructAt row at variable_arguments
+  StringLiteral : {at : ℕ} (token : Terminal) → slice_get row at ≡ Some token → token.kind ≡ Quoted → (IsAsserted row at → ⊥) → IsConstructAt row at string_literal
   FunctionPointer : {before : ℕ} (opening star : Terminal) → slice_get row before ≡ Some opening → IsMark (codes "(") opening
       → slice_get row (suc before) ≡ Some star → IsMark (codes "*") star → IsNotHeaded row before → IsPointed (drop (before + 2) row)
-      → IsConstructAt row (suc before) 20
+      → IsConstructAt row (suc before) function_pointer
 
 -- the first of them
 pub record IsFirstConstruct (row : List Terminal) (at number : ℕ) : Type 0 where

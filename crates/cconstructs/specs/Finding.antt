@@ -11,22 +11,23 @@ use Rattle.cgrammar.specs.Terminals.{Terminal, is_mark, is_name, is_word}
 use Rattle.cconstructs.specs.declared.before.Before.{Before}
 use Rattle.cconstructs.specs.declared.found.Found.{Found}
 use Rattle.cconstructs.specs.Constructs.{word_rows, is_header}
+use Rattle.cconstructs.specs.Numbers.{floating_type, variable_arguments, string_literal, function_pointer}
 
 -- the number of a word that shows a construct
 unfoldable pub word_number : List ℕ → Option ℕ
-word_number bytes = if starts_with nat_eq bytes (codes "_Float") then Some 4 else row_of bytes word_rows
+word_number bytes = if starts_with nat_eq bytes (codes "_Float") then Some floating_type else row_of bytes word_rows
 
 -- the number of a mark, where it is known whether it stands as the `*` of a function pointer would
 abbrev pub mark_number : Bool → List ℕ → Option ℕ
 mark_number pointed bytes =
-    if bytes_eq bytes (codes "...") then Some 5 else (if pointed && bytes_eq bytes (codes "*") then Some 20 else None)
+    if bytes_eq bytes (codes "...") then Some variable_arguments else (if pointed && bytes_eq bytes (codes "*") then Some function_pointer else None)
 
 -- the number of a token of the kind, where it is known whether it stands in the brackets of an `__assert_fail`
 abbrev pub number_of : TokenKind → Bool → Bool → List ℕ → Option ℕ
 number_of Word guarded pointed bytes = word_number bytes
-number_of Number guarded pointed bytes = if is_integer bytes then None else Some 4
+number_of Number guarded pointed bytes = if is_integer bytes then None else Some floating_type
 number_of Letter guarded pointed bytes = None
-number_of Quoted guarded pointed bytes = if guarded then None else Some 10
+number_of Quoted guarded pointed bytes = if guarded then None else Some string_literal
 number_of Mark guarded pointed bytes = mark_number pointed bytes
 
 -- `)` and `(` begin the row

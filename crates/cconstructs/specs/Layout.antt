@@ -1,5 +1,5 @@
 -- What changes the layout of an object: an attribute of some names, and a `#pragma pack` line before the end of a struct
--- with members. Each is given up by the number 7 wherever it stands in an item, also among the tokens that are passed over.
+-- with members. Each is given up by the number of a layout attribute wherever it stands in an item, also among the tokens that are passed over.
 use Rattle.std.specs.Prelude.{◌≡◌, ℕ, zero, suc, ◌+◌, ◌-◌, ◌<◌, ◌≤◌, ◌⊎◌, nat_eq, nat_le, Bool, true, false, ◌&&◌, ◌||◌, not, IsTrue, if◌then◌else◌, List, [], ◌∷◌, ◌++◌, Option, None, Some, drop, take, map, slice_get, codes}
 use Rattle.std.specs.List.{list_any}
 use Rattle.std.specs.Str.{bytes_eq}

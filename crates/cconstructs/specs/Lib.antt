@@ -1,3 +1,4 @@
+pub mod Numbers
 pub mod Constructs
 pub mod Layout
 pub mod Finding

@@ -2,3 +2,4 @@ pub mod Exactness
 pub mod FaultPlaces
 pub mod Told
 pub mod OneVerdict
+pub mod Printed

@@ -3,3 +3,4 @@ pub mod Shown
 pub mod Verdict
 pub mod Answered
 pub mod Told
+pub mod Printed

@@ -4,6 +4,7 @@
 ghost use Rattle.std.specs.Prelude.{◌≡◌, drop};
 
 mod judge;
+mod laws;
 #[cfg(test)]
 mod tests;
 mod top;
