@@ -19,20 +19,29 @@ pub enum Source {
 pub enum Line {
     /// `void *NAME;` or `void *NAME = SOURCE;`
     Declare {
+        /// The local that is declared.
         name: u8,
+        /// Its initialiser, if it has one.
         source: Option<Source>,
+        /// The number of the `;` in the row, from 0.
         end: u32,
     },
     /// `NAME = SOURCE;`
     Assign {
+        /// The local that is assigned to.
         name: u8,
+        /// What is assigned.
         source: Source,
+        /// The number of the `;` in the row, from 0.
         end: u32,
     },
     /// `free(NAME);`
     Free {
+        /// The local whose value is freed.
         name: u8,
+        /// The number of the word `free` in the row, from 0.
         at: u32,
+        /// The number of the `;` in the row, from 0.
         end: u32,
     },
 }

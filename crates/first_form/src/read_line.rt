@@ -52,6 +52,7 @@ pub fn read_line(first: u32, tokens: &[Token]) -> Option<(Line, &[Token])>
     }
 }
 
+/// The declaration of a local with the initialiser at the front of the tokens, and the tokens behind it.
 fn read_initialiser(name: u8, first: u32, tokens: &[Token]) -> Option<(Line, &[Token])>
     requires { first + length tokens.now < 2 ^ 32 }
     ensures { option_map (λ read. (read.0, read.1.now)) result ≡ option_map (declaring name) (front_source first tokens.now) }
@@ -67,6 +68,7 @@ fn read_initialiser(name: u8, first: u32, tokens: &[Token]) -> Option<(Line, &[T
     ))
 }
 
+/// The assignment to a local of the source at the front of the tokens, and the tokens behind it.
 fn read_assigned(name: u8, first: u32, tokens: &[Token]) -> Option<(Line, &[Token])>
     requires { first + length tokens.now < 2 ^ 32 }
     ensures { option_map (λ read. (read.0, read.1.now)) result ≡ option_map (assigning name) (front_source first tokens.now) }

@@ -20,6 +20,7 @@ pub fn has_scope(alloc: Global, lines: &[Line]) -> Result<bool, NoMemory>
     Ok(true)
 }
 
+/// Adds the name that a line declares, if it declares one, behind the names declared before.
 fn declare(names: &mut Vec<u8>, line: &Line) -> Result<(), NoMemory>
     ensures { OnOk result (names.new.items ≡ names.old.items ++ declared_by line.now) }
 {
@@ -32,6 +33,7 @@ fn declare(names: &mut Vec<u8>, line: &Line) -> Result<(), NoMemory>
     }
 }
 
+/// Whether a line declares no name again and uses declared names alone.
 fn is_line_in_scope(names: &[u8], line: &Line) -> bool
     ensures { result ≡ is_line_scoped names.now line.now }
 {
@@ -44,6 +46,7 @@ fn is_line_in_scope(names: &[u8], line: &Line) -> bool
     }
 }
 
+/// Whether an initialiser, if there is one, uses declared names alone.
 fn is_initialiser_in_scope(names: &[u8], source: Option<Source>) -> bool
     ensures { result ≡ is_initialiser_declared names.now source }
 {
@@ -53,6 +56,7 @@ fn is_initialiser_in_scope(names: &[u8], source: Option<Source>) -> bool
     }
 }
 
+/// Whether a source uses declared names alone.
 fn is_source_in_scope(names: &[u8], source: Source) -> bool
     ensures { result ≡ is_source_declared names.now source }
 {
@@ -62,6 +66,7 @@ fn is_source_in_scope(names: &[u8], source: Source) -> bool
     }
 }
 
+/// Whether a name is one of the declared names.
 fn is_declared(names: &[u8], name: u8) -> bool
     ensures { result ≡ is_among name names.now }
 {
@@ -79,6 +84,7 @@ pub fn count_allocations(lines: &[Line]) -> usize
     count
 }
 
+/// How often `malloc` stands in a line: once or not at all.
 fn line_allocations(line: &Line) -> usize
     ensures count { result ≡ allocations (line.now ∷ []) }
     ensures one { result ≤ 1 }
