@@ -28,6 +28,7 @@ examples = record {
   second_free = refl;
   address_of_zero = refl;
   address_below_zero = refl;
+  same_address = refl;
   offset_wraps = refl;
   inside_last = refl;
   inside_end = refl;

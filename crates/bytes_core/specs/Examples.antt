@@ -6,7 +6,7 @@ use Rattle.bytes_core.specs.declared.word.Word.TheVariants.{Plain, To}
 use Rattle.bytes_core.specs.declared.block.BlockKind.TheVariants.{Local, Heap}
 use Rattle.bytes_core.specs.declared.block.Block.{Block}
 use Rattle.bytes_core.specs.Fault.{null_pointer_dereference, access_outside_object, access_to_dead_object, access_through_invalid_address, overlapping_copy, double_free, invalid_free}
-use Rattle.bytes_core.specs.Value.{pointer_read, address_number, is_inside, moved}
+use Rattle.bytes_core.specs.Value.{pointer_read, address_number, is_same_address, is_inside, moved}
 use Rattle.bytes_core.specs.Placement.{can_be_placed, is_placed, new_block}
 use Rattle.bytes_core.specs.Access.{access_fault, range_fault, stored}
 use Rattle.bytes_core.specs.Copying.{copy_fault}
@@ -74,6 +74,8 @@ pub record AreExamples : Type 0 where
   -- an address is a number of 64 bits, also below its block
   pub address_of_zero : address_number example (To 1 (negsuc 8191)) ≡ 0
   pub address_below_zero : address_number example (To 1 (negsuc 8192)) ≡ 2 ^ 64 - 1
+  -- a pointer equals the number that is its address (C11 6.5.9)
+  pub same_address : is_same_address example (To 1 (pos 0)) (Plain 8192) ≡ true
   -- an offset wraps as a number of 64 bits with a sign
   pub offset_wraps : moved (To 1 (pos (2 ^ 63 - 1))) (pos 1) ≡ To 1 (negsuc (2 ^ 63 - 1))
   -- one past the end is not inside
