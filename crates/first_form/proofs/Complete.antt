@@ -3,6 +3,7 @@ use Rattle.std.proofs.Common.{◌≡◌, ℕ, zero, suc, ◌+◌, ◌≤◌, Boo
 use Rattle.std.proofs.lemmas.Bool.{eq-eqb, leb-true}
 use Rattle.std.proofs.lemmas.List.{length-replicate}
 use Rattle.std.specs.List.{list_any, list_all}
+use Rattle.ctokens.proofs.Choices.{both_true}
 use Rattle.bytes_core.specs.declared.word.Word.{Word}
 use Rattle.bytes_core.specs.declared.word.Word.TheVariants.{Plain, To}
 use Rattle.bytes_core.specs.declared.block.BlockKind.TheVariants as storage
@@ -330,10 +331,6 @@ returned-leads fault return_at locals blocks true is found = record {
       ([], subst (λ (f : Fault). RunFaults (state_at (ReturnFromMain return_at ∷ []) (Plain 0 ∷ []) locals memory) [] f) (sym (is_fault-is fault return_at memory_lost found)) (RunFaults-at (state_at (ReturnFromMain return_at ∷ []) (Plain 0 ∷ []) locals memory) [] (fault_of return_at memory_lost) faults_there));
 }
 
-and-true : (a b : Bool) → (a && b) ≡ true → (a ≡ true) × (b ≡ true)
-and-true true b both = (refl, both)
-and-true false b both = absurd cc
-
 -- what the search finds from a line on, some run meets
 pub can_fault-leads : (fault : Fault) (lines : List Line) (return_at : ℕ) (locals : List Local) (blocks : List Bool) → list_all is_small_line lines ≡ true → can_fault fault lines return_at locals blocks ≡ true →
     LeadsOn fault (tasks_of lines return_at) locals blocks (allocations lines)
@@ -342,14 +339,14 @@ can_fault-leads fault (Declare name None end ∷ rest) return_at locals blocks s
     on-before fault (Execute (Declare name None end) ∷ tasks_of rest return_at) (tasks_of rest return_at) locals blocks (allocations (Declare name None end ∷ rest)) (λ memory choices. refl)
     (LeadsOn-fewer fault (tasks_of rest return_at) locals blocks (allocations rest) (allocations (Declare name None end ∷ rest)) (omega arith) (can_fault-leads fault rest return_at locals blocks small found))
 can_fault-leads fault (Declare name (Some from) end ∷ rest) return_at locals blocks small found =
-    let both : (has_small_size (Some from) ≡ true) × (list_all is_small_line rest ≡ true) = and-true (has_small_size (Some from)) (list_all is_small_line rest) small in
+    let both : (has_small_size (Some from) ≡ true) × (list_all is_small_line rest ≡ true) = both_true (has_small_size (Some from)) (list_all is_small_line rest) small in
     let stored : LeadsOn fault (store_tasks name from end ++ tasks_of rest return_at) locals blocks (allocations rest + source_allocations (Some from))
     = storing-leads fault end (tasks_of rest return_at) (can_fault fault rest return_at) (allocations rest) (λ locals blocks later_found. can_fault-leads fault rest return_at locals blocks both.1 later_found)
     locals blocks name from (value_of locals name) both.0 refl found in
     on-before fault (Execute (Declare name (Some from) end) ∷ tasks_of rest return_at) (store_tasks name from end ++ tasks_of rest return_at) locals blocks (allocations (Declare name (Some from) end ∷ rest)) (λ memory choices. refl)
     (LeadsOn-fewer fault (store_tasks name from end ++ tasks_of rest return_at) locals blocks (allocations rest + source_allocations (Some from)) (source_allocations (Some from) + allocations rest) (omega arith) stored)
 can_fault-leads fault (Assign name from end ∷ rest) return_at locals blocks small found =
-    let both : (has_small_size (Some from) ≡ true) × (list_all is_small_line rest ≡ true) = and-true (has_small_size (Some from)) (list_all is_small_line rest) small in
+    let both : (has_small_size (Some from) ≡ true) × (list_all is_small_line rest ≡ true) = both_true (has_small_size (Some from)) (list_all is_small_line rest) small in
     let stored : LeadsOn fault (store_tasks name from end ++ tasks_of rest return_at) locals blocks (allocations rest + source_allocations (Some from))
     = storing-leads fault end (tasks_of rest return_at) (can_fault fault rest return_at) (allocations rest) (λ locals blocks later_found. can_fault-leads fault rest return_at locals blocks both.1 later_found)
     locals blocks name from (value_of locals name) both.0 refl found in

@@ -2,6 +2,7 @@
 use Rattle.std.proofs.Common.{◌≡◌, ℕ, suc, ◌+◌, ◌≤◌, ◌<◌, ◌%◌, ◌/◌, Bool, true, false, ◌&&◌, List, [], ◌∷◌, ◌++◌, map, length, nat_eq, nat_lt, if◌then◌else◌, refl, sym, ap, subst, append_assoc, arith, length-append}
 use Rattle.std.proofs.lemmas.Bool.{eq-eqb, eqb-true, lt-ltb}
 use Rattle.std.specs.List.{list_all}
+use Rattle.ctokens.proofs.Choices.{both_true}
 use Rattle.std.specs.Int.{w64, to_le_bytes, from_le_bytes}
 use Rattle.bytes_core.specs.declared.word.Word.TheVariants.{Plain}
 use Rattle.bytes_core.specs.declared.block.BlockKind.TheVariants as storage
@@ -58,10 +59,6 @@ AreWords-guessed guesses place number word words other = by_test (nat_eq other p
   by_test true = word
   by_test false = words other
 
-and-true : (a b : Bool) → (a && b) ≡ true → (a ≡ true) × (b ≡ true)
-and-true true b both = (refl, both)
-and-true false b both = absurd cc
-
 append-none : (names : List ℕ) → names ++ [] ≡ names
 append-none [] = refl
 append-none (name ∷ names) = ap (λ (ns : List ℕ). name ∷ ns) (append-none names)
@@ -105,9 +102,9 @@ module _ (fault : Fault) (tasks : List Task) (later : List Local → List Bool �
       let number : ℕ = from_le_bytes w64 contents in
       let grown : List Block = memory ++ new_block storage.Local base contents ∷ [] in
       let sized : (nat_eq (length contents) 8 ≡ true) × ((list_all (λ byte. nat_lt byte 256) contents && can_be_placed memory (new_block storage.Local base contents)) ≡ true)
-      = and-true (nat_eq (length contents) 8) (list_all (λ byte. nat_lt byte 256) contents && can_be_placed memory (new_block storage.Local base contents)) is in
+      = both_true (nat_eq (length contents) 8) (list_all (λ byte. nat_lt byte 256) contents && can_be_placed memory (new_block storage.Local base contents)) is in
       let bytes : (list_all (λ byte. nat_lt byte 256) contents ≡ true) × (can_be_placed memory (new_block storage.Local base contents) ≡ true)
-      = and-true (list_all (λ byte. nat_lt byte 256) contents) (can_be_placed memory (new_block storage.Local base contents)) sized.1 in
+      = both_true (list_all (λ byte. nat_lt byte 256) contents) (can_be_placed memory (new_block storage.Local base contents)) sized.1 in
       let eight : length contents ≡ 8 = eqb-true (length contents) 8 sized.0 in
       let learned : ℕ → ℕ = guessed guesses (length entered) number in
       let learned_there : learned (length entered) ≡ number = ap (λ (b : Bool). if b then number else guesses (length entered)) (eq-eqb (length entered) (length entered) refl) in

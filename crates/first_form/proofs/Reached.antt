@@ -1,5 +1,5 @@
 -- Which blocks of a memory that stands the locals lead to.
-use Rattle.std.proofs.Common.{◌≡◌, ℕ, zero, suc, ◌+◌, ◌<◌, ◌≤◌, Bool, true, false, ◌&&◌, ◌||◌, List, [], ◌∷◌, ◌++◌, map, length, nat_eq, ◌⊎◌, inl, inr, refl, ap, ◌∙◌, arith, eq-eqb, ne_eqb}
+use Rattle.std.proofs.Common.{◌≡◌, ℕ, zero, suc, ◌+◌, ◌<◌, ◌≤◌, Bool, true, false, ◌||◌, List, [], ◌∷◌, ◌++◌, map, length, nat_eq, ◌⊎◌, inl, inr, refl, ap, ◌∙◌, arith, eq-eqb, ne_eqb}
 use Rattle.std.proofs.Math.Bool.{and-true, and-false, or-false}
 use Rattle.std.proofs.lemmas.Bool.Decides.{nat_tests}
 use Rattle.std.proofs.lemmas.Bool.{cases_eq}
@@ -7,16 +7,13 @@ use Rattle.std.specs.List.{list_any}
 use Rattle.bytes_core.specs.declared.word.Word.{Word}
 use Rattle.bytes_core.specs.declared.block.Block.{Block}
 use Rattle.bytes_core.specs.Loss.{holds_pointer_to, some_block, reached_within}
+use Rattle.bytes_core.proofs.Chains.{leads_on}
 use Rattle.first_form.specs.declared.situation.Value.{Value}
 use Rattle.first_form.specs.declared.situation.Value.TheVariants as value
 use Rattle.first_form.specs.declared.situation.Local.{Local}
 use Rattle.first_form.specs.Search.{is_block}
 use Rattle.first_form.proofs.Stands.{word_of, leads, HoldsWord, LocalsStand, BlocksStand, variables_from}
 use Rattle.first_form.proofs.Parts.{some_block-append}
-
--- whether a live block holds a pointer to the target, and is itself reached
-abbrev pub leads_on : (ℕ → Bool) → ℕ → ℕ → Block → Bool
-leads_on reached target number block = block.live && (holds_pointer_to target block.bytes && reached number)
 
 -- the blocks of the locals, the first of them numbered `number`
 abbrev pub places : ℕ → List Local → List ℕ

@@ -1,9 +1,10 @@
 -- Two rising lists with the same members are equal.
-use Rattle.std.proofs.Common.{◌≡◌, ℕ, zero, suc, ◌<◌, ◌⊎◌, inl, inr, List, [], ◌∷◌, refl, sym, subst, arith}
+use Rattle.std.proofs.Common.{◌≡◌, ℕ, suc, ◌<◌, inl, inr, List, [], ◌∷◌, refl, sym, subst, arith}
 use Rattle.std.specs.List.{AllPairs, Contains}
 use Rattle.std.specs.List.Sorted.{IsStrictlyIncreasing}
 use Rattle.std.specs.Prelude.{slice_index_or}
 use Rattle.std.proofs.lemmas.List.Kept.{AllPairs-from_increasing}
+use Rattle.ctokens.proofs.Marks.{contains_cons}
 
 -- each number is below all later ones
 abbrev Rises : List ℕ → Type 0
@@ -18,11 +19,6 @@ contains_first x xs = (0, omega arith, refl)
 contains_later : (x : ℕ) (xs : List ℕ) (y : ℕ) → Contains xs y → Contains (x ∷ xs) y
 contains_later x xs y (k, below, here) = (suc k, omega arith, here)
 
--- the first member, or a later one
-contains_cases : (x : ℕ) (xs : List ℕ) (y : ℕ) → Contains (x ∷ xs) y → (x ≡ y) ⊎ Contains xs y
-contains_cases x xs y (zero, below, here) = inl here
-contains_cases x xs y (suc k, below, here) = inr (k, omega arith, here)
-
 rises_first : (x : ℕ) (xs : List ℕ) → Rises (x ∷ xs) → (y : ℕ) → Contains xs y → x < y
 rises_first x xs rises y (k, below, here) =
     let first : x < slice_index_or xs k y = rises 0 (suc k) y (omega arith) (omega arith) in
@@ -35,9 +31,9 @@ rises_later x xs rises i j d before within = rises (suc i) (suc j) d (omega arit
 same_first : (x : ℕ) (xs : List ℕ) (y : ℕ) (ys : List ℕ) → Rises (x ∷ xs) → Rises (y ∷ ys)
     → Contains (y ∷ ys) x → Contains (x ∷ xs) y → x ≡ y
 same_first x xs y ys left right there here =
-    elim (contains_cases y ys x there) [
+    elim (contains_cons y ys x there) [
       | inl same ↦ cc
-      | inr later ↦ elim (contains_cases x xs y here) [
+      | inr later ↦ elim (contains_cons x xs y here) [
         | inl same ↦ same
         | inr late ↦
             let below : x < y = rises_first x xs left y late in
@@ -49,7 +45,7 @@ same_first x xs y ys left right there here =
 -- a later member of one list is a later member of the other
 same_later : (x : ℕ) (xs ys : List ℕ) → Rises (x ∷ xs) → (k : ℕ) → Contains xs k → Contains (x ∷ ys) k → Contains ys k
 same_later x xs ys rises k within among =
-    elim (contains_cases x ys k among) [
+    elim (contains_cons x ys k among) [
       | inl same ↦ let below : x < k = rises_first x xs rises k within in absurd (omega arith)
       | inr later ↦ later
     ]

@@ -16,6 +16,7 @@ use Rattle.bytes_core.specs.Placement.{extent, is_placed, are_compatible, can_be
 use Rattle.bytes_core.specs.Access.{access_fault, block_fault, overwritten, with_bytes, stored}
 use Rattle.bytes_core.specs.Release.{freed, without}
 use Rattle.bytes_core.specs.Placement.{is_new_block, new_block}
+use Rattle.first_form.proofs.Lost.{length-without}
 
 -- a base that no block among so many reaches
 abbrev pub fresh : ℕ → ℕ
@@ -141,10 +142,6 @@ length-with_bytes memory place from (Some block) written = length-set memory pla
 
 pub length-stored : (memory : List Block) (place : ℕ) (word : Word) → length (stored memory (To place (pos 0)) 8 word) ≡ length memory
 length-stored memory place word = length-with_bytes memory place 0 (slice_get memory place) (take 8 (word_bytes word))
-
-length-without : (memory : List Block) (place : ℕ) (found : Option Block) → length (without memory place found) ≡ length memory
-length-without memory place None = refl
-length-without memory place (Some block) = length-set memory place (record block { live = false })
 
 pub length-freed : (memory : List Block) (word : Word) → length (freed memory word) ≡ length memory
 length-freed memory (Plain number) = refl

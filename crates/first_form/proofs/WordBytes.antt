@@ -14,6 +14,7 @@ use Rattle.bytes_core.specs.declared.block.Block.{Block}
 use Rattle.bytes_core.specs.Value.{word_bytes, byte_number, pointer_read}
 use Rattle.bytes_core.specs.Access.{overwritten}
 use Rattle.bytes_core.specs.Loss.{holds_pointer_to}
+use Rattle.bytes_core.proofs.Written.{length-word_bytes}
 use Rattle.first_form.specs.declared.situation.Value.{Value}
 use Rattle.first_form.specs.declared.situation.Value.TheVariants as value
 use Rattle.bytes_core.specs.Placement.{new_block}
@@ -53,10 +54,6 @@ pub Points-word_of : (guesses : ℕ → ℕ) (first : ℕ) (held : Value) → Po
 Points-word_of guesses first value.Null = Points-plain 0
 Points-word_of guesses first (value.Unwritten place) = Points-plain (guesses place)
 Points-word_of guesses first (value.Block number) = Points-pointer (first + number)
-
-pub length-word_bytes : (word : Word) → length (word_bytes word) ≡ 8
-length-word_bytes (Plain number) = refl
-length-word_bytes (To block offset) = refl
 
 -- a word written over eight bytes leaves nothing of them
 pub overwritten-word_bytes : (bytes : List Byte) (word : Word) → length bytes ≡ 8 → overwritten bytes 0 (take 8 (word_bytes word)) ≡ word_bytes word
