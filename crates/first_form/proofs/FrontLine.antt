@@ -2,7 +2,7 @@
 use Rattle.std.proofs.Common.{◌≡◌, ℕ, ◌+◌, ◌<◌, Bool, true, false, List, [], ◌∷◌, ◌++◌, length, nat_eq, refl, ◌∙◌, ap, subst, arith, Option, None, Some, option_map, if◌then◌else◌, eqb-true, length-append}
 use Rattle.first_form.specs.declared.token.Token.{Token}
 use Rattle.first_form.specs.declared.token.Token.TheVariants as token
-use Rattle.first_form.specs.declared.token.Token.TheVariants.{Int, Main, Void, Return, Malloc, Name, Number, LeftParenthesis, RightParenthesis, LeftBrace, RightBrace, Star, Equals, Semicolon}
+use Rattle.first_form.specs.declared.token.Token.TheVariants.{Void, Return, Malloc, Name, Number, LeftParenthesis, RightParenthesis, RightBrace, Star, Equals, Semicolon}
 use Rattle.first_form.specs.declared.line.Source.{Source}
 use Rattle.first_form.specs.declared.line.Source.TheVariants.{Null, Local, Allocation}
 use Rattle.first_form.specs.declared.line.Line.{Line}

@@ -1,4 +1,4 @@
-ghost use Rattle.std.specs.Prelude.{ℕ, ◌≤◌, IfOk};
+ghost use Rattle.std.specs.Prelude.{◌≤◌, IfOk};
 ghost use Rattle.std.specs.List.{All};
 ghost use Rattle.first_form.specs.declared.fault.Fault.{Fault};
 ghost use Rattle.first_form.specs.FirstForm.{IsSmall};

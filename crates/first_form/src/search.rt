@@ -1,4 +1,4 @@
-ghost use Rattle.std.specs.Prelude.{◌≡◌, ◌||◌, ◌&&◌, ◌<◌, ◌≤◌, ◌+◌, ◌^◌, ℕ, Bool, false, [], ◌∷◌, length, drop, slice_get, OnOk, IfOk};
+ghost use Rattle.std.specs.Prelude.{◌≡◌, ◌||◌, ◌&&◌, ◌<◌, ◌≤◌, ◌+◌, ◌^◌, Bool, false, [], ◌∷◌, length, drop, slice_get, OnOk, IfOk};
 ghost use Rattle.std.specs.Prelude.{List as Items};
 ghost use Rattle.first_form.specs.declared.fault.Fault.{Fault};
 ghost use Rattle.first_form.specs.declared.situation.Local.{Local};
