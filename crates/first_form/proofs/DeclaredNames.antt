@@ -5,8 +5,7 @@ use Rattle.first_form.specs.declared.line.Source.{Source}
 use Rattle.first_form.specs.declared.line.Source.TheVariants.{Null, Local, Allocation}
 use Rattle.first_form.specs.declared.line.Line.{Line}
 use Rattle.first_form.specs.declared.line.Line.TheVariants.{Declare, Assign, Free}
-use Rattle.first_form.specs.FirstForm.{is_among, is_source_declared, is_initialiser_declared, is_scoped}
-use Rattle.first_form.specs.Scope.{is_line_scoped, declared_by}
+use Rattle.first_form.specs.Scope.{is_among, is_source_declared, is_initialiser_declared, is_scoped, is_line_scoped, declared_by}
 
 -- two rows of names that hold the same names
 abbrev pub HoldSame : List ℕ → List ℕ → Type 0

@@ -5,9 +5,9 @@ use Rattle.first_form.specs.declared.token.Token.{Token}
 use Rattle.first_form.specs.declared.line.Line.{Line}
 use Rattle.first_form.specs.declared.line.Line.TheVariants.{Declare, Assign, Free}
 use Rattle.first_form.specs.declared.line.Program.{Program}
-use Rattle.first_form.specs.FirstForm.{line_tokens, body_tokens, program_tokens, is_scoped, allocations, IsNumbered, AreNumbered, IsProgram}
+use Rattle.first_form.specs.FirstForm.{line_tokens, body_tokens, program_tokens, allocations, IsNumbered, AreNumbered, IsProgram, lines_tokens}
+use Rattle.first_form.specs.Scope.{is_scoped}
 use Rattle.first_form.specs.FrontLine.{front_line, is_end}
-use Rattle.first_form.specs.ReadLines.{lines_tokens}
 use Rattle.first_form.proofs.FrontLine.{some-injective, front_line-spelled, front_line-read, is_end-read}
 
 -- the lines and the end spell the body

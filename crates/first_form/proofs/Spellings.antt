@@ -12,7 +12,8 @@ use Rattle.ctokens.specs.TokenSymbols.{bytes_of}
 use Rattle.first_form.specs.declared.line.Program.{Program}
 use Rattle.first_form.specs.declared.token.PlacedToken.{PlacedToken}
 use Rattle.first_form.specs.declared.token.Token.{Token}
-use Rattle.first_form.specs.FirstForm.{IsFormed, IsProgram, IsSmall, allocations, is_scoped}
+use Rattle.first_form.specs.FirstForm.{IsFormed, IsProgram, IsSmall, allocations}
+use Rattle.first_form.specs.Scope.{is_scoped}
 use Rattle.first_form.specs.Row.{AreSpelled, item_tokens, kept}
 use Rattle.first_form.specs.Spelling.{placed_of, row_of, token_of, with_first}
 use Rattle.first_form.specs.Tokens.{IsSpelling}

@@ -3,8 +3,8 @@
 --     item  : 'int' 'main' '(' 'void' ')' '{' { line } 'return' '0' ';' '}'
 --     line  : 'void' '*' NAME [ '=' source ] ';' | NAME '=' source ';' | 'free' '(' NAME ')' ';'
 --     source: 'malloc' '(' NUMBER ')' | '0' | NAME
-use Rattle.std.specs.Prelude.{◌≡◌, ℕ, ◌+◌, ◌≤◌, Bool, true, ◌&&◌, not, List, [], ◌∷◌, ◌++◌, length, map, nat_eq, nat_le, IsTrue, Option, None, Some}
-use Rattle.std.specs.List.{list_any, list_all}
+use Rattle.std.specs.Prelude.{◌≡◌, ℕ, ◌+◌, ◌≤◌, Bool, true, List, [], ◌∷◌, ◌++◌, length, map, nat_le, IsTrue, Option, None, Some}
+use Rattle.std.specs.List.{list_all}
 use Rattle.first_form.specs.declared.token.PlacedToken.{PlacedToken}
 use Rattle.first_form.specs.declared.token.Token.{Token}
 use Rattle.first_form.specs.declared.token.Token.TheVariants as token
@@ -17,7 +17,9 @@ use Rattle.ctokens.specs.InText.{most_bytes}
 use Rattle.ctokens.specs.declared.token.Tokens.{Tokens}
 use Rattle.ctokens.specs.declared.item_span.ItemSpan.{ItemSpan}
 use Rattle.first_form.specs.Row.{AreSpelled, item_tokens}
+use Rattle.first_form.specs.Scope.{is_scoped}
 
+-- the tokens of a source
 abbrev pub source_tokens : Source → List Token
 source_tokens Null = token.Number 0 ∷ []
 source_tokens (Local name) = token.Name name ∷ []
@@ -28,10 +30,16 @@ abbrev pub declared_tokens : Option Source → List Token
 declared_tokens None = token.Semicolon ∷ []
 declared_tokens (Some source) = token.Equals ∷ (source_tokens source ++ token.Semicolon ∷ [])
 
+-- the tokens of a line, its semicolon with them
 abbrev pub line_tokens : Line → List Token
 line_tokens (Declare name source end) = token.Void ∷ token.Star ∷ token.Name name ∷ declared_tokens source
 line_tokens (Assign name source end) = token.Name name ∷ token.Equals ∷ (source_tokens source ++ token.Semicolon ∷ [])
 line_tokens (Free name at end) = token.Free ∷ token.LeftParenthesis ∷ token.Name name ∷ token.RightParenthesis ∷ token.Semicolon ∷ []
+
+-- the tokens of lines in a row, with nothing behind them
+abbrev pub lines_tokens : List Line → List Token
+lines_tokens [] = []
+lines_tokens (line ∷ rest) = line_tokens line ++ lines_tokens rest
 
 -- the lines, and behind them `return 0; }`
 abbrev pub body_tokens : List Line → List Token
@@ -60,27 +68,7 @@ pub record IsProgram (tokens : List Token) (program : Program) : Type 0 where
   pub spelled : program_tokens program.lines ≡ tokens
   pub numbered : AreNumbered 6 program.lines program.return_at
 
-abbrev pub is_among : ℕ → List ℕ → Bool
-is_among name names = list_any (nat_eq name) names
-
--- whether a source uses declared names alone
-abbrev pub is_source_declared : List ℕ → Source → Bool
-is_source_declared names Null = true
-is_source_declared names (Local name) = is_among name names
-is_source_declared names (Allocation size) = true
-
-abbrev pub is_initialiser_declared : List ℕ → Option Source → Bool
-is_initialiser_declared names None = true
-is_initialiser_declared names (Some source) = is_source_declared names source
-
--- whether each name is declared once and before its use, behind the names that are declared already; its
--- own initialiser does not see it
-abbrev pub is_scoped : List ℕ → List Line → Bool
-is_scoped names [] = true
-is_scoped names (Declare name source end ∷ rest) = not (is_among name names) && (is_initialiser_declared names source && is_scoped (name ∷ names) rest)
-is_scoped names (Assign name source end ∷ rest) = is_among name names && (is_source_declared names source && is_scoped names rest)
-is_scoped names (Free name at end ∷ rest) = is_among name names && is_scoped names rest
-
+-- how often `malloc` stands in a source, if there is one: once or not at all
 abbrev pub source_allocations : Option Source → ℕ
 source_allocations None = 0
 source_allocations (Some Null) = 0
@@ -94,12 +82,14 @@ allocations (Declare name source end ∷ rest) = source_allocations source + all
 allocations (Assign name source end ∷ rest) = source_allocations (Some source) + allocations rest
 allocations (Free name at end ∷ rest) = allocations rest
 
+-- whether a source, if there is one, allocates at most 65,536 bytes
 abbrev pub has_small_size : Option Source → Bool
 has_small_size None = true
 has_small_size (Some Null) = true
 has_small_size (Some (Local name)) = true
 has_small_size (Some (Allocation size)) = nat_le size 65536
 
+-- whether a line allocates at most 65,536 bytes
 abbrev pub is_small_line : Line → Bool
 is_small_line (Declare name source end) = has_small_size source
 is_small_line (Assign name source end) = has_small_size (Some source)

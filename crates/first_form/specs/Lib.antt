@@ -1,10 +1,9 @@
 pub mod Tokens
 pub mod Spelling
 pub mod Row
+pub mod Scope
 pub mod FirstForm
 pub mod FrontLine
-pub mod ReadLines
-pub mod Scope
 pub mod Machine
 pub mod Runs
 pub mod Search

@@ -1,7 +1,8 @@
 ghost use Rattle.std.specs.Prelude.{◌≡◌, ◌≤◌, [], length, IfOk, IfSome, IfNone, IsTrue};
 ghost use Rattle.ctokens.specs.InText.{most_bytes};
 ghost use Rattle.first_form.specs.declared.line.Program.{Program};
-ghost use Rattle.first_form.specs.FirstForm.{IsProgram, AreNumbered, body_tokens, is_scoped, allocations};
+ghost use Rattle.first_form.specs.FirstForm.{IsProgram, AreNumbered, body_tokens, allocations};
+ghost use Rattle.first_form.specs.Scope.{is_scoped};
 
 use crate::line::Program;
 use crate::read_line::{is_at_end, read_head, read_line};

@@ -1,12 +1,11 @@
-ghost use Rattle.std.specs.Prelude.{◌≡◌, ◌<◌, ◌≤◌, ℕ, [], length, map, IfOk, IfSome, IfNone, IsTrue};
+ghost use Rattle.std.specs.Prelude.{◌≡◌, ◌<◌, ◌≤◌, [], length, map, IfOk, IfSome, IfNone, IsTrue};
 ghost use Rattle.std.specs.Prelude.{List as Items};
-ghost use Rattle.std.specs.List.{All};
 ghost use Rattle.ctokens.specs.Items.{IsInside};
 ghost use Rattle.ctokens.specs.InText.{LieInText, most_bytes};
 ghost use Rattle.first_form.specs.declared.line.Program.{Program};
 ghost use Rattle.first_form.specs.declared.token.PlacedToken.{PlacedToken};
-ghost use Rattle.first_form.specs.FirstForm.{IsFormed, IsProgram, IsSmall, allocations, is_scoped};
-ghost use Rattle.first_form.specs.Row.{AreSpelled, item_tokens};
+ghost use Rattle.first_form.specs.FirstForm.{IsFormed, IsProgram, IsSmall, allocations};
+ghost use Rattle.first_form.specs.Scope.{is_scoped};
 
 use crate::line::Program;
 use crate::read_lines::read_lines;

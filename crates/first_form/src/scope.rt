@@ -1,6 +1,6 @@
 ghost use Rattle.std.specs.Prelude.{◌≡◌, ◌≤◌, ◌&&◌, not, [], ◌∷◌, ◌++◌, IfOk, OnOk};
-ghost use Rattle.first_form.specs.FirstForm.{is_among, is_source_declared, is_initialiser_declared, is_scoped, allocations};
-ghost use Rattle.first_form.specs.Scope.{is_line_scoped, declared_by};
+ghost use Rattle.first_form.specs.FirstForm.{allocations};
+ghost use Rattle.first_form.specs.Scope.{is_among, is_source_declared, is_initialiser_declared, is_scoped, is_line_scoped, declared_by};
 
 use crate::line::{Line, Source};
 use cbase::NoMemory;

@@ -1,6 +1,5 @@
 use Rattle.std.proofs.Common.{◌≡◌, ◌+◌, ◌++◌, length}
-use Rattle.first_form.specs.FirstForm.{AreNumbered}
-use Rattle.first_form.specs.ReadLines.{lines_tokens}
+use Rattle.first_form.specs.FirstForm.{AreNumbered, lines_tokens}
 use Rattle.first_form.proofs.read_lines.read_body.Given as goal
 
 -- the lines so far and the tokens that are left make up the tokens, and the next token has the number

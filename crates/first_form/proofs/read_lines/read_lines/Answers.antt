@@ -1,5 +1,6 @@
 use Rattle.std.proofs.Common.{◌≡◌, sym, ◌∙◌, ap, [], false, arith, ◌<◌}
-use Rattle.first_form.specs.FirstForm.{IsProgram, is_scoped, allocations}
+use Rattle.first_form.specs.FirstForm.{IsProgram, allocations}
+use Rattle.first_form.specs.Scope.{is_scoped}
 use Rattle.first_form.proofs.ReadLines.{only_unscoped, only_large}
 use Rattle.first_form.proofs.read_lines.read_lines.Goals as goal
 

@@ -1,5 +1,5 @@
 use Rattle.std.proofs.Common.{◌≡◌, [], drop}
-use Rattle.first_form.specs.FirstForm.{is_scoped}
+use Rattle.first_form.specs.Scope.{is_scoped}
 use Rattle.first_form.proofs.scope.has_scope.Given as goal
 
 -- the lines that are left decide, with the names so far
