@@ -16,10 +16,11 @@ front_source first (Name name ∷ (Semicolon ∷ rest)) = Some (Local name, firs
 front_source first (Malloc ∷ (LeftParenthesis ∷ (Number size ∷ (RightParenthesis ∷ (Semicolon ∷ rest))))) = Some (Allocation size, first + 4, rest)
 front_source first _ = None
 
--- a declaration with this source, an assignment of it
+-- a declaration with this source as initialiser, and the tokens behind it
 abbrev pub declaring : ℕ → Source × ℕ × List Token → Line × List Token
 declaring name read = (Declare name (Some read.0) read.1, read.2)
 
+-- an assignment of this source, and the tokens behind it
 abbrev pub assigning : ℕ → Source × ℕ × List Token → Line × List Token
 assigning name read = (Assign name read.0 read.1, read.2)
 

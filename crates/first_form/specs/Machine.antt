@@ -4,7 +4,7 @@
 -- the memory. A step takes the first thing off the list. Some steps take a choice: which base and contents a
 -- new block gets, and whether an allocation fails. A choice that breaks the placement of blocks, or has
 -- another form than the one asked for, ends the run. A fault ends it too, at the number of a token.
-use Rattle.std.specs.Prelude.{ℕ, true, List, [], ◌∷◌, ◌++◌, map, length, nat_eq, pos, Option, None, Some, if◌then◌else◌}
+use Rattle.std.specs.Prelude.{ℕ, true, List, [], ◌∷◌, ◌++◌, map, length, nat_eq, pos, Option, None, Some, if◌then◌else◌, slice_get}
 use Rattle.bytes_core.specs.declared.word.Word.{Word}
 use Rattle.bytes_core.specs.declared.word.Word.TheVariants.{Plain, To}
 use Rattle.bytes_core.specs.declared.block.BlockKind.TheVariants as storage
@@ -14,7 +14,6 @@ use Rattle.bytes_core.specs.Placement.{new_block, is_new_block, placed}
 use Rattle.bytes_core.specs.Access.{access_fault, loaded, stored}
 use Rattle.bytes_core.specs.Release.{free_fault, freed, without}
 use Rattle.bytes_core.specs.Loss.{is_lost}
-use Rattle.std.specs.Prelude.{slice_get}
 use Rattle.first_form.specs.declared.line.Source.{Source}
 use Rattle.first_form.specs.declared.line.Source.TheVariants.{Null, Local, Allocation}
 use Rattle.first_form.specs.declared.line.Line.{Line}
@@ -22,12 +21,13 @@ use Rattle.first_form.specs.declared.line.Line.TheVariants.{Declare, Assign, Fre
 use Rattle.first_form.specs.declared.line.Program.{Program}
 use Rattle.first_form.specs.declared.fault.Fault.{Fault}
 
+-- what the program leaves open; a step that asks for one takes the next
 pub data Choice : Type 0 where
   -- an allocation answers null
   NoBlock : Choice
   -- a new block has this base and these contents
   Place : (base : ℕ) (contents : List ℕ) → Choice
-  -- an input
+  -- an input: no step of this form asks for one, inputs come with the next forms
   Input : (number : ℕ) → Choice
 
 -- What is to be done next. What can meet a fault says at which token: a free at the word `free`, a loss at the
@@ -36,35 +36,47 @@ pub data Choice : Type 0 where
 pub data Task : Type 0 where
   -- a local is made, as the block of main is entered
   Enter : (name : ℕ) → Task
+  -- a line of main's body
   Execute : (line : Line) → Task
   -- the address of a local
   AddressOf : (name : ℕ) → Task
   -- the value of the lvalue whose address was computed
   LoadPointer : (end : ℕ) → Task
+  -- the value of a constant
   Constant : (number : ℕ) → Task
   -- malloc of so many bytes
   Allocate : (size : ℕ) → Task
   -- the value computed last is stored at the address computed before it
   StorePointer : (end : ℕ) → Task
+  -- the value computed last is freed
   Release : (at : ℕ) → Task
+  -- the full expression ends, its operands are given up, and loss is looked for
   EndFullExpression : (end : ℕ) → Task
+  -- main returns, its locals die, and loss is looked for
   ReturnFromMain : (at : ℕ) → Task
 
+-- a local of main, and the number of its block in the memory
 pub record Variable : Type 0 where
   pub name : ℕ
   pub block : ℕ
 
+-- what stands between two steps: what is to be done, the first first; the operands, the last computed first;
+-- the locals, in the order in which they were made; and the blocks of the memory, by their numbers
 pub record State : Type 0 where
   pub tasks : List Task
   pub operands : List Word
   pub locals : List Variable
   pub memory : List Block
 
+-- what a step or a run comes to
 pub data Outcome : Type 0 where
+  -- the state that it leaves, and the choices that are not taken yet
   Went : (next : State) (choices : List Choice) → Outcome
   -- a choice is asked for, and there is none left
   Waits : Outcome
+  -- the run is over, with no fault
   Ended : Outcome
+  -- the run is over with this fault
   Faulted : (fault : Fault) → Outcome
 
 -- the block of the first local of this name
@@ -105,6 +117,7 @@ source_tasks (Allocation size) end = Allocate size ∷ []
 abbrev pub store_tasks : ℕ → Source → ℕ → List Task
 store_tasks name source end = AddressOf name ∷ (source_tasks source end ++ StorePointer end ∷ EndFullExpression end ∷ [])
 
+-- what a declaration does: its initialiser, if it has one, is stored as by an assignment (C11 6.7.9p11)
 abbrev pub declare_tasks : ℕ → Option Source → ℕ → List Task
 declare_tasks name None end = []
 declare_tasks name (Some source) end = store_tasks name source end
@@ -113,14 +126,17 @@ declare_tasks name (Some source) end = store_tasks name source end
 abbrev pub free_tasks : ℕ → ℕ → ℕ → List Task
 free_tasks name at end = AddressOf name ∷ LoadPointer end ∷ Release at ∷ EndFullExpression end ∷ []
 
+-- what a line does
 abbrev pub line_tasks : Line → List Task
 line_tasks (Declare name source end) = declare_tasks name source end
 line_tasks (Assign name source end) = store_tasks name source end
 line_tasks (Free name at end) = free_tasks name at end
 
+-- the state once a value was computed
 abbrev pub with_operand : State → Word → State
 with_operand state word = record state { operands = word ∷ state.operands }
 
+-- the address of a local's block is computed; with no such local the run ends
 abbrev pub addressed : Option ℕ → State → List Choice → Outcome
 addressed None state choices = Ended
 addressed (Some block) state choices = Went (with_operand state (To block (pos 0))) choices
@@ -194,6 +210,7 @@ step_on (EndFullExpression end ∷ rest) state choices = unless_lost end (record
 step_on (ReturnFromMain at ∷ rest) state choices =
     returned at (record state { tasks = []; locals = []; memory = without_locals state.memory state.locals })
 
+-- one step of the machine
 abbrev pub step : State → List Choice → Outcome
 step state choices = step_on state.tasks state choices
 

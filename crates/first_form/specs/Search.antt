@@ -32,10 +32,12 @@ nulled_value place Null = Null
 nulled_value place (Unwritten other) = if nat_eq other place then Null else Unwritten other
 nulled_value place (Block number) = Block number
 
+-- the locals once the number that local `place` held at first is known to be 0
 abbrev pub nulled : ℕ → List Local → List Local
 nulled place [] = []
 nulled place (local ∷ rest) = (record local { value = nulled_value place local.value }) ∷ nulled place rest
 
+-- whether a value is the pointer to the block of this number
 abbrev pub is_block : ℕ → Value → Bool
 is_block number Null = false
 is_block number (Unwritten place) = false
@@ -46,6 +48,7 @@ abbrev pub loses_from : ℕ → List Local → List Bool → Bool
 loses_from number locals [] = false
 loses_from number locals (live ∷ rest) = (live && not (list_any (λ local. is_block number local.value) locals)) || loses_from (number + 1) locals rest
 
+-- whether a live block is held by no local
 abbrev pub loses : List Local → List Bool → Bool
 loses locals blocks = loses_from 0 locals blocks
 
@@ -61,10 +64,12 @@ unless_loses fault end locals blocks rest = if loses locals blocks then is_fault
 abbrev pub can_fault_with : Fault → ℕ → (List Local → List Bool → Bool) → List Local → List Bool → Bool
 can_fault_with fault end later locals blocks = unless_loses fault end locals blocks (later locals blocks)
 
+-- a store of what another local holds; a run with another name goes no further
 abbrev pub can_fault_copying : Fault → ℕ → (List Local → List Bool → Bool) → ℕ → Option Value → List Local → List Bool → Bool
 can_fault_copying fault end later name None locals blocks = false
 can_fault_copying fault end later name (Some value) locals blocks = can_fault_with fault end later (assigned locals name value) blocks
 
+-- a store of a source: an allocation gives null or a new block
 abbrev pub can_fault_storing : Fault → ℕ → (List Local → List Bool → Bool) → ℕ → Source → List Local → List Bool → Bool
 can_fault_storing fault end later name source.Null locals blocks = can_fault_with fault end later (assigned locals name Null) blocks
 can_fault_storing fault end later name (source.Local other) locals blocks = can_fault_copying fault end later name (value_of locals other) locals blocks
@@ -83,6 +88,7 @@ can_fault_block fault at end later number None locals blocks = is_fault fault at
 can_fault_block fault at end later number (Some true) locals blocks = can_fault_with fault end later locals (slice_set blocks number false)
 can_fault_block fault at end later number (Some false) locals blocks = is_fault fault at double_free
 
+-- a free of what a local holds: null changes nothing, and a number held at first is freed as said above
 abbrev pub can_fault_freeing : Fault → ℕ → ℕ → (List Local → List Bool → Bool) → Option Value → List Local → List Bool → Bool
 can_fault_freeing fault at end later None locals blocks = false
 can_fault_freeing fault at end later (Some Null) locals blocks = can_fault_with fault end later locals blocks

@@ -64,6 +64,7 @@ token_of (byte ∷ (next ∷ rest)) =
 abbrev pub placed_of : List ℕ → Lexeme → Option PlacedToken
 placed_of text token = option_map (λ spelled. record { token = spelled; place = token.place }) (token_of (bytes_of text token))
 
+-- a row with a token before it, if both are there
 abbrev pub with_first : Option PlacedToken → Option (List PlacedToken) → Option (List PlacedToken)
 with_first None row = None
 with_first (Some first) None = None
