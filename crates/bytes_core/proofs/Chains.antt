@@ -28,7 +28,7 @@ abbrev pub is_near : List Block → List ℕ → ℕ → ℕ → Bool
 is_near memory roots zero target = false
 is_near memory roots (suc links) target = is_next memory roots (is_near memory roots links) target
 
-some_block_none : (test : ℕ → Block → Bool) (number : ℕ) (memory : List Block) → ((place : ℕ) (block : Block) → test place block ≡ false) →
+pub some_block_none : (test : ℕ → Block → Bool) (number : ℕ) (memory : List Block) → ((place : ℕ) (block : Block) → test place block ≡ false) →
     some_block test number memory ≡ false
 some_block_none test number [] fails = refl
 some_block_none test number (block ∷ rest) fails = rw (fails number block) (some_block_none test (number + 1) rest fails)

@@ -7,7 +7,7 @@ use Rattle.std.specs.List.{list_any}
 use Rattle.bytes_core.specs.declared.word.Word.{Word}
 use Rattle.bytes_core.specs.declared.block.Block.{Block}
 use Rattle.bytes_core.specs.Loss.{holds_pointer_to, some_block, reached_within}
-use Rattle.bytes_core.proofs.Chains.{leads_on}
+use Rattle.bytes_core.proofs.Chains.{leads_on, some_block_none}
 use Rattle.first_form.specs.declared.situation.Value.{Value}
 use Rattle.first_form.specs.declared.situation.Value.TheVariants as value
 use Rattle.first_form.specs.declared.situation.Local.{Local}
@@ -117,12 +117,6 @@ reached_within-held guesses (suc links) number locals blocks front back some sam
     ∙ ap (some_block (leads_on reached target) 0 front ||◌) (some_block-BlocksStand reached target (length front) blocks back blocks_stand)
     ∙ or-false (some_block (leads_on reached target) 0 front)
     ∙ some_block-LocalsStand guesses (length locals) number 0 reached locals front all locals_stand
-
--- a test that fails at every block passes at none
-pub some_block_none : (test : ℕ → Block → Bool) (number : ℕ) (memory : List Block) → ((place : ℕ) (block : Block) → test place block ≡ false) →
-    some_block test number memory ≡ false
-some_block_none test number [] fails = refl
-some_block_none test number (block ∷ rest) fails = rw (fails number block) (some_block_none test (number + 1) rest fails)
 
 -- with no root, nothing is reached
 pub reached_within-no_root : (links : ℕ) (memory : List Block) (target : ℕ) → reached_within links memory [] target ≡ false
