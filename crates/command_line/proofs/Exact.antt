@@ -12,7 +12,7 @@ use Rattle.command_line.specs.declared.command.Command.{Command}
 use Rattle.command_line.specs.CommandLine.{Next, anything, budget_value, files, int_limit_value}
 use Rattle.command_line.specs.CommandLine.{Seen, Word, after_word, after_words, command_from, command_of, command_seen, is_settled, nothing_seen}
 use Rattle.command_line.specs.Parser.{predator_app}
-use Rattle.command_line.proofs.MatchRows.{Holds, budget_rule, file_is_given, file_is_missing, file_rule, first_budget, first_file, first_int_limit, int_limit_rule}
+use Rattle.command_line.proofs.MatchRows.{Holds, budget_rule, file_is_given, file_rule, first_budget, first_file, first_int_limit, int_limit_rule}
 use Rattle.command_line.proofs.MatchRows as rows
 use Rattle.command_line.proofs.Verdict.{IsRefused, Pending, end_of, held, or_else_assoc, refused_first, refused_later, refused_turn, rules, shape, verdict, verdict_end, verdict_next, walk_at}
 use Rattle.command_line.proofs.Steps.{AreTexts, Stands, Step, dooms, goes, refuses, walk_of}

@@ -64,11 +64,12 @@ abbrev pub with_file : Seen → Option Word → Option Seen
 with_file seen None = None
 with_file seen (Some word) = Some (record seen { file = Some word })
 
--- the word is the value of `--budget`, or of `--int-limit`; any word may be next
+-- the word is the value of `--budget`; any word may be next
 abbrev pub with_budget : Seen → Option Word → Option Seen
 with_budget seen None = None
 with_budget seen (Some word) = Some (record seen { budget = Some word; next = anything })
 
+-- the word is the value of `--int-limit`; any word may be next
 abbrev pub with_int_limit : Seen → Option Word → Option Seen
 with_int_limit seen None = None
 with_int_limit seen (Some word) = Some (record seen { int_limit = Some word; next = anything })
@@ -77,10 +78,11 @@ with_int_limit seen (Some word) = Some (record seen { int_limit = Some word; nex
 abbrev pub file_given : Seen → Word → Option Seen
 file_given seen word = with_file seen (once seen.file word)
 
--- the word is the value of the option, unless it has one
+-- the word is the value of `--budget`, unless it has one
 abbrev pub budget_given : Seen → Word → Option Seen
 budget_given seen word = with_budget seen (once seen.budget word)
 
+-- the word is the value of `--int-limit`, unless it has one
 abbrev pub int_limit_given : Seen → Word → Option Seen
 int_limit_given seen word = with_int_limit seen (once seen.int_limit word)
 
@@ -91,6 +93,7 @@ abbrev pub budget_met : Seen → Option Word → Option Seen
 budget_met seen None = Some (record seen { next = budget_value })
 budget_met seen (Some value) = budget_given seen value
 
+-- `--int-limit` alone waits for its value
 abbrev pub int_limit_met : Seen → Option Word → Option Seen
 int_limit_met seen None = Some (record seen { next = int_limit_value })
 int_limit_met seen (Some value) = int_limit_given seen value
@@ -106,10 +109,11 @@ any_word seen word = if is_end_of_options word then Some (record seen { next = f
     else (if has_hyphen word then option_met seen (option_name word) (option_value word)
     else file_given seen word)
 
--- the word in the place of a value; one with a hyphen at its front is none
+-- the word in the place of the value of `--budget`; one with a hyphen at its front is none
 abbrev pub budget_word : Seen → Word → Option Seen
 budget_word seen word = if has_hyphen word then None else budget_given seen word
 
+-- the word in the place of the value of `--int-limit`; one with a hyphen at its front is none
 abbrev pub int_limit_word : Seen → Word → Option Seen
 int_limit_word seen word = if has_hyphen word then None else int_limit_given seen word
 
@@ -139,23 +143,27 @@ is_settled budget_value = false
 is_settled int_limit_value = false
 is_settled files = true
 
--- N is from 1 to 200,000, and 10,000 where it is not given
+-- the least N, how many states are kept at most
 abbrev pub least_budget : ℕ
 least_budget = 1
 
+-- the greatest N
 abbrev pub most_budget : ℕ
 most_budget = 200000
 
+-- N where it is not given
 abbrev pub default_budget : ℕ
 default_budget = 10000
 
--- K is from 0 to 1,000, and 10 where it is not given
+-- the least K, the largest amount of an integer that is kept at loop heads
 abbrev pub least_int_limit : ℕ
 least_int_limit = 0
 
+-- the greatest K
 abbrev pub most_int_limit : ℕ
 most_int_limit = 1000
 
+-- K where it is not given
 abbrev pub default_int_limit : ℕ
 default_int_limit = 10
 

@@ -18,7 +18,8 @@ pub enum Why {
     },
     /// No item defines main (C11 5.1.2.2.1).
     NoMain,
-    /// An item that main needs is not spelled by the grammar, and has no construct that is given up.
+    /// An item that main needs is spelled by the grammar by no tree of at most 1,024 levels, and has no construct that
+    /// is given up.
     Syntax {
         /// That of the first token of the item.
         place: Place,
@@ -40,14 +41,14 @@ pub enum Answer {
         /// What is wrong with it.
         why: Why,
     },
-    /// An item that main needs has a construct of C that is given up.
+    /// An item that main needs changes a layout, or is not read and has a construct of C that is given up.
     Construct {
         /// The number of the construct, from 1, goto, to 21, bit-field; each has a printed name.
         number: u8,
         /// That of the token that shows the construct.
         place: Place,
     },
-    /// The one item that main needs is not of the form that is read today, or main needs more than one.
+    /// The one item that main needs is not of the form that is judged today, or main needs more than one.
     NotYet,
     /// The file has more bytes than are read.
     TooLong {
