@@ -1,7 +1,7 @@
 //! Laws of memories. Each is the contract of a function that does nothing.
 //!
 //! They say in other words what the definitions of `specs/` compute.
-ghost use Rattle.std.specs.Prelude.{◌≡◌, ℕ, ◌+◌, ◌*◌, ◌%◌, ◌^◌, ◌≤◌, Bool, true, false, List, length, replicate, slice_get, ℤ, pos, Option, None, Some, ◌↔◌, ◌⊎◌, IsTrue};
+ghost use Rattle.std.specs.Prelude.{◌≡◌, ℕ, ◌+◌, ◌*◌, ◌%◌, ◌^◌, ◌≤◌, Bool, true, false, List, length, replicate, slice_get, ℤ, pos, None, Some, ◌↔◌, ◌⊎◌, IsTrue};
 ghost use Rattle.bytes_core.specs.declared.byte.Byte.{Byte};
 ghost use Rattle.bytes_core.specs.declared.byte.Byte.TheVariants.{Num};
 ghost use Rattle.bytes_core.specs.declared.block.Block.{Block};
