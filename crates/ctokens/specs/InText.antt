@@ -1,4 +1,4 @@
--- How long a text is at most, and tokens that lie in their text.
+-- The bounds of a text and of the tokens in it.
 use Rattle.std.specs.Prelude.{ℕ, ◌<◌, ◌≤◌, length}
 use Rattle.std.specs.List.{All}
 use Rattle.ctokens.specs.declared.token.Token.{Token}

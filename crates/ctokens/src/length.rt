@@ -35,6 +35,7 @@ pub(crate) fn kind_at(text: &[u8]) -> TokenKind
     TokenKind::Mark
 }
 
+/// Whether the first byte of the text is a digit; an empty text has none.
 fn begins_with_digit(text: &[u8]) -> bool
     ensures { result ≡ begins_with_digit text.now }
 {
@@ -58,6 +59,7 @@ pub(crate) fn token_length(kind: TokenKind, text: &[u8]) -> usize
     }
 }
 
+/// How many bytes the longest word at the front of the text takes, or 0 where none stands there.
 #[tactic(auto, unfolding(crate::specs::Lengths::word_length))]
 fn word_length(text: &[u8]) -> usize
     ensures count { result ≡ word_length text.now }
@@ -70,6 +72,7 @@ fn word_length(text: &[u8]) -> usize
     1 + leading(Class::Word, others)
 }
 
+/// How many bytes the longest preprocessing number (C11 6.4.8) at the front takes, or 0 where none stands there.
 #[tactic(auto, unfolding(crate::specs::Lengths::number_length))]
 fn number_length(text: &[u8]) -> usize
     ensures count { result ≡ number_length text.now }
@@ -114,6 +117,7 @@ fn continued_length(before: u8, text: &[u8]) -> usize
     text.len()
 }
 
+/// How many bytes the character constant (C11 6.4.4.4) at the front takes, its quotes too, or 0 where none stands there.
 #[tactic(auto, unfolding(crate::specs::Lengths::letter_length))]
 fn letter_length(text: &[u8]) -> usize
     ensures count { result ≡ letter_length text.now }
@@ -190,6 +194,7 @@ fn is_simple_escape(byte: u8) -> bool
     b"'\"?\\abfnrtv".contains(&byte)
 }
 
+/// How many bytes the string literal (C11 6.4.5) at the front takes, its quotes too, or 0 where none stands there.
 #[tactic(auto, unfolding(crate::specs::Lengths::quoted_length))]
 fn quoted_length(text: &[u8]) -> usize
     ensures count { result ≡ quoted_length text.now }

@@ -23,6 +23,7 @@ pub(crate) fn mark_length(text: &[u8]) -> usize
     }
 }
 
+/// How many of the two bytes the longest mark at their front takes, or 0 where none stands there.
 #[tactic(auto, unfolding(crate::specs::Lengths::double_length))]
 fn double_length(first: u8, second: u8) -> usize
     ensures count { result ≡ double_length first second }
@@ -34,6 +35,7 @@ fn double_length(first: u8, second: u8) -> usize
     single_length(first)
 }
 
+/// 1 where the byte is a mark, and else 0.
 #[tactic(auto, unfolding(crate::specs::Lengths::single_length))]
 fn single_length(first: u8) -> usize
     ensures count { result ≡ single_length first }

@@ -75,6 +75,7 @@ pub(crate) fn unblanked(text: &[u8]) -> &[u8]
     text.split_at(leading(Class::Blank, text)).1
 }
 
+/// Whether the first byte of the text is a blank; an empty text has none.
 pub(crate) fn begins_with_blank(text: &[u8]) -> bool
     ensures { result ≡ begins_with_blank text.now }
 {

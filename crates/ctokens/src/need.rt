@@ -126,7 +126,7 @@ fn need_of(alloc: Global, entries: &[Entry], count: u32) -> Result<Option<List<u
 ///
 /// An item is needed that defines main, and one that offers a name which a needed item contains as a word not
 /// directly after `.` or `->`. An item without a body that offers only names of built-in functions is passed over.
-/// The work grows with the text alone: each word is hashed once, and each item and each name is followed once.
+/// Each word is hashed once, and each item and each name is followed once; no clause says so, `bench/read.py` measures the work.
 #[tactic(auto, using(crate::proofs::ItemsInside::items_few, crate::proofs::ItemsInside::items_inside, crate::proofs::NeedExact::need_exact))]
 pub fn needed(
     alloc: Global,

@@ -26,6 +26,7 @@ pub(crate) enum PieceKind {
 /// What a text begins with.
 #[derive(Drop)]
 pub(crate) struct Piece {
+    /// What it is.
     pub(crate) kind: PieceKind,
     /// How many bytes it takes. A directive line takes its newline too.
     pub(crate) taken: usize,

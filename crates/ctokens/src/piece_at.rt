@@ -30,6 +30,7 @@ pub(crate) fn piece_at(
     found_at(alloc, still_blank, text)
 }
 
+/// The piece at the front of the text, chosen by its first bytes.
 #[tactic(auto, unfolding(crate::specs::PieceAt::piece_at))]
 fn found_at(alloc: Global, still_blank: bool, text: &[u8]) -> Result<Option<Piece>, NoMemory>
     ensures { IfOk result (λ found. found ≡ piece_at still_blank text.now) }
@@ -53,12 +54,14 @@ fn found_at(alloc: Global, still_blank: bool, text: &[u8]) -> Result<Option<Piec
     Ok(lexeme_at(text))
 }
 
+/// Whether the text begins with `//`.
 fn begins_line_comment(text: &[u8]) -> bool
     ensures { result ≡ begins_line_comment text.now }
 {
     text.starts_with(b"//")
 }
 
+/// Whether the text begins with `/*`.
 fn begins_block_comment(text: &[u8]) -> bool
     ensures { result ≡ begins_block_comment text.now }
 {

@@ -21,15 +21,25 @@ pub(crate) enum Symbol {
     PassedOver,
     /// `__attribute__` or `__attribute`.
     Attribute,
+    /// `(`.
     LeftParenthesis,
+    /// `)`.
     RightParenthesis,
+    /// `[`.
     LeftBracket,
+    /// `]`.
     RightBracket,
+    /// `{`.
     LeftBrace,
+    /// `}`.
     RightBrace,
+    /// `;`.
     Semicolon,
+    /// `,`.
     Comma,
+    /// `=`.
     Equals,
+    /// `*`.
     Star,
     /// `.` or `->`.
     Selector,
@@ -210,7 +220,9 @@ impl Symbol {
 
 /// A token of an item: what it is, and its word.
 #[derive(Clone, Copy)]
+    /// What it is.
 pub(crate) struct Lexeme<N> {
+    /// Its bytes, or a number for them.
     pub(crate) symbol: Symbol,
     pub(crate) word: N,
 }

@@ -13,10 +13,11 @@ use cbase::{NoMemory, Place, Text};
 use std::alloc::Global;
 
 /// The tokens of a text, the names of its files and its `#pragma pack` lines; or the first place at which no
-/// token, blank or known directive line begins.
+/// token, blank, comment or known directive line begins.
 ///
 /// `file` is the name of the file in which the text begins. Comments and blanks are passed over, and each token
-/// is the longest that begins at its place (C11 6.4). It reads each byte a few times, whatever the text.
+/// is the longest that begins at its place (C11 6.4). It reads each byte a few times, whatever the text; no clause
+/// says so, `bench/read.py` measures it.
 pub fn tokens(alloc: Global, text: &[u8], file: &str) -> Result<Result<Tokens, Lexical>, NoMemory>
     requires { length text.now ≤ most_bytes }
     ensures tokens { IfOk result (λ answer. IfOk answer (λ tokens. AreTokens file.now text.now tokens)) }
@@ -29,7 +30,7 @@ pub fn tokens(alloc: Global, text: &[u8], file: &str) -> Result<Result<Tokens, L
 }
 
 /// The tokens of a text, the names of its files and its `#pragma pack` lines; or the first place at which no
-/// token, blank or known directive line begins.
+/// token, blank, comment or known directive line begins.
 ///
 /// `file` is the name of the file in which the text begins, any bytes. All else is as `tokens` says.
 #[tactic(auto, using(crate::proofs::NamedFiles::tokens_named, crate::proofs::NamedFiles::lexical_named))]
