@@ -4,16 +4,11 @@ use Rattle.std.specs.Prelude.{◌≡◌, ℕ, ◌<◌, Bool, true, false, ◌&&�
 use Rattle.std.specs.List.{Contains, list_any, list_all, slice_index_or}
 use Rattle.std.specs.List.Sorted.{IsStrictlyIncreasing}
 use Rattle.ctokens.specs.declared.symbol.Symbol.{Symbol}
-use Rattle.ctokens.specs.declared.symbol.Symbol.TheVariants.{Main, Other}
+use Rattle.ctokens.specs.declared.symbol.Symbol.TheVariants.{Other}
 use Rattle.ctokens.specs.declared.symbol.Lexeme.{Lexeme}
-use Rattle.ctokens.specs.Symbol.{is_word, is_built_in, is_selector}
+use Rattle.ctokens.specs.Symbol.{is_word, is_main, is_built_in, is_selector}
 use Rattle.ctokens.specs.Offered.{declared, offered}
 use Rattle.ctokens.specs.Bodies.{ends_with_body}
-
--- the word `main`
-abbrev pub is_main : Symbol → Bool
-is_main Main = true
-is_main _ = false
 
 module _ {N : Type 0} where
   -- whether one of the words is `main`

@@ -22,6 +22,11 @@ is_identifier Main = true
 is_identifier BuiltIn = true
 is_identifier _ = false
 
+-- the word `main`
+abbrev pub is_main : Symbol → Bool
+is_main Main = true
+is_main _ = false
+
 -- the name of a built-in function
 abbrev pub is_built_in : Symbol → Bool
 is_built_in BuiltIn = true

@@ -49,9 +49,8 @@ pub(crate) enum Symbol {
 
 impl Symbol {
     ghost use Rattle.std.specs.Prelude.{◌≡◌};
-    ghost use Rattle.ctokens.specs.Symbol.{is_word, is_identifier, is_built_in, is_tag_word, is_opening, is_closing, is_enumeration, is_attribute, is_passed_over, is_left_parenthesis, is_right_parenthesis, is_left_brace, is_right_brace, is_semicolon, is_comma, is_equals, is_star, is_selector};
+    ghost use Rattle.ctokens.specs.Symbol.{is_word, is_identifier, is_main, is_built_in, is_tag_word, is_opening, is_closing, is_enumeration, is_attribute, is_passed_over, is_left_parenthesis, is_right_parenthesis, is_left_brace, is_right_brace, is_semicolon, is_comma, is_equals, is_star, is_selector};
     ghost use Rattle.ctokens.specs.Offered.{follows_declared};
-    ghost use Rattle.ctokens.specs.Need.{is_main};
 
     /// Whether it is a word, a keyword or not.
     pub(crate) fn is_word(self) -> bool
@@ -220,9 +219,9 @@ impl Symbol {
 
 /// A token of an item: what it is, and its word.
 #[derive(Clone, Copy)]
-    /// What it is.
 pub(crate) struct Lexeme<N> {
-    /// Its bytes, or a number for them.
+    /// What it is.
     pub(crate) symbol: Symbol,
+    /// Its bytes, or a number for them.
     pub(crate) word: N,
 }
