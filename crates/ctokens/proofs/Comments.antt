@@ -1,38 +1,35 @@
 -- Comments: the row that is found ends with the first `*/`.
-use Rattle.std.specs.Prelude.{◌≡◌, ℕ, zero, suc, ◌+◌, ◌<◌, Bool, true, false, ◌&&◌, ◌⊎◌, List, [], ◌∷◌, drop, nat_eq, Option, None, Some, option_map, codes, if◌then◌else◌}
-use Rattle.std.specs.List.{starts_with}
+use Rattle.std.specs.Prelude.{◌≡◌, ℕ, zero, suc, ◌+◌, ◌<◌, Bool, true, false, ◌&&◌, ◌⊎◌, List, [], ◌∷◌, nat_eq, Option, None, Some, option_map, if◌then◌else◌}
 use Rattle.std.proofs.Common.{refl, sym, ◌∙◌, ap, arith, inl, inr, eq-eqb}
 use Rattle.std.proofs.lemmas.Bool.{eqb-true}
 use Rattle.ctokens.proofs.Choices.{both_true}
 use Rattle.ctokens.proofs.Quotes.{next}
 use Rattle.ctokens.specs.Lengths.{move, closing_length}
+use Rattle.ctokens.specs.Pieces.{closes_at}
 use Rattle.ctokens.specs.declared.closing.Closing.TheVariants.{Comment}
 use Rattle.ctokens.specs.declared.closing.Move.{Move}
 use Rattle.ctokens.specs.declared.closing.Move.TheVariants.{Goes, Closes}
 
--- whether `*/` stands at a place, and whether a `/` stands at the front
-abbrev pub closes : List ℕ → ℕ → Bool
-closes text place = starts_with nat_eq (drop place text) (codes "*/")
-
+-- whether a `/` stands at the front
 abbrev begins_with_slash : List ℕ → Bool
 begins_with_slash [] = false
 begins_with_slash (byte ∷ others) = nat_eq byte 47
 
 -- the first `*/`, where a `*` may stand before the text
 pub record ClosesFirst (kept : Bool) (text : List ℕ) (place : ℕ) : Type 0 where
-  pub there : closes text place ≡ true
-  pub first : (earlier : ℕ) → earlier < place → closes text earlier ≡ false
+  pub there : closes_at text place ≡ true
+  pub first : (earlier : ℕ) → earlier < place → closes_at text earlier ≡ false
   pub apart : kept ≡ true → begins_with_slash text ≡ false
 
 -- `*/` at the front, by its two bytes
-opens : (byte : ℕ) (others : List ℕ) → nat_eq byte 42 ≡ true → begins_with_slash others ≡ true → closes (byte ∷ others) 0 ≡ true
+opens : (byte : ℕ) (others : List ℕ) → nat_eq byte 42 ≡ true → begins_with_slash others ≡ true → closes_at (byte ∷ others) 0 ≡ true
 opens byte [] star slash = absurd cc
 opens byte (second ∷ more) star slash =
     let is_star : byte ≡ 42 = eqb-true byte 42 star in
     let is_slash : second ≡ 47 = eqb-true second 47 slash in
     rw (is_star, is_slash) refl
 
-parts : (byte : ℕ) (others : List ℕ) → closes (byte ∷ others) 0 ≡ true → (byte ≡ 42) × (begins_with_slash others ≡ true)
+parts : (byte : ℕ) (others : List ℕ) → closes_at (byte ∷ others) 0 ≡ true → (byte ≡ 42) × (begins_with_slash others ≡ true)
 parts byte [] h = let none = (both_true (nat_eq 42 byte) false h).1 in absurd cc
 parts byte (second ∷ more) h =
     let (star, later) = both_true (nat_eq 42 byte) (nat_eq 47 second && true) h in
@@ -40,16 +37,16 @@ parts byte (second ∷ more) h =
     let is_slash : second ≡ 47 = sym (eqb-true 47 second slash) in
     (sym (eqb-true 42 byte star), rw is_slash refl)
 
-closes_not : (byte : ℕ) (others : List ℕ) → (nat_eq byte 42 ≡ true → begins_with_slash others ≡ false) → closes (byte ∷ others) 0 ≡ false
-closes_not byte others apart = step (closes (byte ∷ others) 0) refl
+closes_not : (byte : ℕ) (others : List ℕ) → (nat_eq byte 42 ≡ true → begins_with_slash others ≡ false) → closes_at (byte ∷ others) 0 ≡ false
+closes_not byte others apart = step (closes_at (byte ∷ others) 0) refl
   where
-    step : (test : Bool) → closes (byte ∷ others) 0 ≡ test → test ≡ false
+    step : (test : Bool) → closes_at (byte ∷ others) 0 ≡ test → test ≡ false
     step true is =
         let (star, slash) = parts byte others is in
         let clash : true ≡ false = sym slash ∙ apart (eq-eqb byte 42 star) in absurd cc
     step false is = refl
 
-no_slash_behind : (byte : ℕ) (others : List ℕ) → closes (byte ∷ others) 0 ≡ false → nat_eq byte 42 ≡ true → begins_with_slash others ≡ false
+no_slash_behind : (byte : ℕ) (others : List ℕ) → closes_at (byte ∷ others) 0 ≡ false → nat_eq byte 42 ≡ true → begins_with_slash others ≡ false
 no_slash_behind byte others none star = step (begins_with_slash others) refl
   where
     step : (test : Bool) → begins_with_slash others ≡ test → test ≡ false
@@ -67,7 +64,7 @@ behind_star : (text : List ℕ) → begins_with_slash text ≡ true → closing_
 behind_star [] h = absurd cc
 behind_star (byte ∷ others) h = ap (λ (b : Bool). next Comment (if b then Closes else Goes (nat_eq byte 42)) others) h
 
-nothing_closes : (place : ℕ) → closes [] place ≡ true → ⊥
+nothing_closes : (place : ℕ) → closes_at [] place ≡ true → ⊥
 nothing_closes zero h = absurd cc
 nothing_closes (suc place) h = absurd cc
 
@@ -101,7 +98,7 @@ found_is_first kept (byte ∷ others) count h = step (kept && nat_eq byte 47) re
     apart true test is = test
     apart false test is = absurd cc
 
-    before : (place : ℕ) → ClosesFirst (nat_eq byte 42) others place → (earlier : ℕ) → earlier < suc place → closes (byte ∷ others) earlier ≡ false
+    before : (place : ℕ) → ClosesFirst (nat_eq byte 42) others place → (earlier : ℕ) → earlier < suc place → closes_at (byte ∷ others) earlier ≡ false
     before place first zero within = closes_not byte others first.apart
     before place first (suc earlier) within = first.first earlier (omega arith)
 

@@ -44,7 +44,8 @@ joined name index found = record { name = name ++ found.name; taken = index + fo
 pub record IsNamed (text : List ℕ) (index : ℕ) (kept : Bool) (name : List ℕ) : Type 0 where
   pub leads : name_at false text ≡ option_map (joined name index) (name_at kept (drop index text))
 
-abbrev next : Role → ℕ → List ℕ → Option FoundName
+-- what follows from the role of a byte in a name
+abbrev pub next : Role → ℕ → List ℕ → Option FoundName
 next role byte others =
     by_role role (option_map (preceded byte) (name_at false others)) (option_map skipped (name_at true others)) (Some (record { name = []; taken = 1 })) None
 

@@ -4,6 +4,7 @@ use borrow.Author.Tests.{eqb-true, eqb-false}
 use Rattle.std.proofs.lemmas.Bool.{false≢true, cases_lt}
 use Rattle.std.specs.List.{slice_get}
 use Rattle.cbase.specs.declared.place.Place.{Place}
+use Rattle.ctokens.proofs.Choices.{true_and, or_true}
 use Rattle.ctokens.specs.declared.item_span.ItemSpan.{ItemSpan}
 use Rattle.ctokens.specs.declared.item_span.Deep.{Deep}
 use Rattle.ctokens.specs.declared.symbol.Symbol.{Symbol}
@@ -26,10 +27,6 @@ both_right : (a b : Bool) → (a && b) ≡ true → b ≡ true
 both_right true b h = h
 both_right false b h = absurd (false≢true h)
 
-both : (a b : Bool) → a ≡ true → b ≡ true → (a && b) ≡ true
-both true b p q = q
-both false b p q = absurd (false≢true p)
-
 either : (a b : Bool) → (a || b) ≡ true → (a ≡ true) ⊎ (b ≡ true)
 either true b h = inl refl
 either false b h = inr h
@@ -37,10 +34,6 @@ either false b h = inr h
 either_left : (a b : Bool) → a ≡ true → (a || b) ≡ true
 either_left true b h = refl
 either_left false b h = absurd (false≢true h)
-
-either_right : (a b : Bool) → b ≡ true → (a || b) ≡ true
-either_right true b h = refl
-either_right false b h = h
 
 two_cases : (b : Bool) → (b ≡ true) ⊎ (b ≡ false)
 two_cases true = inl refl
@@ -208,7 +201,7 @@ opened_back_by true row at depth before body symbol c is known deep now =
       | inr last ↦
           let e : now.begin ≡ at = let l = now.earlier in omega arith in
           let begins : BeginsBody row at = subst (λ (x : ℕ). BeginsBody row x) e now.begins in
-          both (is_left_brace symbol) (is_right_parenthesis before) (ap is_left_brace (sym is) ∙ begins.brace) (known.behind_back begins.behind)
+          true_and (is_left_brace symbol) (is_right_parenthesis before) (ap is_left_brace (sym is) ∙ begins.brace) (known.behind_back begins.behind)
     ]
 opened_back_by false row at depth before body symbol c is known deep now =
     let positive = deeper depth symbol c deep in
@@ -275,13 +268,13 @@ rule_ends : (row : List Symbol) (at depth : ℕ) (before : Symbol) (body : Bool)
 rule_ends row at depth before body symbol is known (WithSemicolon semicolon none) =
     let d : depth ≡ 0 = known.depth_is ∙ none in
     either_left (ends_declaration depth symbol) (ends_body depth body symbol)
-    (both (nat_eq depth 0) (is_semicolon symbol) (ap (λ (x : ℕ). nat_eq x 0) d) (ap is_semicolon (sym is) ∙ semicolon))
+    (true_and (nat_eq depth 0) (is_semicolon symbol) (ap (λ (x : ℕ). nat_eq x 0) d) (ap is_semicolon (sym is) ∙ semicolon))
 rule_ends row at depth before body symbol is known (WithBody begin begins returns) =
     let d : depth ≡ 1 = known.depth_is ∙ returns.returns in
     let opened : body ≡ true = known.opened_back (omega arith) (record { begin = begin; begins = begins; earlier = returns.later; between = returns.between }) in
-    either_right (ends_declaration depth symbol) (ends_body depth body symbol)
-    (both (nat_eq depth 1) (body && is_right_brace symbol) (ap (λ (x : ℕ). nat_eq x 1) d)
-    (both body (is_right_brace symbol) opened (ap is_right_brace (sym is) ∙ returns.brace)))
+    or_true (ends_declaration depth symbol) (ends_body depth body symbol)
+    (true_and (nat_eq depth 1) (body && is_right_brace symbol) (ap (λ (x : ℕ). nat_eq x 1) d)
+    (true_and body (is_right_brace symbol) opened (ap is_right_brace (sym is) ∙ returns.brace)))
 
 passed_ends : (row : List Symbol) (at : ℕ) (symbol : Symbol) → symbol_at row at ≡ symbol → is_passed_over symbol ≡ true → EndsAt row at → ⊥
 passed_ends row at symbol is passed (WithSemicolon semicolon none) = passed_semicolon symbol passed (ap is_semicolon (sym is) ∙ semicolon)
@@ -407,7 +400,7 @@ deep_by false rest row at depth symbol later e is_depth none is =
       | inr last ↦
           let same : k ≡ at = omega arith in
           let there : IsDeepAt row at = subst (λ (x : ℕ). IsDeepAt row x) same deep in
-          false≢true (sym is ∙ both (nat_eq depth 256) (is_opening symbol) (ap (λ (x : ℕ). nat_eq x 256) (is_depth ∙ there.deep)) (ap is_opening (sym here.1) ∙ there.opening))
+          false≢true (sym is ∙ true_and (nat_eq depth 256) (is_opening symbol) (ap (λ (x : ℕ). nat_eq x 256) (is_depth ∙ there.deep)) (ap is_opening (sym here.1) ∙ there.opening))
     ])
 
 look : (rest : List Symbol) → Looked rest
@@ -455,7 +448,8 @@ items_unique _ _ _ _ (Ending first at row spans less ends earlier more) (Ending 
 
 -- ---- one text has one answer
 
-some_same : {A : Type 0} (a b : A) → Some a ≡ Some b → a ≡ b
+-- what is in two equal options is equal
+pub some_same : {A : Type 0} (a b : A) → Some a ≡ Some b → a ≡ b
 some_same a b h = cc
 
 first_deep_unique : (t : Tokens) (deep other : Deep) → IsFirstDeep t deep → IsFirstDeep t other → deep ≡ other

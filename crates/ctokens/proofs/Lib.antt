@@ -10,8 +10,8 @@ pub mod MarkLengths
 pub mod Letters
 pub mod TokenKinds
 pub mod Longest
-pub mod Markers
 pub mod FoundParts
+pub mod Markers
 pub mod Spots
 pub mod Reading
 pub mod NameSets

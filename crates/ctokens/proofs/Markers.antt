@@ -7,10 +7,11 @@ use Rattle.std.proofs.lemmas.Bool.{eqb-true, leb-true, ne_eqb, lt-leb}
 use Rattle.std.proofs.lemmas.List.{take-append-drop, append_assoc}
 use Rattle.std.proofs.lemmas.Slice.Eq.{bytes_eq-Decides}
 use Rattle.ctokens.proofs.Choices.{both_true, both_false, false_and, false_or, or_true, either_true, chosen_no, chosen_yes, from_choice}
+use Rattle.ctokens.proofs.FoundParts.{next}
 use Rattle.ctokens.proofs.Rows.{prefix_len-append_row, list_all-take_row}
 use Rattle.ctokens.specs.Bytes.{is_empty, is_blank, is_digit, is_between}
 use Rattle.ctokens.specs.Directive.{unblanked, begins_with_blank, is_pragma, is_pack, is_passed_over, decimal_value, greatest_line, written, IsOpening, AreDigits, is_flag_byte, IsMarker}
-use Rattle.ctokens.specs.MarkerAt.{line_number, preceded, skipped, role_in_name, by_role, name_at, flagged, name_and_flags, numbered, number_and_name, marker_at}
+use Rattle.ctokens.specs.MarkerAt.{line_number, preceded, skipped, role_in_name, name_at, flagged, name_and_flags, numbered, number_and_name, marker_at}
 use Rattle.ctokens.specs.declared.marker.FoundMarker.{FoundMarker}
 use Rattle.ctokens.specs.declared.marker.FoundName.{FoundName}
 use Rattle.ctokens.specs.declared.marker.Role.{Role}
@@ -49,11 +50,6 @@ unblanked-row blanks rest are_blank end =
     ap (λ (n : ℕ). drop n (blanks ++ rest)) count ∙ drop-append_seam blanks rest
 
 -- names
-
--- what follows from the role of a byte in a name
-abbrev next : Role → ℕ → List ℕ → Option FoundName
-next role byte others =
-    by_role role (option_map (preceded byte) (name_at false others)) (option_map skipped (name_at true others)) (Some (record { name = []; taken = 1 })) None
 
 name_at-written : (name flags : List ℕ) → name_at false (written name ++ 34 ∷ flags) ≡ Some (record { name = name; taken = length (written name) + 1 })
 name_at-written [] flags = refl
@@ -176,7 +172,8 @@ name_at-sound kept (byte ∷ others) found h =
 
 -- numbers
 
-decimal_value-rises : (before : ℕ) (digits : List ℕ) → before ≤ decimal_value before digits
+-- a further digit makes no value smaller
+pub decimal_value-rises : (before : ℕ) (digits : List ℕ) → before ≤ decimal_value before digits
 decimal_value-rises before [] = omega arith
 decimal_value-rises before (digit ∷ others) = omega (arith, decimal_value-rises (10 * before + (digit - 48)) others)
 

@@ -3,8 +3,9 @@ use Rattle.std.specs.Prelude.{◌≡◌, ℕ, ◌+◌, ◌≤◌, ◌<◌, Bool,
 use Rattle.std.specs.List.{All, list_any, position_or_len}
 use Rattle.std.specs.Str.{bytes_eq}
 use Rattle.std.proofs.Common.{refl, sym, ◌∙◌, ap, subst, arith, length-append}
-use Rattle.std.proofs.lemmas.List.Elements.{All-push, All-nil}
-use Rattle.ctokens.specs.Gathered.{next_spot, spot_behind, number_of, is_among, with_name, place_of, lexeme_of, moved, gathered, all_gathered, at_start}
+use Rattle.std.proofs.lemmas.List.Elements.{All-push}
+use Rattle.ctokens.proofs.Spots.{on_next_line, along}
+use Rattle.ctokens.specs.Gathered.{next_spot, spot_behind, number_of, is_among, with_name, lexeme_of, moved, gathered, all_gathered, at_start}
 use Rattle.ctokens.specs.TokenList.{AreTokens, HasNamedFiles, IsLexical}
 use Rattle.ctokens.specs.declared.token.Token.{Token}
 use Rattle.ctokens.specs.declared.token.Tokens.{Tokens}
@@ -23,13 +24,7 @@ pub record HasNames (progress : Progress) : Type 0 where
 next_spot_file : (spot : Spot) (byte : ℕ) → (next_spot spot byte).file ≡ spot.file
 next_spot_file spot byte = step (nat_eq byte 10)
   where
-    lined : Spot
-    lined = record { file = spot.file; line = spot.line + 1; column = 1 }
-
-    along : Spot
-    along = record { file = spot.file; line = spot.line; column = spot.column + 1 }
-
-    step : (test : Bool) → (if test then lined else along).file ≡ spot.file
+    step : (test : Bool) → (if test then on_next_line spot else along spot).file ≡ spot.file
     step true = refl
     step false = refl
 

@@ -8,7 +8,7 @@ use Rattle.ctokens.proofs.Choices.{both_true, true_and, both_false, chosen_no, c
 use Rattle.ctokens.proofs.Longest.{lexeme_at-exact, lexeme_at-sound, token_length-inside}
 use Rattle.ctokens.proofs.TokenKinds.{spelled_is_clear}
 use Rattle.ctokens.proofs.Quotes.{closing_length-inside}
-use Rattle.ctokens.proofs.Comments.{closes, first_is_found, found_closes_first}
+use Rattle.ctokens.proofs.Comments.{first_is_found, found_closes_first}
 use Rattle.ctokens.proofs.Markers.{marker_at-exact, marker_at-sound, marker_is_not_pragma}
 use Rattle.ctokens.specs.Bytes.{is_blank, is_inside_line}
 use Rattle.ctokens.specs.Directive.{is_pack, is_passed_over, is_pragma, IsMarker}
@@ -217,12 +217,12 @@ comment-sound still_blank text piece comment h =
           whole = omega (arith, count);
         }
       where
-        place_of_close : (place : ℕ) → closes others place ≡ true → closes_at text (place + 2) ≡ true
+        place_of_close : (place : ℕ) → closes_at others place ≡ true → closes_at text (place + 2) ≡ true
         place_of_close place there =
             let two : place + 2 ≡ suc (suc place) = omega arith in
             ap (closes_at text) two ∙ (ap (λ (t : List ℕ). closes_at t (suc (suc place))) whole ∙ there)
 
-        before : (place : ℕ) → ((earlier : ℕ) → earlier < place → closes others earlier ≡ false)
+        before : (place : ℕ) → ((earlier : ℕ) → earlier < place → closes_at others earlier ≡ false)
             → (earlier : ℕ) → 2 ≤ earlier → earlier < place + 2 → closes_at text earlier ≡ false
         before place first zero low high = absurd (omega arith)
         before place first (suc zero) low high = absurd (omega arith)

@@ -4,6 +4,7 @@ use Rattle.std.proofs.Common.{refl, sym, ◌∙◌, ap, subst, arith, get_or, le
 use Rattle.std.proofs.lemmas.Bool.{eqb-true, eqb-false}
 use Rattle.std.proofs.lemmas.List.{drop-drop, get_or_append_left, get_or_push}
 use Rattle.std.proofs.lemmas.List.Elements.{All-push}
+use Rattle.ctokens.proofs.Spots.{on_next_line, along}
 use Rattle.ctokens.specs.InText.{most_bytes}
 use Rattle.ctokens.specs.Spelled.{Spells}
 use Rattle.ctokens.specs.Pieces.{BeginsAs, BeginsWith, BeginsNot, Splits, still_blank_behind}
@@ -47,13 +48,7 @@ gathered_more first last (other ∷ pieces) text rest piece progress (begins_oth
 next_spot_bounds : (spot : Spot) (byte : ℕ) → ((next_spot spot byte).line ≤ spot.line + 1) × ((next_spot spot byte).column ≤ spot.column + 1)
 next_spot_bounds spot byte = step (nat_eq byte 10)
   where
-    lined : Spot
-    lined = record { file = spot.file; line = spot.line + 1; column = 1 }
-
-    along : Spot
-    along = record { file = spot.file; line = spot.line; column = spot.column + 1 }
-
-    step : (test : Bool) → ((if test then lined else along).line ≤ spot.line + 1) × ((if test then lined else along).column ≤ spot.column + 1)
+    step : (test : Bool) → ((if test then on_next_line spot else along spot).line ≤ spot.line + 1) × ((if test then on_next_line spot else along spot).column ≤ spot.column + 1)
     step true = (omega arith, omega arith)
     step false = (omega arith, omega arith)
 

@@ -5,6 +5,14 @@ use Rattle.std.proofs.lemmas.List.{at_drop_more, at_drop_all}
 use Rattle.ctokens.specs.Gathered.{next_spot, spot_behind}
 use Rattle.ctokens.specs.declared.progress.Spot.{Spot}
 
+-- the place behind a newline
+abbrev pub on_next_line : Spot → Spot
+on_next_line spot = record { file = spot.file; line = spot.line + 1; column = 1 }
+
+-- the place behind any other byte
+abbrev pub along : Spot → Spot
+along spot = record { file = spot.file; line = spot.line; column = spot.column + 1 }
+
 -- the bytes so far lead there, and the rest goes on from there
 pub record IsMoved (first : Spot) (bytes : List ℕ) (index : ℕ) (next : Spot) : Type 0 where
   pub leads : spot_behind first bytes ≡ spot_behind next (drop index bytes)
@@ -19,17 +27,11 @@ moved_on first bytes index byte next more so_far inside is is_more = rw is_more 
   column = columns (nat_eq byte 10);
 })
   where
-    lined : Spot
-    lined = record { file = next.file; line = next.line + 1; column = 1 }
-
-    along : Spot
-    along = record { file = next.file; line = next.line; column = next.column + 1 }
-
-    lines : (test : Bool) → (if test then lined else along).line ≤ first.line + (index + 1)
+    lines : (test : Bool) → (if test then on_next_line next else along next).line ≤ first.line + (index + 1)
     lines true = omega (arith, so_far.line)
     lines false = omega (arith, so_far.line)
 
-    columns : (test : Bool) → (if test then lined else along).column ≤ first.column + (index + 1)
+    columns : (test : Bool) → (if test then on_next_line next else along next).column ≤ first.column + (index + 1)
     columns true = omega (arith, so_far.column)
     columns false = omega (arith, so_far.column)
 
