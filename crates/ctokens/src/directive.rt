@@ -1,6 +1,6 @@
 //! Directive lines.
 
-ghost use Rattle.std.specs.Prelude.{◌≡◌, ◌≤◌, length};
+ghost use Rattle.std.specs.Prelude.{◌≡◌};
 ghost use Rattle.ctokens.specs.Directive.{ends_word, is_pragma, is_pack, is_passed_over};
 
 use crate::byte::is_word_byte;

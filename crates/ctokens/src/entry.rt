@@ -1,11 +1,10 @@
 //! What of an item counts for need: the names by which it is needed, those that it contains, and whether it
 //! defines main.
 
-ghost use Rattle.std.specs.Prelude.{◌≡◌, ◌≤◌, ◌++◌, [], false, length, map, IfOk, OnOk};
-ghost use Rattle.std.specs.List.{list_all, list_any};
+ghost use Rattle.std.specs.Prelude.{◌≡◌, ◌≤◌, ◌++◌, false, length, map, IfOk};
 ghost use Rattle.ctokens.specs.InText.{most_bytes};
 ghost use Rattle.ctokens.specs.Entry.{entry_of};
-ghost use Rattle.ctokens.specs.Need.{contained, declares_built_in, defines_main, needed_by, offers_built_in, offers_main};
+ghost use Rattle.ctokens.specs.Need.{contained, defines_main, needed_by, offers_built_in, offers_main};
 ghost use Rattle.ctokens.specs.Offered.{declared};
 ghost use Rattle.ctokens.specs.Bodies.{ends_with_body};
 ghost use Rattle.ctokens.specs.declared.symbol.Symbol.TheVariants.{Other};

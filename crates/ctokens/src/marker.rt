@@ -1,6 +1,6 @@
 //! Line markers.
 
-ghost use Rattle.std.specs.Prelude.{◌≡◌, ◌≤◌, ◌<◌, ◌^◌, false, [], ◌∷◌, take, drop, length, IfOk, IfSome};
+ghost use Rattle.std.specs.Prelude.{◌≡◌, ◌≤◌, ◌<◌, false, [], drop, IfOk, IfSome};
 ghost use Rattle.std.specs.List.{list_all};
 ghost use Rattle.ctokens.specs.Directive.{unblanked, begins_with_blank, is_flag_byte};
 ghost use Rattle.ctokens.specs.MarkerAt.{role_in_name, line_number, name_at, name_and_flags, number_and_name, marker_at};

@@ -1,4 +1,4 @@
-ghost use Rattle.std.specs.Prelude.{◌≡◌, ◌≤◌, Ok, length, map, IfOk};
+ghost use Rattle.std.specs.Prelude.{◌≡◌, ◌≤◌, Ok, length, IfOk};
 ghost use Rattle.std.specs.List.{All, list_any};
 ghost use Rattle.ctokens.specs.Entry.{IsTextRow, entries_of, is_main_entry};
 ghost use Rattle.ctokens.specs.Items.{IsInside, IsItems};

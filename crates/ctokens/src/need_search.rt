@@ -1,6 +1,6 @@
 //! The least set of items that main needs, found from one item to the next.
 
-ghost use Rattle.std.specs.Prelude.{◌≡◌, ◌+◌, ◌<◌, ◌≤◌, ◌^◌, [], false, length, slice_set, IfOk, OnOk};
+ghost use Rattle.std.specs.Prelude.{◌≡◌, ◌+◌, ◌<◌, ◌≤◌, [], false, length, slice_set, IfOk, OnOk};
 ghost use Rattle.ctokens.specs.InText.{most_bytes};
 ghost use Rattle.ctokens.specs.NeedSearch.{entry_at, found, follow, follow_all, mark, mark_all, mark_mains, places, put, put_all, put_entries, started, waiting_at, waiting_for, walk};
 

@@ -1,6 +1,6 @@
 //! Numbers for words, so that names are compared as numbers.
 
-ghost use Rattle.std.specs.Prelude.{◌≡◌, IfOk, length};
+ghost use Rattle.std.specs.Prelude.{◌≡◌, IfOk};
 ghost use Rattle.ctokens.specs.Numbering.{IsNumbering};
 ghost use Rattle.ctokens.specs.InText.{LieInText};
 ghost use Rattle.ctokens.specs.TokenSymbols.{words};

@@ -1,7 +1,7 @@
 //! The piece that a text begins with.
 
-ghost use Rattle.std.specs.Prelude.{◌≡◌, ◌≤◌, length, min, IfOk, IfSome, IfNone};
-ghost use Rattle.ctokens.specs.Pieces.{BeginsWith, BeginsNot, first_line, line_taken, begins_line_comment, begins_block_comment};
+ghost use Rattle.std.specs.Prelude.{◌≡◌, min, IfOk, IfSome, IfNone};
+ghost use Rattle.ctokens.specs.Pieces.{BeginsWith, BeginsNot, begins_line_comment, begins_block_comment};
 ghost use Rattle.ctokens.specs.PieceAt.{piece_of, lexeme_at, comment_at, directive_at, piece_at};
 ghost use Rattle.ctokens.specs.declared.piece.PieceKind.TheVariants.{Marker};
 

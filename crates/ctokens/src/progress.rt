@@ -1,6 +1,6 @@
 ghost use Rattle.std.specs.Prelude.{◌≡◌, ◌+◌, ◌≤◌, ◌<◌, ◌^◌, not, length, IfOk};
 ghost use Rattle.ctokens.specs.InText.{most_bytes};
-ghost use Rattle.ctokens.specs.Gathered.{next_spot, spot_behind, number_of, is_among, with_name, moved, gathered, at_start};
+ghost use Rattle.ctokens.specs.Gathered.{next_spot, spot_behind, is_among, with_name, moved, gathered, at_start};
 ghost use Rattle.std.specs.List.{list_all};
 ghost use Rattle.ctokens.specs.Bytes.{is_inside_line};
 ghost use Rattle.ctokens.specs.Room.{HasRoom};
