@@ -3,8 +3,8 @@
 ghost use Rattle.std.specs.Prelude.{◌≡◌};
 ghost use Rattle.ctokens.specs.Directive.{ends_word, is_pragma, is_pack, is_passed_over};
 
+use crate::blanks::{begins_with_blank, behind, unblanked};
 use crate::byte::is_word_byte;
-use crate::marker::{begins_with_blank, behind, unblanked};
 
 /// Whether the line begins with `#pragma` by the letter.
 fn is_pragma(line: &[u8]) -> bool

@@ -6,6 +6,7 @@
 //! item spells nor which names are typedefs.
 #![tactic(auto)]
 
+mod blanks;
 mod byte;
 mod closing;
 mod directive;

@@ -1,11 +1,12 @@
 //! Line markers.
 
-ghost use Rattle.std.specs.Prelude.{◌≡◌, ◌≤◌, ◌<◌, false, [], drop, IfOk, IfSome};
+ghost use Rattle.std.specs.Prelude.{◌≡◌, ◌≤◌, false, IfOk, IfSome};
 ghost use Rattle.std.specs.List.{list_all};
-ghost use Rattle.ctokens.specs.Directive.{unblanked, begins_with_blank, is_flag_byte};
+ghost use Rattle.ctokens.specs.Directive.{is_flag_byte};
 ghost use Rattle.ctokens.specs.MarkerAt.{role_in_name, line_number, name_at, name_and_flags, number_and_name, marker_at};
 
-use crate::byte::{Class, is_blank, is_flag_byte, leading};
+use crate::blanks::{begins_with_blank, behind, unblanked};
+use crate::byte::{Class, is_flag_byte, leading};
 use cbase::{NoMemory, Text};
 use std::alloc::Global;
 
@@ -56,33 +57,6 @@ pub(crate) fn marker_at(alloc: Global, line: &[u8]) -> Result<Option<FoundMarker
         return number_and_name(alloc, unblanked(behind));
     }
     number_and_name(alloc, unblanked(behind(1, line)))
-}
-
-/// The text behind its first bytes, so many of them.
-pub(crate) fn behind(count: usize, text: &[u8]) -> &[u8]
-    ensures { result.now ≡ drop count text.now }
-{
-    if count > text.len() {
-        return &[];
-    }
-    text.split_at(count).1
-}
-
-/// The text behind the blanks at its front.
-pub(crate) fn unblanked(text: &[u8]) -> &[u8]
-    ensures { result.now ≡ unblanked text.now }
-{
-    text.split_at(leading(Class::Blank, text)).1
-}
-
-/// Whether the first byte of the text is a blank; an empty text has none.
-pub(crate) fn begins_with_blank(text: &[u8]) -> bool
-    ensures { result ≡ begins_with_blank text.now }
-{
-    match text {
-        [] => false,
-        [byte, ..] => is_blank(*byte),
-    }
 }
 
 /// The number, the name and the flags of a marker, at the front of the text.

@@ -5,11 +5,12 @@ ghost use Rattle.ctokens.specs.Pieces.{BeginsWith, BeginsNot, begins_line_commen
 ghost use Rattle.ctokens.specs.PieceAt.{piece_of, lexeme_at, comment_at, directive_at, piece_at};
 ghost use Rattle.ctokens.specs.declared.piece.PieceKind.TheVariants.{Marker};
 
+use crate::blanks::behind;
 use crate::byte::{Class, is_blank, leading};
 use crate::closing::{Closing, closing_length};
 use crate::directive::{is_pack, is_passed_over};
 use crate::length::{kind_at, token_length};
-use crate::marker::{FoundMarker, behind, marker_at};
+use crate::marker::{FoundMarker, marker_at};
 use crate::piece::{Piece, PieceKind};
 use cbase::NoMemory;
 use std::alloc::Global;
