@@ -103,15 +103,12 @@ escape_length-reaches (first ∷ others) some = simple (is_simple_escape first) 
         either a b h = rw h refl
 
         shorter : (count : ℕ) → count ≤ 2 → nat_le (suc (length (take count others))) 3 ≡ true
-        shorter count small = le_test (suc (length (take count others))) 3 (omega (arith, length_take count others))
+        shorter count small = le-leb (suc (length (take count others))) 3 (omega (arith, length_take count others))
           where
             length_take : (count : ℕ) (others : List ℕ) → length (take count others) ≤ count
             length_take zero others = omega arith
             length_take (suc count) [] = omega arith
             length_take (suc count) (next ∷ others) = omega (arith, length_take count others)
-
-            le_test : (a b : ℕ) → a ≤ b → nat_le a b ≡ true
-            le_test a b h = le-leb a b h
 
     hex_row : (count : ℕ) → count ≡ prefix_len is_hexadecimal_digit others → nat_eq first 120 ≡ true → 0 < pointed count → is_escape (take (pointed count) (first ∷ others)) ≡ true
     hex_row zero is mark some = absurd (omega arith)
