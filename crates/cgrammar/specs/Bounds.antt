@@ -20,6 +20,7 @@ put_in name number [] = (name, number) ∷ []
 put_in name number (entry ∷ others) =
     if bytes_eq name entry.0 then (entry.0, number) ∷ others else entry ∷ put_in name number others
 
+-- a number, or 1 where there is none
 abbrev pub or_one : Option ℕ → ℕ
 or_one None = 1
 or_one (Some number) = number

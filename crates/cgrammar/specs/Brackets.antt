@@ -2,6 +2,7 @@
 use Rattle.std.specs.Prelude.{Bool, ◌||◌, not, IsTrue, ◌⊎◌, List, [], ◌∷◌, ◌++◌, codes}
 use Rattle.cgrammar.specs.Terminals.{Terminal, is_mark, IsMark}
 
+-- a bracket of any kind, open or closing
 abbrev pub is_bracket : Terminal → Bool
 is_bracket token =
     is_mark (codes "(") token || is_mark (codes ")") token || is_mark (codes "[") token
@@ -13,6 +14,7 @@ ArePair opening closing =
     (IsMark (codes "(") opening × IsMark (codes ")") closing)
     ⊎ ((IsMark (codes "[") opening × IsMark (codes "]") closing) ⊎ (IsMark (codes "{") opening × IsMark (codes "}") closing))
 
+-- each bracket of the row closes one of its kind or is closed by one, and no two pairs cross
 pub data AreMatched : List Terminal → Type 0 where
   NothingMore : AreMatched []
   NoBracket : {rest : List Terminal} (token : Terminal) → IsTrue (not (is_bracket token)) → AreMatched rest → AreMatched (token ∷ rest)

@@ -8,6 +8,7 @@ use Rattle.cgrammar.specs.Constants.{is_unsuffixed, suffixes}
 abbrev pub is_before_suffix : ℕ → Bool
 is_before_suffix byte = not (nat_eq byte 117 || (nat_eq byte 85 || (nat_eq byte 108 || nat_eq byte 76)))
 
+-- how many bytes stand before the first that a suffix has
 abbrev pub digits_length : List ℕ → ℕ
 digits_length bytes = prefix_len is_before_suffix bytes
 

@@ -38,6 +38,7 @@ pub record IsInteger (bytes : List ℕ) : Type 0 where
   pub counts : IsTrue (is_unsuffixed digits)
   pub ends : IsTrue (list_any (bytes_eq suffix) suffixes)
 
+-- bytes of a number that are an integer constant, or of a constant of one character
 abbrev pub IsOfKind : TokenKind → List ℕ → Type 0
 IsOfKind Number bytes = IsInteger bytes
 IsOfKind Letter bytes = Unit {0}

@@ -12,9 +12,11 @@ KeepsOuter (CompoundStatement body) before after = after.scope ≡ before.scope
 KeepsOuter (FunctionDeclarator name head) before after = left after.scope ≡ before.scope
 KeepsOuter _ before after = left after.scope ≡ left before.scope
 
+-- each phrase keeps the names of outer scopes
 abbrev pub ScopesAreKept : Type 0
 ScopesAreKept = (phrase : Phrase) (before after : Context) (row : List Terminal) → Spells phrase before row after → KeepsOuter phrase before after
 
+-- no fewer expressions stand behind a phrase than before it
 abbrev pub NumbersGrow : Type 0
 NumbersGrow = (phrase : Phrase) (before after : Context) (row : List Terminal) → Spells phrase before row after → before.expressions ≤ after.expressions
 
@@ -30,5 +32,6 @@ HasLastNumber (PostfixExpression expr) after = expr.number + 1 ≡ after.express
 HasLastNumber (PrimaryExpression expr) after = expr.number + 1 ≡ after.expressions
 HasLastNumber _ after = Unit {0}
 
+-- each expression has the last number of its row
 abbrev pub NumbersAreLast : Type 0
 NumbersAreLast = (phrase : Phrase) (before after : Context) (row : List Terminal) → Spells phrase before row after → HasLastNumber phrase after

@@ -18,9 +18,11 @@ type_words =
     codes "void" ∷ codes "_Bool" ∷ codes "char" ∷ codes "signed" ∷ codes "unsigned" ∷ codes "short" ∷ codes "int" ∷ codes "long"
     ∷ codes "struct" ∷ codes "enum" ∷ codes "typeof" ∷ []
 
+-- the keywords of storage classes that are read (C11 6.7.1)
 abbrev pub storage_words : List (List ℕ)
 storage_words = codes "typedef" ∷ codes "extern" ∷ codes "static" ∷ []
 
+-- the token is one of these words
 abbrev pub is_among : List (List ℕ) → Terminal → Bool
 is_among words token = is_word_kind token.kind && list_any (bytes_eq token.bytes) words
 
@@ -59,6 +61,7 @@ BeginsAs (CompoundStatement body) scopes row = Begins (λ token. not (begins_dec
 BeginsAs (Statement dangling stmt) scopes row = Begins (λ token. not (begins_declaration scopes token)) row
 BeginsAs _ scopes row = Unit {0}
 
+-- each phrase begins with such a token
 abbrev pub FirstTokens : Type 0
 FirstTokens = (phrase : Phrase) (before after : Context) (row : List Terminal) → Spells phrase before row after → BeginsAs phrase before.scope row
 

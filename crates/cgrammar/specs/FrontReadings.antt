@@ -9,6 +9,7 @@ abbrev pub BeginsWithLabel : List Names → List Terminal → Type 0
 BeginsWithLabel scopes row =
     (label colon : Terminal) × (take 2 row ≡ label ∷ (colon ∷ [])) × IsName label × IsNoType scopes (label ∷ []) × IsMark (codes ":") colon
 
+-- whether the row begins with a label and its `:`
 abbrev pub begins_with_label : List Names → List Terminal → Bool
 begins_with_label scopes [] = false
 begins_with_label scopes (label ∷ []) = false
@@ -19,5 +20,6 @@ abbrev pub basic_words : List (List ℕ)
 basic_words =
     codes "void" ∷ codes "_Bool" ∷ codes "char" ∷ codes "signed" ∷ codes "unsigned" ∷ codes "short" ∷ codes "int" ∷ codes "long" ∷ []
 
+-- the token is one of these keywords
 abbrev pub is_basic_word : Terminal → Bool
 is_basic_word token = is_among basic_words token

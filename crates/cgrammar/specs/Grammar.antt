@@ -2,7 +2,8 @@
 -- row of tokens spells which tree. One rule, one constructor, in the order in which C11 has them.
 --
 -- `Spells phrase before row after` says that the row, where `before` stands before it, is the phrase, and that then
--- `after` stands before what follows. An expression has the place of its operator's mark, or of its first word.
+-- `after` stands before what follows. An expression has the place of its operator's mark, or of its first token; a call
+-- has that of the first word in what it calls.
 use Rattle.std.specs.Prelude.{◌≡◌, ℕ, ◌+◌, ◌≤◌, Bool, true, false, not, IsTrue, ◌⊎◌, List, [], ◌∷◌, ◌++◌, length, Option, None, Some, is_some, codes}
 use Rattle.std.specs.List.{list_all}
 use Rattle.cbase.specs.declared.tree.decl.Decl.{Decl}
@@ -61,9 +62,11 @@ declaring context name typedef = scoped context (declared name typedef context.s
 abbrev pub inside : Context → Context
 inside context = scoped context (entered context.scope)
 
+-- the names in scope as they were before, and the count of expressions as it is behind
 abbrev pub outside : Context → Context → Context
 outside before within = scoped within before.scope
 
+-- the row, where `before` stands before it, is the phrase, and `after` stands before what follows
 pub data Spells : Phrase → Context → List Terminal → Context → Type 0 where
   -- expr : assign { ',' assign } (C11 6.5.17)
   OneAssignment : {before after : Context} {row : List Terminal} {expr : Expr}

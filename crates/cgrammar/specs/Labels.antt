@@ -6,6 +6,7 @@ use Rattle.cgrammar.specs.Grammar.{Spells}
 use Rattle.cgrammar.specs.Phrases.{Phrase, Context, Expression, Assignment, Conditional, Operation, CastExpression, UnaryExpression, PostfixExpression, PrimaryExpression, CompoundStatement}
 use Rattle.cgrammar.specs.Terminals.{Terminal, is_mark, IsMark}
 
+-- the token is a `:`
 abbrev pub is_colon : Terminal → Bool
 is_colon token = is_mark (codes ":") token
 
@@ -15,6 +16,7 @@ BeginWithoutColon [] = ⊥
 BeginWithoutColon (only ∷ []) = IsTrue (not (is_colon only))
 BeginWithoutColon (first ∷ (second ∷ others)) = IsTrue (not (is_colon first)) × IsTrue (not (is_colon second))
 
+-- neither of the first two tokens of an expression is a `:`, and a block does not begin with one
 abbrev pub IsWithoutColon : Phrase → List Terminal → Type 0
 IsWithoutColon (Expression expr) row = BeginWithoutColon row
 IsWithoutColon (Assignment expr) row = BeginWithoutColon row

@@ -12,6 +12,7 @@ abbrev pub row_of : {A : Type 0} → List ℕ → List (List ℕ × A) → Optio
 row_of bytes [] = None
 row_of bytes (row ∷ rows) = if bytes_eq row.0 bytes then Some row.1 else row_of bytes rows
 
+-- what a table says of a token: nothing where it is no mark
 abbrev pub mark_row : {A : Type 0} → List (List ℕ × A) → Terminal → Option A
 mark_row rows token = if is_mark_kind token.kind then row_of token.bytes rows else None
 
@@ -44,12 +45,15 @@ assignment_rows =
     ∷ (codes "-=", Some Sub) ∷ (codes "<<=", Some Left) ∷ (codes ">>=", Some Right) ∷ (codes "&=", Some And)
     ∷ (codes "^=", Some Xor) ∷ (codes "|=", Some Or) ∷ []
 
+-- the token is that prefix operator
 abbrev pub IsUnary : UnaryOp → Terminal → Type 0
 IsUnary op token = mark_row unary_rows token ≡ Some op
 
+-- the token is `++` where it counts up, and else `--`
 abbrev pub IsCount : Bool → Terminal → Type 0
 IsCount up token = mark_row count_rows token ≡ Some up
 
+-- the token is `->` where it goes through a pointer, and else `.`
 abbrev pub IsMember : Bool → Terminal → Type 0
 IsMember through token = mark_row member_rows token ≡ Some through
 
@@ -57,5 +61,6 @@ IsMember through token = mark_row member_rows token ≡ Some through
 abbrev pub IsBinary : ℕ → BinaryOp → Terminal → Type 0
 IsBinary level op token = mark_row binary_rows token ≡ Some (level, op)
 
+-- the token is the assignment operator that does so before the store
 abbrev pub IsAssignment : Option BinaryOp → Terminal → Type 0
 IsAssignment op token = mark_row assignment_rows token ≡ Some op

@@ -5,11 +5,13 @@ use Rattle.std.specs.Prelude.{ℕ, ◌+◌, Bool, false, if◌then◌else◌, Li
 use Rattle.cgrammar.specs.Phrases.{Context}
 use Rattle.cgrammar.specs.Terminals.{Terminal, is_mark}
 
+-- nothing, a tree behind which the reading stopped, or a tree that is read
 pub data Outcome (A : Type 0) : Type 0 where
   Nothing : Outcome A
   Stopped : (tree : A) (expressions : ℕ) (rest : List Terminal) → Outcome A
   Read : (tree : A) (levels : ℕ) (behind : Context) (rest : List Terminal) → Outcome A
 
+-- what is given at the front of a row, before which a context stands
 abbrev pub Reader : Type 0 → Type 0
 Reader A = Context → List Terminal → Outcome A
 
@@ -48,9 +50,11 @@ abbrev pub after_first : {B : Type 0} → (Terminal → Bool) → List Terminal 
 after_first test [] without go = without
 after_first test (first ∷ others) without go = if test first then go first others else without
 
+-- what is read behind a first token that is the mark with these bytes
 abbrev pub after_mark : {B : Type 0} → List ℕ → List Terminal → Outcome B → (Terminal → List Terminal → Outcome B) → Outcome B
 after_mark bytes = after_first (is_mark bytes)
 
+-- the first token of the row is the mark with these bytes
 abbrev pub has_mark : List ℕ → List Terminal → Bool
 has_mark bytes = has_first (is_mark bytes)
 

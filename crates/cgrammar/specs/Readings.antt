@@ -35,9 +35,11 @@ pub record IsReadAt (t : Tokens) (scope : List Names) (at after : ℕ) (phrase :
 abbrev pub most_levels : ℕ
 most_levels = 1024
 
+-- how many levels lie in one another in a block
 abbrev pub block_levels : List Stmt → ℕ
 block_levels body = joined depth (map stmt_levels body)
 
+-- an expression of at most so many levels is read at the token `at`, and its last token stands before the token `after`
 abbrev pub IsExpressionAt : ℕ → Tokens → List Names → ℕ → ℕ → Expr → Type 0
 IsExpressionAt most t scope at after expr = IsReadAt t scope at after (Expression expr) × (expr_levels expr ≤ most)
 
@@ -46,5 +48,6 @@ abbrev pub IsLongestExpressionAt : ℕ → Tokens → List Names → ℕ → ℕ
 IsLongestExpressionAt most t scope at after expr =
     IsExpressionAt most t scope at after expr × ((other : Expr) (end : ℕ) → IsExpressionAt most t scope at end other → end ≤ after)
 
+-- a block of at most so many levels is read at the token `at`, and its last token stands before the token `after`
 abbrev pub IsBlockAt : ℕ → Tokens → List Names → ℕ → ℕ → List Stmt → Type 0
 IsBlockAt most t scope at after body = IsReadAt t scope at after (CompoundStatement body) × (block_levels body ≤ most)

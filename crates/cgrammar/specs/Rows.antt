@@ -28,6 +28,7 @@ use Rattle.std.specs.Prelude.{ℕ, ◌+◌, true, false, List, [], ◌∷◌, No
 abbrev pub at : ℕ → Place
 at number = record { file = 0; line = 1; column = 1; at = number }
 
+-- a token of each kind, with these bytes and the place of that number
 abbrev pub word : List ℕ → ℕ → Terminal
 word bytes number = record { kind = Word; bytes = bytes; place = at number }
 
@@ -45,6 +46,7 @@ abbrev pub numbered_from : ℕ → List (ℕ → Terminal) → List Terminal
 numbered_from first [] = []
 numbered_from first (token ∷ tokens) = token first ∷ numbered_from (first + 1) tokens
 
+-- tokens that follow one another from the number 0 on
 abbrev pub row : List (ℕ → Terminal) → List Terminal
 row tokens = numbered_from 0 tokens
 
@@ -204,10 +206,11 @@ Structs = Spells
 abbrev pub token : TokenKind → ℕ → ℕ → ℕ → Token
 token kind from to number = record { kind = kind; from = from; to = to; place = at number }
 
+-- a text with these tokens, and with no names of files and no packing
 abbrev pub text_of : List ℕ → List Token → Tokens
 text_of text tokens = record { text = text; list = tokens; names = []; packs = [] }
 
--- the longest expression at the front of `a - b - c ; d` ends before the `;`
+-- `a - b - c` is read at the front of `a - b - c ; d`
 abbrev pub ReadsTwoSubtractions : Type 0
 ReadsTwoSubtractions = IsReadAt (text_of (codes "a - b - c ; d") (token Word 0 1 0 ∷ token Mark 2 3 1 ∷ token Word 4 5 2 ∷ token Mark 6 7 3 ∷ token Word 8 9 4 ∷ token Mark 10 11 5 ∷ token Word 12 13 6 ∷ [])) file_scope 0 5
     (Expression (node 4 3 (Binary Sub (node 2 1 (Binary Sub (node 0 0 (Name (codes "a"))) (node 1 2 (Name (codes "b"))))) (node 3 4 (Name (codes "c"))))))

@@ -22,6 +22,7 @@ abbrev pub found : List ℕ → List Names → Option Bool
 found name [] = None
 found name (outer ∷ inner) = first_answer (found name inner) (found_in name outer)
 
+-- whether an answer is that the name is a typedef's
 abbrev pub says_typedef : Option Bool → Bool
 says_typedef None = false
 says_typedef (Some typedef) = typedef

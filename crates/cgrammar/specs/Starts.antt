@@ -9,9 +9,11 @@ use Rattle.cgrammar.specs.Firsts.{is_among, Begins}
 use Rattle.cgrammar.specs.Phrases.{Phrase, Expression, Assignment, Conditional, Operation, CastExpression, UnaryExpression, PostfixExpression, PrimaryExpression, Arguments, TypeSpecifier, NameOfType, FieldDeclaration, FieldDeclarators, FieldDeclarator, Enumerators, OneEnumerator, Specifiers, Declaration, Declarators, Declarator, FunctionDeclarator, Parameters, Parameter, Initializer, Initializers, DesignatedInitializer, CompoundStatement, Statement}
 use Rattle.cgrammar.specs.Terminals.{Terminal, is_mark_kind, is_mark, is_name}
 
+-- the token is one of these marks
 abbrev pub is_mark_among : List (List ℕ) → Terminal → Bool
 is_mark_among marks token = is_mark_kind token.kind && list_any (bytes_eq token.bytes) marks
 
+-- the kinds of constants: numbers and characters
 abbrev pub is_constant_kind : TokenKind → Bool
 is_constant_kind Number = true
 is_constant_kind Letter = true
@@ -22,6 +24,7 @@ abbrev pub operand_marks : List (List ℕ)
 operand_marks =
     codes "(" ∷ codes "&" ∷ codes "*" ∷ codes "+" ∷ codes "-" ∷ codes "~" ∷ codes "!" ∷ codes "++" ∷ codes "--" ∷ []
 
+-- the words that an operand begins with, names aside (C11 6.5.3, 7.2, 7.19)
 abbrev pub operand_words : List (List ℕ)
 operand_words = codes "sizeof" ∷ codes "__builtin_offsetof" ∷ codes "__assert_fail" ∷ []
 
@@ -30,9 +33,11 @@ abbrev pub begins_operand : Terminal → Bool
 begins_operand token =
     is_name token || (is_constant_kind token.kind || (is_mark_among operand_marks token || is_among operand_words token))
 
+-- the open brace of a block, and the `;` of an empty statement
 abbrev pub statement_marks : List (List ℕ)
 statement_marks = codes "{" ∷ codes ";" ∷ []
 
+-- the keywords that a statement begins with (C11 6.8.4 to 6.8.6)
 abbrev pub statement_words : List (List ℕ)
 statement_words =
     codes "if" ∷ codes "while" ∷ codes "do" ∷ codes "for" ∷ codes "break" ∷ codes "continue" ∷ codes "return" ∷ []
@@ -41,6 +46,7 @@ statement_words =
 abbrev pub begins_statement : Terminal → Bool
 begins_statement token = begins_operand token || (is_mark_among statement_marks token || is_among statement_words token)
 
+-- the row has a token
 abbrev pub HasFirst : List Terminal → Type 0
 HasFirst row = Begins (λ token. true) row
 

@@ -15,6 +15,7 @@ use Rattle.ctokens.specs.SymbolTables.{read_as, word_symbol}
 use Rattle.ctokens.specs.Passed.{passed_tokens}
 use Rattle.cgrammar.specs.Scope.{Names, is_typedef_name}
 
+-- a token as the grammar sees it: its kind, its bytes as they are read, and its place
 pub record Terminal : Type 0 where
   pub kind : TokenKind
   pub bytes : List ℕ
@@ -28,6 +29,7 @@ bytes_read Letter bytes = bytes
 bytes_read Quoted bytes = bytes
 bytes_read Mark bytes = bytes
 
+-- a token of a text as the grammar sees it
 abbrev pub terminal_of : List ℕ → Token → Terminal
 terminal_of text token = record { kind = token.kind; bytes = bytes_read token.kind (token_bytes text token); place = token.place }
 
@@ -40,10 +42,12 @@ unpassed _ _ = []
 abbrev pub terminals : Tokens → List Terminal
 terminals t = unpassed (passed_tokens t) (map (terminal_of t.text) t.list)
 
+-- whether tokens of the kind are words
 abbrev pub is_word_kind : TokenKind → Bool
 is_word_kind Word = true
 is_word_kind _ = false
 
+-- whether tokens of the kind are punctuators (C11 6.4.6)
 abbrev pub is_mark_kind : TokenKind → Bool
 is_mark_kind Mark = true
 is_mark_kind _ = false
@@ -52,6 +56,7 @@ is_mark_kind _ = false
 abbrev pub is_word : List ℕ → Terminal → Bool
 is_word bytes token = is_word_kind token.kind && bytes_eq token.bytes bytes
 
+-- the token is the word with these bytes
 abbrev pub IsWord : List ℕ → Terminal → Type 0
 IsWord bytes token = IsTrue (is_word bytes token)
 
@@ -59,6 +64,7 @@ IsWord bytes token = IsTrue (is_word bytes token)
 abbrev pub is_mark : List ℕ → Terminal → Bool
 is_mark bytes token = is_mark_kind token.kind && bytes_eq token.bytes bytes
 
+-- the token is the mark with these bytes
 abbrev pub IsMark : List ℕ → Terminal → Type 0
 IsMark bytes token = IsTrue (is_mark bytes token)
 
@@ -72,6 +78,7 @@ is_left_out bytes =
 abbrev pub is_name : Terminal → Bool
 is_name token = is_word_kind token.kind && (is_identifier (word_symbol token.bytes) && not (is_left_out token.bytes))
 
+-- the token is an identifier (C11 6.4.2)
 abbrev pub IsName : Terminal → Type 0
 IsName token = IsTrue (is_name token)
 
@@ -79,9 +86,11 @@ IsName token = IsTrue (is_name token)
 abbrev pub is_typedef : List Names → Terminal → Bool
 is_typedef scopes token = is_name token && is_typedef_name scopes token.bytes
 
+-- the token is the name of a typedef in scope (C11 6.7.8)
 abbrev pub IsTypedef : List Names → Terminal → Type 0
 IsTypedef scopes token = IsTrue (is_typedef scopes token)
 
+-- whether the first token of a row is the name of a typedef in scope
 abbrev pub begins_with_typedef : List Names → List Terminal → Bool
 begins_with_typedef scopes [] = false
 begins_with_typedef scopes (first ∷ others) = is_typedef scopes first
@@ -91,7 +100,7 @@ begins_with_typedef scopes (first ∷ others) = is_typedef scopes first
 abbrev pub IsNoType : List Names → List Terminal → Type 0
 IsNoType scopes row = IsTrue (not (begins_with_typedef scopes row))
 
--- the place before any text
+-- the place of no token: no token has column 0
 abbrev pub no_place : Place
 no_place = record { file = 0; line = 0; column = 0; at = 0 }
 
@@ -106,6 +115,7 @@ last_place [] = no_place
 last_place (last ∷ []) = last.place
 last_place (first ∷ (next ∷ others)) = last_place (next ∷ others)
 
+-- whether the token is a word, a keyword or an identifier
 abbrev pub is_any_word : Terminal → Bool
 is_any_word token = is_word_kind token.kind
 
@@ -113,6 +123,7 @@ is_any_word token = is_word_kind token.kind
 abbrev pub first_word_place : List Terminal → Place
 first_word_place row = first_place (filter is_any_word row ++ row)
 
+-- the bytes of a token, as they are read
 abbrev pub bytes_of : Terminal → List ℕ
 bytes_of token = token.bytes
 
@@ -121,5 +132,6 @@ abbrev pub are_stars : List Terminal → Bool
 are_stars [] = true
 are_stars (token ∷ others) = is_mark (codes "*") token && are_stars others
 
+-- each token of the row is a `*`
 abbrev pub AreStars : List Terminal → Type 0
 AreStars row = IsTrue (are_stars row)

@@ -1,6 +1,6 @@
 ghost use Rattle.cgrammar.specs.Rows.{ReadsTwoSubtractions, ReadsPassedOver, ReadsBlock, ReadsLabel, TwoSubtractions, Levels, Chosen, Assigned, CastOfMinus, BracketsAndMinus, SizeAndMinus, SizeOfItem, CallPlace, Container, Assertion, NearestIf, Labels, Loops, Declarations, Hidden, Rest, Structs};
 
-/// What short rows of tokens spell.
+/// Which expressions short rows of tokens spell (C11 6.5): operators, casts, sizes, calls, and failed assertions.
 #[tactic(auto, using(crate::proofs::Worked::two_subtractions, crate::proofs::Worked::levels, crate::proofs::Worked::chosen, crate::proofs::Worked::assigned, crate::proofs::Worked::cast_of_minus, crate::proofs::Worked::brackets_and_minus, crate::proofs::Worked::size_and_minus, crate::proofs::Worked::size_of_item, crate::proofs::Worked::call_place, crate::proofs::Worked::container, crate::proofs::Worked::assertion))]
 pub fn rows_of_expressions()
     ensures two_subtractions { TwoSubtractions }
@@ -16,7 +16,7 @@ pub fn rows_of_expressions()
     ensures assertion { Assertion }
 {}
 
-/// What short rows of tokens spell.
+/// Which blocks short rows of tokens spell (C11 6.2.1, 6.7, 6.8): statements, declarations, and names that hide typedefs.
 #[tactic(auto, using(crate::proofs::Worked::nearest_if, crate::proofs::Worked::labels, crate::proofs::Worked::loops, crate::proofs::Worked::declarations, crate::proofs::Worked::hidden, crate::proofs::Worked::rest, crate::proofs::Worked::structs))]
 pub fn rows_of_statements()
     ensures nearest_if { NearestIf }
@@ -28,7 +28,7 @@ pub fn rows_of_statements()
     ensures structs { Structs }
 {}
 
-/// What is read at tokens of short texts.
+/// Which expressions and blocks stand at tokens of short texts.
 #[tactic(auto, using(crate::proofs::Worked::reads_two_subtractions, crate::proofs::Worked::reads_passed_over, crate::proofs::Worked::reads_block, crate::proofs::Worked::reads_label))]
 pub fn rows_of_texts()
     ensures reads_two_subtractions { ReadsTwoSubtractions }

@@ -1,4 +1,4 @@
-//! Tables of short texts, each with the tree that stands at its front.
+//! Tables of short texts, each with the tree that stands at its front, or with none where none does.
 
 ghost use Rattle.cgrammar.specs.BinaryRows.{BinaryRows};
 ghost use Rattle.cgrammar.specs.CastRows.{CastRows};

@@ -159,7 +159,7 @@ impl<'a> Terminal<'a> {
         member_operator(self.bytes)
     }
 
-    /// Whether it is a constant (C11 6.4.4).
+    /// Whether it is an integer constant (C11 6.4.4.1) or a constant of one character (C11 6.4.4.4).
     pub fn is_constant(&self) -> bool
         ensures { result ≡ is_constant self.now }
     {
