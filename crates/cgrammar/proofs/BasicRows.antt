@@ -45,7 +45,8 @@ some-count word (first ∷ others) is = step (bytes_eq word first) (some-count w
     step true further i = (times word others, omega arith)
     step false further i = further i
 
-some-times : (word : List ℕ) (others : List (List ℕ)) (count : ℕ) → times word others ≡ suc count → list_any (bytes_eq word) others ≡ true
+-- a word that stands somewhere is among the words
+pub some-times : (word : List ℕ) (others : List (List ℕ)) (count : ℕ) → times word others ≡ suc count → list_any (bytes_eq word) others ≡ true
 some-times word [] count is = cc is
 some-times word (first ∷ others) count is = step (bytes_eq word first) (some-times word others count) is
   where

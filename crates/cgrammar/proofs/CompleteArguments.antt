@@ -1,5 +1,5 @@
 -- The reader is complete on the arguments of a call and on the members of `__builtin_offsetof` (C11 6.5.2, 7.19).
-use Rattle.std.proofs.Common.{◌≡◌, ℕ, zero, suc, Bool, true, false, ◌&&◌, ◌||◌, not, ◌<◌, inl, inr, max, map, List, [], ◌∷◌, ◌++◌, codes, length, IsTrue, refl, ap, sym, ◌∙◌, arith}
+use Rattle.std.proofs.Common.{◌≡◌, ℕ, zero, suc, Bool, true, false, ◌&&◌, not, ◌<◌, inl, inr, max, map, List, [], ◌∷◌, ◌++◌, codes, length, IsTrue, refl, ap, sym, ◌∙◌, arith}
 use Rattle.std.specs.Prelude.{if◌then◌else◌}
 use Rattle.std.proofs.lemmas.List.{append_assoc, length-append}
 use Rattle.cbase.specs.declared.tree.expr.Expr.{Expr}
@@ -7,11 +7,12 @@ use Rattle.cbase.specs.declared.tree.expr.Part.{Part}
 use Rattle.cbase.specs.declared.tree.expr.Part.TheVariants.{Member as NamedPart, At}
 use Rattle.ctrees.specs.Levels.{depth, expr_levels, part_levels}
 use Rattle.ctrees.specs.Weight.{joined}
-use Rattle.cgrammar.proofs.CompleteSteps.{clash, if_true, if_false, first_more, goes_exactly}
-use Rattle.cgrammar.proofs.CompleteTokens.{not_true, mark_test, comma_no_assignment, item_end_no_expression}
+use Rattle.ctokens.proofs.Choices.{chosen_yes, chosen_no}
+use Rattle.cgrammar.proofs.CompleteSteps.{first_more, goes_exactly}
+use Rattle.cgrammar.proofs.CompleteTokens.{mark_test, comma_no_assignment, item_end_no_expression}
 use Rattle.cgrammar.proofs.Reached.{Goes, Ends, Completes, goes_on_assignment, goes_on_conditional, goes_on_list, goes_on_path, is_some_assignment}
 use Rattle.cgrammar.proofs.TreeLevels.{joined_one, levels_named_part, levels_at}
-use Rattle.cgrammar.proofs.Truth.{or-left, or-right}
+use Rattle.cgrammar.proofs.Truth.{or-left, or-right, or-false-left, clash, not-true}
 use Rattle.cgrammar.specs.Operators.{mark_row, assignment_rows}
 use Rattle.cgrammar.specs.Outcomes.{Outcome, Nothing, Read, Reader, then_read, after_mark, has_first, has_mark, behind_first}
 use Rattle.cgrammar.specs.Phrases.{Context, Assignment, Arguments, Conditional, MemberPath}
@@ -26,7 +27,7 @@ pub ends_less : (test other : Terminal → Bool) (row : List Terminal) → ((tok
 ends_less test other row more ends = step (has_first test row) refl
   where
     step : (b : Bool) → has_first test row ≡ b → b ≡ false
-    step true is = absurd (clash (has_first other row) (first_more test other row more is) (not_true (has_first other row) ends))
+    step true is = absurd (clash (has_first other row) (first_more test other row more is) (not-true (has_first other row) ends))
     step false is = refl
 
 pub ends_exactly : {A : Type 0} (test other : Terminal → Bool) (tree : A) (levels : ℕ) (after : Context) (rest : List Terminal) (outcome : Outcome A)
@@ -44,7 +45,7 @@ list_last item count context row tree levels behind rest read ends =
     if has_mark (codes ",") rest && not (never (behind_first rest))
     then prepended tree levels (read_list never item count behind (behind_first rest))
     else Read (tree ∷ []) levels behind rest)) read
-    ∙ if_false (has_mark (codes ",") rest && not (never (behind_first rest))) (prepended tree levels (read_list never item count behind (behind_first rest))) (Read (tree ∷ []) levels behind rest)
+    ∙ chosen_no (has_mark (codes ",") rest && not (never (behind_first rest))) (prepended tree levels (read_list never item count behind (behind_first rest))) (Read (tree ∷ []) levels behind rest)
     (ap (λ (b : Bool). b && not (never (behind_first rest))) ends)
 
 pub list_more : {A : Type 0} (item : Reader A) (count : ℕ) (context : Context) (row : List Terminal) (tree : A) (levels : ℕ) (behind : Context) (comma : Terminal) (rest : List Terminal)
@@ -56,7 +57,7 @@ list_more item count context row tree levels behind comma rest read more =
     if has_mark (codes ",") rest && not (never (behind_first rest))
     then prepended tree levels (read_list never item count behind (behind_first rest))
     else Read (tree ∷ []) levels behind rest)) read
-    ∙ if_true (is_mark (codes ",") comma && true) (prepended tree levels (read_list never item count behind rest)) (Read (tree ∷ []) levels behind (comma ∷ rest))
+    ∙ chosen_yes (is_mark (codes ",") comma && true) (prepended tree levels (read_list never item count behind rest)) (Read (tree ∷ []) levels behind (comma ∷ rest))
     (ap (λ (b : Bool). b && true) more)
 
 -- arguments
@@ -96,7 +97,7 @@ complete_more_arguments before middle after xs ys expr others comma is one more 
 path_ends : (inner : Level) (count : ℕ) (context : Context) (row : List Terminal) → has_mark (codes ".") row ≡ false → has_mark (codes "[") row ≡ false
     → read_path inner (suc count) context row ≡ Read [] 0 context row
 unfolding read_path
-path_ends inner count context row one other = if_false (has_mark (codes ".") row) _ _ one ∙ if_false (has_mark (codes "[") row) _ (Read [] 0 context row) other
+path_ends inner count context row one other = chosen_no (has_mark (codes ".") row) _ _ one ∙ chosen_no (has_mark (codes "[") row) _ (Read [] 0 context row) other
 
 dot_goes_on : (token : Terminal) → is_mark (codes ".") token ≡ true → goes_on_path token ≡ true
 dot_goes_on token is = or-left (is_mark (codes "[") token) is
@@ -112,7 +113,7 @@ complete_no_more_members before n (suc count) rest shorter fits ends =
 member_read : (inner : Level) (count : ℕ) (context : Context) (mark name : Terminal) (row : List Terminal) → is_mark (codes ".") mark ≡ true → is_name name ≡ true
     → read_path inner (suc count) context (mark ∷ (name ∷ row)) ≡ prepended (NamedPart name.bytes) 0 (read_path inner count context row)
 unfolding read_path
-member_read inner count context mark name row is named = if_true (is_mark (codes ".") mark) _ _ is ∙ if_true (is_name name) _ Nothing named
+member_read inner count context mark name row is named = chosen_yes (is_mark (codes ".") mark) _ _ is ∙ chosen_yes (is_name name) _ Nothing named
 
 pub complete_path_to_member : (before after : Context) (xs : List Terminal) (path : List Part) (mark name : Terminal) → IsMark (codes ".") mark → IsName name
     → Completes (MemberPath path) before xs after → Completes (MemberPath (NamedPart name.bytes ∷ path)) before (mark ∷ (name ∷ xs)) after
@@ -130,19 +131,15 @@ item_read : (inner : Level) (count : ℕ) (context : Context) (opening : Termina
     → read_path inner (suc count) context (opening ∷ row) ≡ prepended (At index) levels (read_path inner count behind rest)
 unfolding read_path
 item_read inner count context opening row index levels behind closing rest is ends read =
-    if_false (is_mark (codes ".") opening) _ _ (item_no_dot opening is)
-    ∙ if_true (is_mark (codes "[") opening) _ (Read [] 0 context (opening ∷ row)) is
+    chosen_no (is_mark (codes ".") opening) _ _ (item_no_dot opening is)
+    ∙ chosen_yes (is_mark (codes "[") opening) _ (Read [] 0 context (opening ∷ row)) is
     ∙ ap (λ o. then_read o (λ index levels behind rest. after_mark (codes "]") rest Nothing (λ closing others. prepended (At index) levels (read_path inner count behind others)))) read
-    ∙ if_true (is_mark (codes "]") closing) _ Nothing ends
-
-or_none : (a b : Bool) → (a || b) ≡ false → a ≡ false
-or_none true b is = is
-or_none false b is = refl
+    ∙ chosen_yes (is_mark (codes "]") closing) _ Nothing ends
 
 item_end_no_conditional : (token : Terminal) → is_mark (codes "]") token ≡ true → goes_on_conditional token ≡ false
 item_end_no_conditional token is =
-    or_none (goes_on_conditional token) (is_some_assignment (mark_row assignment_rows token))
-    (or_none (goes_on_assignment token) (is_mark (codes ",") token) (item_end_no_expression token is))
+    or-false-left (goes_on_conditional token) (is_some_assignment (mark_row assignment_rows token))
+    (or-false-left (goes_on_assignment token) (is_mark (codes ",") token) (item_end_no_expression token is))
 
 pub complete_path_to_item : (before middle after : Context) (xs ys : List Terminal) (index : Expr) (path : List Part) (opening closing : Terminal) → IsMark (codes "[") opening → IsMark (codes "]") closing
     → Completes (Conditional index) before xs middle → Completes (MemberPath path) middle ys after

@@ -4,14 +4,15 @@ use Rattle.std.specs.Prelude.{if◌then◌else◌}
 use Rattle.std.specs.Str.{bytes_eq}
 use Rattle.std.proofs.lemmas.List.{append_assoc}
 use Rattle.cbase.specs.declared.tree.expr.ExprForm.TheVariants.{AssertFail}
+use Rattle.ctokens.proofs.Choices.{chosen_yes, chosen_no}
 use Rattle.cgrammar.proofs.CompleteOperandStarts.{assert_fail_starts, opens_not, read_as_plain}
 use Rattle.cgrammar.proofs.CompletePostfixes.{Postfixed}
 use Rattle.cgrammar.proofs.CompletePrimaries.{postfixes_follow}
-use Rattle.cgrammar.proofs.CompleteSteps.{clash, if_true, if_false}
-use Rattle.cgrammar.proofs.CompleteTokens.{mark_test, not_true}
+use Rattle.cgrammar.proofs.CompleteTokens.{mark_test}
 use Rattle.cgrammar.proofs.Reached.{Completes}
 use Rattle.cgrammar.proofs.TokenKinds.{other_mark, word_is_no_mark}
 use Rattle.cgrammar.proofs.TreeLevels.{levels_assert_fail}
+use Rattle.cgrammar.proofs.Truth.{clash, not-true}
 use Rattle.cgrammar.specs.Brackets.{is_bracket, ArePair, AreMatched, NothingMore, NoBracket, InBrackets}
 use Rattle.cgrammar.specs.Outcomes.{Nothing}
 use Rattle.cgrammar.specs.Phrases.{Context, counted, numbered, PrimaryExpression}
@@ -49,11 +50,11 @@ no_closer closer token (inr (inr is)) none =
 
 closes_nothing : (token : Terminal) → is_bracket token ≡ false → closer_of token ≡ None
 closes_nothing token none =
-    if_false (is_mark (codes "(") token) (Some 41) (if is_mark (codes "[") token then Some 93 else (if is_mark (codes "{") token then Some 125 else None))
+    chosen_no (is_mark (codes "(") token) (Some 41) (if is_mark (codes "[") token then Some 93 else (if is_mark (codes "{") token then Some 125 else None))
     (no_mark (codes "(") token none (λ mark. mark_test is_bracket true (codes "(") token mark (λ place. refl)))
-    ∙ if_false (is_mark (codes "[") token) (Some 93) (if is_mark (codes "{") token then Some 125 else None)
+    ∙ chosen_no (is_mark (codes "[") token) (Some 93) (if is_mark (codes "{") token then Some 125 else None)
     (no_mark (codes "[") token none (λ mark. mark_test is_bracket true (codes "[") token mark (λ place. refl)))
-    ∙ if_false (is_mark (codes "{") token) (Some 125) None
+    ∙ chosen_no (is_mark (codes "{") token) (Some 125) None
     (no_mark (codes "{") token none (λ mark. mark_test is_bracket true (codes "{") token mark (λ place. refl)))
 
 -- one token
@@ -61,20 +62,20 @@ behind_other : (closer : ℕ) (others : List ℕ) (token : Terminal) (row : List
     → behind_matched (closer ∷ others) (token ∷ row) ≡ behind_matched (closer ∷ others) row
 unfolding behind_matched
 behind_other closer others token row is none =
-    if_false (is_mark (closer ∷ []) token) (behind_matched others row) _ (no_closer closer token is none)
+    chosen_no (is_mark (closer ∷ []) token) (behind_matched others row) _ (no_closer closer token is none)
     ∙ ap (matched_with (λ inner. behind_matched (inner ∷ (closer ∷ others)) row) (behind_matched (closer ∷ others) row) token) (closes_nothing token none)
-    ∙ if_false (is_bracket token) None (behind_matched (closer ∷ others) row) none
+    ∙ chosen_no (is_bracket token) None (behind_matched (closer ∷ others) row) none
 
 behind_opening : (closer : ℕ) (others : List ℕ) (token : Terminal) (row : List Terminal) (inner : ℕ) → is_mark (closer ∷ []) token ≡ false → closer_of token ≡ Some inner
     → behind_matched (closer ∷ others) (token ∷ row) ≡ behind_matched (inner ∷ (closer ∷ others)) row
 unfolding behind_matched
 behind_opening closer others token row inner no_mark is =
-    if_false (is_mark (closer ∷ []) token) (behind_matched others row) _ no_mark
+    chosen_no (is_mark (closer ∷ []) token) (behind_matched others row) _ no_mark
     ∙ ap (matched_with (λ inner. behind_matched (inner ∷ (closer ∷ others)) row) (behind_matched (closer ∷ others) row) token) is
 
 behind_closing : (closer : ℕ) (others : List ℕ) (token : Terminal) (row : List Terminal) → is_mark (closer ∷ []) token ≡ true → behind_matched (closer ∷ others) (token ∷ row) ≡ behind_matched others row
 unfolding behind_matched
-behind_closing closer others token row is = if_true (is_mark (closer ∷ []) token) (behind_matched others row) _ is
+behind_closing closer others token row is = chosen_yes (is_mark (closer ∷ []) token) (behind_matched others row) _ is
 
 record Opened (closer : ℕ) (opening closing : Terminal) : Type 0 where
   inner : ℕ
@@ -110,7 +111,7 @@ opened closer opening closing is (inr (inr (opens, closes))) = record {
 matched_passed : (closer : ℕ) (others : List ℕ) (xs more : List Terminal) → IsCloser closer → AreMatched xs → behind_matched (closer ∷ others) (xs ++ more) ≡ behind_matched (closer ∷ others) more
 matched_passed closer others _ more is NothingMore = refl
 matched_passed closer others _ more is (NoBracket {rest} token none matched) =
-    behind_other closer others token (rest ++ more) is (not_true (is_bracket token) none) ∙ matched_passed closer others rest more is matched
+    behind_other closer others token (rest ++ more) is (not-true (is_bracket token) none) ∙ matched_passed closer others rest more is matched
 matched_passed closer others _ more is (InBrackets {inside} {rest} opening closing pair within matched) =
     let o = opened closer opening closing is pair in
     ap (λ (row : List Terminal). behind_matched (closer ∷ others) (opening ∷ row)) (append_assoc inside (closing ∷ rest) more)
@@ -127,7 +128,7 @@ assertion_read : (inner : Level) (context : Context) (word opening : Terminal) (
     → read_assert_fail inner context word (opening ∷ row) ≡ postfixes_from inner (word ∷ (opening ∷ row)) (numbered context word.place AssertFail) 1 (counted context) rest
 unfolding read_assert_fail
 assertion_read inner context word opening row rest is read =
-    if_true (is_mark (codes "(") opening) _ Nothing is ∙ ap (failed_assertion inner context word (word ∷ (opening ∷ row))) read
+    chosen_yes (is_mark (codes "(") opening) _ Nothing is ∙ ap (failed_assertion inner context word (word ∷ (opening ∷ row))) read
 
 pub complete_failed_assertion : (before : Context) (xs : List Terminal) (word opening closing : Terminal)
     → IsWord (codes "__assert_fail") word → IsMark (codes "(") opening → AreMatched xs → IsMark (codes ")") closing

@@ -6,14 +6,15 @@ use Rattle.cbase.specs.declared.tree.expr.Expr.{Expr}
 use Rattle.cbase.specs.declared.tree.expr.ExprForm.TheVariants.{Assign}
 use Rattle.cbase.specs.declared.tree.operators.BinaryOp.{BinaryOp}
 use Rattle.ctrees.specs.Levels.{expr_levels}
+use Rattle.ctokens.proofs.Choices.{chosen_yes}
 use Rattle.cgrammar.proofs.CompleteConditionals.{choice_stops, taken_goes_on, question_goes_on}
-use Rattle.cgrammar.proofs.CompleteOperations.{is_taken, operations_stop}
+use Rattle.cgrammar.proofs.CompleteOperations.{operations_stop}
 use Rattle.cgrammar.proofs.CompleteReaches.{reaches_more, assignment_reaches}
-use Rattle.cgrammar.proofs.CompleteSteps.{clash, if_true, first_more, levels_fit, some_level, with_right_step, goes_exactly}
+use Rattle.cgrammar.proofs.CompleteSteps.{first_more, levels_fit, some_level, with_right_step, goes_exactly}
 use Rattle.cgrammar.proofs.CompleteTokens.{assignment_no_conditional}
-use Rattle.cgrammar.proofs.Reached.{Reaches, Goes, IsWithinLevel, Completes, goes_on_operand, goes_on_conditional, goes_on_assignment, is_some_binary, is_some_assignment}
+use Rattle.cgrammar.proofs.Reached.{Reaches, Goes, IsWithinLevel, Completes, goes_on_operand, goes_on_conditional, goes_on_assignment, is_some_binary, is_some_assignment, goes_on_from}
 use Rattle.cgrammar.proofs.TreeLevels.{levels_assign}
-use Rattle.cgrammar.proofs.Truth.{or-left, or-right}
+use Rattle.cgrammar.proofs.Truth.{or-left, or-right, or-false-left, clash}
 use Rattle.cgrammar.specs.Operators.{mark_row, binary_rows, assignment_rows, IsAssignment}
 use Rattle.cgrammar.specs.Outcomes.{Outcome, Nothing, Stopped, Read, with_right, continued, has_first}
 use Rattle.cgrammar.specs.Phrases.{Context, counted, numbered, Conditional, Assignment, UnaryExpression}
@@ -36,7 +37,7 @@ conditional_ends : (inner : Level) (operand : Operand) (levels : ℕ) (context :
 conditional_ends inner operand levels context mark row ends =
     step (operations_stop inner 0 (length (mark ∷ row) + 1) operand.expr levels context (mark ∷ row)) (choice_stops inner operand.expr levels context (mark ∷ row))
   where
-    step : (read_operations inner 0 (length (mark ∷ row) + 1) operand.expr levels context (mark ∷ row) ≡ Read operand.expr levels context (mark ∷ row)) ⊎ IsTrue (has_first (is_taken 0) (mark ∷ row))
+    step : (read_operations inner 0 (length (mark ∷ row) + 1) operand.expr levels context (mark ∷ row) ≡ Read operand.expr levels context (mark ∷ row)) ⊎ IsTrue (has_first (goes_on_from 0) (mark ∷ row))
         → (read_choice inner operand.expr levels context (mark ∷ row) ≡ Read operand.expr levels context (mark ∷ row)) ⊎ IsTrue (has_first (is_mark (codes "?")) (mark ∷ row))
         → conditional_from inner operand levels context (mark ∷ row) ≡ Read operand.expr levels context (mark ∷ row)
     step (inl one) (inl other) = ap (λ o. continued o itself (read_choice inner)) one ∙ other
@@ -113,10 +114,6 @@ complete_one_conditional before after row expr whole within zero rest fits = abs
 complete_one_conditional before after row expr whole within (suc m) rest fits =
     conditional_assigned (level m) (within m) (read_cast (level m) before (row ++ rest)) expr (expr_levels expr) after rest (whole (suc m) rest fits)
 
-or_false : (a b : Bool) → (a || b) ≡ false → a ≡ false
-or_false true b is = is
-or_false false b is = refl
-
 assignment_turn : (inner : Level) (left : Expr) (levels : ℕ) (context : Context) (mark : Terminal) (row : List Terminal) (op : Option BinaryOp) → IsAssignment op mark → nat_le levels inner.most ≡ true
     → assignment_from inner (unary_operand left) levels context (mark ∷ row)
     ≡ with_right (inner.assignment context row) (stopped left context mark row)
@@ -125,7 +122,7 @@ assignment_turn : (inner : Level) (left : Expr) (levels : ℕ) (context : Contex
 unfolding assignment_from
 assignment_turn inner left levels context mark row op is fits =
     ap (λ (o : Option (Option BinaryOp)). assignment_with inner (unary_operand left) levels context mark row o) is
-    ∙ if_true (nat_le levels inner.most) _ (stopped left context mark row) fits
+    ∙ chosen_yes (nat_le levels inner.most) _ (stopped left context mark row) fits
 
 pub complete_assignment_operator : (before middle after : Context) (xs ys : List Terminal) (left right : Expr) (op : Option BinaryOp) (mark : Terminal)
     → IsAssignment op mark
@@ -156,7 +153,7 @@ complete_assignment_operator before middle after xs ys left right op mark is one
     turned =
         ap (λ o. continued o expr_of (assignment_from (level m)))
         (goes_exactly goes_on_operand (unary_operand left) (expr_levels left) middle mark (ys ++ rest) (read_cast (level m) before (xs ++ (mark ∷ (ys ++ rest))))
-        (or_false (goes_on_operand mark) (is_some_binary (mark_row binary_rows mark) || is_mark (codes "?") mark) (assignment_no_conditional op mark is))
+        (or-false-left (goes_on_operand mark) (is_some_binary (mark_row binary_rows mark) || is_mark (codes "?") mark) (assignment_no_conditional op mark is))
         (one (suc m) (mark ∷ (ys ++ rest)) (omega (arith, fits, levels))))
         ∙ assignment_turn (level m) left (expr_levels left) middle mark (ys ++ rest) op is (levels_fit (expr_levels left) m (omega (arith, fits, levels)))
 

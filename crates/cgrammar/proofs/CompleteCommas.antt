@@ -6,13 +6,14 @@ use Rattle.cbase.specs.declared.tree.expr.Expr.{Expr}
 use Rattle.cbase.specs.declared.tree.expr.ExprForm.TheVariants.{Binary}
 use Rattle.cbase.specs.declared.tree.operators.BinaryOp.TheVariants.{Comma}
 use Rattle.ctrees.specs.Levels.{expr_levels}
+use Rattle.ctokens.proofs.Choices.{chosen_yes}
 use Rattle.cgrammar.proofs.CompleteAssignments.{assignment_at}
 use Rattle.cgrammar.proofs.CompleteReaches.{continued_reaches, commas_reach}
-use Rattle.cgrammar.proofs.CompleteSteps.{clash, if_true, first_more, levels_fit, some_level, continued_twice, with_right_step}
+use Rattle.cgrammar.proofs.CompleteSteps.{first_more, levels_fit, some_level, continued_twice, with_right_step}
 use Rattle.cgrammar.proofs.CompleteTokens.{comma_no_assignment}
 use Rattle.cgrammar.proofs.Reached.{Reaches, Goes, IsWithinLevel, Completes, goes_on_assignment, goes_on_expression}
 use Rattle.cgrammar.proofs.TreeLevels.{levels_binary}
-use Rattle.cgrammar.proofs.Truth.{or-left, or-right}
+use Rattle.cgrammar.proofs.Truth.{or-left, or-right, clash}
 use Rattle.cgrammar.specs.Outcomes.{Outcome, Read, Reader, with_right, continued, has_first}
 use Rattle.cgrammar.specs.Phrases.{Context, counted, numbered, Assignment, Expression}
 use Rattle.cgrammar.specs.ReadLevels.{Level}
@@ -54,8 +55,8 @@ commas_turn : (inner : Level) (count : ℕ) (left : Expr) (levels : ℕ) (contex
     (λ right others behind rest. read_commas inner count (numbered behind mark.place (Binary Comma left right)) (1 + max levels others) (counted behind) rest)
 unfolding read_commas
 commas_turn inner count left levels context mark row is fits =
-    if_true (is_mark (codes ",") mark) _ (Read left levels context (mark ∷ row)) is
-    ∙ if_true (nat_le levels inner.most) _ (stopped left context mark row) fits
+    chosen_yes (is_mark (codes ",") mark) _ (Read left levels context (mark ∷ row)) is
+    ∙ chosen_yes (nat_le levels inner.most) _ (stopped left context mark row) fits
 
 -- an assignment is read first
 commas_from : Level → Expr → ℕ → Reader Expr

@@ -6,13 +6,14 @@ use Rattle.cbase.specs.declared.tree.expr.Expr.{Expr}
 use Rattle.cbase.specs.declared.tree.expr.ExprForm.TheVariants.{Choose}
 use Rattle.cbase.specs.declared.tree.operators.BinaryOp.{BinaryOp}
 use Rattle.ctrees.specs.Levels.{expr_levels}
-use Rattle.cgrammar.proofs.CompleteOperations.{is_taken, is_at_least, operations_stop}
+use Rattle.ctokens.proofs.Choices.{chosen_yes}
+use Rattle.cgrammar.proofs.CompleteOperations.{operations_stop}
 use Rattle.cgrammar.proofs.CompleteReaches.{continued_reaches, operations_reach, choice_reaches}
-use Rattle.cgrammar.proofs.CompleteSteps.{clash, if_true, first_more, levels_fit, some_level, continued_twice, with_right_step, goes_exactly}
+use Rattle.cgrammar.proofs.CompleteSteps.{first_more, levels_fit, some_level, continued_twice, with_right_step, goes_exactly}
 use Rattle.cgrammar.proofs.CompleteTokens.{colon_no_expression, question_no_operand, question_no_binary}
-use Rattle.cgrammar.proofs.Reached.{Reaches, Goes, IsWithinLevel, Completes, goes_on_operand, goes_on_operation, goes_on_conditional, goes_on_expression, is_tighter, is_some_binary}
+use Rattle.cgrammar.proofs.Reached.{Reaches, Goes, IsWithinLevel, Completes, goes_on_operand, goes_on_operation, goes_on_conditional, goes_on_expression, is_tighter, is_some_binary, goes_on_from, is_no_looser}
 use Rattle.cgrammar.proofs.TreeLevels.{levels_choose}
-use Rattle.cgrammar.proofs.Truth.{or-left, or-right, or-cases}
+use Rattle.cgrammar.proofs.Truth.{or-left, or-right, or-cases, clash}
 use Rattle.cgrammar.specs.Operators.{mark_row, binary_rows}
 use Rattle.cgrammar.specs.Outcomes.{Outcome, Read, with_right, or_else, after_mark, continued, has_first}
 use Rattle.cgrammar.specs.Phrases.{Context, counted, numbered, Operation, Conditional, Expression}
@@ -22,7 +23,7 @@ use Rattle.cgrammar.specs.ReadOperators.{expression_of, expr_of, itself, stopped
 use Rattle.cgrammar.specs.Reader.{level}
 use Rattle.cgrammar.specs.Terminals.{Terminal, is_mark, IsMark}
 
-some_taken : (loosest : ℕ) (entry : Option (ℕ × BinaryOp)) → is_at_least loosest entry ≡ true → is_some_binary entry ≡ true
+some_taken : (loosest : ℕ) (entry : Option (ℕ × BinaryOp)) → is_no_looser loosest entry ≡ true → is_some_binary entry ≡ true
 some_taken loosest None is = is
 some_taken loosest (Some entry) is = refl
 
@@ -30,7 +31,7 @@ some_tighter : (k : ℕ) (entry : Option (ℕ × BinaryOp)) → is_tighter k ent
 some_tighter k None is = is
 some_tighter k (Some entry) is = refl
 
-pub taken_goes_on : (loosest : ℕ) (token : Terminal) → is_taken loosest token ≡ true → goes_on_conditional token ≡ true
+pub taken_goes_on : (loosest : ℕ) (token : Terminal) → goes_on_from loosest token ≡ true → goes_on_conditional token ≡ true
 taken_goes_on loosest token is =
     or-right (goes_on_operand token) (or-left (is_mark (codes "?") token) (some_taken loosest (mark_row binary_rows token) is))
 
@@ -68,8 +69,8 @@ choice_turn : (inner : Level) (test : Expr) (levels : ℕ) (context : Context) (
     after_mark (codes ":") rest (stopped test context mark row) (λ colon others. chosen inner test levels context mark row one ones first others))
 unfolding read_choice
 choice_turn inner test levels context mark row is fits =
-    if_true (is_mark (codes "?") mark) _ (Read test levels context (mark ∷ row)) is
-    ∙ if_true (nat_le levels inner.most) _ (stopped test context mark row) fits
+    chosen_yes (is_mark (codes "?") mark) _ (Read test levels context (mark ∷ row)) is
+    ∙ chosen_yes (nat_le levels inner.most) _ (stopped test context mark row) fits
 
 choice_step : (inner : Level) (test : Expr) (levels : ℕ) (context : Context) (mark : Terminal) (row : List Terminal) → is_mark (codes "?") mark ≡ true → nat_le levels inner.most ≡ true
     → (one : Expr) (ones : ℕ) (first : Context) (colon : Terminal) (others : List Terminal) → is_mark (codes ":") colon ≡ true
@@ -79,7 +80,7 @@ choice_step inner test levels context mark row is fits one ones first colon othe
     choice_turn inner test levels context mark row is fits
     ∙ ap (λ o. or_else o (stopped test context mark row) (λ one ones first rest.
     after_mark (codes ":") rest (stopped test context mark row) (λ colon others. chosen inner test levels context mark row one ones first others))) read
-    ∙ if_true (is_mark (codes ":") colon) _ (stopped test context mark row) ends
+    ∙ chosen_yes (is_mark (codes ":") colon) _ (stopped test context mark row) ends
 
 -- an operation is read first
 abbrev pub conditional_at : ℕ → Context → List Terminal → Outcome Expr
@@ -109,12 +110,12 @@ choices m before after row rest e within read = step read
     outcome = operation_at m before row
 
     ends : (count : ℕ) → outcome ≡ read_operations (level m) 0 count e (expr_levels e) after rest
-        → (read_operations (level m) 0 count e (expr_levels e) after rest ≡ Read e (expr_levels e) after rest) ⊎ IsTrue (has_first (is_taken 0) rest)
+        → (read_operations (level m) 0 count e (expr_levels e) after rest ≡ Read e (expr_levels e) after rest) ⊎ IsTrue (has_first (goes_on_from 0) rest)
         → Choices m e after rest (conditional_at m before row)
     ends count is (inl stop) = inl (operation_first m before row ∙ ap (λ o. continued o itself (read_choice (level m))) (is ∙ stop))
     ends count is (inr more) =
         inr (
-          first_more (is_taken 0) goes_on_conditional rest (taken_goes_on 0) more,
+          first_more (goes_on_from 0) goes_on_conditional rest (taken_goes_on 0) more,
           subst (λ o. Reaches o rest) (sym (operation_first m before row))
               (continued_reaches outcome itself (read_choice (level m)) rest
               (subst (λ o. Reaches o rest) (sym is) (operations_reach (level m) within 0 count e (expr_levels e) after rest))
@@ -159,8 +160,8 @@ question_ends token is =
     ap (λ (b : Bool). b || is_tighter 0 (mark_row binary_rows token)) (question_no_operand token is)
     ∙ ap (is_tighter 0) (question_no_binary token is)
 
-no_taken : (token : Terminal) → is_mark (codes "?") token ≡ true → is_taken 0 token ≡ false
-no_taken token is = ap (is_at_least 0) (question_no_binary token is)
+no_taken : (token : Terminal) → is_mark (codes "?") token ≡ true → goes_on_from 0 token ≡ false
+no_taken token is = ap (is_no_looser 0) (question_no_binary token is)
 
 -- behind an operation a `?` is read
 question_read : (m : ℕ) (before after : Context) (row rest : List Terminal) (mark : Terminal) (e : Expr) → is_mark (codes "?") mark ≡ true → Operated m e after (mark ∷ rest) (operation_at m before row)
@@ -168,10 +169,10 @@ question_read : (m : ℕ) (before after : Context) (row rest : List Terminal) (m
 question_read m before after row rest mark e is read = step read
   where
     ends : (count : ℕ) → operation_at m before row ≡ read_operations (level m) 0 count e (expr_levels e) after (mark ∷ rest)
-        → (read_operations (level m) 0 count e (expr_levels e) after (mark ∷ rest) ≡ Read e (expr_levels e) after (mark ∷ rest)) ⊎ IsTrue (has_first (is_taken 0) (mark ∷ rest))
+        → (read_operations (level m) 0 count e (expr_levels e) after (mark ∷ rest) ≡ Read e (expr_levels e) after (mark ∷ rest)) ⊎ IsTrue (has_first (goes_on_from 0) (mark ∷ rest))
         → conditional_at m before row ≡ read_choice (level m) e (expr_levels e) after (mark ∷ rest)
     ends count was (inl stop) = operation_first m before row ∙ ap (λ o. continued o itself (read_choice (level m))) (was ∙ stop)
-    ends count was (inr more) = absurd (clash (is_taken 0 mark) more (no_taken mark is))
+    ends count was (inr more) = absurd (clash (goes_on_from 0 mark) more (no_taken mark is))
 
     step : Operated m e after (mark ∷ rest) (operation_at m before row) → conditional_at m before row ≡ read_choice (level m) e (expr_levels e) after (mark ∷ rest)
     step (inl (count, less, was)) = ends count was (operations_stop (level m) 0 count e (expr_levels e) after (mark ∷ rest))

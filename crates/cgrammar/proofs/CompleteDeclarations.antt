@@ -13,8 +13,9 @@ use Rattle.cbase.specs.declared.tree.spec.BasicType.{BasicType}
 use Rattle.cbase.specs.declared.tree.spec.TypeSpec.{TypeSpec}
 use Rattle.ctrees.specs.Weight.{joined}
 use Rattle.ctrees.specs.Levels.{depth, declared_levels, maybe_levels, param_levels, spec_levels}
+use Rattle.ctokens.proofs.Choices.{false_or}
 use Rattle.cgrammar.proofs.CompleteTypes.{type_end, all_basic}
-use Rattle.cgrammar.proofs.CompletingOutcomes.{go_true, go_false, go_read, go_past, is_not, not_is, neither, no_truth, never_true, ends_first, ends_less, or_false_left, or_false_right, list_of_one, list_of_more, row_of_two, row_of_three, shorter_behind}
+use Rattle.cgrammar.proofs.CompletingOutcomes.{go_true, go_false, go_read, go_past, not_is, ends_first, ends_less, list_of_one, list_of_more, row_of_two, row_of_three, shorter_behind}
 use Rattle.cgrammar.proofs.CompletingTokens.{by_mark, by_word, name_no_specifiers, name_no_storage, begins_apart, stars_front, stars_first, begins_declarator, stars_and_name, declarator_apart}
 use Rattle.cgrammar.proofs.CompletingParts.{read_levels, ends_known, declaration_row_no_mark, sizes_first}
 use Rattle.cgrammar.proofs.Contexts.{scopes_kept}
@@ -23,7 +24,7 @@ use Rattle.cgrammar.proofs.Fronts.{drop_front}
 use Rattle.cgrammar.proofs.Reached.{Completes, Ends, goes_on_assignment, goes_on_type, goes_on_sizes, is_storage, goes_on_specifiers, goes_on_parameter, goes_on_list, goes_on_declarator}
 use Rattle.cgrammar.proofs.TokenKinds.{name_is_no_mark, other_mark, other_word, word_is_no_mark, word_bytes, word_kind_no_mark}
 use Rattle.cgrammar.proofs.TreeLevels.{levels_parameter, levels_declaration, levels_type_declaration, levels_object, levels_initialized, levels_function, joined_one}
-use Rattle.cgrammar.proofs.Truth.{and-left, and-right, and-both, or-cases}
+use Rattle.cgrammar.proofs.Truth.{and-left, and-right, and-both, or-cases, not-true, clash, false-of, or-false-left, or-false-right}
 use Rattle.cgrammar.specs.FrontReadings.{is_basic_word, basic_words}
 use Rattle.cgrammar.specs.Firsts.{begins_type, begins_declaration, Begins, is_among, type_words}
 use Rattle.cgrammar.specs.Grammar.{Spells, declaring, inside, outside, is_void, BasicWords, TypedefName, TypeOfExpression, TypeOfType, StructWithFields, StructByTag, EnumWithValues, EnumByTag, NoMoreSizes, SizeLeftOut, SizeGiven, TypeAlone, StorageBefore, StorageBehind, OneDeclarator, MoreDeclarators, ObjectDeclarator, InitializedDeclarator, DeclaratorOfFunction, NoParameters, VoidParameters, WithParameters, OneParameter, MoreParameters, NamedParameter, UnnamedParameter}
@@ -49,21 +50,21 @@ storage_is Static word is = go_false _ (other_word (codes "static") (codes "type
 
 no_storage : (token : Terminal) → is_storage token ≡ false → storage_of token ≡ None
 no_storage token off =
-    let others = or_false_right (is_word (codes "typedef") token) (is_word (codes "extern") token || is_word (codes "static") token) off in
-    go_false _ (or_false_left (is_word (codes "typedef") token) (is_word (codes "extern") token || is_word (codes "static") token) off)
-    (go_false _ (or_false_left (is_word (codes "extern") token) (is_word (codes "static") token) others)
-    (go_false _ (or_false_right (is_word (codes "extern") token) (is_word (codes "static") token) others) refl))
+    let others = or-false-right (is_word (codes "typedef") token) (is_word (codes "extern") token || is_word (codes "static") token) off in
+    go_false _ (or-false-left (is_word (codes "typedef") token) (is_word (codes "extern") token || is_word (codes "static") token) off)
+    (go_false _ (or-false-left (is_word (codes "extern") token) (is_word (codes "static") token) others)
+    (go_false _ (or-false-right (is_word (codes "extern") token) (is_word (codes "static") token) others) refl))
 
 type_word_no : (bytes : List ℕ) (token : Terminal) → list_any (bytes_eq bytes) type_words ≡ false → is_among type_words token ≡ true → is_word bytes token ≡ false
 type_word_no bytes token none among =
-    never_true (is_word bytes token) (λ word. no_truth (list_any (bytes_eq bytes) type_words)
+    false-of (is_word bytes token) (λ word. clash (list_any (bytes_eq bytes) type_words)
     (ap (λ (b : List ℕ). list_any (bytes_eq b) type_words) (sym (word_bytes bytes token word)) ∙ and-right (is_word_kind token.kind) (list_any (bytes_eq token.bytes) type_words) among) none)
 
 type_no_storage : (scopes : List Names) (token : Terminal) → begins_type scopes token ≡ true → is_storage token ≡ false
 type_no_storage scopes token is = step (or-cases (is_among type_words token) (is_typedef scopes token) is)
   where
     step : (is_among type_words token ≡ true) ⊎ (is_typedef scopes token ≡ true) → is_storage token ≡ false
-    step (inl among) = neither _ _ (type_word_no (codes "typedef") token refl among) (neither _ _ (type_word_no (codes "extern") token refl among) (type_word_no (codes "static") token refl among))
+    step (inl among) = false_or _ _ (type_word_no (codes "typedef") token refl among) (false_or _ _ (type_word_no (codes "extern") token refl among) (type_word_no (codes "static") token refl among))
     step (inr named) = name_no_storage token (and-left (is_name token) _ named)
 
 type_row_no_storage : (scopes : List Names) (xs rest : List Terminal) → Begins (begins_type scopes) xs → storage_at (xs ++ rest) ≡ None
@@ -75,10 +76,10 @@ rest_no_storage [] off = refl
 rest_no_storage (token ∷ rest) off = no_storage token off
 
 specifiers_type : (rest : List Terminal) → Ends goes_on_specifiers rest → Ends goes_on_type rest
-specifiers_type rest ends = ends_less goes_on_specifiers goes_on_type rest (λ t off. or_false_left (goes_on_type t) (is_storage t) off) ends
+specifiers_type rest ends = ends_less goes_on_specifiers goes_on_type rest (λ t off. or-false-left (goes_on_type t) (is_storage t) off) ends
 
 specifiers_storage : (rest : List Terminal) → Ends goes_on_specifiers rest → storage_at rest ≡ None
-specifiers_storage rest ends = rest_no_storage rest (ends_first is_storage rest (ends_less goes_on_specifiers is_storage rest (λ t off. or_false_right (goes_on_type t) (is_storage t) off) ends))
+specifiers_storage rest ends = rest_no_storage rest (ends_first is_storage rest (ends_less goes_on_specifiers is_storage rest (λ t off. or-false-right (goes_on_type t) (is_storage t) off) ends))
 
 storage_no_type : (storage : Storage) (word : Terminal) → IsStorage storage word → goes_on_type word ≡ false
 storage_no_type Plain word is = absurd is
@@ -171,8 +172,8 @@ pub complete_one_declarator : (before after : Context) (xs : List Terminal) (typ
     → Completes (Declarators typedef (name ∷ [])) before xs after
 complete_one_declarator before after xs typedef name d1 c1 n count rest enough small ends =
     list_of_one never (read_declarator (level n) typedef) count before (xs ++ rest) name (declared_levels name) after rest enough
-    (c1 n rest (omega (arith, small)) (ends_less (goes_on_list goes_on_declarator) goes_on_declarator rest (λ t off. or_false_left (goes_on_declarator t) (is_mark (codes ",") t) off) ends))
-    (ap (λ (b : Bool). b && true) (ends_first (is_mark (codes ",")) rest (ends_less (goes_on_list goes_on_declarator) (is_mark (codes ",")) rest (λ t off. or_false_right (goes_on_declarator t) (is_mark (codes ",") t) off) ends)))
+    (c1 n rest (omega (arith, small)) (ends_less (goes_on_list goes_on_declarator) goes_on_declarator rest (λ t off. or-false-left (goes_on_declarator t) (is_mark (codes ",") t) off) ends))
+    (ap (λ (b : Bool). b && true) (ends_first (is_mark (codes ",")) rest (ends_less (goes_on_list goes_on_declarator) (is_mark (codes ",")) rest (λ t off. or-false-right (goes_on_declarator t) (is_mark (codes ",") t) off) ends)))
     ∙ read_levels (name ∷ []) after rest (sym (joined_one (declared_levels name)))
 
 pub complete_more_declarators : (before middle after : Context) (xs ys : List Terminal) (typedef : Bool) (name : Declared) (others : List Declared) (comma : Terminal)
@@ -200,16 +201,16 @@ declarator_front inner typedef before stars name others result are is more =
     rw (stars_front stars (name ∷ others) are (name_is_no_mark (codes "*") name is)) (rw (drop_front stars (name ∷ others)) (go_true _ is more))
 
 declarator_bracket : (rest : List Terminal) → Ends goes_on_declarator rest → has_first (is_mark (codes "(")) rest ≡ false
-declarator_bracket rest ends = ends_first (is_mark (codes "(")) rest (ends_less goes_on_declarator (is_mark (codes "(")) rest (λ t off. or_false_left (is_mark (codes "(") t) _ off) ends)
+declarator_bracket rest ends = ends_first (is_mark (codes "(")) rest (ends_less goes_on_declarator (is_mark (codes "(")) rest (λ t off. or-false-left (is_mark (codes "(") t) _ off) ends)
 
 declarator_sizes : (rest : List Terminal) → Ends goes_on_declarator rest → Ends goes_on_sizes rest
-declarator_sizes rest ends = ends_less goes_on_declarator goes_on_sizes rest (λ t off. or_false_left (goes_on_sizes t) _ (or_false_right (is_mark (codes "(") t) _ off)) ends
+declarator_sizes rest ends = ends_less goes_on_declarator goes_on_sizes rest (λ t off. or-false-left (goes_on_sizes t) _ (or-false-right (is_mark (codes "(") t) _ off)) ends
 
 declarator_equals : (rest : List Terminal) → Ends goes_on_declarator rest → has_first (is_mark (codes "=")) rest ≡ false
-declarator_equals rest ends = ends_first (is_mark (codes "=")) rest (ends_less goes_on_declarator (is_mark (codes "=")) rest (λ t off. or_false_left (is_mark (codes "=") t) _ (or_false_right (goes_on_sizes t) _ (or_false_right (is_mark (codes "(") t) _ off))) ends)
+declarator_equals rest ends = ends_first (is_mark (codes "=")) rest (ends_less goes_on_declarator (is_mark (codes "=")) rest (λ t off. or-false-left (is_mark (codes "=") t) _ (or-false-right (goes_on_sizes t) _ (or-false-right (is_mark (codes "(") t) _ off))) ends)
 
 declarator_assignment : (rest : List Terminal) → Ends goes_on_declarator rest → Ends goes_on_assignment rest
-declarator_assignment rest ends = ends_less goes_on_declarator goes_on_assignment rest (λ t off. or_false_right (is_mark (codes "=") t) _ (or_false_right (goes_on_sizes t) _ (or_false_right (is_mark (codes "(") t) _ off))) ends
+declarator_assignment rest ends = ends_less goes_on_declarator goes_on_assignment rest (λ t off. or-false-right (is_mark (codes "=") t) _ (or-false-right (goes_on_sizes t) _ (or-false-right (is_mark (codes "(") t) _ off))) ends
 
 pub complete_object_declarator : (before after : Context) (xs : List Terminal) (typedef : Bool) (sizes : List (Option Expr)) (stars : List Terminal) (name : Terminal)
     → AreStars stars
@@ -379,8 +380,8 @@ parameters_void params before after xs (MoreParameters {middle} {xs = ws} {ys} {
 
 pub no_void_alone : (xs rest : List Terminal) → Begins (λ t. true) xs → IsTrue (not (is_void xs)) → goes_behind_void xs ≡ true → is_void_alone (xs ++ rest) ≡ false
 no_void_alone [] rest some many fine = absurd some
-no_void_alone (only ∷ []) rest some many fine = ap (λ (b : Bool). b && has_mark (codes ")") rest) (is_not (is_word (codes "void") only) many)
-no_void_alone (front ∷ (second ∷ xs)) rest some many fine = is_not (is_word (codes "void") front && is_mark (codes ")") second) fine
+no_void_alone (only ∷ []) rest some many fine = ap (λ (b : Bool). b && has_mark (codes ")") rest) (not-true (is_word (codes "void") only) many)
+no_void_alone (front ∷ (second ∷ xs)) rest some many fine = not-true (is_word (codes "void") front && is_mark (codes ")") second) fine
 
 pub complete_with_parameters : (before after : Context) (xs : List Terminal) (params : List Param) (stars : List Terminal) (name opening closing : Terminal)
     → AreStars stars
@@ -411,8 +412,8 @@ pub complete_one_parameter : (before after : Context) (xs : List Terminal) (para
     → Completes (Parameters (param ∷ [])) before xs after
 complete_one_parameter before after xs param d1 c1 n count rest enough small ends =
     list_of_one never (read_parameter (level n)) count before (xs ++ rest) param (param_levels param) after rest enough
-    (c1 n rest (omega (arith, small)) (ends_less (goes_on_list goes_on_parameter) goes_on_parameter rest (λ t off. or_false_left (goes_on_parameter t) (is_mark (codes ",") t) off) ends))
-    (ap (λ (b : Bool). b && true) (ends_first (is_mark (codes ",")) rest (ends_less (goes_on_list goes_on_parameter) (is_mark (codes ",")) rest (λ t off. or_false_right (goes_on_parameter t) (is_mark (codes ",") t) off) ends)))
+    (c1 n rest (omega (arith, small)) (ends_less (goes_on_list goes_on_parameter) goes_on_parameter rest (λ t off. or-false-left (goes_on_parameter t) (is_mark (codes ",") t) off) ends))
+    (ap (λ (b : Bool). b && true) (ends_first (is_mark (codes ",")) rest (ends_less (goes_on_list goes_on_parameter) (is_mark (codes ",")) rest (λ t off. or-false-right (goes_on_parameter t) (is_mark (codes ",") t) off) ends)))
     ∙ read_levels (param ∷ []) after rest (sym (joined_one (param_levels param)))
 
 pub complete_more_parameters : (before middle after : Context) (xs ys : List Terminal) (param : Param) (others : List Param) (comma : Terminal)
@@ -430,16 +431,16 @@ complete_more_parameters before middle after xs ys param others comma d1 p1 d2 c
     (c1 n (comma ∷ (ys ++ rest)) (omega (arith, small)) (ends_known goes_on_parameter (codes ",") comma (ys ++ rest) p1 refl)) p1 refl (c2 n count rest less (omega (arith, small)) ends)
 
 parameter_specifiers : (rest : List Terminal) → Ends goes_on_parameter rest → Ends goes_on_specifiers rest
-parameter_specifiers rest ends = ends_less goes_on_parameter goes_on_specifiers rest (λ t off. or_false_left (goes_on_specifiers t) _ off) ends
+parameter_specifiers rest ends = ends_less goes_on_parameter goes_on_specifiers rest (λ t off. or-false-left (goes_on_specifiers t) _ off) ends
 
 parameter_star : (rest : List Terminal) → Ends goes_on_parameter rest → has_first (is_mark (codes "*")) rest ≡ false
-parameter_star rest ends = ends_first (is_mark (codes "*")) rest (ends_less goes_on_parameter (is_mark (codes "*")) rest (λ t off. or_false_left (is_mark (codes "*") t) _ (or_false_right (goes_on_specifiers t) _ off)) ends)
+parameter_star rest ends = ends_first (is_mark (codes "*")) rest (ends_less goes_on_parameter (is_mark (codes "*")) rest (λ t off. or-false-left (is_mark (codes "*") t) _ (or-false-right (goes_on_specifiers t) _ off)) ends)
 
 parameter_name : (rest : List Terminal) → Ends goes_on_parameter rest → has_first is_name rest ≡ false
-parameter_name rest ends = ends_first is_name rest (ends_less goes_on_parameter is_name rest (λ t off. or_false_left (is_name t) _ (or_false_right (is_mark (codes "*") t) _ (or_false_right (goes_on_specifiers t) _ off))) ends)
+parameter_name rest ends = ends_first is_name rest (ends_less goes_on_parameter is_name rest (λ t off. or-false-left (is_name t) _ (or-false-right (is_mark (codes "*") t) _ (or-false-right (goes_on_specifiers t) _ off))) ends)
 
 parameter_sizes : (rest : List Terminal) → Ends goes_on_parameter rest → Ends goes_on_sizes rest
-parameter_sizes rest ends = ends_less goes_on_parameter goes_on_sizes rest (λ t off. or_false_right (is_name t) _ (or_false_right (is_mark (codes "*") t) _ (or_false_right (goes_on_specifiers t) _ off))) ends
+parameter_sizes rest ends = ends_less goes_on_parameter goes_on_sizes rest (λ t off. or-false-right (is_name t) _ (or-false-right (is_mark (codes "*") t) _ (or-false-right (goes_on_specifiers t) _ off))) ends
 
 named_read : (inner : Level) (type : TypeSpec) (levels : ℕ) (before : Context) (stars : List Terminal) (name : Terminal) (others : List Terminal) (sizes : List (Option Expr)) (deeper : ℕ) (after : Context) (rest : List Terminal) → AreStars stars → IsName name
     → read_sizes inner (length others + 1) before others ≡ Read sizes deeper after rest

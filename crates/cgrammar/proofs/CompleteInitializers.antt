@@ -7,15 +7,15 @@ use Rattle.cbase.specs.declared.tree.init.InitPart.{InitPart}
 use Rattle.ctrees.specs.Weight.{joined}
 use Rattle.ctrees.specs.Levels.{depth, init_part_levels}
 use Rattle.cgrammar.proofs.CompleteTypes.{last_comma, last_ends}
-use Rattle.cgrammar.proofs.CompletingOutcomes.{go_true, go_read, go_past, is_not, list_of_one, list_of_more, row_of_two, row_of_three, shorter_behind}
-use Rattle.cgrammar.proofs.CompletingTokens.{by_mark, begins_apart, operand_no_mark, operand_row_no_mark}
+use Rattle.cgrammar.proofs.CompletingOutcomes.{go_true, go_read, go_past, list_of_one, list_of_more, row_of_two, row_of_three, shorter_behind}
+use Rattle.cgrammar.proofs.CompletingTokens.{by_mark, begins_apart, operand_no_mark, operand_row_no_mark, begins_later}
 use Rattle.cgrammar.proofs.CompletingParts.{read_levels, ends_known, assignment_read}
 use Rattle.cgrammar.proofs.Firsts.{begins-append}
 use Rattle.cgrammar.proofs.Reached.{Completes, goes_on_assignment}
 use Rattle.cgrammar.proofs.Starting.{starts}
 use Rattle.cgrammar.proofs.TokenKinds.{other_mark}
 use Rattle.cgrammar.proofs.TreeLevels.{levels_value, levels_braces, levels_empty_braces, levels_initializer, joined_one}
-use Rattle.cgrammar.proofs.Truth.{or-cases, or-left, or-right}
+use Rattle.cgrammar.proofs.Truth.{or-cases, or-left, or-right, not-true}
 use Rattle.cgrammar.specs.Firsts.{Begins}
 use Rattle.cgrammar.specs.Grammar.{Spells, IsMaybeComma, InitializedTo, EmptyBraces, InBraces, OneInitializer, MoreInitializers, NextPart, MemberPart}
 use Rattle.cgrammar.specs.Outcomes.{Read, has_mark}
@@ -35,10 +35,6 @@ begins_initializer token = is_mark (codes "{") token || begins_operand token
 
 abbrev begins_part : Terminal → Bool
 begins_part token = is_mark (codes ".") token || begins_initializer token
-
-begins_later : (test other : Terminal → Bool) → ((token : Terminal) → test token ≡ true → other token ≡ true) → (xs : List Terminal) → Begins test xs → Begins other xs
-begins_later test other each [] begins = begins
-begins_later test other each (token ∷ xs) begins = each token begins
 
 initializer_begins : (init : Init) (before after : Context) (xs : List Terminal) → Spells (Initializer init) before xs after → Begins begins_initializer xs
 initializer_begins init before after xs (InitializedTo value) = begins_later begins_operand begins_initializer (λ t on. or-right (is_mark (codes "{") t) on) xs (starts value)
@@ -121,7 +117,7 @@ pub complete_one_initializer : (before after : Context) (xs : List Terminal) (pa
     → Completes (DesignatedInitializer part) before xs after
     → Completes (Initializers (part ∷ [])) before xs after
 complete_one_initializer before after xs part d1 c1 n count rest enough small ends closes =
-    list_of_one closes_braces (read_part (level n)) count before (xs ++ rest) part (init_part_levels part) after rest enough (c1 n rest (omega (arith, small)) ends) (is_not _ closes)
+    list_of_one closes_braces (read_part (level n)) count before (xs ++ rest) part (init_part_levels part) after rest enough (c1 n rest (omega (arith, small)) ends) (not-true _ closes)
     ∙ read_levels (part ∷ []) after rest (sym (joined_one (init_part_levels part)))
 
 pub complete_more_initializers : (before middle after : Context) (xs ys : List Terminal) (part : InitPart) (others : List InitPart) (comma : Terminal)

@@ -1,14 +1,15 @@
 -- A unary expression begins with no type in a bracket (C11 6.5.3).
-use Rattle.std.proofs.Common.{◌≡◌, Bool, true, false, ◌&&◌, ◌||◌, not, List, [], ◌∷◌, ◌++◌, codes, refl, ap, ◌∙◌}
+use Rattle.std.proofs.Common.{◌≡◌, Bool, false, ◌&&◌, ◌||◌, not, List, [], ◌∷◌, ◌++◌, codes, ap, ◌∙◌}
 use Rattle.std.proofs.lemmas.List.{append_assoc}
 use Rattle.std.specs.List.{list_any}
 use Rattle.std.specs.Str.{bytes_eq}
+use Rattle.ctokens.proofs.Choices.{false_and}
 use Rattle.cgrammar.proofs.CompleteOperandStarts.{unary_no_bracket, count_no_bracket, begins_no_type}
-use Rattle.cgrammar.proofs.CompleteTokens.{not_true}
 use Rattle.cgrammar.proofs.CompleteUnaryOutcomes.{is_cast_row}
 use Rattle.cgrammar.proofs.Firsts.{first_tokens}
 use Rattle.cgrammar.proofs.Starting.{starts}
 use Rattle.cgrammar.proofs.TokenKinds.{mark_is_mark_kind, mark_kind_no_word, name_is_no_mark, constant_is_no_mark, word_is_no_mark}
+use Rattle.cgrammar.proofs.Truth.{not-true}
 use Rattle.cgrammar.specs.Firsts.{Begins, is_plain, begins_type, type_words}
 use Rattle.cgrammar.specs.Grammar.{Spells, OnePostfix, CountBefore, UnaryOperator, SizeOfExpression, SizeOfTypeName, OnePrimary, IndexOperator, CallOfNothing, CallOperator, MemberOperator, CountBehind, OneName, OneConstant, Bracketed, StatementExpression, OffsetOfMember, FailedAssertion}
 use Rattle.cgrammar.specs.Phrases.{Phrase, Context, Expression, UnaryExpression, PostfixExpression, PrimaryExpression}
@@ -29,15 +30,11 @@ no_bracket : (context : Context) (first : Terminal) (row : List Terminal) → is
 no_bracket context first [] is = is
 no_bracket context first (second ∷ row) is = ap (λ (b : Bool). b && begins_type context.scope second) is
 
-no_and : (a b : Bool) → b ≡ false → (a && b) ≡ false
-no_and true b is = is
-no_and false b is = refl
-
 -- an expression behind a bracket
 expression_behind : (context : Context) (first : Terminal) (xs more : List Terminal) → Begins begins_operand xs → Begins is_plain xs → IsNoType context.scope xs → is_cast_row context (first ∷ (xs ++ more)) ≡ false
 expression_behind context first [] more begins plain no_type = absurd begins
 expression_behind context first (next ∷ xs) more begins plain no_type =
-    no_and (is_mark (codes "(") first) (begins_type context.scope next) (begins_no_type context.scope next plain (not_true _ no_type))
+    false_and (is_mark (codes "(") first) (begins_type context.scope next) (begins_no_type context.scope next plain (not-true _ no_type))
 
 -- a block behind a bracket
 mark_begins_no_type : (scopes : List Names) (token : Terminal) → IsMark (codes "{") token → begins_type scopes token ≡ false
@@ -47,7 +44,7 @@ mark_begins_no_type scopes token is =
 
 block_behind : (context : Context) (first : Terminal) (xs more : List Terminal) → Begins (is_mark (codes "{")) xs → is_cast_row context (first ∷ (xs ++ more)) ≡ false
 block_behind context first [] more begins = absurd begins
-block_behind context first (next ∷ xs) more begins = no_and (is_mark (codes "(") first) (begins_type context.scope next) (mark_begins_no_type context.scope next begins)
+block_behind context first (next ∷ xs) more begins = false_and (is_mark (codes "(") first) (begins_type context.scope next) (mark_begins_no_type context.scope next begins)
 
 -- what begins another expression
 longer : (context : Context) (xs ys : List Terminal) → ((rest : List Terminal) → is_cast_row context (xs ++ rest) ≡ false) → (rest : List Terminal) → is_cast_row context ((xs ++ ys) ++ rest) ≡ false

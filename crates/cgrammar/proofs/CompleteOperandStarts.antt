@@ -7,11 +7,12 @@ use Rattle.cbase.specs.declared.place.Place.{Place}
 use Rattle.cbase.specs.declared.tree.operators.UnaryOp.{UnaryOp}
 use Rattle.ctokens.specs.declared.token.TokenKind.{TokenKind}
 use Rattle.ctokens.specs.declared.token.TokenKind.TheVariants.{Word, Number, Letter, Quoted, Mark}
-use Rattle.cgrammar.proofs.CompleteSteps.{if_true, if_false}
+use Rattle.ctokens.proofs.Choices.{false_and, chosen_yes, chosen_no}
 use Rattle.cgrammar.proofs.CompleteTokens.{mark_test, row_fails, row_test}
 use Rattle.cgrammar.proofs.Integers.{integer_exact}
 use Rattle.cgrammar.proofs.Starting.{operand_not_mark}
 use Rattle.cgrammar.proofs.TokenKinds.{named_words, mark_kind_is_no_word, mark_kind_is_no_name, row_is_mark_kind, word_is_word_kind, word_is_no_mark, word_is_no_name, other_word, constant_is_no_name}
+use Rattle.cgrammar.proofs.Truth.{false-of}
 use Rattle.cgrammar.specs.Constants.{IsConstant, IsOfKind}
 use Rattle.cgrammar.specs.Firsts.{is_among, is_plain, begins_type, storage_words, type_words}
 use Rattle.cgrammar.specs.Operators.{mark_row, unary_rows, count_rows, IsUnary, IsCount}
@@ -60,18 +61,18 @@ behind_constant token =
 no_name_no_constant : (token : Terminal) → is_name token ≡ false → is_constant token ≡ false → operand_start token ≡ behind_constant token
 unfolding operand_start behind_constant
 no_name_no_constant token one other =
-    if_false (is_name token) operand.Name (if is_constant token then operand.Constant else behind_constant token) one
-    ∙ if_false (is_constant token) operand.Constant (behind_constant token) other
+    chosen_no (is_name token) operand.Name (if is_constant token then operand.Constant else behind_constant token) one
+    ∙ chosen_no (is_constant token) operand.Constant (behind_constant token) other
 
 pub name_starts : (token : Terminal) → IsName token → operand_start token ≡ operand.Name
 unfolding operand_start behind_constant
-name_starts token is = if_true (is_name token) operand.Name (if is_constant token then operand.Constant else behind_constant token) is
+name_starts token is = chosen_yes (is_name token) operand.Name (if is_constant token then operand.Constant else behind_constant token) is
 
 pub constant_starts : (token : Terminal) → IsConstant token → operand_start token ≡ operand.Constant
 unfolding operand_start behind_constant
 constant_starts token is =
-    if_false (is_name token) operand.Name (if is_constant token then operand.Constant else behind_constant token) (constant_is_no_name token is)
-    ∙ if_true (is_constant token) operand.Constant (behind_constant token) (constant_found token.kind token.bytes token.place is)
+    chosen_no (is_name token) operand.Name (if is_constant token then operand.Constant else behind_constant token) (constant_is_no_name token is)
+    ∙ chosen_yes (is_constant token) operand.Constant (behind_constant token) (constant_found token.kind token.bytes token.place is)
 
 pub bracket_starts : (token : Terminal) → IsMark (codes "(") token → operand_start token ≡ operand.Bracket
 unfolding operand_start
@@ -85,34 +86,34 @@ pub size_of_starts : (token : Terminal) → IsWord (codes "sizeof") token → op
 unfolding behind_constant
 size_of_starts token is =
     word_first (codes "sizeof") token refl is
-    ∙ if_false (is_mark (codes "(") token) operand.Bracket _ (word_is_no_mark (codes "sizeof") (codes "(") token is)
-    ∙ if_true (is_word (codes "sizeof") token) operand.SizeOf _ is
+    ∙ chosen_no (is_mark (codes "(") token) operand.Bracket _ (word_is_no_mark (codes "sizeof") (codes "(") token is)
+    ∙ chosen_yes (is_word (codes "sizeof") token) operand.SizeOf _ is
 
 pub offset_of_starts : (token : Terminal) → IsWord (codes "__builtin_offsetof") token → operand_start token ≡ operand.OffsetOf
 unfolding behind_constant
 offset_of_starts token is =
     word_first (codes "__builtin_offsetof") token refl is
-    ∙ if_false (is_mark (codes "(") token) operand.Bracket _ (word_is_no_mark (codes "__builtin_offsetof") (codes "(") token is)
-    ∙ if_false (is_word (codes "sizeof") token) operand.SizeOf _ (other_word (codes "__builtin_offsetof") (codes "sizeof") token refl is)
-    ∙ if_true (is_word (codes "__builtin_offsetof") token) operand.OffsetOf _ is
+    ∙ chosen_no (is_mark (codes "(") token) operand.Bracket _ (word_is_no_mark (codes "__builtin_offsetof") (codes "(") token is)
+    ∙ chosen_no (is_word (codes "sizeof") token) operand.SizeOf _ (other_word (codes "__builtin_offsetof") (codes "sizeof") token refl is)
+    ∙ chosen_yes (is_word (codes "__builtin_offsetof") token) operand.OffsetOf _ is
 
 pub assert_fail_starts : (token : Terminal) → IsWord (codes "__assert_fail") token → operand_start token ≡ operand.AssertFail
 unfolding behind_constant
 assert_fail_starts token is =
     word_first (codes "__assert_fail") token refl is
-    ∙ if_false (is_mark (codes "(") token) operand.Bracket _ (word_is_no_mark (codes "__assert_fail") (codes "(") token is)
-    ∙ if_false (is_word (codes "sizeof") token) operand.SizeOf _ (other_word (codes "__assert_fail") (codes "sizeof") token refl is)
-    ∙ if_false (is_word (codes "__builtin_offsetof") token) operand.OffsetOf _ (other_word (codes "__assert_fail") (codes "__builtin_offsetof") token refl is)
-    ∙ if_true (is_word (codes "__assert_fail") token) operand.AssertFail _ is
+    ∙ chosen_no (is_mark (codes "(") token) operand.Bracket _ (word_is_no_mark (codes "__assert_fail") (codes "(") token is)
+    ∙ chosen_no (is_word (codes "sizeof") token) operand.SizeOf _ (other_word (codes "__assert_fail") (codes "sizeof") token refl is)
+    ∙ chosen_no (is_word (codes "__builtin_offsetof") token) operand.OffsetOf _ (other_word (codes "__assert_fail") (codes "__builtin_offsetof") token refl is)
+    ∙ chosen_yes (is_word (codes "__assert_fail") token) operand.AssertFail _ is
 
 mark_first : (token : Terminal) → is_mark_kind token.kind ≡ true → is_mark (codes "(") token ≡ false → operand_start token ≡ unary_start (mark_row unary_rows token) token
 unfolding behind_constant
 mark_first token is other =
     no_name_no_constant token (mark_kind_is_no_name token is) (mark_is_no_constant token.kind token.bytes token.place is)
-    ∙ if_false (is_mark (codes "(") token) operand.Bracket _ other
-    ∙ if_false (is_word (codes "sizeof") token) operand.SizeOf _ (mark_kind_is_no_word token (codes "sizeof") is)
-    ∙ if_false (is_word (codes "__builtin_offsetof") token) operand.OffsetOf _ (mark_kind_is_no_word token (codes "__builtin_offsetof") is)
-    ∙ if_false (is_word (codes "__assert_fail") token) operand.AssertFail _ (mark_kind_is_no_word token (codes "__assert_fail") is)
+    ∙ chosen_no (is_mark (codes "(") token) operand.Bracket _ other
+    ∙ chosen_no (is_word (codes "sizeof") token) operand.SizeOf _ (mark_kind_is_no_word token (codes "sizeof") is)
+    ∙ chosen_no (is_word (codes "__builtin_offsetof") token) operand.OffsetOf _ (mark_kind_is_no_word token (codes "__builtin_offsetof") is)
+    ∙ chosen_no (is_word (codes "__assert_fail") token) operand.AssertFail _ (mark_kind_is_no_word token (codes "__assert_fail") is)
 
 pub unary_no_bracket : (op : UnaryOp) (token : Terminal) → IsUnary op token → is_mark (codes "(") token ≡ false
 unary_no_bracket op token is = row_fails (is_mark (codes "(")) unary_rows token op is (λ place. refl)
@@ -145,31 +146,23 @@ counting_starts up token is =
 pub opens_not : (context : Context) (first : Terminal) (row : List Terminal) → is_mark (codes "(") first ≡ false → opens context first row ≡ false
 opens_not context first row is = ap (λ (b : Bool). b && has_first (λ token. not (is_mark (codes "{") token) && not (begins_type context.scope token)) row) is
 
-and_no : (a b : Bool) → b ≡ false → (a && b) ≡ false
-and_no true b is = is
-and_no false b is = refl
-
 pub opens_no_block : (context : Context) (first next : Terminal) (row : List Terminal) → is_mark (codes "{") next ≡ true → opens context first (next ∷ row) ≡ false
 opens_no_block context first next row is =
-    and_no (is_mark (codes "(") first) (not (is_mark (codes "{") next) && not (begins_type context.scope next)) (ap (λ (b : Bool). not b && not (begins_type context.scope next)) is)
+    false_and (is_mark (codes "(") first) (not (is_mark (codes "{") next) && not (begins_type context.scope next)) (ap (λ (b : Bool). not b && not (begins_type context.scope next)) is)
 
 pub opens_no_type : (context : Context) (first next : Terminal) (row : List Terminal) → begins_type context.scope next ≡ true → opens context first (next ∷ row) ≡ false
 opens_no_type context first next row is =
-    and_no (is_mark (codes "(") first) (not (is_mark (codes "{") next) && not (begins_type context.scope next)) (and_no (not (is_mark (codes "{") next)) (not (begins_type context.scope next)) (ap not is))
+    false_and (is_mark (codes "(") first) (not (is_mark (codes "{") next) && not (begins_type context.scope next)) (false_and (not (is_mark (codes "{") next)) (not (begins_type context.scope next)) (ap not is))
 
 pub read_as_plain : (inner : Level) (context : Context) (first : Terminal) (row : List Terminal) (kind : OperandStart) → opens context first row ≡ false → operand_start first ≡ kind
     → read_cast inner context (first ∷ row) ≡ plain_with inner context first row kind
 unfolding read_cast read_plain
 read_as_plain inner context first row kind is starts =
-    if_false (opens context first row) _ (read_plain inner context (first ∷ row)) is ∙ ap (plain_with inner context first row) starts
+    chosen_no (opens context first row) _ (read_plain inner context (first ∷ row)) is ∙ ap (plain_with inner context first row) starts
 
 -- an expression in brackets: no block and no type stands there
-is_false : (b : Bool) → (b ≡ true → ⊥) → b ≡ false
-is_false true no-it = absurd (no-it refl)
-is_false false no-it = refl
-
 pub begins_no_block : (token : Terminal) → IsTrue (begins_operand token) → is_mark (codes "{") token ≡ false
-begins_no_block token is = is_false (is_mark (codes "{") token) (λ mark. operand_not_mark (codes "{") token refl is mark)
+begins_no_block token is = false-of (is_mark (codes "{") token) (λ mark. operand_not_mark (codes "{") token refl is mark)
 
 pub begins_no_type : (scopes : List Names) (token : Terminal) → IsTrue (is_plain token) → is_typedef scopes token ≡ false → begins_type scopes token ≡ false
 begins_no_type scopes token plain no_type = step (is_among storage_words token) (is_among type_words token) plain ∙ no_type

@@ -7,12 +7,13 @@ use Rattle.cbase.specs.declared.tree.expr.Expr.{Expr}
 use Rattle.cbase.specs.declared.tree.expr.ExprForm.TheVariants.{Binary}
 use Rattle.cbase.specs.declared.tree.operators.BinaryOp.{BinaryOp}
 use Rattle.ctrees.specs.Levels.{expr_levels}
+use Rattle.ctokens.proofs.Choices.{chosen_yes}
 use Rattle.cgrammar.proofs.CompleteReaches.{continued_reaches, operations_reach}
-use Rattle.cgrammar.proofs.CompleteSteps.{clash, if_true, first_more, levels_fit, some_level, with_right_step}
+use Rattle.cgrammar.proofs.CompleteSteps.{first_more, levels_fit, some_level, with_right_step}
 use Rattle.cgrammar.proofs.CompleteTokens.{binary_no_operand}
-use Rattle.cgrammar.proofs.Reached.{Reaches, Goes, IsWithinLevel, Completes, goes_on_operand, goes_on_operation, is_tighter}
+use Rattle.cgrammar.proofs.Reached.{Reaches, Goes, IsWithinLevel, Completes, goes_on_operand, goes_on_operation, is_tighter, is_no_looser, goes_on_from}
 use Rattle.cgrammar.proofs.TreeLevels.{levels_binary}
-use Rattle.cgrammar.proofs.Truth.{or-left, or-right, or-cases}
+use Rattle.cgrammar.proofs.Truth.{or-left, or-right, or-cases, clash}
 use Rattle.cgrammar.specs.Operators.{mark_row, binary_rows, IsBinary}
 use Rattle.cgrammar.specs.Outcomes.{Outcome, Read, Reader, with_right, continued, has_first}
 use Rattle.cgrammar.specs.Phrases.{Context, counted, numbered, Operation, CastExpression}
@@ -22,15 +23,8 @@ use Rattle.cgrammar.specs.ReadOperators.{expression_of, expr_of, stopped, binary
 use Rattle.cgrammar.specs.Reader.{level}
 use Rattle.cgrammar.specs.Terminals.{Terminal}
 
--- operators that the loop takes
-abbrev pub is_at_least : ℕ → Option (ℕ × BinaryOp) → Bool
-is_at_least loosest None = false
-is_at_least loosest (Some entry) = nat_le loosest entry.0
-
-abbrev pub is_taken : ℕ → Terminal → Bool
-is_taken loosest token = is_at_least loosest (mark_row binary_rows token)
-
-taken_is_tighter : (k : ℕ) (entry : Option (ℕ × BinaryOp)) → is_at_least (k + 1) entry ≡ true → is_tighter k entry ≡ true
+-- operators that the loop takes: those that are no looser
+taken_is_tighter : (k : ℕ) (entry : Option (ℕ × BinaryOp)) → is_no_looser (k + 1) entry ≡ true → is_tighter k entry ≡ true
 taken_is_tighter k None is = is
 taken_is_tighter k (Some entry) is = let more = leb-true (k + 1) entry.0 is in lt-ltb k entry.0 (omega (arith, more))
 
@@ -47,7 +41,7 @@ operation_goes_on_looser k tighter less token is = step (or-cases (goes_on_opera
 
 -- the loop ends, or goes on
 stops_at : (go : Expr → ℕ → Reader Expr) (inner : Level) (loosest : ℕ) (left : Expr) (levels : ℕ) (context : Context) (mark : Terminal) (row : List Terminal) (entry : Option (ℕ × BinaryOp))
-    → (binary_with go inner loosest left levels context mark row entry ≡ Read left levels context (mark ∷ row)) ⊎ (is_at_least loosest entry ≡ true)
+    → (binary_with go inner loosest left levels context mark row entry ≡ Read left levels context (mark ∷ row)) ⊎ (is_no_looser loosest entry ≡ true)
 stops_at go inner loosest left levels context mark row None = inl refl
 stops_at go inner loosest left levels context mark row (Some entry) = step (nat_le loosest entry.0) _
   where
@@ -56,7 +50,7 @@ stops_at go inner loosest left levels context mark row (Some entry) = step (nat_
     step false more = inl refl
 
 pub operations_stop : (inner : Level) (loosest count : ℕ) (left : Expr) (levels : ℕ) (context : Context) (row : List Terminal)
-    → (read_operations inner loosest count left levels context row ≡ Read left levels context row) ⊎ IsTrue (has_first (is_taken loosest) row)
+    → (read_operations inner loosest count left levels context row ≡ Read left levels context row) ⊎ IsTrue (has_first (goes_on_from loosest) row)
 unfolding read_operations
 operations_stop inner loosest zero left levels context row = inl refl
 operations_stop inner loosest (suc count) left levels context [] = inl refl
@@ -73,8 +67,8 @@ pub operations_turn : (inner : Level) (loosest count : ℕ) (left : Expr) (level
 unfolding read_operations
 operations_turn inner loosest count left levels context mark row tighter op is loose fits =
     ap (λ (entry : Option (ℕ × BinaryOp)). binary_with (read_operations inner loosest count) inner loosest left levels context mark row entry) is
-    ∙ if_true (nat_le loosest tighter) _ (Read left levels context (mark ∷ row)) loose
-    ∙ if_true (nat_le levels inner.most) _ (stopped left context mark row) fits
+    ∙ chosen_yes (nat_le loosest tighter) _ (Read left levels context (mark ∷ row)) loose
+    ∙ chosen_yes (nat_le levels inner.most) _ (stopped left context mark row) fits
 
 -- what a whole operation is read as
 abbrev Wanted : ℕ → ℕ → ℕ → Expr → Context → List Terminal → Outcome Expr → Type 0
@@ -90,15 +84,15 @@ operation_goes k e before after front whole within (suc m) rest fits = step (who
     outcome : Outcome Expr
     outcome = continued (read_cast (level m) before (front ++ rest)) expr_of (operations_from (level m) (k + 1))
 
-    taken : (token : Terminal) → is_taken (k + 1) token ≡ true → goes_on_operation k token ≡ true
+    taken : (token : Terminal) → goes_on_from (k + 1) token ≡ true → goes_on_operation k token ≡ true
     taken token is = or-right (goes_on_operand token) (taken_is_tighter k (mark_row binary_rows token) is)
 
     ends : (count : ℕ) → outcome ≡ read_operations (level m) (k + 1) count e (expr_levels e) after rest
-        → (read_operations (level m) (k + 1) count e (expr_levels e) after rest ≡ Read e (expr_levels e) after rest) ⊎ IsTrue (has_first (is_taken (k + 1)) rest)
+        → (read_operations (level m) (k + 1) count e (expr_levels e) after rest ≡ Read e (expr_levels e) after rest) ⊎ IsTrue (has_first (goes_on_from (k + 1)) rest)
         → Goes (goes_on_operation k) e (expr_levels e) after rest outcome
     ends count is (inl stop) = inl (is ∙ stop)
     ends count is (inr more) =
-        inr (first_more (is_taken (k + 1)) (goes_on_operation k) rest taken more, subst (λ o. Reaches o rest) (sym is) (operations_reach (level m) (within m) (k + 1) count e (expr_levels e) after rest))
+        inr (first_more (goes_on_from (k + 1)) (goes_on_operation k) rest taken more, subst (λ o. Reaches o rest) (sym is) (operations_reach (level m) (within m) (k + 1) count e (expr_levels e) after rest))
 
     step : Wanted (k + 1) m (k + 1) e after rest outcome → Goes (goes_on_operation k) e (expr_levels e) after rest outcome
     step (inl (count, less, is)) = ends count is (operations_stop (level m) (k + 1) count e (expr_levels e) after rest)

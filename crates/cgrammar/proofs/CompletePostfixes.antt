@@ -7,13 +7,15 @@ use Rattle.cbase.specs.declared.tree.expr.Expr.{Expr}
 use Rattle.cbase.specs.declared.tree.expr.ExprForm.TheVariants.{Count, Index, Member, Call}
 use Rattle.ctrees.specs.Levels.{depth, expr_levels}
 use Rattle.ctrees.specs.Weight.{joined}
+use Rattle.ctokens.proofs.Choices.{false_and, chosen_yes, chosen_no}
 use Rattle.cgrammar.proofs.CompletePostfixReaches.{postfixes_reach}
-use Rattle.cgrammar.proofs.CompleteSteps.{if_true, if_false, levels_fit, some_level, goes_exactly}
-use Rattle.cgrammar.proofs.CompleteTokens.{item_starts, call_starts, member_starts, count_starts, item_end_no_expression, closing_no_list, not_true}
+use Rattle.cgrammar.proofs.CompleteSteps.{levels_fit, some_level, goes_exactly}
+use Rattle.cgrammar.proofs.CompleteTokens.{item_starts, call_starts, member_starts, count_starts, item_end_no_expression, closing_no_list}
 use Rattle.cgrammar.proofs.Fronts.{front_of_both}
 use Rattle.cgrammar.proofs.Reached.{Reaches, Goes, IsWithinLevel, Completes, goes_on_operand, goes_on_expression}
 use Rattle.cgrammar.proofs.Starting.{starts, operand_not_mark}
 use Rattle.cgrammar.proofs.TreeLevels.{levels_index, levels_call, levels_call_of_nothing, levels_member, levels_count}
+use Rattle.cgrammar.proofs.Truth.{not-true}
 use Rattle.cgrammar.specs.Firsts.{Begins}
 use Rattle.cgrammar.specs.FrontOf.{front_of}
 use Rattle.cgrammar.specs.Grammar.{Spells}
@@ -71,17 +73,13 @@ complete_one_postfix before after row expr whole within (suc m) rest fits = step
     step (count, less, is) = ends count is (postfixes_stop (level m) (row ++ rest) count expr (expr_levels expr) after rest)
 
 -- one turn of the loop
-no_and : (a b : Bool) → b ≡ false → (a && b) ≡ false
-no_and true b is = is
-no_and false b is = refl
-
 postfixes_turn : (inner : Level) (start : List Terminal) (count : ℕ) (base : Expr) (levels : ℕ) (context : Context) (mark : Terminal) (row : List Terminal) (kind : PostfixStart)
     → postfix_start mark ≡ kind → nat_le levels inner.most ≡ true
     → read_postfixes inner start (suc count) base levels context (mark ∷ row) ≡ postfix_with (read_postfixes inner start count) inner start base levels context mark row kind
 unfolding read_postfixes
 postfixes_turn inner start count base levels context mark row kind is fits =
-    if_false (goes_on (postfix_start mark) && not (nat_le levels inner.most)) (stopped_operand base context mark row) (postfix_with (read_postfixes inner start count) inner start base levels context mark row (postfix_start mark))
-    (no_and (goes_on (postfix_start mark)) (not (nat_le levels inner.most)) (ap not fits))
+    chosen_no (goes_on (postfix_start mark) && not (nat_le levels inner.most)) (stopped_operand base context mark row) (postfix_with (read_postfixes inner start count) inner start base levels context mark row (postfix_start mark))
+    (false_and (goes_on (postfix_start mark)) (not (nat_le levels inner.most)) (ap not fits))
     ∙ ap (λ (k : PostfixStart). postfix_with (read_postfixes inner start count) inner start base levels context mark row k) is
 
 -- a turn of which it is known what it does
@@ -113,7 +111,7 @@ index_read go inner base levels context mark row index others behind closing res
     ap (λ o. or_else o (stopped_operand base context mark row) (λ index others behind rest.
     after_mark (codes "]") rest (stopped_operand base context mark row) (λ closing more.
     go (numbered behind mark.place (Index base index)) (1 + max levels others) (counted behind) more))) read
-    ∙ if_true (is_mark (codes "]") closing) _ (stopped_operand base context mark row) ends
+    ∙ chosen_yes (is_mark (codes "]") closing) _ (stopped_operand base context mark row) ends
 
 pub complete_index_operator : (before middle after : Context) (xs ys : List Terminal) (base index : Expr) (opening closing : Terminal)
     → IsMark (codes "[") opening → IsMark (codes "]") closing
@@ -138,7 +136,7 @@ complete_index_operator before middle after xs ys base index opening closing ope
 -- `()`
 nothing_read : (go : Expr → ℕ → Reader Operand) (inner : Level) (place : Place) (base : Expr) (levels : ℕ) (context : Context) (mark closing : Terminal) (rest : List Terminal) → is_mark (codes ")") closing ≡ true
     → call_behind go inner place base levels context mark (closing ∷ rest) ≡ go (numbered context place (Call base [])) (1 + levels) (counted context) rest
-nothing_read go inner place base levels context mark closing rest ends = if_true (is_mark (codes ")") closing) _ _ ends
+nothing_read go inner place base levels context mark closing rest ends = chosen_yes (is_mark (codes ")") closing) _ _ ends
 
 pub complete_call_of_nothing : (before after : Context) (xs : List Terminal) (callee : Expr) (opening closing : Terminal)
     → IsMark (codes "(") opening → IsMark (codes ")") closing
@@ -168,8 +166,8 @@ arguments_first : (go : Expr → ℕ → Reader Operand) (inner : Level) (place 
     go (numbered behind place (Call base arguments)) (1 + max levels others) (counted behind) more))
 arguments_first go inner place base levels context mark [] more begins no_type = absurd begins
 arguments_first go inner place base levels context mark (first ∷ others) more begins no_type =
-    if_false (is_mark (codes ")") first) _ _ (not_closing (is_mark (codes ")") first) refl)
-    ∙ if_false (begins_with_typedef context.scope (first ∷ (others ++ more))) (stopped_operand base context mark (first ∷ (others ++ more))) _ (not_true (begins_with_typedef context.scope (first ∷ others)) no_type)
+    chosen_no (is_mark (codes ")") first) _ _ (not_closing (is_mark (codes ")") first) refl)
+    ∙ chosen_no (begins_with_typedef context.scope (first ∷ (others ++ more))) (stopped_operand base context mark (first ∷ (others ++ more))) _ (not-true (begins_with_typedef context.scope (first ∷ others)) no_type)
   where
     not_closing : (b : Bool) → is_mark (codes ")") first ≡ b → b ≡ false
     not_closing true is = absurd (operand_not_mark (codes ")") first refl begins is)
@@ -184,7 +182,7 @@ arguments_read go inner place base levels context mark ys arguments others behin
     ∙ ap (λ o. or_else o (stopped_operand base context mark (ys ++ (closing ∷ rest))) (λ arguments others behind rest'.
     after_mark (codes ")") rest' (stopped_operand base context mark (ys ++ (closing ∷ rest))) (λ closing more.
     go (numbered behind place (Call base arguments)) (1 + max levels others) (counted behind) more))) read
-    ∙ if_true (is_mark (codes ")") closing) _ (stopped_operand base context mark (ys ++ (closing ∷ rest))) ends
+    ∙ chosen_yes (is_mark (codes ")") closing) _ (stopped_operand base context mark (ys ++ (closing ∷ rest))) ends
 
 pub complete_call_operator : (before middle after : Context) (xs ys : List Terminal) (callee : Expr) (arguments : List Expr) (opening closing : Terminal)
     → IsMark (codes "(") opening → IsNoType middle.scope ys → IsMark (codes ")") closing
@@ -215,7 +213,7 @@ pub complete_member_operator : (before after : Context) (xs : List Terminal) (ba
 complete_member_operator before after xs base through mark name is named one m rest fits =
     subst (λ row. Postfixed m before whole (counted after) rest row) (sym (append_assoc xs (mark ∷ (name ∷ [])) rest))
     (turned m before row base whole after (counted after) mark (name ∷ rest) rest (postfix.Member through) (1 + expr_levels base) levels (omega (arith, fits, levels)) (member_starts through mark is) (omega arith)
-    (λ count. if_true (is_name name) _ (stopped_operand base after mark (name ∷ rest)) named)
+    (λ count. chosen_yes (is_name name) _ (stopped_operand base after mark (name ∷ rest)) named)
     (one m (mark ∷ (name ∷ rest)) (omega (arith, fits, levels))))
   where
     whole : Expr

@@ -10,10 +10,11 @@ use Rattle.cbase.specs.declared.tree.expr.ExprForm.{ExprForm}
 use Rattle.cbase.specs.declared.tree.expr.ExprForm.TheVariants.{Unary, Count, Cast, SizeOf, SizeOfType}
 use Rattle.cbase.specs.declared.tree.operators.UnaryOp.{UnaryOp}
 use Rattle.ctrees.specs.Levels.{expr_levels, type_name_levels}
+use Rattle.ctokens.proofs.Choices.{chosen_yes, chosen_no}
 use Rattle.cgrammar.proofs.CompleteNoCasts.{no_cast}
 use Rattle.cgrammar.proofs.CompleteOperandStarts.{unary_starts, counting_starts, size_of_starts, bracket_starts, unary_no_bracket, count_no_bracket, opens_not, opens_no_type, read_as_plain}
 use Rattle.cgrammar.proofs.CompleteReaches.{right_goes}
-use Rattle.cgrammar.proofs.CompleteSteps.{if_true, if_false, some_level}
+use Rattle.cgrammar.proofs.CompleteSteps.{some_level}
 use Rattle.cgrammar.proofs.CompleteTokens.{mark_test}
 use Rattle.cgrammar.proofs.CompleteUnaryOutcomes.{no_type_in_brackets, cast_alone}
 use Rattle.cgrammar.proofs.Firsts.{first_tokens}
@@ -93,7 +94,7 @@ complete_count_before before after xs expr up mark is spelled whole (suc m) rest
 size_of_read : (inner : Level) (context : Context) (word : Terminal) (row : List Terminal) → begins_type_in_brackets context row ≡ false
     → read_size_of inner context word row ≡ prefixed (unary_alone (inner.cast context row)) word.place SizeOf
 unfolding read_size_of
-size_of_read inner context word row is = if_false (begins_type_in_brackets context row) _ (prefixed (unary_alone (inner.cast context row)) word.place SizeOf) is
+size_of_read inner context word row is = chosen_no (begins_type_in_brackets context row) _ (prefixed (unary_alone (inner.cast context row)) word.place SizeOf) is
 
 pub complete_size_of_expression : (before after : Context) (xs : List Terminal) (expr : Expr) (word : Terminal) → IsWord (codes "sizeof") word
     → Spells (UnaryExpression expr) before xs after → Completes (UnaryExpression expr) before xs after
@@ -119,11 +120,11 @@ type_read : (inner : Level) (context : Context) (word opening : Terminal) (row :
     → read_size_of inner context word (opening ∷ row) ≡ Read (unary_operand (numbered behind word.place (SizeOfType to))) (1 + levels) (counted behind) rest
 unfolding read_size_of
 type_read inner context word opening row to levels behind closing rest is begins read ends =
-    if_true (begins_type_in_brackets context (opening ∷ row)) _ (prefixed (unary_alone (inner.cast context (opening ∷ row))) word.place SizeOf) (ap (λ (b : Bool). b && has_first (begins_type context.scope) row) is ∙ begins)
+    chosen_yes (begins_type_in_brackets context (opening ∷ row)) _ (prefixed (unary_alone (inner.cast context (opening ∷ row))) word.place SizeOf) (ap (λ (b : Bool). b && has_first (begins_type context.scope) row) is ∙ begins)
     ∙ ap (λ o. then_read o (λ to levels behind rest.
     after_mark (codes ")") rest Nothing (λ closing others.
     Read (unary_operand (numbered behind word.place (SizeOfType to))) (1 + levels) (counted behind) others))) read
-    ∙ if_true (is_mark (codes ")") closing) (Read (unary_operand (numbered behind word.place (SizeOfType to))) (1 + levels) (counted behind) rest) Nothing ends
+    ∙ chosen_yes (is_mark (codes ")") closing) (Read (unary_operand (numbered behind word.place (SizeOfType to))) (1 + levels) (counted behind) rest) Nothing ends
 
 pub complete_size_of_type_name : (before after : Context) (xs : List Terminal) (to : TypeName) (word opening closing : Terminal)
     → IsWord (codes "sizeof") word → IsMark (codes "(") opening → IsMark (codes ")") closing
@@ -170,13 +171,13 @@ cast_read : (inner : Level) (context : Context) (opening : Terminal) (row : List
     → read_bracket inner context opening row ≡ cast_with context opening to levels (inner.cast behind rest)
 unfolding read_bracket cast_with
 cast_read inner context opening row to levels behind closing rest no_brace read ends =
-    if_false (has_mark (codes "{") row) (statement_expression inner context opening row) (read_cast_to inner context opening row) no_brace
+    chosen_no (has_mark (codes "{") row) (statement_expression inner context opening row) (read_cast_to inner context opening row) no_brace
     ∙ ap (λ o. then_read o (λ to levels behind rest.
     after_mark (codes ")") rest Nothing (λ closing others.
     with_right (inner.cast behind others) Nothing
     (λ operand number. cast_operand (expression_of number opening.place (Cast to operand.expr)))
     (λ operand more last end. Read (cast_operand (numbered last opening.place (Cast to operand.expr))) (1 + max levels more) (counted last) end)))) read
-    ∙ if_true (is_mark (codes ")") closing) _ Nothing ends
+    ∙ chosen_yes (is_mark (codes ")") closing) _ Nothing ends
 
 cast_goes : (context : Context) (opening : Terminal) (to : TypeName) (e : Expr) (after : Context) (rest : List Terminal) (outcome : Outcome Operand)
     → expr_levels (numbered after opening.place (Cast to e)) ≡ 1 + max (type_name_levels to) (expr_levels e) → Operands e after rest outcome

@@ -9,16 +9,18 @@ use Rattle.cbase.specs.declared.tree.expr.Part.TheVariants.{Member as NamedPart}
 use Rattle.cbase.specs.declared.tree.stmt.Stmt.{Stmt}
 use Rattle.ctrees.specs.Levels.{depth, expr_levels, part_levels, stmt_levels, type_name_levels}
 use Rattle.ctrees.specs.Weight.{joined}
+use Rattle.ctokens.proofs.Choices.{chosen_yes}
 use Rattle.cgrammar.proofs.CompleteCommas.{expression_at}
 use Rattle.cgrammar.proofs.CompleteOperandStarts.{name_starts, constant_starts, bracket_starts, offset_of_starts, opens_not, opens_no_block, opens_expression, read_as_plain}
 use Rattle.cgrammar.proofs.CompletePostfixes.{Postfixed}
-use Rattle.cgrammar.proofs.CompleteSteps.{if_true, goes_exactly, continued_read}
-use Rattle.cgrammar.proofs.CompleteTokens.{mark_test, not_true, closing_no_expression, closing_no_path}
+use Rattle.cgrammar.proofs.CompleteSteps.{goes_exactly, continued_read}
+use Rattle.cgrammar.proofs.CompleteTokens.{mark_test, closing_no_expression, closing_no_path}
 use Rattle.cgrammar.proofs.Firsts.{first_tokens}
 use Rattle.cgrammar.proofs.Reached.{Completes, goes_on_expression, goes_on_type_name}
 use Rattle.cgrammar.proofs.Starting.{starts}
 use Rattle.cgrammar.proofs.TokenKinds.{name_is_no_mark, constant_is_no_mark, word_is_no_mark}
 use Rattle.cgrammar.proofs.TreeLevels.{levels_name, levels_constant, levels_inner, levels_offset_of}
+use Rattle.cgrammar.proofs.Truth.{not-true}
 use Rattle.cgrammar.specs.Constants.{IsConstant}
 use Rattle.cgrammar.specs.Firsts.{Begins, is_plain}
 use Rattle.cgrammar.specs.Grammar.{Spells}
@@ -55,19 +57,19 @@ complete_one_constant before token is m rest fits =
 opens_spelled : (context : Context) (first : Terminal) (xs more : List Terminal) → is_mark (codes "(") first ≡ true → Begins begins_operand xs → Begins is_plain xs → IsNoType context.scope xs
     → opens context first (xs ++ more) ≡ true
 opens_spelled context first [] more is begins plain no_type = absurd begins
-opens_spelled context first (next ∷ xs) more is begins plain no_type = opens_expression context first next (xs ++ more) is begins plain (not_true _ no_type)
+opens_spelled context first (next ∷ xs) more is begins plain no_type = opens_expression context first next (xs ++ more) is begins plain (not-true _ no_type)
 
 bracketed_read : (inner : Level) (context : Context) (opening : Terminal) (row : List Terminal) (e : Expr) (levels : ℕ) (behind : Context) (closing : Terminal) (rest : List Terminal)
     → opens context opening row ≡ true → read_cast inner context (opening ∷ row) ≡ closed inner (opening ∷ row) (read_cast inner context row)
 unfolding read_cast
-bracketed_read inner context opening row e levels behind closing rest is = if_true (opens context opening row) (closed inner (opening ∷ row) (read_cast inner context row)) (read_plain inner context (opening ∷ row)) is
+bracketed_read inner context opening row e levels behind closing rest is = chosen_yes (opens context opening row) (closed inner (opening ∷ row) (read_cast inner context row)) (read_plain inner context (opening ∷ row)) is
 
 closed_read : (inner : Level) (start : List Terminal) (outcome : Outcome Operand) (e : Expr) (levels : ℕ) (behind : Context) (closing : Terminal) (rest : List Terminal)
     → continued outcome expr_of (expression_from inner) ≡ Read e levels behind (closing ∷ rest) → is_mark (codes ")") closing ≡ true
     → closed inner start outcome ≡ postfixes_from inner start e levels behind rest
 closed_read inner start outcome e levels behind closing rest read ends =
     continued_read outcome expr_of (expression_from inner) e levels behind (closing ∷ rest) (λ expr others last more. after_mark (codes ")") more Nothing (λ closing end. postfixes_from inner start expr others last end)) read
-    ∙ if_true (is_mark (codes ")") closing) (postfixes_from inner start e levels behind rest) Nothing ends
+    ∙ chosen_yes (is_mark (codes ")") closing) (postfixes_from inner start e levels behind rest) Nothing ends
 
 pub complete_bracketed : (before after : Context) (xs : List Terminal) (expr : Expr) (opening closing : Terminal)
     → IsMark (codes "(") opening → IsNoType before.scope xs → IsMark (codes ")") closing
@@ -91,11 +93,11 @@ block_read : (inner : Level) (context : Context) (opening : Terminal) (row : Lis
     → read_bracket inner context opening row ≡ postfixes_from inner (opening ∷ row) (numbered behind opening.place (Inner body)) (1 + levels) (counted behind) rest
 unfolding read_bracket
 block_read inner context opening row body levels behind closing rest is read ends =
-    if_true (has_mark (codes "{") row) (statement_expression inner context opening row) (read_cast_to inner context opening row) is
+    chosen_yes (has_mark (codes "{") row) (statement_expression inner context opening row) (read_cast_to inner context opening row) is
     ∙ ap (λ o. then_read o (λ body levels behind rest.
     after_mark (codes ")") rest Nothing (λ closing others.
     postfixes_from inner (opening ∷ row) (numbered behind opening.place (Inner body)) (1 + levels) (counted behind) others))) read
-    ∙ if_true (is_mark (codes ")") closing) (postfixes_from inner (opening ∷ row) (numbered behind opening.place (Inner body)) (1 + levels) (counted behind) rest) Nothing ends
+    ∙ chosen_yes (is_mark (codes ")") closing) (postfixes_from inner (opening ∷ row) (numbered behind opening.place (Inner body)) (1 + levels) (counted behind) rest) Nothing ends
 
 opens_no_expression : (context : Context) (first : Terminal) (xs more : List Terminal) → Begins (is_mark (codes "{")) xs → opens context first (xs ++ more) ≡ false
 opens_no_expression context first [] more begins = absurd begins
@@ -133,16 +135,16 @@ offset_read : (inner : Level) (context : Context) (word opening : Terminal) (row
     → read_offset_of inner context word (opening ∷ row) ≡ offset inner word (opening ∷ row) to levels name path others last end
 unfolding read_offset_of
 offset_read inner context word opening row to levels behind comma name four path others last closing end is read commas named members ends =
-    if_true (is_mark (codes "(") opening) _ Nothing is
+    chosen_yes (is_mark (codes "(") opening) _ Nothing is
     ∙ ap (λ o. then_read o (λ to levels behind two.
     after_mark (codes ",") two Nothing (λ comma three.
     after_first is_name three Nothing (λ name four.
     then_read (read_path inner (length four + 1) behind four) (λ path others last five.
     after_mark (codes ")") five Nothing (λ closing end. offset inner word (opening ∷ row) to levels name path others last end)))))) read
-    ∙ if_true (is_mark (codes ",") comma) _ Nothing commas
-    ∙ if_true (is_name name) _ Nothing named
+    ∙ chosen_yes (is_mark (codes ",") comma) _ Nothing commas
+    ∙ chosen_yes (is_name name) _ Nothing named
     ∙ ap (λ o. then_read o (λ path others last five. after_mark (codes ")") five Nothing (λ closing end. offset inner word (opening ∷ row) to levels name path others last end))) members
-    ∙ if_true (is_mark (codes ")") closing) _ Nothing ends
+    ∙ chosen_yes (is_mark (codes ")") closing) _ Nothing ends
 
 comma_no_type_name : (token : Terminal) → IsMark (codes ",") token → goes_on_type_name token ≡ false
 comma_no_type_name token is = mark_test goes_on_type_name false (codes ",") token is (λ place. refl)

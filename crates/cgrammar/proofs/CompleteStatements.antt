@@ -12,7 +12,7 @@ use Rattle.ctokens.specs.declared.token.TokenKind.TheVariants.{Word}
 use Rattle.ctokens.specs.SymbolTables.{keyword_symbol, name_symbol, passed_symbol}
 use Rattle.ctrees.specs.Weight.{joined}
 use Rattle.ctrees.specs.Levels.{depth, decl_levels, expr_levels, maybe_levels, stmt_levels}
-use Rattle.cgrammar.proofs.CompletingOutcomes.{go_true, go_false, go_read, go_past, is_not, not_is, no_truth, never_true, braces_of_none, braces_of_more, row_of_two, row_of_three}
+use Rattle.cgrammar.proofs.CompletingOutcomes.{go_true, go_false, go_read, go_past, not_is, braces_of_none, braces_of_more, row_of_two, row_of_three}
 use Rattle.cgrammar.proofs.CompletingTokens.{by_mark, by_word, begins_apart, operand_no_mark, operand_row_no_mark}
 use Rattle.cgrammar.proofs.CompletingParts.{read_levels, ends_known, expression_read, not_declaration_row, declaration_row, declaration_row_no_mark, fewer}
 use Rattle.cgrammar.proofs.Contexts.{scopes_kept}
@@ -23,8 +23,8 @@ use Rattle.cgrammar.proofs.Reached.{Completes, Ends, goes_on_expression, goes_on
 use Rattle.cgrammar.proofs.Scopes.{left_entered}
 use Rattle.cgrammar.proofs.Starting.{starts, operand_not_mark, operand_not_word, statement_not_mark, statement_not_else}
 use Rattle.cgrammar.proofs.TokenKinds.{named_words, other_mark, other_word, mark_is_no_name, mark_is_no_word}
-use Rattle.cgrammar.proofs.TreeLevels.{levels_stmt, levels_declare, levels_empty, levels_eval, levels_block, levels_if, levels_if_else, levels_while, levels_do, levels_for, levels_break, levels_continue, levels_return_nothing, levels_return}
-use Rattle.cgrammar.proofs.Truth.{and-both}
+use Rattle.cgrammar.proofs.TreeLevels.{levels_stmt, levels_declare, levels_empty, levels_eval, levels_block, levels_if, levels_if_else, levels_while, levels_do, levels_for, levels_break, levels_continue, levels_of_return}
+use Rattle.cgrammar.proofs.Truth.{and-both, not-true, clash, false-of}
 use Rattle.cgrammar.specs.Firsts.{begins_declaration, Begins}
 use Rattle.cgrammar.specs.FrontReadings.{begins_with_label}
 use Rattle.cgrammar.specs.Grammar.{Spells, inside, outside, NoMoreItems, NextDeclaration, NextStatement}
@@ -96,18 +96,18 @@ complete_next_declaration before middle after xs ys decl others d1 d2 c1 c2 (suc
 item_of_statement : (m : ℕ) (before : Context) (xs rest : List Terminal) → Begins (λ t. not (begins_declaration before.scope t)) xs → read_item (level m) before (xs ++ rest) ≡ read_statement (level m) before (xs ++ rest)
 unfolding read_item
 item_of_statement m before xs rest begins =
-    go_false _ (begins_apart (λ t. not (begins_declaration before.scope t)) (begins_declaration before.scope) xs rest (λ t is. is_not (begins_declaration before.scope t) is) begins) refl
+    go_false _ (begins_apart (λ t. not (begins_declaration before.scope t)) (begins_declaration before.scope) xs rest (λ t is. not-true (begins_declaration before.scope t) is) begins) refl
 
 statement_no_brace : (token : Terminal) → begins_statement token ≡ true → is_mark (codes "}") token ≡ false
-statement_no_brace token is = never_true (is_mark (codes "}") token) (λ mark. statement_not_mark (codes "}") token refl refl is mark)
+statement_no_brace token is = false-of (is_mark (codes "}") token) (λ mark. statement_not_mark (codes "}") token refl refl is mark)
 
 statement_no_else : (token : Terminal) → begins_statement token ≡ true → is_word (codes "else") token ≡ false
-statement_no_else token is = never_true (is_word (codes "else") token) (λ word. statement_not_else token is word)
+statement_no_else token is = false-of (is_word (codes "else") token) (λ word. statement_not_else token is word)
 
 declaration_no_else : (scopes : List Names) (token : Terminal) → begins_declaration scopes token ≡ true → is_word (codes "else") token ≡ false
 unfolding keyword_symbol name_symbol passed_symbol
 declaration_no_else scopes token is =
-    never_true (is_word (codes "else") token) (λ word. no_truth (begins_declaration scopes token) is (by_word (begins_declaration scopes) (codes "else") token word refl))
+    false-of (is_word (codes "else") token) (λ word. clash (begins_declaration scopes token) is (by_word (begins_declaration scopes) (codes "else") token word refl))
 
 items_no_else : (body : List Stmt) (before after : Context) (xs rest : List Terminal) → Spells (BlockItems body) before xs after → has_first (is_word (codes "else")) rest ≡ false → has_first (is_word (codes "else")) (xs ++ rest) ≡ false
 items_no_else body before after xs rest NoMoreItems none = none
@@ -157,7 +157,7 @@ maybe_ends ends [] has each = refl
 maybe_ends ends (token ∷ rest) has each = not_is _ (closing_or_semicolon token (each token has))
 
 operand_no_end : (ends : Terminal → Bool) → ((token : Terminal) → IsTrue (ends token) → (IsTrue (is_mark (codes ")") token)) ⊎ (IsTrue (is_mark (codes ";") token))) → (token : Terminal) → begins_operand token ≡ true → ends token ≡ false
-operand_no_end ends each token is = never_true (ends token) (λ on. step (each token on))
+operand_no_end ends each token is = false-of (ends token) (λ on. step (each token on))
   where
     step : (IsTrue (is_mark (codes ")") token)) ⊎ (IsTrue (is_mark (codes ";") token)) → ⊥
     step (inl closing) = operand_not_mark (codes ")") token refl is closing
@@ -277,7 +277,7 @@ complete_empty_statement before semicolon p1 (suc m) rest small ends =
     ∙ go_false _ (mark_no_declaration before.scope (codes ";") semicolon p1) (clause_of_nothing (level m) before semicolon rest p1)
 
 operand_no_word : (bytes : List ℕ) (token : Terminal) → list_any (bytes_eq bytes) named_words ≡ true → list_any (bytes_eq bytes) operand_words ≡ false → begins_operand token ≡ true → is_word bytes token ≡ false
-operand_no_word bytes token named none is = never_true (is_word bytes token) (λ word. operand_not_word bytes token named none is word)
+operand_no_word bytes token named none is = false-of (is_word bytes token) (λ word. operand_not_word bytes token named none is word)
 
 operand_statement_start : (token : Terminal) → begins_operand token ≡ true → statement_start token ≡ start.Other
 unfolding statement_start
@@ -301,7 +301,7 @@ expression_no_label before after [] expr semicolon rest spelled is = absurd (sta
 expression_no_label before after (only ∷ []) expr semicolon rest spelled is =
     no_colon_second (is_name only) (not (is_typedef before.scope only)) (is_mark (codes ":") semicolon) (other_mark (codes ";") (codes ":") semicolon refl is)
 expression_no_label before after (front ∷ (second ∷ xs)) expr semicolon rest spelled is =
-    no_colon_second (is_name front) (not (is_typedef before.scope front)) (is_mark (codes ":") second) (never_true (is_mark (codes ":") second) (λ colon. labels_apart front second xs expr before after colon spelled))
+    no_colon_second (is_name front) (not (is_typedef before.scope front)) (is_mark (codes ":") second) (false-of (is_mark (codes ":") second) (λ colon. labels_apart front second xs expr before after colon spelled))
 
 statement_of_expression : (inner : Level) (before : Context) (xs rest : List Terminal) → Begins begins_operand xs → begins_with_label before.scope (xs ++ rest) ≡ false → has_first (begins_declaration before.scope) (xs ++ rest) ≡ false
     → read_statement inner before (xs ++ rest) ≡ read_clause inner before (xs ++ rest)
@@ -325,7 +325,7 @@ complete_expression_statement before after xs expr semicolon p1 d1 p2 c1 (suc m)
 -- an expression between brackets
 no_typedef_row : (scopes : List Names) (xs rest : List Terminal) → Begins begins_operand xs → IsNoType scopes xs → begins_with_typedef scopes (xs ++ rest) ≡ false
 no_typedef_row scopes [] rest begins none = absurd begins
-no_typedef_row scopes (token ∷ xs) rest begins none = is_not (is_typedef scopes token) none
+no_typedef_row scopes (token ∷ xs) rest begins none = not-true (is_typedef scopes token) none
 
 untyped_read : (m : ℕ) (before after : Context) (xs : List Terminal) (expr : Expr) (closing : Terminal) (rest : List Terminal) → IsNoType before.scope xs → Spells (Expression expr) before xs after → IsMark (codes ")") closing → Completes (Expression expr) before xs after → expr_levels expr ≤ m
     → untyped (level m) before (xs ++ (closing ∷ rest)) ≡ Read expr (expr_levels expr) after (closing ∷ rest)
@@ -336,7 +336,7 @@ untyped_read m before after xs expr closing rest none spelled is completes small
 
 rest_no_else : (rest : List Terminal) → Ends (goes_on_statement true) rest → has_first (is_word (codes "else")) rest ≡ false
 rest_no_else [] ends = refl
-rest_no_else (token ∷ rest) ends = is_not (is_word (codes "else") token) ends
+rest_no_else (token ∷ rest) ends = not-true (is_word (codes "else") token) ends
 
 pub complete_if_statement : (before middle after : Context) (xs ys : List Terminal) (test : Expr) (dangling : Bool) (stmt : Stmt) (word opening closing : Terminal)
     → IsWord (codes "if") word
@@ -481,10 +481,6 @@ complete_continue_statement before word semicolon p1 p2 zero rest small ends = a
 complete_continue_statement before word semicolon p1 p2 (suc m) rest small ends =
     statement_of_word (level m) before (codes "continue") word (semicolon ∷ rest) start.Continue p1 refl refl
     ∙ go_true _ p2 (read_levels _ before rest (sym (levels_continue word.place semicolon.place)))
-
-levels_of_return : (place last : Place) (value : Option Expr) → stmt_levels (statement place last (Return value)) ≡ 1 + maybe_levels value
-levels_of_return place last None = levels_return_nothing place last
-levels_of_return place last (Some value) = levels_return place last value
 
 pub complete_return_statement : (before after : Context) (xs : List Terminal) (value : Option Expr) (word semicolon : Terminal)
     → IsWord (codes "return") word

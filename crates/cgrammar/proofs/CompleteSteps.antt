@@ -1,27 +1,18 @@
 -- Steps that all proofs of completeness take: levels, tests, and what stands to the right of an operator.
-use Rattle.std.proofs.Common.{◌≡◌, ℕ, zero, suc, Bool, true, false, ◌≤◌, ◌⊎◌, inl, inr, nat_le, List, [], ◌∷◌, IsTrue, refl, ap, sym, ◌∙◌, arith}
-use Rattle.std.specs.Prelude.{if◌then◌else◌}
+use Rattle.std.proofs.Common.{◌≡◌, ℕ, zero, suc, Bool, true, false, ◌≤◌, ◌⊎◌, inl, inr, nat_le, List, [], ◌∷◌, IsTrue, refl, ap, arith}
 use Rattle.std.proofs.lemmas.Bool.{le-leb}
 use Rattle.cbase.specs.declared.tree.expr.Expr.{Expr}
 use Rattle.ctrees.specs.Levels.{expr_levels}
 use Rattle.cgrammar.proofs.CompleteReaches.{right_goes}
 use Rattle.cgrammar.proofs.Reached.{Reaches, Goes}
 use Rattle.cgrammar.proofs.TreeLevels.{levels_expr}
+use Rattle.cgrammar.proofs.Truth.{clash}
 use Rattle.cgrammar.specs.Outcomes.{Outcome, Nothing, Stopped, Read, with_right, continued, then_read, has_first}
 use Rattle.cgrammar.specs.Phrases.{Context}
 use Rattle.cgrammar.specs.Reader.{level}
 use Rattle.cgrammar.specs.Terminals.{Terminal}
 
-pub clash : (b : Bool) → b ≡ true → b ≡ false → ⊥
-clash b yes-it no-it = let wrong : true ≡ false = sym yes-it ∙ no-it in cc wrong
-
 -- tests
-pub if_true : {B : Type 0} (b : Bool) (x y : B) → b ≡ true → (if b then x else y) ≡ x
-if_true {B} b x y is = ap (λ (c : Bool). if c then x else y) is
-
-pub if_false : {B : Type 0} (b : Bool) (x y : B) → b ≡ false → (if b then x else y) ≡ y
-if_false {B} b x y is = ap (λ (c : Bool). if c then x else y) is
-
 pub first_more : (test other : Terminal → Bool) (row : List Terminal) → ((token : Terminal) → IsTrue (test token) → IsTrue (other token))
     → IsTrue (has_first test row) → IsTrue (has_first other row)
 first_more test other [] more is = is

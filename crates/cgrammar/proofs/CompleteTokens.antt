@@ -6,22 +6,14 @@ use Rattle.std.specs.Str.{bytes_eq}
 use Rattle.std.proofs.lemmas.Slice.Eq.{bytes_eq-Decides}
 use Rattle.cbase.specs.declared.place.Place.{Place}
 use Rattle.cbase.specs.declared.tree.operators.BinaryOp.{BinaryOp}
-use Rattle.ctokens.specs.declared.token.TokenKind.{TokenKind}
-use Rattle.ctokens.specs.declared.token.TokenKind.TheVariants.{Word, Number, Letter, Quoted, Mark}
+use Rattle.ctokens.specs.declared.token.TokenKind.TheVariants.{Mark}
 use Rattle.cgrammar.proofs.Reached.{goes_on_operand, goes_on_conditional, goes_on_assignment, goes_on_expression, goes_on_list, goes_on_path}
-use Rattle.cgrammar.proofs.TokenKinds.{mark_bytes, mark_is_mark_kind, row_is_mark_kind}
-use Rattle.cgrammar.proofs.Truth.{and-left, and-right}
+use Rattle.cgrammar.proofs.TokenKinds.{mark_bytes, mark_is_mark_kind, row_is_mark_kind, mark_kind_is}
+use Rattle.cgrammar.proofs.Truth.{and-left, and-right, not-true}
 use Rattle.cgrammar.specs.Operators.{row_of, mark_row, binary_rows, assignment_rows, member_rows, count_rows, IsBinary, IsAssignment, IsMember, IsCount}
 use Rattle.cgrammar.specs.ReadStarts.{postfix_start, member_start, count_start}
 use Rattle.cgrammar.specs.Terminals.{Terminal, is_mark_kind, is_mark, IsMark}
 use Rattle.cgrammar.specs.declared.reading.starts.PostfixStart.TheVariants as postfix
-
-kind_is_mark : (kind : TokenKind) → is_mark_kind kind ≡ true → kind ≡ Mark
-kind_is_mark Word is = cc is
-kind_is_mark Number is = cc is
-kind_is_mark Letter is = cc is
-kind_is_mark Quoted is = cc is
-kind_is_mark Mark is = refl
 
 -- the mark with these bytes, at a place
 abbrev pub mark_at : List ℕ → Place → Terminal
@@ -29,7 +21,7 @@ mark_at bytes place = record { kind = Mark; bytes = bytes; place = place }
 
 spelled : (bytes : List ℕ) (token : Terminal) → is_mark_kind token.kind ≡ true → token.bytes ≡ bytes → mark_at bytes token.place ≡ token
 spelled bytes token kind same =
-    let p : Mark ≡ token.kind = sym (kind_is_mark token.kind kind) in
+    let p : Mark ≡ token.kind = sym (mark_kind_is token.kind kind) in
     let q : bytes ≡ token.bytes = sym same in
     λ i. record { kind = p i; bytes = q i; place = token.place }
 
@@ -57,13 +49,9 @@ row_test test rows token answer is all =
     let here : token.bytes ≡ token.bytes = refl in
     ap test (sym (spelled token.bytes token kind here)) ∙ row_all (λ bytes. test (mark_at bytes token.place)) rows token.bytes answer (all token.place) found
 
-pub not_true : (b : Bool) → not b ≡ true → b ≡ false
-not_true true is = sym is
-not_true false is = refl
-
 pub row_fails : {A : Type 0} (test : Terminal → Bool) (rows : List (List ℕ × A)) (token : Terminal) (answer : A) → mark_row rows token ≡ Some answer
     → ((place : Place) → list_all (λ row. not (test (mark_at row.0 place))) rows ≡ true) → test token ≡ false
-row_fails test rows token answer is all = not_true (test token) (row_test (λ t. not (test t)) rows token answer is all)
+row_fails test rows token answer is all = not-true (test token) (row_test (λ t. not (test t)) rows token answer is all)
 
 -- operators of the tables
 pub binary_no_operand : (level : ℕ) (op : BinaryOp) (token : Terminal) → IsBinary level op token → goes_on_operand token ≡ false

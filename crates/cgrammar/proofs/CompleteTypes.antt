@@ -14,16 +14,16 @@ use Rattle.ctokens.specs.SymbolTables.{keyword_symbol, name_symbol, passed_symbo
 use Rattle.ctrees.specs.Weight.{joined}
 use Rattle.ctrees.specs.Levels.{depth, enumerator_levels, field_decl_levels, field_name_levels}
 use Rattle.cgrammar.proofs.BasicRows.{basic_covered}
-use Rattle.cgrammar.proofs.CompletingOutcomes.{go_true, go_false, go_read, go_past, go_prepended, is_not, not_is, no_truth, never_true, ends_first, ends_less, or_false_left, or_false_right, list_of_one, list_of_more, braces_of_none, braces_of_more, row_of_two, row_of_three, shorter_behind}
-use Rattle.cgrammar.proofs.CompletingTokens.{by_mark, by_word, name_no_basic_word, name_no_type, begins_apart, operand_row_no_mark, stars_front, behind_stars_front, stars_first, begins_declarator, stars_and_name, declarator_apart}
+use Rattle.cgrammar.proofs.CompletingOutcomes.{go_true, go_false, go_read, go_past, go_prepended, not_is, ends_first, ends_less, list_of_one, list_of_more, braces_of_none, braces_of_more, row_of_two, row_of_three, shorter_behind}
+use Rattle.cgrammar.proofs.CompletingTokens.{by_mark, by_word, name_no_basic_word, name_no_type, begins_apart, operand_row_no_mark, stars_front, behind_stars_front, stars_first, begins_declarator, stars_and_name, declarator_apart, begins_later}
 use Rattle.cgrammar.proofs.CompletingParts.{read_levels, ends_known, expression_read, conditional_read, not_type_row, type_row, type_row_no_mark, sizes_first, fewer}
-use Rattle.cgrammar.proofs.Firsts.{first, begins-append}
+use Rattle.cgrammar.proofs.Firsts.{first, begins-append, no-basic}
 use Rattle.cgrammar.proofs.Fronts.{take_front, drop_front}
 use Rattle.cgrammar.proofs.Reached.{Completes, Ends, ClosesList, goes_on_conditional, goes_on_expression, goes_on_type, goes_on_sizes, goes_on_type_name, goes_on_field, goes_on_list, goes_on_enumerator}
 use Rattle.cgrammar.proofs.Starting.{starts}
 use Rattle.cgrammar.proofs.TokenKinds.{name_is_no_mark, other_mark, mark_is_no_name}
 use Rattle.cgrammar.proofs.TreeLevels.{levels_basic, levels_named, levels_struct_by_tag, levels_struct, levels_enum_by_tag, levels_enum, levels_of_expr, levels_of_type, levels_type_name, levels_fields, levels_field, levels_bits, levels_unnamed_bits, levels_enumerator, levels_valued_enumerator, joined_one}
-use Rattle.cgrammar.proofs.Truth.{and-left, or-cases, or-left, or-right}
+use Rattle.cgrammar.proofs.Truth.{and-left, or-cases, or-left, or-right, not-true, clash, false-of, or-false-left, or-false-right}
 use Rattle.cgrammar.specs.FrontReadings.{is_basic_word}
 use Rattle.cgrammar.specs.Firsts.{begins_type, Begins}
 use Rattle.cgrammar.specs.Grammar.{Spells, IsTag, IsMaybeComma, declaring, OneFieldDeclaration, OneField, MoreFieldNames, NamedField, NamedBits, UnnamedBits, LastEnumerator, MoreEnumerators, PlainEnumerator, ValuedEnumerator}
@@ -59,7 +59,7 @@ typedef_start scopes name is = go_true _ is refl
 basic_start : (scopes : List Names) (token : Terminal) → is_basic_word token ≡ true → type_start scopes token ≡ start.Basic
 unfolding type_start
 basic_start scopes token is =
-    go_false _ (never_true (is_typedef scopes token) (λ named. no_truth (is_basic_word token) is (name_no_basic_word token (and-left (is_name token) _ named)))) (go_true _ is refl)
+    go_false _ (false-of (is_typedef scopes token) (λ named. clash (is_basic_word token) is (name_no_basic_word token (and-left (is_name token) _ named)))) (go_true _ is refl)
 
 pub complete_typedef_name : (before : Context) (name : Terminal)
     → IsTypedef before.scope name
@@ -135,18 +135,15 @@ basic_read before row rest type counted is =
     ∙ (ap (λ (r : List Terminal). of_basic (basic_of basic_rows (map bytes_of row)) before r) (drop_front row rest)
     ∙ ap (λ (o : Option BasicType). of_basic o before rest) is))
 
-none_basic : (type : BasicType) → basic_of basic_rows [] ≡ Some type → ⊥
-none_basic type is = cc is
-
 pub complete_basic_words : (before : Context) (type : BasicType) (row : List Terminal)
     → IsBasic row type
     → Completes (TypeSpecifier (Basic type)) before row before
 unfolding read_specifier
 complete_basic_words before type row p1 zero rest small ends = absurd (omega (arith, small, levels_basic type))
-complete_basic_words before type [] p1 (suc m) rest small ends = absurd (none_basic type p1.1)
+complete_basic_words before type [] p1 (suc m) rest small ends = absurd (no-basic type p1.1)
 complete_basic_words before type (token ∷ row) p1 (suc m) rest small ends =
     let all = all_basic (token ∷ row) type p1 in
-    let none = ends_first is_basic_word rest (ends_less goes_on_type is_basic_word rest (λ t off. or_false_left (is_basic_word t) (is_mark (codes "{") t) off) ends) in
+    let none = ends_first is_basic_word rest (ends_less goes_on_type is_basic_word rest (λ t off. or-false-left (is_basic_word t) (is_mark (codes "{") t) off) ends) in
     ap (λ s. specifier_with (level m) before token (row ++ rest) s) (basic_start before.scope token (first_basic token row all))
     ∙ (basic_read before (token ∷ row) rest type (prefix_all is_basic_word (token ∷ row) rest all none) p1.1 ∙ read_levels _ before rest (sym (levels_basic type)))
 
@@ -182,7 +179,7 @@ unfolding read_enum
 by_tag_enum inner before tag rest named none = rw named (go_false _ none refl)
 
 no_brace : (rest : List Terminal) → Ends goes_on_type rest → has_mark (codes "{") rest ≡ false
-no_brace rest ends = ends_first (is_mark (codes "{")) rest (ends_less goes_on_type (is_mark (codes "{")) rest (λ t off. or_false_right (is_basic_word t) (is_mark (codes "{") t) off) ends)
+no_brace rest ends = ends_first (is_mark (codes "{")) rest (ends_less goes_on_type (is_mark (codes "{")) rest (λ t off. or-false-right (is_basic_word t) (is_mark (codes "{") t) off) ends)
 
 pub complete_struct_by_tag : (before : Context) (word tag : Terminal)
     → IsWord (codes "struct") word
@@ -292,13 +289,9 @@ complete_more_fields before middle after xs ys decl others d1 d2 c1 c2 n (suc co
 abbrev begins_field : Terminal → Bool
 begins_field token = is_mark (codes ":") token || begins_declarator token
 
-later : (test other : Terminal → Bool) → ((token : Terminal) → test token ≡ true → other token ≡ true) → (xs : List Terminal) → Begins test xs → Begins other xs
-later test other each [] begins = begins
-later test other each (token ∷ xs) begins = each token begins
-
 field_name_begins : (name : FieldName) (before after : Context) (xs : List Terminal) → Spells (FieldDeclarator name) before xs after → Begins begins_field xs
-field_name_begins name before after xs (NamedField {xs = ws} stars token are is sizes all) = later begins_declarator begins_field (λ t on. or-right (is_mark (codes ":") t) on) (stars ++ (token ∷ ws)) (stars_and_name stars token ws are is)
-field_name_begins name before after xs (NamedBits {xs = ws} {ys} stars token colon are is sizes all mark bits) = later begins_declarator begins_field (λ t on. or-right (is_mark (codes ":") t) on) (stars ++ (token ∷ (ws ++ (colon ∷ ys)))) (stars_and_name stars token (ws ++ (colon ∷ ys)) are is)
+field_name_begins name before after xs (NamedField {xs = ws} stars token are is sizes all) = begins_later begins_declarator begins_field (λ t on. or-right (is_mark (codes ":") t) on) (stars ++ (token ∷ ws)) (stars_and_name stars token ws are is)
+field_name_begins name before after xs (NamedBits {xs = ws} {ys} stars token colon are is sizes all mark bits) = begins_later begins_declarator begins_field (λ t on. or-right (is_mark (codes ":") t) on) (stars ++ (token ∷ (ws ++ (colon ∷ ys)))) (stars_and_name stars token (ws ++ (colon ∷ ys)) are is)
 field_name_begins name before after xs (UnnamedBits colon mark bits) = or-left (begins_declarator colon) mark
 
 field_names_begin : (names : List FieldName) (before after : Context) (xs : List Terminal) → Spells (FieldDeclarators names) before xs after → Begins begins_field xs
@@ -333,8 +326,8 @@ pub complete_one_field : (before after : Context) (xs : List Terminal) (name : F
     → Completes (FieldDeclarators (name ∷ [])) before xs after
 complete_one_field before after xs name d1 c1 n count rest enough small ends =
     list_of_one never (read_field (level n)) count before (xs ++ rest) name (field_name_levels name) after rest enough
-    (c1 n rest (omega (arith, small)) (ends_less (goes_on_list goes_on_field) goes_on_field rest (λ t off. or_false_left (goes_on_field t) (is_mark (codes ",") t) off) ends))
-    (ap (λ (b : Bool). b && true) (ends_first (is_mark (codes ",")) rest (ends_less (goes_on_list goes_on_field) (is_mark (codes ",")) rest (λ t off. or_false_right (goes_on_field t) (is_mark (codes ",") t) off) ends)))
+    (c1 n rest (omega (arith, small)) (ends_less (goes_on_list goes_on_field) goes_on_field rest (λ t off. or-false-left (goes_on_field t) (is_mark (codes ",") t) off) ends))
+    (ap (λ (b : Bool). b && true) (ends_first (is_mark (codes ",")) rest (ends_less (goes_on_list goes_on_field) (is_mark (codes ",")) rest (λ t off. or-false-right (goes_on_field t) (is_mark (codes ",") t) off) ends)))
     ∙ read_levels (name ∷ []) after rest (sym (joined_one (field_name_levels name)))
 
 pub complete_more_field_names : (before middle after : Context) (xs ys : List Terminal) (name : FieldName) (others : List FieldName) (comma : Terminal)
@@ -353,13 +346,13 @@ complete_more_field_names before middle after xs ys name others comma d1 p1 d2 c
     (c1 n (comma ∷ (ys ++ rest)) (omega (arith, small)) (ends_known goes_on_field (codes ",") comma (ys ++ rest) p1 refl)) p1 refl (c2 n count rest less (omega (arith, small)) ends)
 
 sizes_end : (rest : List Terminal) → Ends goes_on_field rest → Ends goes_on_sizes rest
-sizes_end rest ends = ends_less goes_on_field goes_on_sizes rest (λ t off. or_false_left (goes_on_sizes t) (is_mark (codes ":") t || goes_on_conditional t) off) ends
+sizes_end rest ends = ends_less goes_on_field goes_on_sizes rest (λ t off. or-false-left (goes_on_sizes t) (is_mark (codes ":") t || goes_on_conditional t) off) ends
 
 field_colon : (rest : List Terminal) → Ends goes_on_field rest → has_first (is_mark (codes ":")) rest ≡ false
-field_colon rest ends = ends_first (is_mark (codes ":")) rest (ends_less goes_on_field (is_mark (codes ":")) rest (λ t off. or_false_left (is_mark (codes ":") t) (goes_on_conditional t) (or_false_right (goes_on_sizes t) (is_mark (codes ":") t || goes_on_conditional t) off)) ends)
+field_colon rest ends = ends_first (is_mark (codes ":")) rest (ends_less goes_on_field (is_mark (codes ":")) rest (λ t off. or-false-left (is_mark (codes ":") t) (goes_on_conditional t) (or-false-right (goes_on_sizes t) (is_mark (codes ":") t || goes_on_conditional t) off)) ends)
 
 field_conditional : (rest : List Terminal) → Ends goes_on_field rest → Ends goes_on_conditional rest
-field_conditional rest ends = ends_less goes_on_field goes_on_conditional rest (λ t off. or_false_right (is_mark (codes ":") t) (goes_on_conditional t) (or_false_right (goes_on_sizes t) (is_mark (codes ":") t || goes_on_conditional t) off)) ends
+field_conditional rest ends = ends_less goes_on_field goes_on_conditional rest (λ t off. or-false-right (is_mark (codes ":") t) (goes_on_conditional t) (or-false-right (goes_on_sizes t) (is_mark (codes ":") t || goes_on_conditional t) off)) ends
 
 -- the front of a field with a name
 field_front : (inner : Level) (before : Context) (stars : List Terminal) (name : Terminal) (others : List Terminal) (result : Outcome FieldName) → AreStars stars → IsName name
@@ -421,7 +414,7 @@ pub complete_last_enumerator : (before after : Context) (xs : List Terminal) (va
     → Completes (OneEnumerator value) before xs after
     → Completes (Enumerators (value ∷ [])) before xs after
 complete_last_enumerator before after xs value d1 c1 n count rest enough small ends closes =
-    list_of_one closes_braces (read_enumerator (level n)) count before (xs ++ rest) value (enumerator_levels value) after rest enough (c1 n rest (omega (arith, small)) ends) (is_not _ closes)
+    list_of_one closes_braces (read_enumerator (level n)) count before (xs ++ rest) value (enumerator_levels value) after rest enough (c1 n rest (omega (arith, small)) ends) (not-true _ closes)
     ∙ read_levels (value ∷ []) after rest (sym (joined_one (enumerator_levels value)))
 
 enumerator_begins : (value : Enumerator) (before after : Context) (xs : List Terminal) → Spells (OneEnumerator value) before xs after → Begins is_name xs
@@ -453,7 +446,7 @@ pub complete_plain_enumerator : (before : Context) (name : Terminal)
     → Completes (OneEnumerator (enumerator name None)) before (name ∷ []) (declaring before name.bytes false)
 unfolding read_enumerator
 complete_plain_enumerator before name p1 n rest small ends =
-    go_true _ p1 (go_past (is_mark (codes "=")) rest _ _ (ends_first (is_mark (codes "=")) rest (ends_less goes_on_enumerator (is_mark (codes "=")) rest (λ t off. or_false_left (is_mark (codes "=") t) (goes_on_conditional t) off) ends))
+    go_true _ p1 (go_past (is_mark (codes "=")) rest _ _ (ends_first (is_mark (codes "=")) rest (ends_less goes_on_enumerator (is_mark (codes "=")) rest (λ t off. or-false-left (is_mark (codes "=") t) (goes_on_conditional t) off) ends))
     ∙ read_levels _ (declaring before name.bytes false) rest (sym (levels_enumerator name)))
 
 pub complete_valued_enumerator : (before after : Context) (xs : List Terminal) (value : Expr) (name mark : Terminal)
@@ -465,7 +458,7 @@ pub complete_valued_enumerator : (before after : Context) (xs : List Terminal) (
 unfolding read_enumerator
 complete_valued_enumerator before after xs value name mark p1 p2 d1 c1 n rest small ends =
     let levels = levels_valued_enumerator name value in
-    go_true _ p1 (go_true _ p2 (go_read _ (conditional_read n before xs value after rest c1 (omega (arith, small, levels)) (ends_less goes_on_enumerator goes_on_conditional rest (λ t off. or_false_right (is_mark (codes "=") t) (goes_on_conditional t) off) ends))
+    go_true _ p1 (go_true _ p2 (go_read _ (conditional_read n before xs value after rest c1 (omega (arith, small, levels)) (ends_less goes_on_enumerator goes_on_conditional rest (λ t off. or-false-right (is_mark (codes "=") t) (goes_on_conditional t) off) ends))
     (read_levels _ (declaring after name.bytes false) rest (sym levels))))
 
 -- names of types
@@ -474,13 +467,13 @@ pub type_end : (stars : List Terminal) (sizes : List (Option Expr)) (before afte
 type_end stars sizes before after ys rest test are spelled star size off = not_is _ (stars_first test stars (ys ++ rest) star are (sizes_first test sizes before after ys rest spelled size off))
 
 name_type : (rest : List Terminal) → Ends goes_on_type_name rest → Ends goes_on_type rest
-name_type rest ends = ends_less goes_on_type_name goes_on_type rest (λ t off. or_false_left (goes_on_type t) (is_mark (codes "*") t || goes_on_sizes t) off) ends
+name_type rest ends = ends_less goes_on_type_name goes_on_type rest (λ t off. or-false-left (goes_on_type t) (is_mark (codes "*") t || goes_on_sizes t) off) ends
 
 name_star : (rest : List Terminal) → Ends goes_on_type_name rest → has_first (is_mark (codes "*")) rest ≡ false
-name_star rest ends = ends_first (is_mark (codes "*")) rest (ends_less goes_on_type_name (is_mark (codes "*")) rest (λ t off. or_false_left (is_mark (codes "*") t) (goes_on_sizes t) (or_false_right (goes_on_type t) (is_mark (codes "*") t || goes_on_sizes t) off)) ends)
+name_star rest ends = ends_first (is_mark (codes "*")) rest (ends_less goes_on_type_name (is_mark (codes "*")) rest (λ t off. or-false-left (is_mark (codes "*") t) (goes_on_sizes t) (or-false-right (goes_on_type t) (is_mark (codes "*") t || goes_on_sizes t) off)) ends)
 
 name_sizes : (rest : List Terminal) → Ends goes_on_type_name rest → Ends goes_on_sizes rest
-name_sizes rest ends = ends_less goes_on_type_name goes_on_sizes rest (λ t off. or_false_right (is_mark (codes "*") t) (goes_on_sizes t) (or_false_right (goes_on_type t) (is_mark (codes "*") t || goes_on_sizes t) off)) ends
+name_sizes rest ends = ends_less goes_on_type_name goes_on_sizes rest (λ t off. or-false-right (is_mark (codes "*") t) (goes_on_sizes t) (or-false-right (goes_on_type t) (is_mark (codes "*") t || goes_on_sizes t) off)) ends
 
 pub complete_one_type_name : (before middle after : Context) (xs ys : List Terminal) (type : TypeSpec) (sizes : List (Option Expr)) (stars : List Terminal)
     → Spells (TypeSpecifier type) before xs middle

@@ -8,7 +8,9 @@ use Rattle.cbase.specs.declared.tree.expr.ExprForm.TheVariants.{Name, Constant, 
 use Rattle.cbase.specs.declared.tree.expr.Part.TheVariants.{Member as NamedPart}
 use Rattle.cbase.specs.declared.tree.decl.TypeName.{TypeName}
 use Rattle.cbase.specs.declared.tree.operators.UnaryOp.{UnaryOp}
-use Rattle.cgrammar.proofs.CompleteSteps.{clash, if_true, if_false}
+use Rattle.ctokens.proofs.Choices.{chosen_yes, chosen_no}
+use Rattle.ctokens.proofs.Choices.{false_and}
+use Rattle.cgrammar.proofs.Truth.{clash}
 use Rattle.cgrammar.specs.FrontOf.{front_of}
 use Rattle.cgrammar.specs.Firsts.{begins_type}
 use Rattle.cgrammar.specs.Operators.{mark_row, unary_rows, count_rows}
@@ -34,13 +36,9 @@ is_cast_row context [] = false
 is_cast_row context (first ∷ []) = is_mark (codes "(") first
 is_cast_row context (first ∷ (second ∷ row)) = is_mark (codes "(") first && begins_type context.scope second
 
-no_and : (a : Bool) → (a && false) ≡ false
-no_and true = refl
-no_and false = refl
-
 pub no_type_in_brackets : (context : Context) (row : List Terminal) → is_cast_row context row ≡ false → begins_type_in_brackets context row ≡ false
 no_type_in_brackets context [] is = is
-no_type_in_brackets context (first ∷ []) is = no_and (is_mark (codes "(") first)
+no_type_in_brackets context (first ∷ []) is = false_and (is_mark (codes "(") first) false refl
 no_type_in_brackets context (first ∷ (second ∷ row)) is = is
 
 -- what was read is a unary expression
@@ -51,8 +49,8 @@ AllUnary (Read operand levels behind rest) = IsTrue operand.unary
 
 alone_of_unary : (outcome : Outcome Operand) → AllUnary outcome → unary_alone outcome ≡ outcome
 alone_of_unary Nothing is = refl
-alone_of_unary (Stopped operand expressions rest) is = if_true operand.unary (Stopped operand expressions rest) Nothing is
-alone_of_unary (Read operand levels behind rest) is = if_true operand.unary (Read operand levels behind rest) Nothing is
+alone_of_unary (Stopped operand expressions rest) is = chosen_yes operand.unary (Stopped operand expressions rest) Nothing is
+alone_of_unary (Read operand levels behind rest) is = chosen_yes operand.unary (Read operand levels behind rest) Nothing is
 
 then_unary : {A : Type 0} (outcome : Outcome A) (go : A → ℕ → Context → List Terminal → Outcome Operand)
     → ((tree : A) (levels : ℕ) (behind : Context) (rest : List Terminal) → AllUnary (go tree levels behind rest)) → AllUnary (then_read outcome go)
@@ -204,7 +202,7 @@ unfolding is_bracket_start operand_start
 no_bracket_start token is =
     chosen_start (is_name token) operand.Name _ refl
     (chosen_start (is_constant token) operand.Constant _ refl
-    (ap is_bracket_start (if_false (is_mark (codes "(") token) operand.Bracket _ is)
+    (ap is_bracket_start (chosen_no (is_mark (codes "(") token) operand.Bracket _ is)
     ∙ chosen_start (is_word (codes "sizeof") token) operand.SizeOf _ refl
     (chosen_start (is_word (codes "__builtin_offsetof") token) operand.OffsetOf _ refl
     (chosen_start (is_word (codes "__assert_fail") token) operand.AssertFail _ refl

@@ -1,9 +1,9 @@
 -- What a reader gives where the outcome of what it calls, or the test that it makes, is known.
-use Rattle.std.proofs.Common.{◌≡◌, ℕ, zero, suc, ◌<◌, Bool, true, false, ◌&&◌, ◌||◌, not, refl, ap, sym, ◌∙◌, List, [], ◌∷◌, ◌++◌, length, codes, cond, IsTrue, inl, inr, arith, append_assoc}
+use Rattle.std.proofs.Common.{◌≡◌, ℕ, zero, suc, ◌<◌, Bool, true, false, ◌&&◌, ◌||◌, not, refl, ap, ◌∙◌, List, [], ◌∷◌, ◌++◌, length, codes, cond, IsTrue, inl, inr, arith, append_assoc}
 use Rattle.std.specs.Prelude.{max}
 use Rattle.std.proofs.lemmas.List.{length-append}
 use Rattle.cgrammar.proofs.Reached.{Goes, Ends}
-use Rattle.cgrammar.proofs.Truth.{and-both}
+use Rattle.cgrammar.proofs.Truth.{and-both, clash, not-true}
 use Rattle.cgrammar.specs.Outcomes.{Outcome, Read, Reader, then_read, has_first, after_first, has_mark, behind_first}
 use Rattle.cgrammar.specs.Phrases.{Context}
 use Rattle.cgrammar.specs.ReadLevels.{prepended, read_list, read_until_brace}
@@ -29,10 +29,6 @@ pub go_prepended : {A : Type 0} {others : ℕ} {outcome : Outcome (List A)} {tre
 go_prepended tree levels is more = ap (λ o. prepended tree levels o) is ∙ more
 
 -- truth values
-pub is_not : (b : Bool) → IsTrue (not b) → b ≡ false
-is_not true is = sym is
-is_not false is = refl
-
 pub not_is : (b : Bool) → b ≡ false → IsTrue (not b)
 not_is b is = ap not is
 
@@ -44,19 +40,9 @@ pub neither_right : (a b : Bool) → IsTrue (not (a || b)) → IsTrue (not b)
 neither_right true b is = absurd (let wrong : false ≡ true = is in cc wrong)
 neither_right false b is = is
 
-pub neither : (a b : Bool) → a ≡ false → b ≡ false → (a || b) ≡ false
-neither a b p q = ap (λ (x : Bool). x || b) p ∙ q
-
-pub no_truth : (b : Bool) → b ≡ true → b ≡ false → ⊥
-no_truth b yes-it no-it = let wrong : true ≡ false = sym yes-it ∙ no-it in cc wrong
-
-pub never_true : (b : Bool) → (b ≡ true → ⊥) → b ≡ false
-never_true true no-it = absurd (no-it refl)
-never_true false no-it = refl
-
 -- a row that ends what was read
 pub ends_first : (test : Terminal → Bool) (rest : List Terminal) → Ends test rest → has_first test rest ≡ false
-ends_first test rest is = is_not (has_first test rest) is
+ends_first test rest is = not-true (has_first test rest) is
 
 pub ends_by : (test : Terminal → Bool) (rest : List Terminal) → has_first test rest ≡ false → Ends test rest
 ends_by test rest is = not_is (has_first test rest) is
@@ -64,21 +50,13 @@ ends_by test rest is = not_is (has_first test rest) is
 -- it ends what less goes on with
 pub ends_less : (test less : Terminal → Bool) (rest : List Terminal) → ((token : Terminal) → test token ≡ false → less token ≡ false) → Ends test rest → Ends less rest
 ends_less test less [] each is = refl
-ends_less test less (first ∷ rest) each is = not_is (less first) (each first (is_not (test first) is))
-
-pub or_false_left : (a b : Bool) → (a || b) ≡ false → a ≡ false
-or_false_left true b is = is
-or_false_left false b is = refl
-
-pub or_false_right : (a b : Bool) → (a || b) ≡ false → b ≡ false
-or_false_right true b is = cc is
-or_false_right false b is = is
+ends_less test less (first ∷ rest) each is = not_is (less first) (each first (not-true (test first) is))
 
 -- where nothing goes on, exactly the tree is read
 pub exactly : {A : Type 0} (test : Terminal → Bool) (tree : A) (levels : ℕ) (after : Context) (rest : List Terminal) (outcome : Outcome A)
     → Goes test tree levels after rest outcome → Ends test rest → outcome ≡ Read tree levels after rest
 exactly test tree levels after rest outcome (inl is) ends = is
-exactly test tree levels after rest outcome (inr goes) ends = absurd (no_truth (has_first test rest) goes.0 (ends_first test rest ends))
+exactly test tree levels after rest outcome (inr goes) ends = absurd (clash (has_first test rest) goes.0 (ends_first test rest ends))
 
 -- lists: one item, one item and a comma, items up to a brace
 pub list_of_one : {A : Type 0} (closes : List Terminal → Bool) (item : Reader A) (count : ℕ) (before : Context) (row : List Terminal) (tree : A) (levels : ℕ) (after : Context) (rest : List Terminal)

@@ -8,10 +8,11 @@ use Rattle.ctokens.specs.declared.token.TokenKind.TheVariants.{Mark}
 use Rattle.ctokens.specs.Symbol.{is_identifier}
 use Rattle.ctokens.specs.SymbolTables.{word_symbol}
 use Rattle.ctrees.specs.Levels.{expr_levels}
-use Rattle.cgrammar.proofs.CompletingOutcomes.{is_not, not_is, exactly}
+use Rattle.cgrammar.proofs.CompletingOutcomes.{not_is, exactly}
 use Rattle.cgrammar.proofs.Reached.{Completes, Ends, goes_on_conditional, goes_on_assignment, goes_on_expression}
 use Rattle.cgrammar.proofs.TokenKinds.{word_kind_no_mark}
 use Rattle.cgrammar.proofs.CompletingTokens.{mark_is}
+use Rattle.cgrammar.proofs.Truth.{not-true}
 use Rattle.cgrammar.specs.Firsts.{Begins, begins_type, begins_declaration, is_plain, is_among, type_words, storage_words}
 use Rattle.cgrammar.specs.Grammar.{Spells, NoMoreSizes, SizeLeftOut, SizeGiven}
 use Rattle.cgrammar.specs.Outcomes.{Read, has_first}
@@ -48,12 +49,12 @@ conditional_read n before xs expr after rest completes small ends = exactly goes
 plain_no_type : (storage type typedef : Bool) → not (storage || type) ≡ true → not typedef ≡ true → (type || typedef) ≡ false
 plain_no_type true type typedef is no-typedef = absurd (let wrong : false ≡ true = is in cc wrong)
 plain_no_type false true typedef is no-typedef = absurd (let wrong : false ≡ true = is in cc wrong)
-plain_no_type false false typedef is no-typedef = is_not typedef no-typedef
+plain_no_type false false typedef is no-typedef = not-true typedef no-typedef
 
 plain_no_declaration : (storage type typedef : Bool) → not (storage || type) ≡ true → not typedef ≡ true → (storage || (type || typedef)) ≡ false
 plain_no_declaration true type typedef is no-typedef = absurd (let wrong : false ≡ true = is in cc wrong)
 plain_no_declaration false true typedef is no-typedef = absurd (let wrong : false ≡ true = is in cc wrong)
-plain_no_declaration false false typedef is no-typedef = is_not typedef no-typedef
+plain_no_declaration false false typedef is no-typedef = not-true typedef no-typedef
 
 pub not_type_row : (scopes : List Names) (xs rest : List Terminal) → Begins is_plain xs → IsNoType scopes xs → has_first (begins_type scopes) (xs ++ rest) ≡ false
 not_type_row scopes [] rest begins none = absurd begins

@@ -2,43 +2,28 @@
 use Rattle.std.proofs.Common.{◌≡◌, ℕ, Bool, true, false, ◌&&◌, ◌||◌, not, refl, ap, sym, ◌∙◌, List, [], ◌∷◌, ◌++◌, length, drop, codes, ◌⊎◌, inl, inr}
 use Rattle.std.specs.List.{list_any, list_all}
 use Rattle.std.specs.Str.{bytes_eq}
-use Rattle.ctokens.specs.declared.token.TokenKind.{TokenKind}
-use Rattle.ctokens.specs.declared.token.TokenKind.TheVariants.{Word, Number, Letter, Quoted, Mark}
+use Rattle.ctokens.specs.declared.token.TokenKind.TheVariants.{Word, Mark}
 use Rattle.ctokens.specs.Symbol.{is_identifier}
 use Rattle.ctokens.specs.SymbolTables.{keyword_symbol, name_symbol, passed_symbol, word_symbol}
-use Rattle.cgrammar.proofs.CompletingOutcomes.{never_true, neither}
+use Rattle.ctokens.proofs.Choices.{false_or}
 use Rattle.cgrammar.proofs.Fronts.{stars_before, stars_before_nothing, drop_front}
 use Rattle.cgrammar.proofs.Reached.{goes_on_type, goes_on_specifiers, is_storage}
 use Rattle.cgrammar.proofs.Starting.{operand_not_mark}
-use Rattle.cgrammar.proofs.TokenKinds.{mark_is_mark_kind, word_is_word_kind, mark_bytes, word_bytes, name_is_no_mark, name_is_no_word}
-use Rattle.cgrammar.proofs.Truth.{and-left, and-right, or-cases, of-any, or-left, or-right}
+use Rattle.cgrammar.proofs.TokenKinds.{mark_is_mark_kind, word_is_word_kind, mark_bytes, word_bytes, name_is_no_mark, name_is_no_word, mark_kind_is, word_kind_is, no_identifier}
+use Rattle.cgrammar.proofs.Truth.{and-left, and-right, or-cases, of-any, or-left, or-right, false-of}
 use Rattle.cgrammar.specs.FrontReadings.{basic_words, is_basic_word}
 use Rattle.cgrammar.specs.Firsts.{is_among, Begins}
 use Rattle.cgrammar.specs.Outcomes.{has_first}
 use Rattle.cgrammar.specs.ReadTypes.{star_count, behind_stars}
 use Rattle.cgrammar.specs.Starts.{begins_operand, operand_marks}
-use Rattle.cgrammar.specs.Terminals.{Terminal, is_word_kind, is_mark_kind, is_word, IsWord, is_mark, IsMark, is_name, IsName, is_left_out, are_stars, AreStars}
-
-kind_mark : (kind : TokenKind) → is_mark_kind kind ≡ true → kind ≡ Mark
-kind_mark Word is = cc is
-kind_mark Number is = cc is
-kind_mark Letter is = cc is
-kind_mark Quoted is = cc is
-kind_mark Mark is = refl
-
-kind_word : (kind : TokenKind) → is_word_kind kind ≡ true → kind ≡ Word
-kind_word Word is = refl
-kind_word Number is = cc is
-kind_word Letter is = cc is
-kind_word Quoted is = cc is
-kind_word Mark is = cc is
+use Rattle.cgrammar.specs.Terminals.{Terminal, is_word_kind, is_word, IsWord, is_mark, IsMark, is_name, IsName, is_left_out, are_stars, AreStars}
 
 -- a token is known by its spelling
 pub mark_is : (bytes : List ℕ) (token : Terminal) → IsMark bytes token → ◌≡◌ {A = Terminal} token (record { kind = Mark; bytes = bytes; place = token.place })
-mark_is bytes token is = λ i. record { kind = kind_mark token.kind (mark_is_mark_kind bytes token is) i; bytes = mark_bytes bytes token is i; place = token.place }
+mark_is bytes token is = λ i. record { kind = mark_kind_is token.kind (mark_is_mark_kind bytes token is) i; bytes = mark_bytes bytes token is i; place = token.place }
 
 pub word_is : (bytes : List ℕ) (token : Terminal) → IsWord bytes token → ◌≡◌ {A = Terminal} token (record { kind = Word; bytes = bytes; place = token.place })
-word_is bytes token is = λ i. record { kind = kind_word token.kind (word_is_word_kind bytes token is) i; bytes = word_bytes bytes token is i; place = token.place }
+word_is bytes token is = λ i. record { kind = word_kind_is token.kind (word_is_word_kind bytes token is) i; bytes = word_bytes bytes token is i; place = token.place }
 
 pub by_mark : {A : Type 0} {answer : A} (f : Terminal → A) (bytes : List ℕ) (token : Terminal) → IsMark bytes token → f (record { kind = Mark; bytes = bytes; place = token.place }) ≡ answer → f token ≡ answer
 by_mark f bytes token is more = ap f (mark_is bytes token is) ∙ more
@@ -46,14 +31,16 @@ by_mark f bytes token is more = ap f (mark_is bytes token is) ∙ more
 pub by_word : {A : Type 0} {answer : A} (f : Terminal → A) (bytes : List ℕ) (token : Terminal) → IsWord bytes token → f (record { kind = Word; bytes = bytes; place = token.place }) ≡ answer → f token ≡ answer
 by_word f bytes token is more = ap f (word_is bytes token is) ∙ more
 
--- a name is no keyword of a type or of a storage class
-no_identifier : List ℕ → Bool
-no_identifier bytes = not (is_identifier (word_symbol bytes))
+-- a row that begins with one kind of token begins with one of a wider kind
+pub begins_later : (test other : Terminal → Bool) → ((token : Terminal) → test token ≡ true → other token ≡ true) → (xs : List Terminal) → Begins test xs → Begins other xs
+begins_later test other each [] begins = begins
+begins_later test other each (token ∷ xs) begins = each token begins
 
+-- a name is no keyword of a type or of a storage class
 name_among : (words : List (List ℕ)) (token : Terminal) → list_all no_identifier words ≡ true → is_name token ≡ true → is_among words token ≡ false
 unfolding no_identifier
 name_among words token all is =
-    never_true (is_among words token) (λ among.
+    false-of (is_among words token) (λ among.
     let any = and-right (is_word_kind token.kind) (list_any (bytes_eq token.bytes) words) among in
     let identifier = and-left (is_identifier (word_symbol token.bytes)) (not (is_left_out token.bytes)) (and-right (is_word_kind token.kind) (is_identifier (word_symbol token.bytes) && not (is_left_out token.bytes)) is) in
     let none : not true ≡ true = sym (ap not identifier) ∙ of-any no_identifier words token.bytes all any in
@@ -65,14 +52,14 @@ name_no_basic_word token is = name_among basic_words token refl is
 
 pub name_no_storage : (token : Terminal) → is_name token ≡ true → is_storage token ≡ false
 name_no_storage token is =
-    neither (is_word (codes "typedef") token) (is_word (codes "extern") token || is_word (codes "static") token) (name_is_no_word (codes "typedef") token refl is)
-    (neither (is_word (codes "extern") token) (is_word (codes "static") token) (name_is_no_word (codes "extern") token refl is) (name_is_no_word (codes "static") token refl is))
+    false_or (is_word (codes "typedef") token) (is_word (codes "extern") token || is_word (codes "static") token) (name_is_no_word (codes "typedef") token refl is)
+    (false_or (is_word (codes "extern") token) (is_word (codes "static") token) (name_is_no_word (codes "extern") token refl is) (name_is_no_word (codes "static") token refl is))
 
 pub name_no_type : (token : Terminal) → is_name token ≡ true → goes_on_type token ≡ false
-name_no_type token is = neither (is_basic_word token) (is_mark (codes "{") token) (name_no_basic_word token is) (name_is_no_mark (codes "{") token is)
+name_no_type token is = false_or (is_basic_word token) (is_mark (codes "{") token) (name_no_basic_word token is) (name_is_no_mark (codes "{") token is)
 
 pub name_no_specifiers : (token : Terminal) → is_name token ≡ true → goes_on_specifiers token ≡ false
-name_no_specifiers token is = neither (goes_on_type token) (is_storage token) (name_no_type token is) (name_no_storage token is)
+name_no_specifiers token is = false_or (goes_on_type token) (is_storage token) (name_no_type token is) (name_no_storage token is)
 
 -- a front that begins with a token
 pub begins_apart : (test other : Terminal → Bool) (xs rest : List Terminal) → ((token : Terminal) → test token ≡ true → other token ≡ false) → Begins test xs → has_first other (xs ++ rest) ≡ false
@@ -84,7 +71,7 @@ begins_as test other [] rest each begins = absurd begins
 begins_as test other (first ∷ xs) rest each begins = each first begins
 
 pub operand_no_mark : (bytes : List ℕ) → list_any (bytes_eq bytes) operand_marks ≡ false → (token : Terminal) → begins_operand token ≡ true → is_mark bytes token ≡ false
-operand_no_mark bytes none token is = never_true (is_mark bytes token) (λ mark. operand_not_mark bytes token none is mark)
+operand_no_mark bytes none token is = false-of (is_mark bytes token) (λ mark. operand_not_mark bytes token none is mark)
 
 pub operand_row_no_mark : (bytes : List ℕ) (xs rest : List Terminal) → list_any (bytes_eq bytes) operand_marks ≡ false → Begins begins_operand xs → has_first (is_mark bytes) (xs ++ rest) ≡ false
 operand_row_no_mark bytes xs rest none begins = begins_apart begins_operand (is_mark bytes) xs rest (operand_no_mark bytes none) begins

@@ -1,5 +1,5 @@
 -- With which tokens the parts of the grammar begin, rule by rule.
-use Rattle.std.proofs.Common.{◌≡◌, ℕ, Bool, true, false, ◌&&◌, ◌||◌, not, refl, ap, sym, ◌∙◌, List, [], ◌∷◌, ◌++◌, map, codes, Some, None, IsTrue, suc, ◌+◌, length, nat_eq, arith, eqb-true}
+use Rattle.std.proofs.Common.{◌≡◌, ℕ, Bool, true, false, ◌&&◌, ◌||◌, not, refl, ap, sym, ◌∙◌, List, [], ◌∷◌, ◌++◌, map, codes, Some, IsTrue, suc, ◌+◌, length, nat_eq, arith, eqb-true}
 use Rattle.std.specs.Prelude.{if◌then◌else◌}
 use Rattle.std.specs.List.{list_any, list_all}
 use Rattle.std.specs.Str.{bytes_eq}
@@ -7,18 +7,18 @@ use Rattle.std.proofs.lemmas.Slice.Eq.{bytes_eq-Decides}
 use Rattle.cbase.specs.declared.tree.decl.Storage.{Storage}
 use Rattle.cbase.specs.declared.tree.decl.Storage.TheVariants.{Plain, Typedef, Extern, Static}
 use Rattle.cbase.specs.declared.tree.spec.BasicType.{BasicType}
-use Rattle.ctokens.specs.declared.token.TokenKind.{TokenKind}
-use Rattle.ctokens.specs.declared.token.TokenKind.TheVariants.{Word, Number, Letter, Quoted, Mark}
 use Rattle.ctokens.specs.Symbol.{is_identifier}
 use Rattle.ctokens.specs.SymbolTables.{keyword_symbol, name_symbol, passed_symbol, word_symbol}
+use Rattle.cgrammar.proofs.BasicRows.{some-times}
+use Rattle.cgrammar.proofs.TokenKinds.{mark_is_mark_kind, mark_kind_no_word, no_identifier, bytes_same, row_is_mark_kind, constant_is_no_word_kind}
 use Rattle.cgrammar.proofs.Truth.{and-left, and-right, or-left, or-right, of-any}
-use Rattle.cgrammar.specs.Constants.{IsConstant, IsOfKind}
+use Rattle.cgrammar.specs.Constants.{IsConstant}
 use Rattle.cgrammar.specs.Firsts.{type_words, storage_words, is_among, begins_type, begins_declaration, is_plain, Begins, BeginsAs, FirstTokens, DeclarationsAreNoStatements, TypesAreNoExpressions}
 use Rattle.cgrammar.specs.Grammar.{Spells, OneAssignment, CommaOperator, OneConditional, AssignmentOperator, OneOperation, ConditionalOperator, OneCast, BinaryOperator, OneUnary, CastOperator, OnePostfix, CountBefore, UnaryOperator, SizeOfExpression, SizeOfTypeName, OnePrimary, IndexOperator, CallOfNothing, CallOperator, MemberOperator, CountBehind, OneArgument, MoreArguments, OneName, OneConstant, Bracketed, StatementExpression, OffsetOfMember, NoMoreMembers, PathToMember, PathToItem, FailedAssertion, BasicWords, TypedefName, TypeOfExpression, TypeOfType, StructWithFields, StructByTag, NoMoreFields, MoreFields, OneFieldDeclaration, OneField, MoreFieldNames, NamedField, NamedBits, UnnamedBits, EnumWithValues, EnumByTag, LastEnumerator, MoreEnumerators, PlainEnumerator, ValuedEnumerator, OneTypeName, NoMoreSizes, SizeLeftOut, SizeGiven, TypeAlone, StorageBefore, StorageBehind, NoDeclarator, WithDeclarators, OneDeclarator, MoreDeclarators, ObjectDeclarator, InitializedDeclarator, DeclaratorOfFunction, NoParameters, VoidParameters, WithParameters, OneParameter, MoreParameters, NamedParameter, UnnamedParameter, InitializedTo, EmptyBraces, InBraces, OneInitializer, MoreInitializers, NextPart, MemberPart, OneBlock, NoMoreItems, NextDeclaration, NextStatement, BlockStatement, EmptyStatement, ExpressionStatement, IfStatement, IfElseStatement, WhileStatement, DoStatement, ForStatement, FirstDeclaration, FirstLeftOut, FirstExpression, NoExpression, SomeExpression, BreakStatement, ContinueStatement, ReturnStatement, LabeledStatement}
-use Rattle.cgrammar.specs.Operators.{row_of, mark_row, unary_rows, count_rows}
+use Rattle.cgrammar.specs.Operators.{unary_rows, count_rows}
 use Rattle.cgrammar.specs.Phrases.{Phrase, Context}
 use Rattle.cgrammar.specs.Scope.{Names, is_typedef_name}
-use Rattle.cgrammar.specs.Terminals.{Terminal, is_word_kind, is_mark_kind, IsWord, IsMark, IsName, is_left_out, is_typedef, IsNoType, is_any_word, bytes_of}
+use Rattle.cgrammar.specs.Terminals.{Terminal, is_word_kind, is_mark_kind, IsWord, IsName, is_left_out, is_typedef, IsNoType, is_any_word, bytes_of}
 use Rattle.cgrammar.specs.TypeWords.{IsStorage, basic_rows, basic_of, are_same, times}
 
 pub begins-append : (test : Terminal → Bool) (xs ys : List Terminal) → Begins test xs → Begins test (xs ++ ys)
@@ -26,41 +26,17 @@ begins-append test [] ys no-first = absurd no-first
 begins-append test (first ∷ xs) ys is = is
 
 -- a token that is no word
-mark-kind : (bytes : List ℕ) (token : Terminal) → IsMark bytes token → is_mark_kind token.kind ≡ true
-mark-kind bytes token is = and-left (is_mark_kind token.kind) (bytes_eq token.bytes bytes) is
-
-row-kind : {A : Type 0} {answer : A} (rows : List (List ℕ × A)) (token : Terminal) → mark_row rows token ≡ Some answer → is_mark_kind token.kind ≡ true
-row-kind {A} {answer} rows token is = step (is_mark_kind token.kind) is
-  where
-    step : (test : Bool) → (if test then row_of token.bytes rows else None) ≡ Some answer → test ≡ true
-    step true is = refl
-    step false is = cc is
-
-no-word : (kind : TokenKind) → is_mark_kind kind ≡ true → is_word_kind kind ≡ false
-no-word Word is = sym is
-no-word Number is = refl
-no-word Letter is = refl
-no-word Quoted is = refl
-no-word Mark is = refl
-
 plain-kind : (token : Terminal) → is_word_kind token.kind ≡ false → is_plain token ≡ true
 plain-kind token is = ap (λ (word : Bool). not ((word && list_any (bytes_eq token.bytes) storage_words) || (word && list_any (bytes_eq token.bytes) type_words))) is
 
 mark-plain : (token : Terminal) → is_mark_kind token.kind ≡ true → is_plain token ≡ true
-mark-plain token is = plain-kind token (no-word token.kind is)
+mark-plain token is = plain-kind token (mark_kind_no_word token.kind is)
 
 mark-statement : (scopes : List Names) (token : Terminal) → is_mark_kind token.kind ≡ true → not (begins_declaration scopes token) ≡ true
-mark-statement scopes token is = ap (λ (word : Bool). not ((word && list_any (bytes_eq token.bytes) storage_words) || ((word && list_any (bytes_eq token.bytes) type_words) || ((word && (is_identifier (word_symbol token.bytes) && not (is_left_out token.bytes))) && is_typedef_name scopes token.bytes)))) (no-word token.kind is)
+mark-statement scopes token is = ap (λ (word : Bool). not ((word && list_any (bytes_eq token.bytes) storage_words) || ((word && list_any (bytes_eq token.bytes) type_words) || ((word && (is_identifier (word_symbol token.bytes) && not (is_left_out token.bytes))) && is_typedef_name scopes token.bytes)))) (mark_kind_no_word token.kind is)
 
 constant-plain : (token : Terminal) → IsConstant token → is_plain token ≡ true
-constant-plain token is = plain-kind token (step token.kind is)
-  where
-    step : (kind : TokenKind) → IsOfKind kind token.bytes → is_word_kind kind ≡ false
-    step Word is = absurd is
-    step Number is = refl
-    step Letter is = refl
-    step Quoted is = refl
-    step Mark is = refl
+constant-plain token is = plain-kind token (constant_is_no_word_kind token is)
 
 -- a word with known bytes
 word-plain : (bytes : List ℕ) (token : Terminal) → IsWord bytes token → not (list_any (bytes_eq bytes) storage_words || list_any (bytes_eq bytes) type_words) ≡ true → is_plain token ≡ true
@@ -90,19 +66,16 @@ word-type scopes bytes token is type =
     ∙ (ap (λ (n : List ℕ). list_any (bytes_eq n) type_words) same ∙ type))
 
 -- an identifier is no keyword of a type or of a storage class
-no-identifier : List ℕ → Bool
-no-identifier bytes = not (is_identifier (word_symbol bytes))
-
 name-plain : (name : Terminal) → IsName name → is_plain name ≡ true
-unfolding keyword_symbol name_symbol passed_symbol no-identifier
+unfolding keyword_symbol name_symbol passed_symbol no_identifier
 name-plain name is =
     step (is_word_kind name.kind) (list_any (bytes_eq name.bytes) storage_words) (list_any (bytes_eq name.bytes) type_words) refl refl
   where
     identifier : is_identifier (word_symbol name.bytes) ≡ true
     identifier = and-left (is_identifier (word_symbol name.bytes)) (not (is_left_out name.bytes)) (and-right (is_word_kind name.kind) (is_identifier (word_symbol name.bytes) && not (is_left_out name.bytes)) is)
 
-    clash : (words : List (List ℕ)) → list_all no-identifier words ≡ true → list_any (bytes_eq name.bytes) words ≡ true → ⊥
-    clash words all any = let no : not true ≡ true = sym (ap not identifier) ∙ of-any no-identifier words name.bytes all any in cc no
+    clash : (words : List (List ℕ)) → list_all no_identifier words ≡ true → list_any (bytes_eq name.bytes) words ≡ true → ⊥
+    clash words all any = let no : not true ≡ true = sym (ap not identifier) ∙ of-any no_identifier words name.bytes all any in cc no
 
     step : (word storage type : Bool) → list_any (bytes_eq name.bytes) storage_words ≡ storage → list_any (bytes_eq name.bytes) type_words ≡ type → not ((word && storage) || (word && type)) ≡ true
     step false storage type s t = refl
@@ -111,23 +84,11 @@ name-plain name is =
     step true false false s t = refl
 
 -- a basic type begins with a keyword of a type
-itself : (bytes : List ℕ) → bytes_eq bytes bytes ≡ true
-itself bytes = (bytes_eq-Decides bytes bytes).1 refl
-
--- a word that stands somewhere is among the words
-some-times : (word : List ℕ) (others : List (List ℕ)) (count : ℕ) → times word others ≡ suc count → list_any (bytes_eq word) others ≡ true
-some-times word [] count is = cc is
-some-times word (first ∷ others) count is = step (bytes_eq word first) (some-times word others count) is
-  where
-    step : (same : Bool) → (times word others ≡ suc count → list_any (bytes_eq word) others ≡ true) → (if same then 1 + times word others else times word others) ≡ suc count → (same || list_any (bytes_eq word) others) ≡ true
-    step true further i = refl
-    step false further i = further i
-
 same-word : (word : List ℕ) (words others : List (List ℕ)) → are_same (word ∷ words) others ≡ true → list_any (bytes_eq word) others ≡ true
 same-word word words others is =
     let each : list_all (λ w. nat_eq (times w (word ∷ words)) (times w others)) (word ∷ words) ≡ true = and-right (nat_eq (length (word ∷ words)) (length others)) (list_all (λ w. nat_eq (times w (word ∷ words)) (times w others)) (word ∷ words)) is in
     let counts : times word (word ∷ words) ≡ times word others = eqb-true (times word (word ∷ words)) (times word others) (and-left (nat_eq (times word (word ∷ words)) (times word others)) (list_all (λ w. nat_eq (times w (word ∷ words)) (times w others)) words) each) in
-    let here : times word (word ∷ words) ≡ 1 + times word words = ap (λ (b : Bool). if b then 1 + times word words else times word words) (itself word) in
+    let here : times word (word ∷ words) ≡ 1 + times word words = ap (λ (b : Bool). if b then 1 + times word words else times word words) (bytes_same word) in
     let more : times word others ≡ suc (times word words) = omega (arith, counts, here) in
     some-times word others (times word words) more
 
@@ -143,7 +104,7 @@ of-basic (row ∷ rows) type word words all is = step (are_same (word ∷ words)
     step true further s i = of-any is-type-word row.0 word (and-left (list_all is-type-word row.0) (list_all (λ r. list_all is-type-word r.0) rows) all) (same-word word words row.0 s)
     step false further s i = further i
 
-no-basic : (type : BasicType) → basic_of basic_rows [] ≡ Some type → ⊥
+pub no-basic : (type : BasicType) → basic_of basic_rows [] ≡ Some type → ⊥
 no-basic type is = cc is
 
 basic-type : {type : BasicType} (scopes : List Names) (row : List Terminal) → IsTrue (list_all is_any_word row) → basic_of basic_rows (map bytes_of row) ≡ Some type → Begins (begins_type scopes) row
@@ -192,10 +153,10 @@ first (ConditionalOperator {xs} _ _ d1 _ _ _ _) = begins-append is_plain xs _ (f
 first (OneCast d1) = first d1
 first (BinaryOperator {xs} _ _ d1 _ _) = begins-append is_plain xs _ (first d1)
 first (OneUnary d1) = first d1
-first (CastOperator opening _ p1 _ _ _) = mark-plain opening (mark-kind (codes "(") opening p1)
+first (CastOperator opening _ p1 _ _ _) = mark-plain opening (mark_is_mark_kind (codes "(") opening p1)
 first (OnePostfix d1) = first d1
-first (CountBefore mark p1 _) = mark-plain mark (row-kind count_rows mark p1)
-first (UnaryOperator mark p1 _) = mark-plain mark (row-kind unary_rows mark p1)
+first (CountBefore mark p1 _) = mark-plain mark (row_is_mark_kind _ count_rows mark p1)
+first (UnaryOperator mark p1 _) = mark-plain mark (row_is_mark_kind _ unary_rows mark p1)
 first (SizeOfExpression word p1 _) = word-plain (codes "sizeof") word p1 refl
 first (SizeOfTypeName word _ _ p1 _ _ _) = word-plain (codes "sizeof") word p1 refl
 first (OnePrimary d1) = first d1
@@ -208,8 +169,8 @@ first (OneArgument _) = tt
 first (MoreArguments _ _ _ _) = tt
 first (OneName name p1) = name-plain name p1
 first (OneConstant token p1) = constant-plain token p1
-first (Bracketed opening _ p1 _ _ _) = mark-plain opening (mark-kind (codes "(") opening p1)
-first (StatementExpression opening _ p1 _ _) = mark-plain opening (mark-kind (codes "(") opening p1)
+first (Bracketed opening _ p1 _ _ _) = mark-plain opening (mark_is_mark_kind (codes "(") opening p1)
+first (StatementExpression opening _ p1 _ _) = mark-plain opening (mark_is_mark_kind (codes "(") opening p1)
 first (OffsetOfMember word _ _ _ _ p1 _ _ _ _ _ _) = word-plain (codes "__builtin_offsetof") word p1 refl
 first NoMoreMembers = tt
 first (PathToMember _ _ _ _ _) = tt
@@ -263,12 +224,12 @@ first (OneInitializer _) = tt
 first (MoreInitializers _ _ _ _) = tt
 first (NextPart _) = tt
 first (MemberPart _ _ _ _ _ _ _) = tt
-first (OneBlock {before} opening _ p1 _ _) = mark-statement before.scope opening (mark-kind (codes "{") opening p1)
+first (OneBlock {before} opening _ p1 _ _) = mark-statement before.scope opening (mark_is_mark_kind (codes "{") opening p1)
 first NoMoreItems = tt
 first (NextDeclaration _ _) = tt
 first (NextStatement _ _) = tt
 first (BlockStatement d1) = first d1
-first (EmptyStatement {before} semicolon p1) = mark-statement before.scope semicolon (mark-kind (codes ";") semicolon p1)
+first (EmptyStatement {before} semicolon p1) = mark-statement before.scope semicolon (mark_is_mark_kind (codes ";") semicolon p1)
 first (ExpressionStatement {before} {xs} semicolon p1 d1 _) = begins-append (λ token. not (begins_declaration before.scope token)) xs (semicolon ∷ []) (expression-statement before.scope xs (first d1) p1)
 first (IfStatement {before} word _ _ p1 _ _ _ _ _) = word-statement before.scope (codes "if") word p1 refl refl
 first (IfElseStatement {before} word _ _ _ p1 _ _ _ _ _ _ _) = word-statement before.scope (codes "if") word p1 refl refl

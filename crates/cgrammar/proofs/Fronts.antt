@@ -1,5 +1,5 @@
 -- The fronts of rows: what stands before the rest, its first and its last place, and its stars.
-use Rattle.std.proofs.Common.{◌≡◌, ℕ, suc, ◌+◌, ◌-◌, ◌≤◌, Bool, true, false, List, [], ◌∷◌, ◌++◌, take, drop, length, refl, ap, sym, ◌∙◌, arith, codes, cond}
+use Rattle.std.proofs.Common.{◌≡◌, ℕ, zero, suc, ◌+◌, ◌-◌, ◌≤◌, Bool, true, false, List, [], ◌∷◌, ◌++◌, take, drop, length, refl, ap, sym, ◌∙◌, arith, codes, cond}
 use Rattle.std.proofs.Math.Seq.{take-append_seam, drop-append_seam}
 use Rattle.std.proofs.lemmas.List.{length-append}
 use Rattle.std.specs.List.{prefix_len}
@@ -16,6 +16,11 @@ take_front xs ys = take-append_seam xs ys
 
 pub drop_front : (xs ys : List Terminal) → drop (length xs) (xs ++ ys) ≡ ys
 drop_front xs ys = drop-append_seam xs ys
+
+pub take_and_drop : (n : ℕ) (xs : List Terminal) → take n xs ++ drop n xs ≡ xs
+take_and_drop zero xs = refl
+take_and_drop (suc n) [] = refl
+take_and_drop (suc n) (x ∷ xs) = ap (λ (zs : List Terminal). x ∷ zs) (take_and_drop n xs)
 
 pub front_of_both : (xs rest : List Terminal) → front_of (xs ++ rest) rest ≡ xs
 front_of_both xs rest =

@@ -7,7 +7,7 @@ use Rattle.std.proofs.lemmas.List.{take-append-drop}
 use Rattle.std.proofs.Math.Seq.{take-append_seam, drop-append_seam}
 use Rattle.ctokens.specs.Bytes.{is_digit, is_octal_digit, is_hexadecimal_digit}
 use Rattle.ctokens.specs.Bytes.{is_empty}
-use Rattle.cgrammar.proofs.Truth.{and-left, and-right, and-both, or-cases, of-any}
+use Rattle.cgrammar.proofs.Truth.{and-left, and-right, and-both, or-cases, of-any, not-true}
 use Rattle.cgrammar.specs.Constants.{IsInteger, is_hexadecimal, is_unsuffixed, suffixes}
 use Rattle.cgrammar.specs.ConstantParts.{is_before_suffix, digits_length, is_integer}
 
@@ -66,10 +66,6 @@ unsuffixed-all (first ∷ others) is = step (nat_eq first 48) refl is
     step : (test : Bool) → nat_eq first 48 ≡ test → (if test then list_all is_octal_digit others || is_hexadecimal others else is_digit first && list_all is_digit others) ≡ true → list_all is_before_suffix (first ∷ others) ≡ true
     step true e i = and-both (ap is_before_suffix (eqb-true first 48 e)) (behind (or-cases (list_all is_octal_digit others) (is_hexadecimal others) i))
     step false e i = and-both (digit-before first (and-left (is_digit first) (list_all is_digit others) i)) (all-weaker is_digit is_before_suffix digit-before others (and-right (is_digit first) (list_all is_digit others) i))
-
-not-true : (b : Bool) → not b ≡ true → b ≡ false
-not-true true is = sym is
-not-true false is = refl
 
 prefix-split : (digits suffix : List ℕ) → list_all is_before_suffix digits ≡ true → ends-digits suffix ≡ true → prefix_len is_before_suffix (digits ++ suffix) ≡ length digits
 unfolding ends-digits

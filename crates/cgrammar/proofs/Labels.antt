@@ -9,6 +9,7 @@ use Rattle.ctokens.specs.declared.token.TokenKind.TheVariants.{Word, Number, Let
 use Rattle.ctokens.specs.Symbol.{is_identifier}
 use Rattle.ctokens.specs.SymbolTables.{word_symbol}
 use Rattle.cgrammar.proofs.Firsts.{first, begins-append}
+use Rattle.cgrammar.proofs.TokenKinds.{word_kind_no_mark}
 use Rattle.cgrammar.proofs.Truth.{and-left, and-right}
 use Rattle.cgrammar.specs.Constants.{IsConstant, IsOfKind}
 use Rattle.cgrammar.specs.Firsts.{Begins, begins_type, type_words}
@@ -20,18 +21,11 @@ use Rattle.cgrammar.specs.Scope.{Names, is_typedef_name}
 use Rattle.cgrammar.specs.Terminals.{Terminal, is_word_kind, is_mark_kind, IsMark, is_left_out}
 
 -- tokens that are no `:`
-no-mark : (kind : TokenKind) → is_word_kind kind ≡ true → is_mark_kind kind ≡ false
-no-mark Word is = refl
-no-mark Number is = refl
-no-mark Letter is = refl
-no-mark Quoted is = refl
-no-mark Mark is = sym is
-
 kind-apart : (token : Terminal) → is_mark_kind token.kind ≡ false → not (is_colon token) ≡ true
 kind-apart token is = ap (λ (mark : Bool). not (mark && bytes_eq token.bytes (codes ":"))) is
 
 word-apart : (token : Terminal) → is_word_kind token.kind ≡ true → not (is_colon token) ≡ true
-word-apart token is = kind-apart token (no-mark token.kind is)
+word-apart token is = kind-apart token (word_kind_no_mark token.kind is)
 
 constant-apart : (token : Terminal) → IsConstant token → not (is_colon token) ≡ true
 constant-apart token is = kind-apart token (step token.kind is)

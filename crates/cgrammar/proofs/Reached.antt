@@ -3,7 +3,7 @@
 -- Complete: where a front of a row spells a phrase of at most so many levels, the reader reads it, or a token behind it
 -- goes on with it and the reader reaches as least as far.
 use Rattle.std.proofs.Common.{◌≡◌, ℕ, Bool, true, false, ◌&&◌, ◌||◌, not, ◌+◌, ◌<◌, ◌≤◌, ◌⊎◌, List, ◌++◌, map, codes, length, Some, None, IsTrue, nat_lt}
-use Rattle.std.specs.Prelude.{if◌then◌else◌, Option}
+use Rattle.std.specs.Prelude.{if◌then◌else◌, Option, nat_le}
 use Rattle.cbase.specs.declared.tree.operators.BinaryOp.{BinaryOp}
 use Rattle.ctrees.specs.Weight.{joined}
 use Rattle.ctrees.specs.Levels.{depth, decl_levels, declared_levels, enumerator_levels, expr_levels, field_decl_levels, field_name_levels, init_levels, init_part_levels, maybe_levels, param_levels, part_levels, spec_levels, stmt_levels, type_name_levels}
@@ -38,6 +38,14 @@ Goes test tree levels after rest outcome =
 -- tokens that go on with an operand, with an operation whose loosest operator has that level, and so on
 abbrev pub goes_on_operand : Terminal → Bool
 goes_on_operand token = goes_on (postfix_start token)
+
+-- a binary operator that is no looser
+abbrev pub is_no_looser : ℕ → Option (ℕ × BinaryOp) → Bool
+is_no_looser loosest None = false
+is_no_looser loosest (Some entry) = nat_le loosest entry.0
+
+abbrev pub goes_on_from : ℕ → Terminal → Bool
+goes_on_from loosest token = is_no_looser loosest (mark_row binary_rows token)
 
 abbrev pub is_tighter : ℕ → Option (ℕ × BinaryOp) → Bool
 is_tighter level None = false

@@ -1,5 +1,5 @@
 -- From what is read of the row of a text to what stands at a token of it.
-use Rattle.std.proofs.Common.{◌≡◌, ℕ, Bool, zero, suc, ◌+◌, ◌-◌, ◌≤◌, inl, inr, List, [], ◌∷◌, ◌++◌, map, take, drop, length, refl, ap, sym, ◌∙◌, subst, arith, codes}
+use Rattle.std.proofs.Common.{◌≡◌, ℕ, Bool, ◌+◌, ◌-◌, ◌≤◌, inl, inr, List, [], ◌∷◌, ◌++◌, map, take, drop, length, refl, ap, sym, ◌∙◌, subst, arith, codes}
 use Rattle.std.specs.List.{prefix_len}
 use Rattle.cbase.specs.declared.tree.expr.Expr.{Expr}
 use Rattle.cbase.specs.declared.tree.stmt.Stmt.{Stmt}
@@ -7,7 +7,7 @@ use Rattle.ctrees.specs.Levels.{expr_levels}
 use Rattle.ctokens.specs.Passed.{passed_tokens}
 use Rattle.ctokens.specs.declared.token.Tokens.{Tokens}
 use Rattle.cgrammar.proofs.Between.{Counts, Rises, unpassed_split, counts_behind, unpassed_rises, last_rises, up_to_last, comes_before, from_token, fronts_agree, numbered_counts}
-use Rattle.cgrammar.proofs.Fronts.{front_of_both, last_place_of_nonempty}
+use Rattle.cgrammar.proofs.Fronts.{front_of_both, last_place_of_nonempty, take_and_drop}
 use Rattle.cgrammar.proofs.Reached.{Fronts, IsSound, Goes, Reaches, goes_on_expression}
 use Rattle.cgrammar.proofs.Starting.{starts}
 use Rattle.cgrammar.specs.Firsts.{Begins}
@@ -131,11 +131,6 @@ last_taken row front first start end whole =
     ∙ (ap (λ (xs : List Terminal). front_of xs (drop end row)) (take_and_drop end row ∙ sym joined) ∙ front_of_both (take start row ++ (first ∷ front)) (drop end row)) in
     ap last_place same ∙ last_place_of_nonempty (take start row) (first ∷ front) (omega arith)
   where
-    take_and_drop : (n : ℕ) (xs : List Terminal) → take n xs ++ drop n xs ≡ xs
-    take_and_drop zero xs = refl
-    take_and_drop (suc n) [] = refl
-    take_and_drop (suc n) (x ∷ xs) = ap (λ (zs : List Terminal). x ∷ zs) (take_and_drop n xs)
-
     append_assoc : (xs ys zs : List Terminal) → (xs ++ ys) ++ zs ≡ xs ++ (ys ++ zs)
     append_assoc [] ys zs = refl
     append_assoc (x ∷ xs) ys zs = ap (λ (ws : List Terminal). x ∷ ws) (append_assoc xs ys zs)

@@ -1,12 +1,12 @@
 -- Lists, stars, tags and commas are read as the grammar spells them.
-use Rattle.std.proofs.Common.{◌≡◌, ℕ, zero, suc, ◌≤◌, inl, inr, Bool, true, false, ◌&&◌, ◌||◌, not, List, [], ◌∷◌, ◌++◌, take, length, refl, ap, sym, ◌∙◌, arith, codes, None, Some, map}
+use Rattle.std.proofs.Common.{◌≡◌, ℕ, zero, suc, ◌≤◌, inl, inr, Bool, true, false, ◌&&◌, not, List, [], ◌∷◌, ◌++◌, take, length, refl, ap, sym, ◌∙◌, arith, codes, None, Some, map}
 use Rattle.std.specs.Prelude.{if◌then◌else◌}
 use Rattle.ctrees.specs.Levels.{depth}
 use Rattle.ctrees.specs.Weight.{joined}
 use Rattle.cgrammar.proofs.Fronts.{stars_are_stars, stars_within}
 use Rattle.cgrammar.proofs.SoundSteps.{Splits, split_none, split_last, split_first, split_more, split_taken, Reads, sound_nothing, made, sound_then, sound_if, sound_prepended, first_of, larger, larger_fits}
 use Rattle.cgrammar.proofs.TreeLevels.{joined_one}
-use Rattle.cgrammar.proofs.Truth.{and-left}
+use Rattle.cgrammar.proofs.Truth.{and-left, or-false-right}
 use Rattle.cgrammar.specs.Firsts.{is_among, type_words, storage_words, begins_type, begins_declaration}
 use Rattle.cgrammar.specs.Grammar.{IsTag, IsMaybeComma}
 use Rattle.cgrammar.specs.Outcomes.{Reader, has_first, has_mark, behind_first}
@@ -116,14 +116,10 @@ pub no_type : (scopes : List Names) (row front rest : List Terminal) → Splits 
 no_type scopes row [] rest split begins = refl
 no_type scopes row (first ∷ others) rest split begins = ap not (sym (ap (begins_with_typedef scopes) split.is) ∙ begins)
 
-or_neither : (a b : Bool) → (a || b) ≡ false → b ≡ false
-or_neither true b is = cc is
-or_neither false b is = is
-
 pub no_typedef : (scopes : List Names) (row : List Terminal) → has_first (begins_type scopes) row ≡ false → begins_with_typedef scopes row ≡ false
 no_typedef scopes [] is = refl
-no_typedef scopes (first ∷ others) is = or_neither (is_among type_words first) (is_typedef scopes first) is
+no_typedef scopes (first ∷ others) is = or-false-right (is_among type_words first) (is_typedef scopes first) is
 
 pub no_declaration : (scopes : List Names) (row : List Terminal) → has_first (begins_declaration scopes) row ≡ false → has_first (begins_type scopes) row ≡ false
 no_declaration scopes [] is = refl
-no_declaration scopes (first ∷ others) is = or_neither (is_among storage_words first) (begins_type scopes first) is
+no_declaration scopes (first ∷ others) is = or-false-right (is_among storage_words first) (begins_type scopes first) is

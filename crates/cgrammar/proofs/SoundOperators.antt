@@ -7,8 +7,8 @@ use Rattle.cbase.specs.declared.tree.expr.ExprForm.TheVariants.{Binary}
 use Rattle.cbase.specs.declared.tree.operators.BinaryOp.{BinaryOp}
 use Rattle.cbase.specs.declared.tree.operators.BinaryOp.TheVariants.{Comma}
 use Rattle.ctrees.specs.Levels.{expr_levels}
-use Rattle.cgrammar.proofs.Reached.{operand_phrase, operand_levels}
-use Rattle.cgrammar.proofs.SoundSays.{spelled_as, says_operand, is_no_looser, goes_on_from, says_operation, SoundLevel}
+use Rattle.cgrammar.proofs.Reached.{operand_phrase, operand_levels, is_no_looser, goes_on_from}
+use Rattle.cgrammar.proofs.SoundSays.{spelled_as, says_operand, says_operation, SoundLevel}
 use Rattle.cgrammar.proofs.SoundSteps.{split_first, split_more, split_length, Got, Held, Sound, sound_nothing, sound_got, got, made, held, sound_continued, sound_right, sound_else, sound_if, sound_first, one_more, larger, larger_fits, one_more_fits}
 use Rattle.cgrammar.proofs.TreeLevels.{levels_binary, levels_assign, levels_choose}
 use Rattle.cgrammar.specs.Grammar.{Spells, OneAssignment, CommaOperator, OneConditional, AssignmentOperator, OneOperation, ConditionalOperator, OneCast, BinaryOperator, OneUnary}

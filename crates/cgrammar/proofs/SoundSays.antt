@@ -1,15 +1,13 @@
 -- What is known of what each reader of a level gives.
-use Rattle.std.proofs.Common.{◌≡◌, ℕ, ◌⊎◌, Bool, false, ◌&&◌, List, codes, Option, None, Some, nat_le}
+use Rattle.std.proofs.Common.{◌≡◌, ℕ, ◌⊎◌, Bool, false, ◌&&◌, List, codes}
 use Rattle.cbase.specs.declared.tree.decl.Decl.{Decl}
 use Rattle.cbase.specs.declared.tree.expr.Expr.{Expr}
-use Rattle.cbase.specs.declared.tree.operators.BinaryOp.{BinaryOp}
 use Rattle.cbase.specs.declared.tree.stmt.Stmt.{Stmt}
 use Rattle.cbase.specs.declared.tree.stmt.StmtForm.TheVariants.{Declare}
 use Rattle.ctrees.specs.Levels.{expr_levels, spec_levels, init_levels, stmt_levels}
-use Rattle.cgrammar.proofs.Reached.{operand_phrase, operand_levels}
+use Rattle.cgrammar.proofs.Reached.{operand_phrase, operand_levels, goes_on_from}
 use Rattle.cgrammar.proofs.SoundSteps.{Reads}
 use Rattle.cgrammar.specs.Grammar.{Spells}
-use Rattle.cgrammar.specs.Operators.{mark_row, binary_rows}
 use Rattle.cgrammar.specs.Outcomes.{has_first}
 use Rattle.cgrammar.specs.Phrases.{Phrase, Context}
 use Rattle.cgrammar.specs.Phrases.{Expression, Assignment, Conditional, Operation, TypeSpecifier, Initializer, Statement, FirstClause, Declaration}
@@ -24,14 +22,6 @@ spelled_as phrase tree before front behind rest = Spells (phrase tree) before fr
 
 abbrev pub says_operand : Operand → Context → List Terminal → Context → List Terminal → Type 0
 says_operand = spelled_as operand_phrase
-
--- a binary operator that is no looser
-abbrev pub is_no_looser : ℕ → Option (ℕ × BinaryOp) → Bool
-is_no_looser loosest None = false
-is_no_looser loosest (Some entry) = nat_le loosest entry.0
-
-abbrev pub goes_on_from : ℕ → Terminal → Bool
-goes_on_from loosest token = is_no_looser loosest (mark_row binary_rows token)
 
 -- an operation, behind which no operator stands that would go on with it
 abbrev pub says_operation : ℕ → Expr → Context → List Terminal → Context → List Terminal → Type 0

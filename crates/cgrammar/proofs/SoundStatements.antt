@@ -1,5 +1,5 @@
 -- Statements and blocks are read as the grammar spells them.
-use Rattle.std.proofs.Common.{◌≡◌, ℕ, ◌+◌, inl, inr, Bool, true, false, ◌&&◌, not, List, [], ◌∷◌, ◌++◌, length, refl, ap, sym, ◌∙◌, subst, arith, codes, Option, None, Some, max}
+use Rattle.std.proofs.Common.{◌≡◌, ℕ, ◌+◌, inl, inr, Bool, true, false, ◌&&◌, not, List, [], ◌∷◌, ◌++◌, length, refl, ap, sym, ◌∙◌, subst, arith, codes, None, Some, max}
 use Rattle.std.specs.Prelude.{if◌then◌else◌}
 use Rattle.cbase.specs.declared.place.Place.{Place}
 use Rattle.cbase.specs.declared.tree.decl.Decl.{Decl}
@@ -15,7 +15,7 @@ use Rattle.cgrammar.proofs.SoundLists.{levels_of_all, sound_until_brace, no_type
 use Rattle.cgrammar.proofs.SoundSays.{spelled_as, says_statement, says_item, SoundLevel}
 use Rattle.cgrammar.proofs.SoundSteps.{Splits, split_none, split_last, split_first, split_more, Sound, Reads, sound_nothing, made, sound_then, sound_if, sound_first, first_of, one_more, larger, larger_fits, one_more_fits}
 use Rattle.cgrammar.proofs.Starting.{starts}
-use Rattle.cgrammar.proofs.TreeLevels.{levels_declare, levels_empty, levels_eval, levels_block, levels_if, levels_if_else, levels_while, levels_do, levels_for, levels_break, levels_continue, levels_return_nothing, levels_return}
+use Rattle.cgrammar.proofs.TreeLevels.{levels_declare, levels_empty, levels_eval, levels_block, levels_if, levels_if_else, levels_while, levels_do, levels_for, levels_break, levels_continue, levels_of_return}
 use Rattle.cgrammar.proofs.Truth.{and-left, and-right}
 use Rattle.cgrammar.specs.Firsts.{begins_declaration, Begins}
 use Rattle.cgrammar.specs.FrontOf.{front_of}
@@ -216,10 +216,6 @@ sound_for_statement inner context word row is worded =
     (read_body.spelled.0, ForStatement word opening semicolon closing worded marked read_first.spelled read_test.spelled ended read_next.spelled closes read_body.spelled.1, read_body.spelled.2)
     (one_more (larger (larger read_first.same read_test.same) (larger read_next.same read_body.same)) ∙ sym (levels_for word.place body.after first test next body))
     (one_more_fits (larger_fits (larger_fits read_first.fits read_test.fits) (larger_fits read_next.fits read_body.fits)))))))))))
-
-levels_of_return : (place last : Place) (value : Option Expr) → stmt_levels (statement place last (Return value)) ≡ 1 + maybe_levels value
-levels_of_return place last None = levels_return_nothing place last
-levels_of_return place last (Some value) = levels_return place last value
 
 sound_return_statement : (inner : Level) (context : Context) (word : Terminal) (row : List Terminal) → SoundLevel inner → IsWord (codes "return") word
     → Sound says_statement stmt_levels (inner.most + 1) context (word ∷ row) (read_return inner word.place context row)

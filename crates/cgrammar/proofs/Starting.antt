@@ -9,9 +9,10 @@ use Rattle.cbase.specs.declared.tree.expr.Expr.{Expr}
 use Rattle.cbase.specs.declared.tree.stmt.Stmt.{Stmt}
 use Rattle.ctokens.specs.declared.token.TokenKind.{TokenKind}
 use Rattle.ctokens.specs.declared.token.TokenKind.TheVariants.{Word, Number, Letter, Quoted, Mark}
+use Rattle.ctokens.proofs.Choices.{false_or}
 use Rattle.cgrammar.proofs.Firsts.{begins-append, first}
 use Rattle.cgrammar.proofs.TokenKinds.{mark_bytes, word_bytes, mark_is_mark_kind, word_is_word_kind, row_is_mark_kind, mark_is_no_name, word_is_no_name, mark_kind_no_word, word_kind_no_mark, named_words, other_mark}
-use Rattle.cgrammar.proofs.Truth.{and-left, and-right, and-both, or-left, or-right}
+use Rattle.cgrammar.proofs.Truth.{and-left, and-right, and-both, or-left, or-right, clash, false-of, and-false}
 use Rattle.cgrammar.specs.Constants.{IsConstant, IsOfKind}
 use Rattle.cgrammar.specs.Firsts.{is_among, Begins, begins_type, begins_declaration, type_words, storage_words}
 use Rattle.cgrammar.specs.Grammar.{Spells, OneAssignment, CommaOperator, OneConditional, AssignmentOperator, OneOperation, ConditionalOperator, OneCast, BinaryOperator, OneUnary, CastOperator, OnePostfix, CountBefore, UnaryOperator, SizeOfExpression, SizeOfTypeName, OnePrimary, IndexOperator, CallOfNothing, CallOperator, MemberOperator, CountBehind, OneArgument, MoreArguments, OneName, OneConstant, Bracketed, StatementExpression, OffsetOfMember, NoMoreMembers, PathToMember, PathToItem, FailedAssertion, BasicWords, TypedefName, TypeOfExpression, TypeOfType, StructWithFields, StructByTag, NoMoreFields, MoreFields, OneFieldDeclaration, OneField, MoreFieldNames, NamedField, NamedBits, UnnamedBits, EnumWithValues, EnumByTag, LastEnumerator, MoreEnumerators, PlainEnumerator, ValuedEnumerator, OneTypeName, NoMoreSizes, SizeLeftOut, SizeGiven, TypeAlone, StorageBefore, StorageBehind, NoDeclarator, WithDeclarators, OneDeclarator, MoreDeclarators, ObjectDeclarator, InitializedDeclarator, DeclaratorOfFunction, NoParameters, VoidParameters, WithParameters, OneParameter, MoreParameters, NamedParameter, UnnamedParameter, InitializedTo, EmptyBraces, InBraces, OneInitializer, MoreInitializers, NextPart, MemberPart, OneBlock, NoMoreItems, NextDeclaration, NextStatement, BlockStatement, EmptyStatement, ExpressionStatement, IfStatement, IfElseStatement, WhileStatement, DoStatement, ForStatement, FirstDeclaration, FirstLeftOut, FirstExpression, NoExpression, SomeExpression, BreakStatement, ContinueStatement, ReturnStatement, LabeledStatement}
@@ -80,18 +81,9 @@ brace-statement [] no-first = no-first
 brace-statement (token ∷ row) is = mark-statement (codes "{") token is refl
 
 -- what does not begin an operand or a statement
-clash : (b : Bool) → b ≡ true → b ≡ false → ⊥
-clash b yes-it no-it = let wrong : true ≡ false = sym yes-it ∙ no-it in cc wrong
-
-either : (a b : Bool) → a ≡ false → b ≡ false → (a || b) ≡ false
-either a b p q = ap (λ (x : Bool). x || b) p ∙ q
-
 not-among : (kind : Bool) (bytes other : List ℕ) (texts : List (List ℕ)) → bytes ≡ other → list_any (bytes_eq other) texts ≡ false → (kind && list_any (bytes_eq bytes) texts) ≡ false
 not-among false bytes other texts same none = refl
 not-among true bytes other texts same none = ap (λ (b : List ℕ). list_any (bytes_eq b) texts) same ∙ none
-
-not-kind : (kind any : Bool) → kind ≡ false → (kind && any) ≡ false
-not-kind kind any is = ap (λ (k : Bool). k && any) is
 
 mark-no-constant : (kind : TokenKind) → is_mark_kind kind ≡ true → is_constant_kind kind ≡ false
 mark-no-constant Word is = refl
@@ -109,16 +101,16 @@ word-no-constant Mark is = refl
 
 mark-no-operand : (bytes : List ℕ) (token : Terminal) → list_any (bytes_eq bytes) operand_marks ≡ false → IsMark bytes token → begins_operand token ≡ false
 mark-no-operand bytes token none mark =
-    either (is_name token) _ (mark_is_no_name bytes token mark)
-    (either (is_constant_kind token.kind) _ (mark-no-constant token.kind (mark_is_mark_kind bytes token mark))
-    (either (is_mark_among operand_marks token) _ (not-among (is_mark_kind token.kind) token.bytes bytes operand_marks (mark_bytes bytes token mark) none)
-    (not-kind (is_word_kind token.kind) (list_any (bytes_eq token.bytes) operand_words) (mark_kind_no_word token.kind (mark_is_mark_kind bytes token mark)))))
+    false_or (is_name token) _ (mark_is_no_name bytes token mark)
+    (false_or (is_constant_kind token.kind) _ (mark-no-constant token.kind (mark_is_mark_kind bytes token mark))
+    (false_or (is_mark_among operand_marks token) _ (not-among (is_mark_kind token.kind) token.bytes bytes operand_marks (mark_bytes bytes token mark) none)
+    (and-false (is_word_kind token.kind) (list_any (bytes_eq token.bytes) operand_words) (mark_kind_no_word token.kind (mark_is_mark_kind bytes token mark)))))
 
 word-no-operand : (bytes : List ℕ) (token : Terminal) → list_any (bytes_eq bytes) named_words ≡ true → list_any (bytes_eq bytes) operand_words ≡ false → IsWord bytes token → begins_operand token ≡ false
 word-no-operand bytes token named none word =
-    either (is_name token) _ (word_is_no_name bytes token named word)
-    (either (is_constant_kind token.kind) _ (word-no-constant token.kind (word_is_word_kind bytes token word))
-    (either (is_mark_among operand_marks token) _ (not-kind (is_mark_kind token.kind) (list_any (bytes_eq token.bytes) operand_marks) (word_kind_no_mark token.kind (word_is_word_kind bytes token word)))
+    false_or (is_name token) _ (word_is_no_name bytes token named word)
+    (false_or (is_constant_kind token.kind) _ (word-no-constant token.kind (word_is_word_kind bytes token word))
+    (false_or (is_mark_among operand_marks token) _ (and-false (is_mark_kind token.kind) (list_any (bytes_eq token.bytes) operand_marks) (word_kind_no_mark token.kind (word_is_word_kind bytes token word)))
     (not-among (is_word_kind token.kind) token.bytes bytes operand_words (word_bytes bytes token word) none)))
 
 pub operand_not_mark : (bytes : List ℕ) (token : Terminal) → list_any (bytes_eq bytes) operand_marks ≡ false → IsTrue (begins_operand token) → IsMark bytes token → ⊥
@@ -130,15 +122,15 @@ operand_not_word bytes token named none is word = clash (begins_operand token) i
 pub statement_not_mark : (bytes : List ℕ) (token : Terminal) → list_any (bytes_eq bytes) operand_marks ≡ false → list_any (bytes_eq bytes) statement_marks ≡ false → IsTrue (begins_statement token) → IsMark bytes token → ⊥
 statement_not_mark bytes token none other is mark =
     clash (begins_statement token) is
-    (either (begins_operand token) _ (mark-no-operand bytes token none mark)
-    (either (is_mark_among statement_marks token) _ (not-among (is_mark_kind token.kind) token.bytes bytes statement_marks (mark_bytes bytes token mark) other)
-    (not-kind (is_word_kind token.kind) (list_any (bytes_eq token.bytes) statement_words) (mark_kind_no_word token.kind (mark_is_mark_kind bytes token mark)))))
+    (false_or (begins_operand token) _ (mark-no-operand bytes token none mark)
+    (false_or (is_mark_among statement_marks token) _ (not-among (is_mark_kind token.kind) token.bytes bytes statement_marks (mark_bytes bytes token mark) other)
+    (and-false (is_word_kind token.kind) (list_any (bytes_eq token.bytes) statement_words) (mark_kind_no_word token.kind (mark_is_mark_kind bytes token mark)))))
 
 pub statement_not_else : (token : Terminal) → IsTrue (begins_statement token) → IsWord (codes "else") token → ⊥
 statement_not_else token is word =
     clash (begins_statement token) is
-    (either (begins_operand token) _ (word-no-operand (codes "else") token refl refl word)
-    (either (is_mark_among statement_marks token) _ (not-kind (is_mark_kind token.kind) (list_any (bytes_eq token.bytes) statement_marks) (word_kind_no_mark token.kind (word_is_word_kind (codes "else") token word)))
+    (false_or (begins_operand token) _ (word-no-operand (codes "else") token refl refl word)
+    (false_or (is_mark_among statement_marks token) _ (and-false (is_mark_kind token.kind) (list_any (bytes_eq token.bytes) statement_marks) (word_kind_no_mark token.kind (word_is_word_kind (codes "else") token word)))
     (not-among (is_word_kind token.kind) token.bytes (codes "else") statement_words (word_bytes (codes "else") token word) refl)))
 
 abbrev has-first : Terminal → Bool
@@ -157,10 +149,6 @@ behind-stars (star ∷ stars) name row = refl
 
 no-brace : (bytes : List ℕ) (token : Terminal) → IsMark bytes token → bytes_eq bytes (codes "}") ≡ false → not (is_mark (codes "}") token) ≡ true
 no-brace bytes token is differ = ap not (other_mark bytes (codes "}") token differ is)
-
-false-of : (b : Bool) → (b ≡ true → ⊥) → b ≡ false
-false-of true no-it = absurd (no-it refl)
-false-of false no-it = refl
 
 operand-no-brace : (row : List Terminal) → Begins begins_operand row → Begins (λ token. not (is_mark (codes "}") token)) row
 operand-no-brace [] no-first = no-first
@@ -274,16 +262,16 @@ pub declaration_not_mark : (scopes : List Names) (bytes : List ℕ) (token : Ter
 declaration_not_mark scopes bytes token is mark =
     let word = mark_kind_no_word token.kind (mark_is_mark_kind bytes token mark) in
     clash (begins_declaration scopes token) is
-    (either (is_among storage_words token) _ (not-kind (is_word_kind token.kind) (list_any (bytes_eq token.bytes) storage_words) word)
-    (either (is_among type_words token) _ (not-kind (is_word_kind token.kind) (list_any (bytes_eq token.bytes) type_words) word)
-    (not-kind (is_name token) (is_typedef_name scopes token.bytes) (mark_is_no_name bytes token mark))))
+    (false_or (is_among storage_words token) _ (and-false (is_word_kind token.kind) (list_any (bytes_eq token.bytes) storage_words) word)
+    (false_or (is_among type_words token) _ (and-false (is_word_kind token.kind) (list_any (bytes_eq token.bytes) type_words) word)
+    (and-false (is_name token) (is_typedef_name scopes token.bytes) (mark_is_no_name bytes token mark))))
 
 pub declaration_not_else : (scopes : List Names) (token : Terminal) → IsTrue (begins_declaration scopes token) → IsWord (codes "else") token → ⊥
 declaration_not_else scopes token is word =
     clash (begins_declaration scopes token) is
-    (either (is_among storage_words token) _ (not-among (is_word_kind token.kind) token.bytes (codes "else") storage_words (word_bytes (codes "else") token word) refl)
-    (either (is_among type_words token) _ (not-among (is_word_kind token.kind) token.bytes (codes "else") type_words (word_bytes (codes "else") token word) refl)
-    (not-kind (is_name token) (is_typedef_name scopes token.bytes) (word_is_no_name (codes "else") token refl word))))
+    (false_or (is_among storage_words token) _ (not-among (is_word_kind token.kind) token.bytes (codes "else") storage_words (word_bytes (codes "else") token word) refl)
+    (false_or (is_among type_words token) _ (not-among (is_word_kind token.kind) token.bytes (codes "else") type_words (word_bytes (codes "else") token word) refl)
+    (and-false (is_name token) (is_typedef_name scopes token.bytes) (word_is_no_name (codes "else") token refl word))))
 
 -- rows
 pub statement_row_not_else : (dangling : Bool) (stmt : Stmt) (before after : Context) (token : Terminal) (row : List Terminal) → Spells (Statement dangling stmt) before (token ∷ row) after → IsWord (codes "else") token → ⊥

@@ -5,7 +5,7 @@ use Rattle.cbase.specs.declared.tree.expr.Expr.{Expr}
 use Rattle.cbase.specs.declared.tree.stmt.Stmt.{Stmt}
 use Rattle.ctrees.specs.Levels.{expr_levels}
 use Rattle.cgrammar.proofs.Exact.{expressions_complete, expressions_sound, blocks_complete, blocks_sound}
-use Rattle.cgrammar.proofs.Fronts.{front_of_both}
+use Rattle.cgrammar.proofs.Fronts.{front_of_both, take_and_drop}
 use Rattle.cgrammar.proofs.Reached.{IsSound, Goes, goes_on_expression}
 use Rattle.cgrammar.proofs.ReadAt.{Leaves, IsSpelled, spelled_left, goes_less, goes_some}
 use Rattle.cgrammar.specs.FrontOf.{front_of}
@@ -18,11 +18,6 @@ use Rattle.cgrammar.specs.Readings.{at_first, block_levels}
 use Rattle.cgrammar.specs.Scope.{Names}
 use Rattle.cgrammar.specs.Terminals.{Terminal}
 use Rattle.cgrammar.specs.TextRows.{TextRow, few_levels, row_of_text, typedefs, IsLongestFront, BeginsNoExpression, HasExpression, HaveExpressions, IsOnlyBlock, BeginsNoBlock, HasBlock, HaveBlocks}
-
-take_and_drop : (n : ℕ) (xs : List Terminal) → take n xs ++ drop n xs ≡ xs
-take_and_drop zero xs = refl
-take_and_drop (suc n) [] = refl
-take_and_drop (suc n) (x ∷ xs) = ap (λ (zs : List Terminal). x ∷ zs) (take_and_drop n xs)
 
 left_over : (n : ℕ) (xs : List Terminal) → n ≤ length xs → length (drop n xs) + n ≡ length xs
 left_over zero xs inside = omega arith

@@ -8,7 +8,8 @@ use Rattle.ctokens.specs.declared.token.TokenKind.{TokenKind}
 use Rattle.ctokens.specs.declared.token.TokenKind.TheVariants.{Word, Number, Letter, Quoted, Mark}
 use Rattle.ctokens.specs.Symbol.{is_identifier}
 use Rattle.ctokens.specs.SymbolTables.{keyword_symbol, name_symbol, passed_symbol, word_symbol}
-use Rattle.cgrammar.proofs.Truth.{and-left, and-right, of-any}
+use Rattle.ctokens.proofs.Choices.{false_and}
+use Rattle.cgrammar.proofs.Truth.{and-left, and-right, of-any, clash, and-false, false-of}
 use Rattle.cgrammar.specs.Constants.{IsConstant, IsOfKind}
 use Rattle.cgrammar.specs.Operators.{row_of, mark_row}
 use Rattle.cgrammar.specs.Terminals.{Terminal, is_word_kind, is_mark_kind, is_word, IsWord, is_mark, IsMark, is_name, IsName, is_left_out}
@@ -27,6 +28,20 @@ word_kind_no_mark Number is = refl
 word_kind_no_mark Letter is = refl
 word_kind_no_mark Quoted is = refl
 word_kind_no_mark Mark is = sym is
+
+pub mark_kind_is : (kind : TokenKind) → is_mark_kind kind ≡ true → kind ≡ Mark
+mark_kind_is Word is = cc is
+mark_kind_is Number is = cc is
+mark_kind_is Letter is = cc is
+mark_kind_is Quoted is = cc is
+mark_kind_is Mark is = refl
+
+pub word_kind_is : (kind : TokenKind) → is_word_kind kind ≡ true → kind ≡ Word
+word_kind_is Word is = refl
+word_kind_is Number is = cc is
+word_kind_is Letter is = cc is
+word_kind_is Quoted is = cc is
+word_kind_is Mark is = cc is
 
 constant_no_word_kind : (kind : TokenKind) (bytes : List ℕ) → IsOfKind kind bytes → is_word_kind kind ≡ false
 constant_no_word_kind Word bytes is = absurd is
@@ -80,16 +95,6 @@ one_mark a b token one other = sym (mark_bytes a token one) ∙ mark_bytes b tok
 pub one_word : (a b : List ℕ) (token : Terminal) → IsWord a token → IsWord b token → a ≡ b
 one_word a b token one other = sym (word_bytes a token one) ∙ word_bytes b token other
 
-clash : (b : Bool) → b ≡ true → b ≡ false → ⊥
-clash b yes-it no-it = let wrong : true ≡ false = sym yes-it ∙ no-it in cc wrong
-
-and-false : (a b : Bool) → a ≡ false → (a && b) ≡ false
-and-false a b is = ap (λ (x : Bool). x && b) is
-
-and-other : (a b : Bool) → b ≡ false → (a && b) ≡ false
-and-other true b is = is
-and-other false b is = refl
-
 pub not_two_marks : (a b : List ℕ) (token : Terminal) → bytes_eq a b ≡ false → IsMark a token → IsMark b token → ⊥
 not_two_marks a b token differ one other = clash (bytes_eq a b) ((bytes_eq-Decides a b).1 (one_mark a b token one other)) differ
 
@@ -98,11 +103,11 @@ not_two_words a b token differ one other = clash (bytes_eq a b) ((bytes_eq-Decid
 
 pub other_mark : (a b : List ℕ) (token : Terminal) → bytes_eq a b ≡ false → is_mark a token ≡ true → is_mark b token ≡ false
 other_mark a b token differ is =
-    and-other (is_mark_kind token.kind) (bytes_eq token.bytes b) (ap (λ (bytes : List ℕ). bytes_eq bytes b) (mark_bytes a token is) ∙ differ)
+    false_and (is_mark_kind token.kind) (bytes_eq token.bytes b) (ap (λ (bytes : List ℕ). bytes_eq bytes b) (mark_bytes a token is) ∙ differ)
 
 pub other_word : (a b : List ℕ) (token : Terminal) → bytes_eq a b ≡ false → is_word a token ≡ true → is_word b token ≡ false
 other_word a b token differ is =
-    and-other (is_word_kind token.kind) (bytes_eq token.bytes b) (ap (λ (bytes : List ℕ). bytes_eq bytes b) (word_bytes a token is) ∙ differ)
+    false_and (is_word_kind token.kind) (bytes_eq token.bytes b) (ap (λ (bytes : List ℕ). bytes_eq bytes b) (word_bytes a token is) ∙ differ)
 
 -- a mark is no word, no name and no constant
 pub mark_kind_is_no_word : (token : Terminal) (bytes : List ℕ) → is_mark_kind token.kind ≡ true → is_word bytes token ≡ false
@@ -165,7 +170,8 @@ named_words =
     ∷ codes "typedef" ∷ codes "extern" ∷ codes "static"
     ∷ codes "if" ∷ codes "else" ∷ codes "while" ∷ codes "do" ∷ codes "for" ∷ codes "break" ∷ codes "continue" ∷ codes "return" ∷ []
 
-no_identifier : List ℕ → Bool
+-- the word is no identifier
+unfoldable pub no_identifier : List ℕ → Bool
 no_identifier bytes = not (is_identifier (word_symbol bytes))
 
 named_is_no_identifier : (bytes : List ℕ) → list_any (bytes_eq bytes) named_words ≡ true → not (is_identifier (word_symbol bytes)) ≡ true
@@ -183,10 +189,6 @@ name_not_word bytes token named name word =
     let identifier : is_identifier (word_symbol bytes) ≡ true = ap (λ (b : List ℕ). is_identifier (word_symbol b)) (sym (word_bytes bytes token word)) ∙ name_is_identifier token name in
     let wrong : not true ≡ true = sym (ap not identifier) ∙ named_is_no_identifier bytes named in
     cc wrong
-
-false-of : (b : Bool) → (b ≡ true → ⊥) → b ≡ false
-false-of true no-it = absurd (no-it refl)
-false-of false no-it = refl
 
 pub name_is_no_word : (bytes : List ℕ) (token : Terminal) → list_any (bytes_eq bytes) named_words ≡ true → is_name token ≡ true → is_word bytes token ≡ false
 name_is_no_word bytes token named name = false-of (is_word bytes token) (name_not_word bytes token named name)

@@ -29,6 +29,7 @@ use Rattle.cbase.specs.declared.tree.expr.ExprForm.TheShapes.{former-StmtForm-Ev
 use Rattle.cbase.specs.declared.tree.expr.ExprForm.TheOpen as Open
 use Rattle.ctrees.specs.Levels.{depth, form_levels, part_levels, init_levels, spec_levels, statement_form_levels, decl_levels, declared_levels, param_levels, type_name_levels, expr_levels, init_part_levels, field_decl_levels, field_name_levels, enumerator_levels, stmt_levels, maybe_levels}
 use Rattle.ctrees.specs.Weight.{joined, or_nothing, in_form, in_part, in_init, in_spec, in_statement_form, in_decl, in_declared, in_param, in_type_name, in_expr, in_init_part, in_enumerator, in_field_decl, in_field_name, in_stmt}
+use Rattle.ctrees.proofs.Sizes.{map_options}
 use Rattle.cgrammar.specs.Terminals.{Terminal}
 use Rattle.cgrammar.specs.Trees.{object, function, field, fields, enumerator, parameter, type_name, declaration, initializer, statement}
 
@@ -46,10 +47,6 @@ both f a c b d p q = λ i. f (p i) (q i)
 option_cases : {A B C : Type 0} (h : B → C) (f : Option A → B) (g : Option A → C) → h (f None) ≡ g None → ((a : A) → h (f (Some a)) ≡ g (Some a)) → (o : Option A) → h (f o) ≡ g o
 option_cases h f g none some None = none
 option_cases h f g none some (Some x) = some x
-
-map_options : {A B C : Type 0} (h : B → C) (f : Option A → B) (g : Option A → C) → h (f None) ≡ g None → ((a : A) → h (f (Some a)) ≡ g (Some a)) → (xs : List (Option A)) → map h (map f xs) ≡ map g xs
-map_options h f g none some [] = refl
-map_options h f g none some (x ∷ xs) = λ i. option_cases h f g none some x i ∷ map_options h f g none some xs i
 
 -- what is joined
 pub joined_nothing : joined depth [] ≡ 0
@@ -355,3 +352,7 @@ form_return value = ap statement_form_levels (sym (rolls-Return (Some value))) �
 
 pub levels_return : (place last : Place) (value : Expr) → stmt_levels (statement place last (Return (Some value))) ≡ 1 + expr_levels value
 levels_return place last value = levels_stmt (statement place last (Return (Some value))) ∙ ap (λ (n : ℕ). 1 + n) (form_return value)
+
+pub levels_of_return : (place last : Place) (value : Option Expr) → stmt_levels (statement place last (Return value)) ≡ 1 + maybe_levels value
+levels_of_return place last None = levels_return_nothing place last
+levels_of_return place last (Some value) = levels_return place last value

@@ -1,5 +1,5 @@
 -- Truth values, and what holds of the words of a list.
-use Rattle.std.proofs.Common.{◌≡◌, ℕ, Bool, true, false, ◌&&◌, ◌||◌, refl, ap, ◌∙◌, List, [], ◌∷◌, ◌⊎◌, inl, inr}
+use Rattle.std.proofs.Common.{◌≡◌, ℕ, Bool, true, false, ◌&&◌, ◌||◌, not, refl, ap, sym, ◌∙◌, List, [], ◌∷◌, ◌⊎◌, inl, inr}
 use Rattle.std.specs.List.{list_any, list_all}
 use Rattle.std.specs.Str.{bytes_eq}
 use Rattle.std.proofs.lemmas.Slice.Eq.{bytes_eq-Decides}
@@ -25,6 +25,28 @@ and-both {a} {b} p q = ap (λ (x : Bool). x && b) p ∙ q
 pub or-cases : (a b : Bool) → (a || b) ≡ true → (a ≡ true) ⊎ (b ≡ true)
 or-cases true b is = inl refl
 or-cases false b is = inr is
+
+pub and-false : (a b : Bool) → a ≡ false → (a && b) ≡ false
+and-false a b is = ap (λ (x : Bool). x && b) is
+
+pub or-false-left : (a b : Bool) → (a || b) ≡ false → a ≡ false
+or-false-left true b is = is
+or-false-left false b is = refl
+
+pub or-false-right : (a b : Bool) → (a || b) ≡ false → b ≡ false
+or-false-right true b is = cc is
+or-false-right false b is = is
+
+pub not-true : (b : Bool) → not b ≡ true → b ≡ false
+not-true true is = sym is
+not-true false is = refl
+
+pub clash : (b : Bool) → b ≡ true → b ≡ false → ⊥
+clash b yes-it no-it = let wrong : true ≡ false = sym yes-it ∙ no-it in cc wrong
+
+pub false-of : (b : Bool) → (b ≡ true → ⊥) → b ≡ false
+false-of true no-it = absurd (no-it refl)
+false-of false no-it = refl
 
 -- what holds of each word of a list holds of one among them
 pub of-any : (test : List ℕ → Bool) (words : List (List ℕ)) (bytes : List ℕ) → list_all test words ≡ true → list_any (bytes_eq bytes) words ≡ true → test bytes ≡ true
