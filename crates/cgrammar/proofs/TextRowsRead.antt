@@ -17,7 +17,7 @@ use Rattle.cgrammar.specs.Reader.{level}
 use Rattle.cgrammar.specs.Readings.{at_first, block_levels}
 use Rattle.cgrammar.specs.Scope.{Names}
 use Rattle.cgrammar.specs.Terminals.{Terminal}
-use Rattle.cgrammar.specs.TextRows.{TextRow, few_levels, row_of_text, typedefs, IsLongestFront, BeginsNoExpression, HasExpression, HaveExpressions, IsOnlyBlock, BeginsNoBlock, HasBlock, HaveBlocks}
+use Rattle.cgrammar.specs.TextRows.{TextRow, few_levels, row_of_text, typedefs, IsLongestFront, BeginsNoExpression, HasExpression, HaveExpressions, IsLongestBlockFront, BeginsNoBlock, HasBlock, HaveBlocks}
 
 left_over : (n : ℕ) (xs : List Terminal) → n ≤ length xs → length (drop n xs) + n ≡ length xs
 left_over zero xs inside = omega arith
@@ -90,7 +90,7 @@ no_longer_block most scope row outcome body taken inside is leaves other count b
     omega (arith, less, left_over taken row inside, left_over count row within)
 
 pub only_block : (scope : List Names) (row : List Terminal) (body : List Stmt) (taken : ℕ) → nat_le taken (length row) ≡ true
-    → Leaves (read_block (level few_levels) (at_first scope) row) body (drop taken row) → IsOnlyBlock scope row body taken
+    → Leaves (read_block (level few_levels) (at_first scope) row) body (drop taken row) → IsLongestBlockFront scope row body taken
 only_block scope row body taken inside leaves = (
   block_front few_levels scope row (read_block (level few_levels) (at_first scope) row) body taken (blocks_sound few_levels (at_first scope) row) leaves,
   no_longer_block few_levels scope row (read_block (level few_levels) (at_first scope) row) body taken (leb-true taken (length row) inside) refl leaves,
