@@ -1,4 +1,4 @@
-ghost use Rattle.std.specs.Prelude.{◌≡◌, ◌≤◌, length, map};
+ghost use Rattle.std.specs.Prelude.{◌≡◌, ◌≤◌, map};
 ghost use Rattle.cgrammar.specs.TypeWords.{basic_of, basic_rows, are_same, times};
 ghost use Rattle.cgrammar.specs.CodeTables.{text_read, basic_read};
 

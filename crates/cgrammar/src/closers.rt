@@ -1,7 +1,7 @@
-ghost use Rattle.std.specs.Prelude.{◌≡◌, ◌∷◌, ◌++◌, [], ◌≤◌, IfOk, IfSome, Some, None, drop, if◌then◌else◌, length, option_map, reverse};
+ghost use Rattle.std.specs.Prelude.{◌≡◌, ◌∷◌, [], ◌≤◌, IfOk, IfSome, Some, None, drop, if◌then◌else◌, length, option_map, reverse};
 ghost use Rattle.cgrammar.specs.Brackets.{is_bracket};
 ghost use Rattle.cgrammar.specs.ReadOperands.{behind_matched, closer_of};
-ghost use Rattle.cgrammar.specs.Closers.{behind_other, behind_token};
+ghost use Rattle.cgrammar.specs.Closers.{behind_token};
 
 use crate::terminal::Terminal;
 use cbase::NoMemory;
