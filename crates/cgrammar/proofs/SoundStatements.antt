@@ -5,7 +5,7 @@ use Rattle.cbase.specs.declared.place.Place.{Place}
 use Rattle.cbase.specs.declared.tree.decl.Decl.{Decl}
 use Rattle.cbase.specs.declared.tree.expr.Expr.{Expr}
 use Rattle.cbase.specs.declared.tree.stmt.Stmt.{Stmt}
-use Rattle.cbase.specs.declared.tree.stmt.StmtForm.TheVariants.{Declare, Eval, Block, For, Return}
+use Rattle.cbase.specs.declared.tree.stmt.StmtForm.TheVariants.{Declare, Eval, Block, For}
 use Rattle.ctrees.specs.Levels.{expr_levels, maybe_levels, stmt_levels}
 use Rattle.cgrammar.proofs.Contexts.{scopes_kept}
 use Rattle.cgrammar.proofs.Fronts.{front_of_both}
