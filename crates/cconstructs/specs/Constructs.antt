@@ -54,6 +54,7 @@ pub data IsPointed : List Terminal → Type 0 where
 abbrev pub IsNotHeaded : List Terminal → ℕ → Type 0
 IsNotHeaded row at = (before : ℕ) (token : Terminal) → at ≡ suc before → slice_get row before ≡ Some token → IsTrue (not (is_header token))
 
+-- the token at the place in the row shows the construct with the number
 pub data IsConstructAt (row : List Terminal) : ℕ → ℕ → Type 0 where
   NamedWord : {at number : ℕ} (token : Terminal) → slice_get row at ≡ Some token → IsTrue (is_any_word token) → row_of token.bytes word_rows ≡ Some number → IsConstructAt row at number
   FloatingWord : {at : ℕ} (token : Terminal) → slice_get row at ≡ Some token → IsTrue (is_any_word token) → IsTrue (starts_with nat_eq token.bytes (codes "_Float")) → IsConstructAt row at floating_type
@@ -64,10 +65,11 @@ pub data IsConstructAt (row : List Terminal) : ℕ → ℕ → Type 0 where
       → slice_get row (suc before) ≡ Some star → IsMark (codes "*") star → IsNotHeaded row before → IsPointed (drop (before + 2) row)
       → IsConstructAt row (suc before) function_pointer
 
--- the first of them
+-- the first construct of the row stands at the place and has the number
 pub record IsFirstConstruct (row : List Terminal) (at number : ℕ) : Type 0 where
   pub is : IsConstructAt row at number
   pub first : (earlier other : ℕ) → earlier < at → IsConstructAt row earlier other → ⊥
 
+-- no token of the row shows a construct
 abbrev pub HasNoConstruct : List Terminal → Type 0
 HasNoConstruct row = (at number : ℕ) → IsConstructAt row at number → ⊥

@@ -51,14 +51,18 @@ abbrev pub inside : List Terminal → Option (List Terminal) → ℕ
 inside row None = 0
 inside row (Some others) = length row - length others - 1
 
+-- how many tokens of the row stand before the `)` that closes a `(` that is open before it, where brackets are matched by
+-- kind (41 is the code of `)`); 0 where none closes it so
 unfoldable pub guarded_front : List Terminal → ℕ
 guarded_front row = inside row (behind_matched (41 ∷ []) row)
 
+-- how many tokens behind the token stand in the brackets of an `__assert_fail`, where so many did from the token on and it is
+-- known whether an `__assert_fail` stands directly before it
 abbrev pub guarded_behind : ℕ → Bool → Terminal → List Terminal → ℕ
 guarded_behind (suc count) asserting token others = count
 guarded_behind zero asserting token others = if asserting && is_mark (codes "(") token then guarded_front others else 0
 
--- behind the row's first token
+-- what is known behind the row's first token, from what is known before it
 unfoldable pub behind : Before → List Terminal → Before
 behind before [] = before
 behind before (token ∷ others) = record {
@@ -76,6 +80,7 @@ at_front = record { guarded = 0; asserting = false; opened = false; headed = fal
 abbrev pub found_at : ℕ → ℕ → Found
 found_at number at = record { number = number; at = at }
 
+-- the construct that the token at the place shows, or else the other one
 abbrev pub found_or : ℕ → Option ℕ → Option Found → Option Found
 found_or at (Some number) otherwise = Some (found_at number at)
 found_or at None otherwise = otherwise

@@ -13,19 +13,23 @@ use Rattle.cgrammar.specs.Terminals.{Terminal, terminal_of, is_any_word, is_mark
 abbrev pub layout_names : List (List ℕ)
 layout_names = codes "packed" ∷ codes "aligned" ∷ codes "mode" ∷ codes "vector_size" ∷ codes "cleanup" ∷ codes "alias" ∷ []
 
+-- a name with `__` on both sides
 abbrev pub with_underscores : List ℕ → List ℕ
 with_underscores name = codes "__" ++ name ++ codes "__"
 
+-- the token is a word that is one of these names, with `__` on both sides or without
 abbrev pub is_layout_name : Terminal → Bool
 is_layout_name token = is_any_word token && (list_any (bytes_eq token.bytes) layout_names || list_any (bytes_eq token.bytes) (map with_underscores layout_names))
 
+-- the token is a `(` or a `,`: an attribute's name may stand behind it
 abbrev pub separates : Terminal → Bool
 separates token = is_mark (codes "(") token || is_mark (codes ",") token
 
--- brackets of the three kinds together
+-- the token opens a bracket of one of the three kinds
 abbrev pub opens : Terminal → Bool
 opens token = is_mark (codes "(") token || (is_mark (codes "[") token || is_mark (codes "{") token)
 
+-- the token closes a bracket of one of the three kinds
 abbrev pub closes : Terminal → Bool
 closes token = is_mark (codes ")") token || (is_mark (codes "]") token || is_mark (codes "}") token)
 
@@ -49,6 +53,7 @@ within unclosed separated = record { behind = false; unclosed = unclosed; separa
 abbrev pub shows_layout : Part → Terminal → Bool
 shows_layout part token = nat_eq part.unclosed 2 && (part.separated && is_layout_name token)
 
+-- what is known of the next token, from what is known of this one: an attribute's part begins with the bracket behind its word
 abbrev pub part_behind : Bool → ℕ → Terminal → Part
 part_behind behind zero token = if behind && opens token then within 1 true else outside (is_attribute token)
 part_behind behind (suc unclosed) token = within (unclosed_behind (suc unclosed) token) (separates token)
@@ -96,10 +101,11 @@ pub data IsLayoutAt (t : Tokens) (from to : ℕ) : ℕ → Type 0 where
   ByPragma : (at line : ℕ) (word : Terminal) → slice_get (row_between t from to) at ≡ Some word → IsStructWithMembers (drop at (row_between t from to))
       → slice_get t.packs 0 ≡ Some line → EndsBehind line word (drop at (row_between t from to)) → IsLayoutAt t from to word.place.at
 
--- the first of them, and none
+-- the token with the number is the first that shows a changed layout, in the item from one token up to another
 pub record IsFirstLayout (t : Tokens) (from to number : ℕ) : Type 0 where
   pub is : IsLayoutAt t from to number
   pub first : (earlier : ℕ) → earlier < number → IsLayoutAt t from to earlier → ⊥
 
+-- no token of the item shows a changed layout
 abbrev pub HasNoLayout : Tokens → ℕ → ℕ → Type 0
 HasNoLayout t from to = (number : ℕ) → IsLayoutAt t from to number → ⊥

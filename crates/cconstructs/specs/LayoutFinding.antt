@@ -35,6 +35,7 @@ abbrev pub struct_at : ℕ → List Terminal → Option ℕ
 struct_at line [] = None
 struct_at line (word ∷ others) = if has_members (word ∷ others) && ends_behind line word (word ∷ others) then Some word.place.at else None
 
+-- the lesser of two numbers of which each may be wanting
 abbrev pub lesser : Option ℕ → Option ℕ → Option ℕ
 lesser None other = other
 lesser (Some one) None = Some one
@@ -50,5 +51,6 @@ abbrev pub packed_struct : List ℕ → List Terminal → Option ℕ
 packed_struct [] row = None
 packed_struct (line ∷ lines) row = least_struct line row
 
+-- the number of the first token that shows a changed layout: the name of an attribute or such a `struct`
 abbrev pub layout_found : Tokens → ℕ → ℕ → Option ℕ
 layout_found t from to = lesser (attribute_from from (outside false) (tokens_between t from to)) (packed_struct t.packs (row_between t from to))
