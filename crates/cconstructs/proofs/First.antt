@@ -7,13 +7,8 @@ use Rattle.cconstructs.specs.declared.before.Before.{Before}
 use Rattle.cconstructs.specs.declared.found.Found.{Found}
 use Rattle.cconstructs.specs.Constructs.{HasNoConstruct, IsFirstConstruct}
 use Rattle.cconstructs.specs.Finding.{at_front, behind, first_from, found_at, found_or, number_at}
+use Rattle.cconstructs.proofs.Options.{no_some, same_some}
 use Rattle.cconstructs.proofs.Numbers.{number_complete, number_from, number_sound}
-
-same_some : {A : Type 0} (x y : A) → ◌≡◌ {A = Option A} (Some x) (Some y) → x ≡ y
-same_some x y is = cc is
-
-no_some : {A B : Type 0} (x : A) → ◌≡◌ {A = Option A} None (Some x) → B
-no_some x is = cc is
 
 none_from : (row : List Terminal) (at : ℕ) (before : Before) → first_from at before row ≡ None → (place : ℕ) → number_from before row place ≡ None
 unfolding first_from

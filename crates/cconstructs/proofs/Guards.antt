@@ -14,6 +14,7 @@ use Rattle.cgrammar.specs.Closers.{behind_other, behind_token}
 use Rattle.cconstructs.specs.Constructs.{IsAsserted}
 use Rattle.cconstructs.specs.Finding.{guarded_behind, guarded_front, inside}
 use Rattle.cgrammar.proofs.Matching.{matched_on, matched_one}
+use Rattle.cconstructs.proofs.Options.{no_some, same_some}
 
 abbrev pub is_assertion : Terminal → Bool
 is_assertion token = is_word (codes "__assert_fail") token
@@ -43,12 +44,6 @@ positive n is = (Decides-ltb 0 n).0 is
 
 is_positive : (n : ℕ) → 0 < n → nat_lt 0 n ≡ true
 is_positive n is = (Decides-ltb 0 n).1 is
-
-no_some : {A B : Type 0} (x : A) → ◌≡◌ {A = Option A} None (Some x) → B
-no_some x is = cc is
-
-same_some : {A : Type 0} (x y : A) → ◌≡◌ {A = Option A} (Some x) (Some y) → x ≡ y
-same_some x y is = cc is
 
 -- counted tokens stand in brackets
 counted : (guarded : ℕ) (asserting : Bool) (token : Terminal) (others : List Terminal) (at : ℕ) → at < guarded_behind guarded asserting token others

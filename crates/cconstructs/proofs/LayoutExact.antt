@@ -9,18 +9,7 @@ use Rattle.cgrammar.specs.Readings.{row_between}
 use Rattle.cgrammar.specs.Terminals.{Terminal, is_mark, is_name, is_word}
 use Rattle.cconstructs.specs.Layout.{attribute_from, first_closing, outside, tokens_between, ClosesBehind, EndsBehind, IsStructWithMembers, Untagged, Tagged, IsLayoutAt, ByAttribute, ByPragma, IsFirstLayout, HasNoLayout}
 use Rattle.cconstructs.specs.LayoutFinding.{ends_behind, has_members, is_behind, is_filled, is_tagged, layout_found, least_struct, lesser, packed_struct, struct_at}
-
-same_some : {A : Type 0} (x y : A) → ◌≡◌ {A = Option A} (Some x) (Some y) → x ≡ y
-same_some x y is = cc is
-
-no_some : {A B : Type 0} (x : A) → ◌≡◌ {A = Option A} None (Some x) → B
-no_some x is = cc is
-
-le_true : (a b : ℕ) → nat_le a b ≡ true → a ≤ b
-le_true a b is = leb-true a b is
-
-le_is : (a b : ℕ) → a ≤ b → nat_le a b ≡ true
-le_is a b less = le-leb a b less
+use Rattle.cconstructs.proofs.Options.{no_some, same_some}
 
 -- the least of two
 min_cases : (x y : ℕ) → (min x y ≡ x) ⊎ (min x y ≡ y)
@@ -91,19 +80,19 @@ members_complete _ (Tagged word tag opening next others struct named opens full)
 -- where a struct ends
 closing_sound : (line : ℕ) (row : List Terminal) (found : Option Terminal) → first_closing 0 row ≡ found → is_behind line found ≡ true → ClosesBehind line row
 closing_sound line row None e is = cc is
-closing_sound line row (Some closing) e is = record { closing = closing; is = e; behind = le_true line closing.place.at is }
+closing_sound line row (Some closing) e is = record { closing = closing; is = e; behind = leb-true line closing.place.at is }
 
 ends_sound : (line : ℕ) (word : Terminal) (row : List Terminal) → ends_behind line word row ≡ true → EndsBehind line word row
 ends_sound line word row is = step (or-cases (nat_le line word.place.at) (is_behind line (first_closing 0 row)) is)
   where
     step : (nat_le line word.place.at ≡ true) ⊎ (is_behind line (first_closing 0 row) ≡ true) → EndsBehind line word row
-    step (inl e) = inl (le_true line word.place.at e)
+    step (inl e) = inl (leb-true line word.place.at e)
     step (inr e) = inr (closing_sound line row (first_closing 0 row) refl e)
 
 ends_complete : (line : ℕ) (word : Terminal) (row : List Terminal) → EndsBehind line word row → ends_behind line word row ≡ true
-ends_complete line word row (inl less) = or-left (is_behind line (first_closing 0 row)) (le_is line word.place.at less)
+ends_complete line word row (inl less) = or-left (is_behind line (first_closing 0 row)) (le-leb line word.place.at less)
 ends_complete line word row (inr closes) =
-    or-right (nat_le line word.place.at) (ap (is_behind line) closes.is ∙ le_is line closes.closing.place.at closes.behind)
+    or-right (nat_le line word.place.at) (ap (is_behind line) closes.is ∙ le-leb line closes.closing.place.at closes.behind)
 
 -- a `struct` with members in the row that ends at or behind the line
 pub record ShownAt (line : ℕ) (row : List Terminal) (number : ℕ) : Type 0 where

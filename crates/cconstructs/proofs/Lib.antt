@@ -7,6 +7,7 @@ pub mod Guards
 pub mod LayoutExact
 pub mod Least
 pub mod Numbers
+pub mod Options
 pub mod Pointers
 pub mod Steps
 pub mod WholeText

@@ -14,7 +14,8 @@ use Rattle.cconstructs.specs.declared.before.Before.{Before}
 use Rattle.cconstructs.specs.Constructs.{word_rows, IsConstructAt, NamedWord, FloatingWord, FloatingConstant, VariableArguments, StringLiteral, FunctionPointer}
 use Rattle.cconstructs.specs.Finding.{at_front, behind, mark_number, number_at, number_of, word_number}
 use Rattle.cconstructs.proofs.Guards.{guarded_complete, guarded_sound, in_brackets}
-use Rattle.cconstructs.proofs.Pointers.{pointed_at, star_complete, star_sound}
+use Rattle.cconstructs.proofs.Options.{no_some, same_some}
+use Rattle.cconstructs.proofs.Pointers.{not-true, pointed_at, star_complete, star_sound}
 
 -- the number of the token at a place
 abbrev pub number_from : Before → List Terminal → ℕ → Option ℕ
@@ -32,12 +33,6 @@ unfolding behind
 there_same [] before at = refl
 there_same (token ∷ others) before zero = refl
 there_same (token ∷ others) before (suc at) = there_same others (behind before (token ∷ others)) at
-
-same_some : {A : Type 0} (x y : A) → ◌≡◌ {A = Option A} (Some x) (Some y) → x ≡ y
-same_some x y is = cc is
-
-no_some : {A B : Type 0} (x : A) → ◌≡◌ {A = Option A} None (Some x) → B
-no_some x is = cc is
 
 word_kind : (kind : TokenKind) → is_word_kind kind ≡ true → kind ≡ Word
 word_kind Word is = refl
@@ -62,10 +57,6 @@ apart_in [] bytes number all is = no_some number is
 apart_in (row ∷ rows) bytes number all is =
     step (bytes_eq row.0 bytes) refl (apart_in rows bytes number (and-right (not (is_floating row.0)) (list_all (λ r. not (is_floating r.0)) rows) all)) is
   where
-    not-true : (b : Bool) → not b ≡ true → b ≡ false
-    not-true true e = sym e
-    not-true false e = refl
-
     step : (same : Bool) → bytes_eq row.0 bytes ≡ same → (row_of bytes rows ≡ Some number → is_floating bytes ≡ false)
         → (if same then Some row.1 else row_of bytes rows) ≡ Some number → is_floating bytes ≡ false
     step true e further h =

@@ -1,10 +1,11 @@
 -- Where the `*` of a function pointer stands, by what stands before it and behind it.
-use Rattle.std.proofs.Common.{◌≡◌, ℕ, zero, suc, ◌+◌, Bool, true, false, not, ◌&&◌, IsTrue, refl, ap, sym, ◌∙◌, subst, ◌⊎◌, inl, inr, List, [], ◌∷◌, Option, None, Some, drop, codes, arith}
+use Rattle.std.proofs.Common.{◌≡◌, ℕ, zero, suc, ◌+◌, Bool, true, false, not, ◌&&◌, IsTrue, refl, ap, sym, ◌∙◌, subst, ◌⊎◌, inl, inr, List, [], ◌∷◌, Some, drop, codes, arith}
 use Rattle.std.specs.Prelude.{slice_get}
 use Rattle.cgrammar.proofs.Truth.{and-left, and-right, and-both, or-cases, or-left, or-right}
 use Rattle.cgrammar.specs.Terminals.{Terminal, is_mark, is_name, IsMark}
 use Rattle.cconstructs.specs.Constructs.{is_header, IsCalled, IsNotHeaded, IsPointed, Unnamed, Identified}
 use Rattle.cconstructs.specs.Finding.{is_called, is_pointed}
+use Rattle.cconstructs.proofs.Options.{no_some, same_some}
 
 -- the tokens behind the one at a place may follow the `*` of a function pointer, and `(` stands before it
 abbrev pub pointed_at : Bool → Bool → List Terminal → ℕ → Bool
@@ -55,15 +56,9 @@ pub record PointedAt (headed : Bool) (row : List Terminal) (before : ℕ) : Type
   pub apart : NotHeaded headed row before
   pub behind : IsPointed (drop (suc (suc before)) row)
 
-not-true : (b : Bool) → not b ≡ true → b ≡ false
+pub not-true : (b : Bool) → not b ≡ true → b ≡ false
 not-true true is = sym is
 not-true false is = refl
-
-same_some : {A : Type 0} (x y : A) → ◌≡◌ {A = Option A} (Some x) (Some y) → x ≡ y
-same_some x y is = cc is
-
-no_some : {A B : Type 0} (x : A) → ◌≡◌ {A = Option A} None (Some x) → B
-no_some x is = cc is
 
 apart_later : (headed : Bool) (token : Terminal) (others : List Terminal) (before : ℕ) → NotHeaded (is_header token) others before → NotHeaded headed (token ∷ others) (suc before)
 apart_later headed token others zero apart = λ other is. ap not (ap is_header (sym (same_some token other is)) ∙ apart)
