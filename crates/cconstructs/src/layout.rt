@@ -4,7 +4,7 @@ ghost use Rattle.ctokens.specs.InText.{LieInText, most_bytes};
 ghost use Rattle.ctokens.specs.declared.token.Token.{Token};
 ghost use Rattle.cgrammar.specs.Readings.{row_between};
 ghost use Rattle.cgrammar.specs.Terminals.{terminal_of};
-ghost use Rattle.cconstructs.specs.Layout.{HasNoLayout, IsFirstLayout, attribute_from, outside, tokens_between};
+ghost use Rattle.cconstructs.specs.Layout.{HasNoLayout, IsFirstLayout, attribute_from, outside};
 ghost use Rattle.cconstructs.specs.LayoutFinding.{layout_found};
 
 use crate::packed::{lesser, packed_struct};

@@ -1,4 +1,4 @@
-ghost use Rattle.std.specs.Prelude.{◌≡◌, ◌||◌, map, nat_lt};
+ghost use Rattle.std.specs.Prelude.{◌≡◌, map};
 ghost use Rattle.cgrammar.specs.Operators.{row_of};
 ghost use Rattle.cgrammar.specs.CodeTables.{row_read};
 ghost use Rattle.cconstructs.specs.Constructs.{word_rows};
