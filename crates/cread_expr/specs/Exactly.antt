@@ -24,10 +24,11 @@ comes_before number token = nat_lt token.place.at number
 abbrev pub at_token : Tokens → List Names → ℕ → State
 at_token t scope at = start_at (terminals t) (prefix_len (comes_before at) (terminals t)) scope
 
--- what is written of an expression, and of a block, of so many levels
+-- what is written of an expression of at most so many levels
 abbrev pub expression_written : ℕ → Tokens → List Names → ℕ → Writing
 expression_written most t scope at = written_of (reads most wanted.Expression (at_token t scope at))
 
+-- what is written of a block of at most so many levels
 abbrev pub block_written : ℕ → Tokens → List Names → ℕ → Writing
 block_written most t scope at = written_of (block (inner_at most) (at_token t scope at))
 
@@ -40,24 +41,27 @@ pub record MakesExpression (t : Tokens) (written : Writing) (expr : Expr) : Type
   pub count : ℕ
   pub made : built_all (terminals t) written.events (Some start) ≡ pushed count (piece.Expr expr) []
 
+-- what is written makes the block's declarations and statements, and nothing beside them
 pub record MakesBlock (t : Tokens) (written : Writing) (body : List Stmt) : Type 0 where
   pub count : ℕ
   pub made : built_all (terminals t) written.events (Some start) ≡ pushed count (piece.Statements body) []
 
--- the longest expression of so many levels is written, or none begins there
+-- the longest expression of at most so many levels is written, or none begins there
 pub record IsExactExpression (most : ℕ) (t : Tokens) (scope : List Names) (at : ℕ) (written : Writing) : Type 0 where
   pub found : written.found ≡ true → (expr : Expr) × MakesExpression t written expr × IsLongestExpressionAt most t scope at (end_of t written) expr
   pub none : written.found ≡ false → (expr : Expr) (after : ℕ) → IsExpressionAt most t scope at after expr → ⊥
 
+-- a block of at most so many levels is written, or none begins there
 pub record IsExactBlock (most : ℕ) (t : Tokens) (scope : List Names) (at : ℕ) (written : Writing) : Type 0 where
   pub found : written.found ≡ true → (body : List Stmt) × MakesBlock t written body × IsBlockAt most t scope at (end_of t written) body
   pub none : written.found ≡ false → (body : List Stmt) (after : ℕ) → IsBlockAt most t scope at after body → ⊥
 
--- for every text, at every token, with any names in scope
+-- expressions are written exactly: in every text, at every token, with any names in scope
 abbrev pub ExpressionsAreExact : Type 0
 ExpressionsAreExact =
     (most : ℕ) (t : Tokens) (scope : List Names) (at : ℕ) → AreNumbered t → IsExactExpression most t scope at (expression_written most t scope at)
 
+-- blocks are written exactly: in every text, at every token, with any names in scope
 abbrev pub BlocksAreExact : Type 0
 BlocksAreExact =
     (most : ℕ) (t : Tokens) (scope : List Names) (at : ℕ) → AreNumbered t → IsExactBlock most t scope at (block_written most t scope at)
