@@ -15,8 +15,8 @@ pub(crate) fn tokens_before(row: &[Terminal<'_>], number: u32) -> usize
         .count()
 }
 
-/// The number behind that of the last of the first tokens of a row. More tokens than numbers suffice for are in no
-/// memory.
+/// The number behind that of the last of the first tokens of a row. The error also stands for a number that is too great:
+/// it needs more tokens than memory holds.
 pub(crate) fn number_behind(row: &[Terminal<'_>], count: usize) -> Result<u32, NoMemory>
     ensures { IfOk result (λ number. number ≡ (last_place (take count row.now)).at + 1) }
 {
@@ -31,17 +31,12 @@ pub(crate) fn number_behind(row: &[Terminal<'_>], count: usize) -> Result<u32, N
     Ok(last.at + 1)
 }
 
-/// Where the last token of a row stands.
+/// Where the last token of a row stands; the place of no token where the row has none.
 fn last_place(row: &[Terminal<'_>]) -> Place
     ensures { result ≡ last_place row.now }
 {
     match row {
-        [] => Place {
-            file: 0,
-            line: 0,
-            column: 0,
-            at: 0,
-        },
+        [] => Place::NONE,
         [.., last] => last.place(),
     }
 }
