@@ -5,7 +5,7 @@ use Rattle.std.specs.Prelude.{if◌then◌else◌}
 use Rattle.cevents.specs.Building.{built}
 use Rattle.cevents.specs.declared.event.Event.{Event}
 use Rattle.cevents.specs.declared.piece.Piece.{Piece}
-use Rattle.cgrammar.specs.Outcomes.{Outcome, Reader, then_read, or_else, with_right, continued, after_first, after_mark, has_first, has_mark}
+use Rattle.cgrammar.specs.Outcomes.{Outcome, Reader, or_else, with_right, continued, after_mark, has_mark}
 use Rattle.cgrammar.specs.Outcomes as outcome
 use Rattle.cgrammar.specs.Phrases.{Context, counted}
 use Rattle.cgrammar.specs.Terminals.{Terminal, is_mark}
@@ -15,9 +15,10 @@ use Rattle.creader.specs.declared.point.Point.{Point}
 use Rattle.creader.specs.declared.status.Status.{Status}
 use Rattle.creader.specs.declared.status.Status.TheVariants.{Going, Stopped, Nothing}
 use Rattle.creader.specs.declared.wanted.Wanted.{Wanted}
+use Rattle.ctokens.proofs.Choices.{chosen_yes, chosen_no}
 use Rattle.cread_expr.proofs.Agreed.{shop, Pieces, none, Kept, Halted, Ended, Agreed, Reads, Continues, anyhow}
 use Rattle.cread_expr.proofs.AgreedRules.{agreed_lost, agreed_halted, agreed_at, same_first, from_here, ask_anyhow}
-use Rattle.cread_expr.proofs.AgreedSteps.{kept_at, kept_over, kept_went, kept_ended, went_event, if_going, if_idle, if_true, if_false, Still, ended_at, ended_then, halted_then, ended_skip}
+use Rattle.cread_expr.proofs.AgreedSteps.{kept_at, kept_over, kept_went, kept_ended, went_event, if_going, if_idle, Still, ended_at, ended_then, halted_then, ended_skip}
 
 -- the tree that is read up to a point is all that is read
 pub agreed_back : {A : Type 0} {s t u : State} {below : Pieces} {above : A → Pieces} {fits : A → State → Type 0} {base levels before : ℕ} {behind : Context} {others : List Terminal} (tree : A)
@@ -86,14 +87,14 @@ mark_back {B} {s} {t} {v} {below} {middle} {above} {fits} {base} {levels} {befor
   where
     going_back : (row : List Terminal) → Ended s t below middle base levels before context row → has_mark bytes row ≡ false → Agreed below above fits base before without s v
     going_back row far is =
-        let same : mark_or_back bytes point t ≡ back_at point t = if_going _ t t far.status ∙ if_false (has_mark bytes (rest t)) (skipped 1 t) (back_at point t) (same_first (is_mark bytes) far ∙ is) in
+        let same : mark_or_back bytes point t ≡ back_at point t = if_going _ t t far.status ∙ chosen_no (has_mark bytes (rest t)) (skipped 1 t) (back_at point t) (same_first (is_mark bytes) far ∙ is) in
         let halts : (mark_or_back bytes point t).status ≡ Stopped = ap (λ (u : State). u.status) same in
         agreed_at (still.same halts ∙ same) other
 
     tested : (first : Terminal) (others : List Terminal) (passes : Bool) → is_mark bytes first ≡ passes → Ended s t below middle base levels before context (first ∷ others)
         → Agreed below above fits base before (if passes then go first others else without) s v
     tested first others true is far =
-        let same : mark_or_back bytes point t ≡ skipped 1 t = if_going _ t t far.status ∙ if_true (has_mark bytes (rest t)) (skipped 1 t) (back_at point t) (same_first (is_mark bytes) far ∙ is) in
+        let same : mark_or_back bytes point t ≡ skipped 1 t = if_going _ t t far.status ∙ chosen_yes (has_mark bytes (rest t)) (skipped 1 t) (back_at point t) (same_first (is_mark bytes) far ∙ is) in
         next first others (kept_at same (kept_over t 1)) (ended_at same (ended_skip far))
     tested first others false is far = going_back (first ∷ others) far is
 

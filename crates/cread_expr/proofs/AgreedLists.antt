@@ -13,10 +13,11 @@ use Rattle.creader.specs.State.{State, rest, is_going, goes, skipped, lost}
 use Rattle.creader.specs.Steps.{write, parts, all_parts, parts_until_brace, until_brace}
 use Rattle.creader.specs.declared.status.Status.{Status}
 use Rattle.creader.specs.declared.status.Status.TheVariants.{Going, Stopped, Nothing}
+use Rattle.ctokens.proofs.Choices.{chosen_yes, chosen_no}
 use Rattle.cread_expr.proofs.Agreed.{shop, Pieces, none, Follows, Failed, Ended, Agreed, Continues, ends, context_of}
 use Rattle.cread_expr.proofs.AgreedEntire.{entirely, entire_then, entirely_ends, agreed_then}
 use Rattle.cread_expr.proofs.AgreedRules.{agreed_read, agreed_failed, agreed_at, agreed_outcome, agreed_goes, agreed_test, same_first, from_here, then_ends}
-use Rattle.cread_expr.proofs.AgreedSteps.{kept_ended, failed_then, if_true, if_false, Still, still_lost, still_losing, still_goes, ended_levels, ended_part, ended_then, ended_skip, ended_write}
+use Rattle.cread_expr.proofs.AgreedSteps.{kept_ended, failed_then, Still, still_lost, still_losing, still_goes, ended_levels, ended_part, ended_then, ended_skip, ended_write}
 
 pub failed_lost : (s : State) → Failed s (lost s)
 failed_lost s = record { kept = record { row = refl; added = []; events = sym (append-nil s.events) }; status = refl }
@@ -27,7 +28,7 @@ still_both {status} {u} {v} more one still = record {
   same = λ is.
       let same : v ≡ u = still.same is in
       let idle : goes v ≡ false = ap (λ (s : State). goes s) same ∙ (ap (λ (status : Status). is_going status) is ∙ still.idle) in
-      if_false (goes v && more) one v (ap (λ (test : Bool). test && more) idle) ∙ same;
+      chosen_no (goes v && more) one v (ap (λ (test : Bool). test && more) idle) ∙ same;
 }
 
 -- one more item, and the items behind it
@@ -128,9 +129,9 @@ braced_agree {A} list_piece item part agrees (suc count) done s before is =
         (behind_brace (if found then outcome.Read [] 0 (context_of s before) row
         else then_read (item (context_of s before) row) (λ tree levels behind others. prepended tree levels (read_until_brace item count behind others)))) s
         (if has_mark (codes "}") (rest s) then skipped 1 s else parts_until_brace part count (part s))
-    tested again row true found far = agreed_at (if_true _ _ _ (same_first (is_mark (codes "}")) far ∙ found)) (closing row found far)
+    tested again row true found far = agreed_at (chosen_yes _ _ _ (same_first (is_mark (codes "}")) far ∙ found)) (closing row found far)
     tested again row false found far =
-        agreed_at (if_false _ _ _ (same_first (is_mark (codes "}")) far ∙ found))
+        agreed_at (chosen_no _ _ _ (same_first (is_mark (codes "}")) far ∙ found))
         (agreed_outcome (brace_then (item (context_of s before) row) _)
         (agreed_outcome (entire_then (item (context_of s before) row) _)
         (then_ends none (entirely item) part _ far (agrees done) (still_braces part count still_lost) (λ tree more behind others far_more.

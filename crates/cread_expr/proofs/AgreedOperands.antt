@@ -19,7 +19,7 @@ use Rattle.cgrammar.specs.Outcomes.{Outcome, Reader, with_right, then_read, afte
 use Rattle.cgrammar.specs.Outcomes as outcome
 use Rattle.cgrammar.specs.Phrases.{Context, counted, numbered}
 use Rattle.cgrammar.specs.ReadLevels.{Level}
-use Rattle.cgrammar.specs.ReadOperands.{unary_operand, cast_operand, prefixed, unary_alone, behind_matched, read_path, statement_expression, read_cast_to, read_bracket, begins_type_in_brackets, read_size_of, read_offset_of, failed_assertion, read_assert_fail, plain_with, read_plain}
+use Rattle.cgrammar.specs.ReadOperands.{unary_operand, prefixed, unary_alone, behind_matched, read_path, statement_expression, read_cast_to, read_bracket, begins_type_in_brackets, read_size_of, read_offset_of, failed_assertion, read_assert_fail, plain_with}
 use Rattle.cgrammar.specs.ReadOperands as reader
 use Rattle.cgrammar.specs.ReadOperators.{expression_of}
 use Rattle.cgrammar.specs.ReadStatements.{read_block}
@@ -28,12 +28,12 @@ use Rattle.cgrammar.specs.Terminals.{Terminal, is_mark, is_name}
 use Rattle.cgrammar.specs.declared.reading.operand.Operand.{Operand}
 use Rattle.cgrammar.specs.declared.reading.starts.OperandStart.{OperandStart}
 use Rattle.cgrammar.specs.declared.reading.starts.OperandStart.TheVariants as start
-use Rattle.creader.specs.OperandSteps.{as_operand, path, whole_path, offset_path, offset_of, over_to, over_matched, assert_fail, cast_to, bracket, size_of, plain}
+use Rattle.creader.specs.OperandSteps.{as_operand, path, offset_path, offset_of, over_to, assert_fail, cast_to, bracket, size_of}
 use Rattle.creader.specs.OperandSteps as steps
 use Rattle.creader.specs.State.{State, rest, is_nothing, with_levels, with_event, skipped, lost}
 use Rattle.creader.specs.StatementSteps.{block}
 use Rattle.creader.specs.Steps.{Inner, mark, write, make, wrap, wrapped, ask}
-use Rattle.creader.specs.TypeSteps.{type_name, type_name_behind}
+use Rattle.creader.specs.TypeSteps.{type_name}
 use Rattle.creader.specs.declared.status.Status.{Status}
 use Rattle.creader.specs.declared.status.Status.TheVariants.{Going, Stopped, Nothing}
 use Rattle.creader.specs.declared.wanted.Wanted.TheVariants as wanted
@@ -41,7 +41,8 @@ use Rattle.cread_expr.proofs.Agreed.{shop, Pieces, none, Kept, Failed, Ended, Ag
 use Rattle.cread_expr.proofs.AgreedPaths.{path_piece, agreed_losing, path_agrees, still_matched, over_matched_to, ended_matched}
 use Rattle.cread_expr.proofs.AgreedPostfixes.{Begins, unary_is, agreed_operand, still_operand, still_postfixes_from, postfixes_from_agree}
 use Rattle.cread_expr.proofs.AgreedRules.{agreed_read, agreed_failed, agreed_halted, agreed_at, agreed_goes, agreed_test, same_first, if_first, from_here, ask_follows, then_ends, then_mark}
-use Rattle.cread_expr.proofs.AgreedSteps.{kept_ended, failed_then, went_event, Still, still_lost, still_goes, still_ask, still_ask_whole, still_make, still_mark, still_wrap, ended_at, ended_levels, ended_then, halted_then, ended_skip, ended_token, ended_write, ended_make}
+use Rattle.cread_expr.proofs.AgreedSteps.{kept_ended, failed_then, went_event, Still, still_lost, still_goes, still_ask, still_make, still_mark, still_wrap, ended_at, ended_levels, ended_then, halted_then, ended_skip, ended_token, ended_write, ended_make}
+use Rattle.cread_expr.proofs.AgreedTypesSizes.{still_type_name}
 
 abbrev pub statements_piece : List Stmt → Pieces
 statements_piece body pieces = piece.Statements body ∷ pieces
@@ -209,10 +210,6 @@ still_offset_path : {u v : State} (inner : Inner) (at : ℕ) → Still Nothing u
 unfolding offset_path
 still_offset_path inner at still = still_goes _ still
 
-still_types : {u v : State} (inner : Inner) → Still Nothing u v → Still Nothing u (type_name inner v)
-unfolding type_name type_name_behind
-still_types inner still = still_goes _ (still_ask_whole _ _ still)
-
 offset_path_agrees : {level : Level} {inner : Inner} {s t : State} {levels before : ℕ} {context : Context} (at : ℕ) (first : Terminal) (start row : List Terminal) (to : TypeName)
     → PartsAgree level inner → Begins s at first start
     → Ended s t none (type_name_piece to) 0 levels before context row
@@ -240,7 +237,7 @@ offset_of_agrees : {level : Level} {inner : Inner} {s : State} {before : ℕ} {c
     → Agreed none operand_piece operand_fits 0 before (read_offset_of level context first row) s (offset_of inner at s)
 unfolding read_offset_of offset_of
 offset_of_agrees {level} {inner} at first row agrees begins far =
-    then_mark (codes "(") row _ far (still_offset_path inner at (still_mark _ (still_types inner still_lost))) (λ opening one is there behind_opening.
+    then_mark (codes "(") row _ far (still_offset_path inner at (still_mark _ (still_type_name inner still_lost))) (λ opening one is there behind_opening.
     then_ends none (read_type_name level) (type_name inner) _ behind_opening agrees.types (still_offset_path inner at (still_mark _ still_lost)) (λ to more behind two behind_to.
     then_mark (codes ",") two _ behind_to (still_offset_path inner at still_lost) (λ comma three comma_is here behind_comma.
     offset_path_agrees at first row three to agrees begins (ended_levels (omega arith) behind_comma))))

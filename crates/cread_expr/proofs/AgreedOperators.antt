@@ -8,7 +8,7 @@ use Rattle.cbase.specs.declared.tree.operators.BinaryOp.TheVariants.{Comma}
 use Rattle.cevents.specs.declared.event.Event.TheVariants as event
 use Rattle.cevents.specs.declared.piece.Piece.TheVariants as piece
 use Rattle.cgrammar.specs.Operators.{mark_row, binary_rows, assignment_rows}
-use Rattle.cgrammar.specs.Outcomes.{Outcome, Reader, has_mark}
+use Rattle.cgrammar.specs.Outcomes.{Reader, has_mark}
 use Rattle.cgrammar.specs.Outcomes as outcome
 use Rattle.cgrammar.specs.Phrases.{Context, counted, numbered}
 use Rattle.cgrammar.specs.ReadLevels.{Level}
@@ -16,18 +16,19 @@ use Rattle.cgrammar.specs.ReadOperators.{expression_of, itself, binary_with, rea
 use Rattle.cgrammar.specs.ReadOperators as reader
 use Rattle.cgrammar.specs.Terminals.{Terminal, is_mark}
 use Rattle.cgrammar.specs.declared.reading.operand.Operand.{Operand}
-use Rattle.creader.specs.OperatorSteps.{operation_with, operations, all_operations, choice_behind, choice, comma_with, commas, all_commas}
+use Rattle.creader.specs.OperatorSteps.{operation_with, operations, all_operations, choice_behind, choice, comma_with, commas}
 use Rattle.creader.specs.OperatorSteps as steps
 use Rattle.creader.specs.State.{State, rest, is_going, goes, skipped, point_of}
 use Rattle.creader.specs.Steps.{Inner, ask, first_row}
 use Rattle.creader.specs.declared.status.Status.{Status}
 use Rattle.creader.specs.declared.status.Status.TheVariants.{Stopped}
 use Rattle.creader.specs.declared.wanted.Wanted.TheVariants as wanted
+use Rattle.ctokens.proofs.Choices.{chosen_no}
 use Rattle.cread_expr.proofs.Agreed.{shop, Pieces, Ended, Agreed, anyhow, LevelAgrees}
 use Rattle.cread_expr.proofs.AgreedBack.{agreed_back, agreed_stopped, else_back, mark_back, right_joined, then_continued}
 use Rattle.cread_expr.proofs.AgreedLists.{still_both}
 use Rattle.cread_expr.proofs.AgreedRules.{agreed_read, agreed_at, agreed_goes, agreed_test, same_first, ask_anyhow}
-use Rattle.cread_expr.proofs.AgreedSteps.{if_false, kept_then, kept_skipped, Still, still_lost, still_stopped, still_goes, still_mark_or_back, still_ask_right, ended_levels, ended_skip, ended_token}
+use Rattle.cread_expr.proofs.AgreedSteps.{kept_then, kept_skipped, Still, still_lost, still_stopped, still_goes, still_mark_or_back, still_ask_right, ended_levels, ended_skip, ended_token}
 
 -- an expression on top of others
 abbrev pub expr_on : Pieces → Expr → Pieces
@@ -141,7 +142,7 @@ pub choice_agrees : {level : Level} {inner : Inner} {s t : State} {below under :
     → Agreed below (expr_on under) anyhow 0 before (read_choice level test levels context row) s (choice inner t)
 unfolding read_choice choice
 choice_agrees {t} test levels [] agrees far =
-    agreed_goes t t far.status (agreed_at (if_false (has_mark (codes "?") (rest t)) _ t (same_first (is_mark (codes "?")) far)) (agreed_read far tt))
+    agreed_goes t t far.status (agreed_at (chosen_no (has_mark (codes "?") (rest t)) _ t (same_first (is_mark (codes "?")) far)) (agreed_read far tt))
 choice_agrees {level} {t} test levels (mark ∷ row) agrees far =
     agreed_goes t t far.status
     (agreed_test (is_mark (codes "?") mark) _ _ _ (same_first (is_mark (codes "?")) far)
@@ -219,7 +220,7 @@ pub commas_agree : {level : Level} {inner : Inner} {s t : State} {below under : 
 unfolding read_commas commas
 commas_agree zero left row agrees far = agreed_read far tt
 commas_agree {t} (suc count) left [] agrees far =
-    agreed_at (if_false (goes t && has_mark (codes ",") (rest t)) _ t (λ i. is_going (far.status i) && has_mark (codes ",") (far.left i))) (agreed_read far tt)
+    agreed_at (chosen_no (goes t && has_mark (codes ",") (rest t)) _ t (λ i. is_going (far.status i) && has_mark (codes ",") (far.left i))) (agreed_read far tt)
 commas_agree {t} (suc count) left (mark ∷ row) agrees far =
     agreed_test (is_mark (codes ",") mark) (goes t && has_mark (codes ",") (rest t)) _ _ (λ i. is_going (far.status i) && has_mark (codes ",") (far.left i))
     (λ is. comma_agrees count left mark row agrees (λ next more u behind others further. commas_agree count next others agrees further) far)

@@ -7,7 +7,7 @@ use Rattle.cbase.specs.declared.tree.expr.Part.TheVariants.{Member as NamedPart,
 use Rattle.cevents.specs.declared.event.Event.TheVariants as event
 use Rattle.cevents.specs.declared.piece.Piece.TheVariants as piece
 use Rattle.cgrammar.proofs.SoundBrackets.{Closes, brackets_close}
-use Rattle.cgrammar.specs.Outcomes.{Outcome, Reader, has_mark, has_first, behind_first, then_read, after_first, after_mark}
+use Rattle.cgrammar.specs.Outcomes.{has_mark, has_first, behind_first, then_read, after_first, after_mark}
 use Rattle.cgrammar.specs.Outcomes as outcome
 use Rattle.cgrammar.specs.Phrases.{Context}
 use Rattle.cgrammar.specs.ReadLevels.{Level, prepended}
@@ -18,11 +18,12 @@ use Rattle.creader.specs.State.{State, rest, skipped, lost}
 use Rattle.creader.specs.Steps.{Inner}
 use Rattle.creader.specs.declared.status.Status.TheVariants.{Going, Nothing}
 use Rattle.creader.specs.declared.wanted.Wanted.TheVariants as wanted
+use Rattle.ctokens.proofs.Choices.{chosen_no}
 use Rattle.cread_expr.proofs.Agreed.{shop, Pieces, none, Ended, Agreed, Continues, ends, LevelAgrees}
 use Rattle.cread_expr.proofs.AgreedLists.{then_prepended, failed_lost}
 use Rattle.cread_expr.proofs.AgreedPostfixes.{if_under}
 use Rattle.cread_expr.proofs.AgreedRules.{agreed_read, agreed_failed, agreed_at, agreed_goes, agreed_lost, agreed_test, same_first, then_asked, then_mark, if_first}
-use Rattle.cread_expr.proofs.AgreedSteps.{kept_ended, failed_then, if_false, if_going, Still, still_lost, still_losing, still_goes, still_mark, still_write, ended_levels, ended_part, ended_skip, ended_token, ended_write}
+use Rattle.cread_expr.proofs.AgreedSteps.{kept_ended, failed_then, if_going, Still, still_lost, still_losing, still_goes, still_mark, still_write, ended_levels, ended_part, ended_skip, ended_token, ended_write}
 
 abbrev pub path_piece : List Part → Pieces
 path_piece parts pieces = piece.Path parts ∷ pieces
@@ -88,7 +89,7 @@ path_row_agrees : {level : Level} {inner : Inner} {s t : State} {base before : �
     else outcome.Read [] 0 context row))
     s (path_with (path inner count) inner t)
 path_row_agrees {s} {t} {base} {before} {context} count done [] agrees again far =
-    agreed_at (if_false (has_mark (codes ".") (rest t)) _ _ (same_first (is_mark (codes ".")) far) ∙ if_false (has_mark (codes "[") (rest t)) _ _ (same_first (is_mark (codes "[")) far))
+    agreed_at (chosen_no (has_mark (codes ".") (rest t)) _ _ (same_first (is_mark (codes ".")) far) ∙ chosen_no (has_mark (codes "[") (rest t)) _ _ (same_first (is_mark (codes "[")) far))
     (agreed_read (subst (λ (all : List Part). Ended s t (path_piece done) (path_piece all) base 0 before context []) (sym (append-nil done)) far) far.status)
 path_row_agrees {s} {t} {base} {before} {context} count done (first ∷ others) agrees again far =
     agreed_test (is_mark (codes ".") first) _ _ _ (same_first (is_mark (codes ".")) far)

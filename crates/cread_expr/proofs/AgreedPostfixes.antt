@@ -26,6 +26,7 @@ use Rattle.creader.specs.Steps.{Inner, make, ask, ask_whole, back_unless_going, 
 use Rattle.creader.specs.declared.status.Status.{Status}
 use Rattle.creader.specs.declared.status.Status.TheVariants.{Going, Stopped, Nothing}
 use Rattle.creader.specs.declared.wanted.Wanted.TheVariants as wanted
+use Rattle.ctokens.proofs.Choices.{chosen_no}
 use Rattle.cread_expr.proofs.Agreed.{shop, Pieces, none, Ended, Agreed, Ready, context_of, Follows, ends, LevelAgrees, expr_piece, operand_piece, operand_fits}
 use Rattle.cread_expr.proofs.AgreedBack.{agreed_back, agreed_stopped, else_back, mark_back}
 use Rattle.cread_expr.proofs.AgreedEntire.{entirely, entirely_asked, agreed_then, agreed_write}
@@ -33,7 +34,7 @@ use Rattle.cread_expr.proofs.AgreedLists.{still_both, all_parts_follow}
 use Rattle.cread_expr.proofs.AgreedOperators.{same_most}
 use Rattle.cread_expr.proofs.AgreedPlaces.{call_place_is}
 use Rattle.cread_expr.proofs.AgreedRules.{agreed_read, agreed_failed, agreed_halted, agreed_at, agreed_goes, agreed_test, if_first, from_here, ask_anyhow}
-use Rattle.cread_expr.proofs.AgreedSteps.{if_false, kept_skipped, kept_over, Still, still_stopped, still_goes, still_make, still_mark_or_back, ended_part, ended_skip, ended_token, ended_write, ended_make}
+use Rattle.cread_expr.proofs.AgreedSteps.{kept_skipped, kept_over, Still, still_stopped, still_goes, still_make, still_mark_or_back, ended_part, ended_skip, ended_token, ended_write, ended_make}
 
 -- an operand begins at that token of the row, before a place
 pub record Begins (s : State) (at : ℕ) (first : Terminal) (row : List Terminal) : Type 0 where
@@ -225,7 +226,7 @@ pub postfixes_agree : {level : Level} {inner : Inner} {s t : State} {levels befo
 unfolding read_postfixes postfixes postfix_at
 postfixes_agree first zero base row agrees earlier from far = agreed_read far refl
 postfixes_agree {t} first (suc count) base [] agrees earlier from far =
-    agreed_at (if_false (goes t && goes_on (postfix_first (rest t))) _ t (λ i. is_going (far.status i) && goes_on (postfix_first (far.left i)))) (agreed_read far refl)
+    agreed_at (chosen_no (goes t && goes_on (postfix_first (rest t))) _ t (λ i. is_going (far.status i) && goes_on (postfix_first (far.left i)))) (agreed_read far refl)
 postfixes_agree {level} {inner} {t} {levels} {start} first (suc count) base (mark ∷ row) agrees earlier from far =
     agreed_at (λ i. if is_going (far.status i) && goes_on (postfix_first (far.left i))
     then postfixes inner first count (if same_most agrees far i then steps.postfix_with inner first t (postfix_first (far.left i)) else stopped t) else t)

@@ -1,7 +1,7 @@
 -- How a rule of the reader agrees: a step of the rule for each part of its definition.
 use Rattle.std.proofs.Common.{◌≡◌, ℕ, max, Bool, true, false, List, [], ◌∷◌, refl, ap, sym, ◌∙◌, subst, arith}
 use Rattle.std.specs.Prelude.{if◌then◌else◌}
-use Rattle.cgrammar.specs.Outcomes.{Outcome, Reader, then_read, or_else, with_right, continued, after_first, after_mark, has_first}
+use Rattle.cgrammar.specs.Outcomes.{Outcome, Reader, then_read, after_first, after_mark, has_first}
 use Rattle.cgrammar.specs.Outcomes as outcome
 use Rattle.cgrammar.specs.Phrases.{Context}
 use Rattle.cgrammar.specs.Scope.{Names}
@@ -11,8 +11,9 @@ use Rattle.creader.specs.Steps.{Inner, over, mark, word, whole, with_deeper, ask
 use Rattle.creader.specs.declared.status.Status.{Status}
 use Rattle.creader.specs.declared.status.Status.TheVariants.{Going, Stopped, Nothing}
 use Rattle.creader.specs.declared.wanted.Wanted.{Wanted}
+use Rattle.ctokens.proofs.Choices.{chosen_yes, chosen_no}
 use Rattle.cread_expr.proofs.Agreed.{Pieces, none, Kept, Went, Failed, Halted, Ended, Agreed, Reads, Follows, Continues, ends, anyhow, context_of}
-use Rattle.cread_expr.proofs.AgreedSteps.{kept_then, kept_went, kept_ended, failed_then, if_going, if_idle, if_true, if_false, Still, ready, ended_at, ended_then, ended_skip}
+use Rattle.cread_expr.proofs.AgreedSteps.{kept_then, kept_went, kept_ended, failed_then, if_going, if_idle, Still, ready, ended_at, ended_then, ended_skip}
 
 -- The outcomes.
 pub agreed_read : {A : Type 0} {s t : State} {below : Pieces} {above : A → Pieces} {fits : A → State → Type 0} {base levels before : ℕ} {behind : Context} {others : List Terminal} {tree : A}
@@ -56,8 +57,8 @@ pub agreed_test : {A : Type 0} {s u v : State} {below : Pieces} {above : A → P
     → same ≡ test
     → (test ≡ true → Agreed below above fits base before one s u) → (test ≡ false → Agreed below above fits base before other s v)
     → Agreed below above fits base before (if test then one else other) s (if same then u else v)
-agreed_test true same one other is holds fails = agreed_at (if_true same _ _ is) (holds refl)
-agreed_test false same one other is holds fails = agreed_at (if_false same _ _ is) (fails refl)
+agreed_test true same one other is holds fails = agreed_at (chosen_yes same _ _ is) (holds refl)
+agreed_test false same one other is holds fails = agreed_at (chosen_no same _ _ is) (fails refl)
 
 -- what stands first in the row is what the reader sees
 pub same_first : {s t : State} {below above : Pieces} {base levels before : ℕ} {behind : Context} {others : List Terminal} (test : Terminal → Bool)
@@ -164,7 +165,7 @@ then_first {B} {s} {t} {v} {below} {middle} {above} {fits} {base} {levels} {befo
   where
     losing : (row : List Terminal) → Ended s t below middle base levels before context row → has_first test row ≡ false → Agreed below above fits base before outcome.Nothing s v
     losing row far is =
-        let same : over test t ≡ lost t = if_going _ t t far.status ∙ if_false (has_first test (rest t)) (skipped 1 t) (lost t) (same_first test far ∙ is) in
+        let same : over test t ≡ lost t = if_going _ t t far.status ∙ chosen_no (has_first test (rest t)) (skipped 1 t) (lost t) (same_first test far ∙ is) in
         let nothing : (over test t).status ≡ Nothing = ap (λ (u : State). u.status) same in
         let kept : Kept s t = kept_ended far in
         agreed_at (still.same nothing ∙ same) (agreed_failed (record { kept = record { row = kept.row; added = kept.added; events = kept.events }; status = refl }))
@@ -172,7 +173,7 @@ then_first {B} {s} {t} {v} {below} {middle} {above} {fits} {base} {levels} {befo
     tested : (first : Terminal) (others : List Terminal) (passes : Bool) → test first ≡ passes → Ended s t below middle base levels before context (first ∷ others)
         → Agreed below above fits base before (if passes then go first others else outcome.Nothing) s v
     tested first others true is far =
-        let same : over test t ≡ skipped 1 t = if_going _ t t far.status ∙ if_true (has_first test (rest t)) (skipped 1 t) (lost t) (same_first test far ∙ is) in
+        let same : over test t ≡ skipped 1 t = if_going _ t t far.status ∙ chosen_yes (has_first test (rest t)) (skipped 1 t) (lost t) (same_first test far ∙ is) in
         next first others is far (ended_at same (ended_skip far))
     tested first others false is far = losing (first ∷ others) far is
 
@@ -213,10 +214,10 @@ if_first {B} {s} {t} {u} {v} {below} {middle} {above} {fits} {base} {levels} {be
     tested : (first : Terminal) (others : List Terminal) (passes : Bool) → test first ≡ passes → Ended s t below middle base levels before context (first ∷ others)
         → (passes ≡ false → Agreed below above fits base before without s v)
         → Agreed below above fits base before (if passes then go first others else without) s (if has_first test (rest t) then u else v)
-    tested first others true is far other = agreed_at (if_true (has_first test (rest t)) u v (same_first test far ∙ is)) (next first others is far (ended_skip far))
-    tested first others false is far other = agreed_at (if_false (has_first test (rest t)) u v (same_first test far ∙ is)) (other refl)
+    tested first others true is far other = agreed_at (chosen_yes (has_first test (rest t)) u v (same_first test far ∙ is)) (next first others is far (ended_skip far))
+    tested first others false is far other = agreed_at (chosen_no (has_first test (rest t)) u v (same_first test far ∙ is)) (other refl)
 
     case : (row : List Terminal) → Ended s t below middle base levels before context row → (has_first test row ≡ false → Agreed below above fits base before without s v)
         → Agreed below above fits base before (after_first test row without go) s (if has_first test (rest t) then u else v)
-    case [] far other = agreed_at (if_false (has_first test (rest t)) u v (same_first test far)) (other refl)
+    case [] far other = agreed_at (chosen_no (has_first test (rest t)) u v (same_first test far)) (other refl)
     case (first ∷ others) far other = tested first others (test first) refl far other

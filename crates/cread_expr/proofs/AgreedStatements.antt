@@ -34,6 +34,7 @@ use Rattle.cread_expr.proofs.AgreedLists.{over_brace, then_brace, still_braces, 
 use Rattle.cread_expr.proofs.AgreedPlaces.{first_of_front, last_of_front, place_first}
 use Rattle.cread_expr.proofs.AgreedRules.{agreed_read, agreed_outcome, agreed_goes, agreed_lost, agreed_test, from_here, then_asked, then_mark, if_first}
 use Rattle.cread_expr.proofs.AgreedSteps.{kept_ended, failed_then, still_lost, still_mark, still_write, still_make, still_leave, still_enter, ended_part, ended_none, ended_then, ended_levels, ended_token, ended_write, ended_make, ended_enter, ended_leave}
+use Rattle.cread_expr.proofs.AgreedTypesSizes.{read_ends}
 
 abbrev pub body_piece : List Stmt → Pieces
 body_piece body pieces = piece.Statements body ∷ pieces
@@ -48,10 +49,6 @@ passes s tree t = (t.status ≡ Going) × (s.at < t.at)
 abbrev pub Passes : {A : Type 0} → (A → Pieces) → Reader A → (State → State) → Type 0
 Passes above reader steps =
     (s : State) (before : ℕ) → Ready s → Agreed none above (passes s) s.levels before (reader (context_of s before) (rest s)) s (steps s)
-
-pub agreed_ends : {A : Type 0} {s t : State} {below : Pieces} {above : A → Pieces} {base levels before : ℕ} {behind : Context} {others : List Terminal} {tree : A}
-    → Ended s t below (above tree) base levels before behind others → Agreed below above ends base before (outcome.Read tree levels behind others) s t
-agreed_ends far = agreed_read far far.status
 
 pub as_ends : {A : Type 0} {s t : State} {below : Pieces} {above : A → Pieces} {base before : ℕ} (outcome : Outcome A)
     → Agreed below above (passes s) base before outcome s t → Agreed below above ends base before outcome s t
@@ -141,9 +138,9 @@ pub maybe_agrees : {level : Level} {inner : Inner} → LevelAgrees level inner �
 unfolding read_maybe maybe
 maybe_agrees {level} {inner} agrees test s before is =
     agreed_goes s s is.status (agreed_test (has_first test (rest s)) (has_first test (rest s)) _ _ refl
-    (λ yes. agreed_ends (ended_write event.NoExpression (λ pieces. refl) (ended_part s none before is)))
+    (λ yes. read_ends (ended_write event.NoExpression (λ pieces. refl) (ended_part s none before is)))
     (λ no. then_asked none level.expression inner wanted.Expression _ (ended_part s none before is) agrees.expression (still_write _ still_lost) (λ expr more behind others far.
-    agreed_ends (ended_levels (omega arith) (ended_write event.OneExpression (λ pieces. refl) far)))))
+    read_ends (ended_levels (omega arith) (ended_write event.OneExpression (λ pieces. refl) far)))))
 
 -- A declaration as a statement.
 pub declared_agrees : {level : Level} {inner : Inner} → LevelAgrees level inner → Reads statement_piece ends (read_declared level) (declared_statement inner)
@@ -164,7 +161,7 @@ declared_agrees {level} {inner} agrees s before is none_before =
         let left : drop t.at s.row ≡ others = ap (λ (row : List Terminal). drop t.at row) (sym far.went.row) ∙ far.left in
         let first : place_at s.row s.at ≡ first_place (front_of (rest s) others) = sym (first_of_front s.at t.at s.row others is.is.1.1 within left) in
         let last : place_at s.row (t.at - 1) ≡ last_place (front_of (rest s) others) = sym (last_of_front s.at t.at s.row others is.is.1.1 within left) in
-        agreed_ends (ended_make (event.Declare s.at (t.at - 1)) (λ pieces i. shop behind.expressions (piece.Statement (statement_of (first i) (last i) (Declare decl)) ∷ pieces)) far)
+        read_ends (ended_make (event.Declare s.at (t.at - 1)) (λ pieces i. shop behind.expressions (piece.Statement (statement_of (first i) (last i) (Declare decl)) ∷ pieces)) far)
 
 -- An expression with its `;`.
 pub evaluated_agrees : {level : Level} {inner : Inner} → LevelAgrees level inner → Reads statement_piece ends (read_evaluated level) (expression_statement inner)
@@ -174,7 +171,7 @@ evaluated_agrees {level} {inner} agrees s before is none_before =
     then_asked none level.expression inner wanted.Expression _ (ended_none s none before is none_before) agrees.expression (still_make _ (still_mark _ (still_write _ still_lost))) (λ expr more behind others far.
     then_mark (codes ";") others _ (ended_write event.OneExpression (λ pieces. refl) far) (still_make _ still_lost) (λ semicolon end found here there.
     let last = place_taken here there in
-    agreed_ends (ended_levels (omega arith) (ended_make _ (λ pieces i. shop behind.expressions (piece.Statement (statement_of (first i) (last i) (Eval (Some expr))) ∷ pieces)) there))))
+    read_ends (ended_levels (omega arith) (ended_make _ (λ pieces i. shop behind.expressions (piece.Statement (statement_of (first i) (last i) (Eval (Some expr))) ∷ pieces)) there))))
 
 pub clause_agrees : {level : Level} {inner : Inner} → LevelAgrees level inner → Reads statement_piece ends (read_clause level) (clause inner)
 unfolding read_clause clause
@@ -185,5 +182,5 @@ clause_agrees {level} {inner} agrees s before is none_before =
     (λ some. evaluated_agrees agrees s before is none_before)
     (λ semicolon others found here far.
     let place = ended_token here in
-    agreed_ends (ended_levels (omega arith) (ended_make (event.Eval s.at s.at) (λ pieces i. shop before (piece.Statement (statement_of (place i).place (place i).place (Eval None)) ∷ pieces))
+    read_ends (ended_levels (omega arith) (ended_make (event.Eval s.at s.at) (λ pieces i. shop before (piece.Statement (statement_of (place i).place (place i).place (Eval None)) ∷ pieces))
     (ended_write event.NoExpression (λ pieces. refl) far))))))

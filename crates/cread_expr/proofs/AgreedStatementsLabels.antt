@@ -31,9 +31,10 @@ use Rattle.cread_expr.proofs.AgreedEntire.{agreed_then}
 use Rattle.cread_expr.proofs.AgreedLists.{failed_lost}
 use Rattle.cread_expr.proofs.AgreedPlaces.{place_first, last_of_front}
 use Rattle.cread_expr.proofs.AgreedRules.{agreed_failed, agreed_outcome, agreed_goes, agreed_lost, agreed_test, same_first}
-use Rattle.cread_expr.proofs.AgreedStatements.{body_piece, passes, agreed_ends, block_agrees, clause_agrees}
+use Rattle.cread_expr.proofs.AgreedStatements.{body_piece, passes, block_agrees, clause_agrees}
 use Rattle.cread_expr.proofs.AgreedStatementsRules.{if_agrees, while_agrees, do_agrees, for_agrees, break_agrees, continue_agrees, return_agrees}
 use Rattle.cread_expr.proofs.AgreedSteps.{still_lost, still_make, ready, ended_none, ended_token, ended_make, ended_skip}
+use Rattle.cread_expr.proofs.AgreedTypesSizes.{read_ends}
 
 -- A block as a statement.
 block_statement_agrees : {level : Level} {inner : Inner} → LevelAgrees level inner → (s : State) (before : ℕ) → Ready s → s.levels ≡ 0
@@ -58,7 +59,7 @@ block_statement_agrees {level} {inner} agrees s before is none_before first row 
         let left : drop t.at s.row ≡ others = ap (λ (row : List Terminal). drop t.at row) (sym far.went.row) ∙ far.left in
         let one : place_at s.row s.at ≡ first_place (rest s) = place_first s.at s.row in
         let last : place_at s.row (t.at - 1) ≡ last_place (front_of (rest s) others) = sym (last_of_front s.at t.at s.row others is.is.1.1 within left) in
-        agreed_ends (ended_make (event.Block s.at (t.at - 1)) (λ pieces i. shop behind.expressions (piece.Statement (statement_of (one i) (last i) (Block body)) ∷ pieces)) far)
+        read_ends (ended_make (event.Block s.at (t.at - 1)) (λ pieces i. shop behind.expressions (piece.Statement (statement_of (one i) (last i) (Block body)) ∷ pieces)) far)
 
 -- A statement without its labels.
 unlabeled_agrees : {level : Level} {inner : Inner} → LevelAgrees level inner → Reads statement_piece ends (read_unlabeled level) (unlabeled inner)

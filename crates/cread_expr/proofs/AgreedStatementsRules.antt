@@ -6,7 +6,7 @@ use Rattle.cbase.specs.declared.tree.stmt.StmtForm.TheVariants.{Do, Break, Conti
 use Rattle.cevents.specs.Workshop.{place_at}
 use Rattle.cevents.specs.declared.event.Event.TheVariants as event
 use Rattle.cevents.specs.declared.piece.Piece.TheVariants as piece
-use Rattle.cgrammar.specs.Outcomes.{Outcome, then_read, after_mark, has_first}
+use Rattle.cgrammar.specs.Outcomes.{Outcome, then_read, after_mark}
 use Rattle.cgrammar.specs.Outcomes as outcome
 use Rattle.cgrammar.specs.Phrases.{Context}
 use Rattle.cgrammar.specs.ReadLevels.{Level}
@@ -18,11 +18,13 @@ use Rattle.creader.specs.StatementSteps.{maybe, untyped, tested, otherwise_behin
 use Rattle.creader.specs.Steps.{Inner, ask_whole}
 use Rattle.creader.specs.declared.status.Status.TheVariants.{Nothing}
 use Rattle.creader.specs.declared.wanted.Wanted.TheVariants as wanted
+use Rattle.ctokens.proofs.Choices.{chosen_yes, chosen_no}
 use Rattle.cread_expr.proofs.Agreed.{Pieces, none, shop, Ended, Agreed, ends, statement_piece, LevelAgrees}
 use Rattle.cread_expr.proofs.AgreedLists.{failed_lost}
 use Rattle.cread_expr.proofs.AgreedRules.{agreed_goes, agreed_lost, then_ends, then_asked, then_mark, then_word, if_first}
-use Rattle.cread_expr.proofs.AgreedStatements.{maybe_agrees, agreed_ends, place_taken}
-use Rattle.cread_expr.proofs.AgreedSteps.{kept_ended, failed_then, if_true, if_false, Still, still_lost, still_goes, still_mark, still_word, still_make, still_enter, still_leave, still_ask_whole, ended_at, ended_levels, ended_make, ended_enter, ended_leave}
+use Rattle.cread_expr.proofs.AgreedStatements.{maybe_agrees, place_taken}
+use Rattle.cread_expr.proofs.AgreedSteps.{kept_ended, failed_then, Still, still_lost, still_goes, still_mark, still_word, still_make, still_enter, still_leave, still_ask_whole, ended_at, ended_levels, ended_make, ended_enter, ended_leave}
+use Rattle.cread_expr.proofs.AgreedTypesSizes.{read_ends}
 
 -- an expression behind a `(`, where no name of a typedef stands
 still_untyped : {u v : State} (inner : Inner) → Still Nothing u v → Still Nothing u (untyped inner v)
@@ -32,7 +34,7 @@ still_untyped {u} {v} inner still = record {
   same = λ is.
       let same : v ≡ u = still.same is in
       let idle : goes v ≡ false = ap (λ (s : State). goes s) same ∙ ap (λ status. is_going status) is in
-      if_false (goes v && begins_with_typedef v.scope (rest v)) (lost v) (ask_whole inner wanted.Expression v) (ap (λ (test : Bool). test && begins_with_typedef v.scope (rest v)) idle)
+      chosen_no (goes v && begins_with_typedef v.scope (rest v)) (lost v) (ask_whole inner wanted.Expression v) (ap (λ (test : Bool). test && begins_with_typedef v.scope (rest v)) idle)
       ∙ (still_ask_whole inner wanted.Expression still).same is;
 }
 
@@ -57,10 +59,10 @@ then_untyped {B} {level} {inner} {s} {t} {v} {below} {under} {above} {fits} {bas
     tested : (is : Bool) → begins_with_typedef context.scope row ≡ is
         → Agreed below above fits base before (then_read (if is then outcome.Nothing else level.expression context row) go) s v
     tested true is =
-        let lose : untyped inner t ≡ lost t = if_true _ (lost t) (ask_whole inner wanted.Expression t) (test_is true is) in
+        let lose : untyped inner t ≡ lost t = chosen_yes _ (lost t) (ask_whole inner wanted.Expression t) (test_is true is) in
         agreed_lost (failed_then (kept_ended far) (failed_lost t)) (subst (λ (u : State). Still Nothing u v) lose still)
     tested false is =
-        let asks : untyped inner t ≡ ask_whole inner wanted.Expression t = if_false _ (lost t) (ask_whole inner wanted.Expression t) (test_is false is) in
+        let asks : untyped inner t ≡ ask_whole inner wanted.Expression t = chosen_no _ (lost t) (ask_whole inner wanted.Expression t) (test_is false is) in
         then_asked under level.expression inner wanted.Expression go far agrees.expression (subst (λ (u : State). Still Nothing u v) asks still) (λ tree more behind others there.
         next tree more behind others (ended_at asks there))
 
@@ -101,10 +103,10 @@ if_agrees {level} {inner} {t} {row} first agrees far =
     then_test row _ agrees far (still_goes _ (still_ask_whole _ _ still_lost)) (λ tree tests behind end two.
     then_asked _ level.statement inner wanted.Statement _ two agrees.statement (still_goes _ still_lost) (λ one ones last left three.
     agreed_goes (ask_whole inner wanted.Statement (tested inner t)) (ask_whole inner wanted.Statement (tested inner t)) three.status (if_first (is_word (codes "else")) left _ _ three
-    (λ none_there. agreed_ends (ended_levels (omega arith) (ended_make (event.If first) (λ pieces. refl) three)))
+    (λ none_there. read_ends (ended_levels (omega arith) (ended_make (event.If first) (λ pieces. refl) three)))
     (λ otherwise others found here four.
     then_asked _ level.statement inner wanted.Statement _ four agrees.statement (still_make _ still_lost) (λ other more final end five.
-    agreed_ends (ended_levels (omega arith) (ended_make (event.IfElse first) (λ pieces. refl) five)))))))
+    read_ends (ended_levels (omega arith) (ended_make (event.IfElse first) (λ pieces. refl) five)))))))
 
 pub while_agrees : {level : Level} {inner : Inner} {s t : State} {before : ℕ} {context : Context} {row : List Terminal} (first : ℕ) → LevelAgrees level inner
     → Ended s t none none 0 0 before context row
@@ -113,7 +115,7 @@ unfolding read_while while_behind
 while_agrees {level} {inner} {row} first agrees far =
     then_test row _ agrees far (still_make _ (still_ask_whole _ _ still_lost)) (λ test tests behind end two.
     then_asked _ level.statement inner wanted.Statement _ two agrees.statement (still_make _ still_lost) (λ body levels last left three.
-    agreed_ends (ended_levels (omega arith) (ended_make (event.While first) (λ pieces. refl) three))))
+    read_ends (ended_levels (omega arith) (ended_make (event.While first) (λ pieces. refl) three))))
 
 pub do_agrees : {level : Level} {inner : Inner} {s t : State} {before : ℕ} {context : Context} {row : List Terminal} (first : ℕ) → LevelAgrees level inner
     → Ended s t none none 0 0 before context row
@@ -125,7 +127,7 @@ do_agrees {level} {inner} {s} first agrees far =
     then_test more _ agrees two (still_make _ (still_mark _ still_lost)) (λ test tests last end three.
     then_mark (codes ";") end _ three (still_make _ still_lost) (λ semicolon left found here four.
     let place = place_taken here four in
-    agreed_ends (ended_levels (omega arith) (ended_make _ (λ pieces i. shop last.expressions (piece.Statement (statement_of (place_at s.row first) (place i) (Do body test)) ∷ pieces)) four))))))
+    read_ends (ended_levels (omega arith) (ended_make _ (λ pieces i. shop last.expressions (piece.Statement (statement_of (place_at s.row first) (place i) (Do body test)) ∷ pieces)) four))))))
 
 still_maybe : {u v : State} (inner : Inner) (test : Terminal → Bool) → Still Nothing u v → Still Nothing u (maybe inner test v)
 unfolding maybe
@@ -143,7 +145,7 @@ for_agrees {level} {inner} {row} first agrees far =
     then_ends _ (read_maybe level (is_mark (codes ")"))) (maybe inner (is_mark (codes ")"))) _ four (maybe_agrees agrees (is_mark (codes ")"))) (still_leave (still_make _ (still_ask_whole _ _ (still_mark _ still_lost)))) (λ next nexts within over five.
     then_mark (codes ")") over _ five (still_leave (still_make _ (still_ask_whole _ _ still_lost))) (λ closing final found_three here_three six.
     then_asked _ level.statement inner wanted.Statement _ six agrees.statement (still_leave (still_make _ still_lost)) (λ body levels inmost finish seven.
-    agreed_ends (ended_levels (omega arith) (ended_leave (ended_make (event.For first) (λ pieces. refl) seven))))))))))
+    read_ends (ended_levels (omega arith) (ended_leave (ended_make (event.For first) (λ pieces. refl) seven))))))))))
 
 -- a word and a `;`
 pub break_agrees : {s t : State} {before : ℕ} {context : Context} {row : List Terminal} (first : ℕ)
@@ -154,7 +156,7 @@ unfolding break_behind broken
 break_agrees {s} {context} {row} first far =
     then_mark (codes ";") row _ far (still_make _ still_lost) (λ semicolon others found here there.
     let place = place_taken here there in
-    agreed_ends (ended_levels (omega arith) (ended_make _ (λ pieces i. shop context.expressions (piece.Statement (statement_of (place_at s.row first) (place i) Break) ∷ pieces)) there)))
+    read_ends (ended_levels (omega arith) (ended_make _ (λ pieces i. shop context.expressions (piece.Statement (statement_of (place_at s.row first) (place i) Break) ∷ pieces)) there)))
 
 pub continue_agrees : {s t : State} {before : ℕ} {context : Context} {row : List Terminal} (first : ℕ)
     → Ended s t none none 0 0 before context row
@@ -164,7 +166,7 @@ unfolding continue_behind continued
 continue_agrees {s} {context} {row} first far =
     then_mark (codes ";") row _ far (still_make _ still_lost) (λ semicolon others found here there.
     let place = place_taken here there in
-    agreed_ends (ended_levels (omega arith) (ended_make _ (λ pieces i. shop context.expressions (piece.Statement (statement_of (place_at s.row first) (place i) Continue) ∷ pieces)) there)))
+    read_ends (ended_levels (omega arith) (ended_make _ (λ pieces i. shop context.expressions (piece.Statement (statement_of (place_at s.row first) (place i) Continue) ∷ pieces)) there)))
 
 pub return_agrees : {level : Level} {inner : Inner} {s t : State} {before : ℕ} {context : Context} {row : List Terminal} (first : ℕ) → LevelAgrees level inner
     → Ended s t none none 0 0 before context row
@@ -174,4 +176,4 @@ return_agrees {level} {inner} {s} first agrees far =
     then_ends _ (read_maybe level (is_mark (codes ";"))) (maybe inner (is_mark (codes ";"))) _ far (maybe_agrees agrees (is_mark (codes ";"))) (still_make _ (still_mark _ still_lost)) (λ value levels behind others one.
     then_mark (codes ";") others _ one (still_make _ still_lost) (λ semicolon end found here two.
     let place = place_taken here two in
-    agreed_ends (ended_levels (omega arith) (ended_make _ (λ pieces i. shop behind.expressions (piece.Statement (statement_of (place_at s.row first) (place i) (Return value)) ∷ pieces)) two))))
+    read_ends (ended_levels (omega arith) (ended_make _ (λ pieces i. shop behind.expressions (piece.Statement (statement_of (place_at s.row first) (place i) (Return value)) ∷ pieces)) two))))

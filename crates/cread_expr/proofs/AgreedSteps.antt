@@ -16,6 +16,7 @@ use Rattle.creader.specs.declared.point.Point.{Point}
 use Rattle.creader.specs.declared.status.Status.{Status}
 use Rattle.creader.specs.declared.status.Status.TheVariants.{Going, Stopped, Nothing}
 use Rattle.creader.specs.declared.wanted.Wanted.{Wanted}
+use Rattle.ctokens.proofs.Choices.{chosen_yes}
 use Rattle.cread_expr.proofs.Agreed.{shop, Pieces, none, Kept, Went, Failed, Halted, Ended, Ready, context_of}
 
 -- Rows.
@@ -114,12 +115,6 @@ if_going {A} one other s is = ap (λ (status : Status). if is_going status then 
 
 pub if_idle : {A : Type 0} (one other : A) (s : State) → goes s ≡ false → (if goes s then one else other) ≡ other
 if_idle {A} one other s is = ap (λ (test : Bool). if test then one else other) is
-
-pub if_true : {A : Type 0} (test : Bool) (one other : A) → test ≡ true → (if test then one else other) ≡ one
-if_true {A} test one other is = ap (λ (test : Bool). if test then one else other) is
-
-pub if_false : {A : Type 0} (test : Bool) (one other : A) → test ≡ false → (if test then one else other) ≡ other
-if_false {A} test one other is = ap (λ (test : Bool). if test then one else other) is
 
 -- a state that no step changes, where it has that status
 pub record Still (status : Status) (u v : State) : Type 0 where
@@ -302,7 +297,7 @@ over_going : (test : Terminal → Bool) (t : State) (first : Terminal) (others :
 over_going test t first others going left is =
     if_going _ t t going
     ∙ (ap (λ (row : List Terminal). if has_first test row then skipped 1 t else lost t) left
-    ∙ if_true (test first) (skipped 1 t) (lost t) is)
+    ∙ chosen_yes (test first) (skipped 1 t) (lost t) is)
 
 pub ended_mark : {s t : State} {below above : Pieces} {base levels before : ℕ} {behind : Context} {first : Terminal} {others : List Terminal} (bytes : List ℕ)
     → is_mark bytes first ≡ true

@@ -20,10 +20,11 @@ use Rattle.creader.specs.TypeSteps.{sizes, sizes_from, all_sizes, type_name, typ
 use Rattle.creader.specs.TypeSteps as steps
 use Rattle.creader.specs.declared.status.Status.TheVariants.{Nothing}
 use Rattle.creader.specs.declared.wanted.Wanted.TheVariants as wanted
+use Rattle.ctokens.proofs.Choices.{chosen_yes, chosen_no}
 use Rattle.cread_expr.proofs.Agreed.{Pieces, none, Ended, Agreed, Follows, Continues, ends, context_of, LevelAgrees}
 use Rattle.cread_expr.proofs.AgreedLists.{failed_lost, then_prepended}
 use Rattle.cread_expr.proofs.AgreedRules.{agreed_read, agreed_failed, agreed_lost, agreed_at, agreed_outcome, agreed_goes, same_first, if_first, then_asked, then_ends, then_mark}
-use Rattle.cread_expr.proofs.AgreedSteps.{kept_ended, failed_then, if_true, if_false, Still, still_lost, still_losing, still_goes, still_mark, still_write, still_ask_whole, ended_levels, ended_part, ended_skip, ended_write}
+use Rattle.cread_expr.proofs.AgreedSteps.{kept_ended, failed_then, Still, still_lost, still_losing, still_goes, still_mark, still_write, still_ask_whole, ended_levels, ended_part, ended_skip, ended_write}
 
 -- what is read to its end
 pub read_ends : {A : Type 0} {s t : State} {below : Pieces} {above : A → Pieces} {base levels before : ℕ} {behind : Context} {others : List Terminal} {tree : A}
@@ -172,9 +173,9 @@ size_agrees {level} {inner} {s} {t} {below} {base} {before} {context} optional d
         (go (if has_mark (codes "]") (rest t) then (if optional then write event.OpenSize (skipped 1 t) else lost t) else write event.Size (mark (codes "]") (ask_whole inner wanted.Conditional t))))
     tested [] true found far = cc found
     tested (first ∷ others) true found far =
-        agreed_at (ap go (if_true _ _ _ (same_first (is_mark (codes "]")) far ∙ found))) (closing optional (first ∷ others) again far (ended_skip far))
+        agreed_at (ap go (chosen_yes _ _ _ (same_first (is_mark (codes "]")) far ∙ found))) (closing optional (first ∷ others) again far (ended_skip far))
     tested row false found far =
-        agreed_at (ap go (if_false _ _ _ (same_first (is_mark (codes "]")) far ∙ found)))
+        agreed_at (ap go (chosen_no _ _ _ (same_first (is_mark (codes "]")) far ∙ found)))
         (agreed_outcome (admitted_then optional (level.conditional context row) _)
         (then_asked (sizes_piece done) level.conditional inner wanted.Conditional _ far agrees.conditional (through _ _ (still_write _ (still_mark _ still_lost))) (λ size levels behind others further.
         agreed_outcome (admitted_first optional (is_mark (codes "]")) others _)
@@ -196,10 +197,10 @@ sizes_agree {level} {inner} optional (suc count) done agrees s before is =
         (if has_mark (codes "[") (rest s) then sizes inner optional count (steps.size_behind inner optional (skipped 1 s)) else s)
     tested again [] true found far = cc found
     tested again (first ∷ others) true found far =
-        agreed_at (if_true _ _ _ (same_first (is_mark (codes "[")) far ∙ found))
+        agreed_at (chosen_yes _ _ _ (same_first (is_mark (codes "[")) far ∙ found))
         (size_agrees optional done (read_sizes level count) (sizes inner optional count) others agrees (λ u v still. still_sizes inner optional count still) again (ended_skip far))
     tested again row false found far =
-        agreed_at (if_false _ _ _ (same_first (is_mark (codes "[")) far ∙ found))
+        agreed_at (chosen_no _ _ _ (same_first (is_mark (codes "[")) far ∙ found))
         (agreed_outcome (admitted_empty optional (context_of s before) row)
         (read_ends (subst (λ (all : List (Option Expr)). Ended s s (sizes_piece done) (sizes_piece all) s.levels 0 before (context_of s before) row) (sym (append-nil done)) far)))
 

@@ -28,10 +28,11 @@ use Rattle.creader.specs.TypeSteps.{type_name, fields, all_fields, enumerator, a
 use Rattle.creader.specs.TypeSteps as steps
 use Rattle.creader.specs.declared.status.Status.TheVariants.{Nothing}
 use Rattle.creader.specs.declared.wanted.Wanted.TheVariants as wanted
+use Rattle.ctokens.proofs.Choices.{chosen_yes, chosen_no}
 use Rattle.cread_expr.proofs.Agreed.{shop, Pieces, none, Ended, Agreed, Reads, ends, anyhow, context_of, type_piece, LevelAgrees}
 use Rattle.cread_expr.proofs.AgreedLists.{over_brace, then_brace, still_both}
 use Rattle.cread_expr.proofs.AgreedRules.{agreed_at, agreed_outcome, agreed_goes, agreed_test, same_first, then_asked, then_ends, then_mark}
-use Rattle.cread_expr.proofs.AgreedSteps.{if_true, if_false, Still, still_lost, still_goes, still_mark, still_make, ended_at, ended_levels, ended_none, ended_skip, ended_token, ended_write, ended_make}
+use Rattle.cread_expr.proofs.AgreedSteps.{Still, still_lost, still_goes, still_mark, still_make, ended_at, ended_levels, ended_none, ended_skip, ended_token, ended_write, ended_make}
 use Rattle.cread_expr.proofs.AgreedTypesFields.{fields_piece, enumerators_piece, fields_agree, enumerator_agrees, all_parts_agree, until_brace_agrees}
 use Rattle.cread_expr.proofs.AgreedTypesSizes.{read_ends, lost_here, ended_over, type_name_agrees}
 
@@ -52,9 +53,9 @@ ended_comma {s} {t} {below} {above} {base} {levels} {before} {behind} {others} f
     tested : (first : Terminal) (more : List Terminal) (comma : Bool) → is_mark (codes ",") first ≡ comma → Ended s t below above base levels before behind (first ∷ more)
         → Ended s (if goes t && has_mark (codes ",") (rest t) then skipped 1 t else t) below above base levels before behind (if comma then more else first ∷ more)
     tested first more true is far =
-        ended_at ((λ i. if is_going (far.status i) && has_mark (codes ",") (far.left i) then skipped 1 t else t) ∙ if_true (is_mark (codes ",") first) (skipped 1 t) t is) (ended_skip far)
+        ended_at ((λ i. if is_going (far.status i) && has_mark (codes ",") (far.left i) then skipped 1 t else t) ∙ chosen_yes (is_mark (codes ",") first) (skipped 1 t) t is) (ended_skip far)
     tested first more false is far =
-        ended_at ((λ i. if is_going (far.status i) && has_mark (codes ",") (far.left i) then skipped 1 t else t) ∙ if_false (is_mark (codes ",") first) (skipped 1 t) t is) far
+        ended_at ((λ i. if is_going (far.status i) && has_mark (codes ",") (far.left i) then skipped 1 t else t) ∙ chosen_no (is_mark (codes ",") first) (skipped 1 t) t is) far
 
     case : (row : List Terminal) → Ended s t below above base levels before behind row
         → Ended s (if goes t && has_mark (codes ",") (rest t) then skipped 1 t else t) below above base levels before behind (behind_comma row)
@@ -99,7 +100,7 @@ struct_by_tag (Some at) far = read_ends (ended_levels (omega arith) (ended_make 
 struct_with_agrees : {level : Level} {inner : Inner} {s : State} {before : ℕ} {context : Context} → LevelAgrees level inner → (number : Option ℕ) (t : State) (row : List Terminal) → Ended s t none none 0 0 before context row
     → Makes type_piece (struct_from level (maybe_bytes_at s.row number) context row) s (struct_with inner number t) before
 unfolding struct_from struct_with all_fields
-struct_with_agrees agrees number t [] far = agreed_at (if_false _ _ _ (same_first (is_mark (codes "{")) far)) (struct_by_tag number far)
+struct_with_agrees agrees number t [] far = agreed_at (chosen_no _ _ _ (same_first (is_mark (codes "{")) far)) (struct_by_tag number far)
 struct_with_agrees {level} {inner} {s} {before} {context} agrees number t (first ∷ others) far =
     agreed_test (is_mark (codes "{") first) (has_mark (codes "{") (rest t)) _ _ (same_first (is_mark (codes "{")) far)
     (λ opens. agreed_outcome (ap (λ (count : ℕ). then_read (read_until_brace (read_fields level) count context others) (λ declarations levels behind more. outcome.Read (Struct (maybe_bytes_at s.row number) (Some declarations)) (1 + levels) behind (behind_first more))) (one_more (length others)))
@@ -130,7 +131,7 @@ enum_by_tag (Some at) far = read_ends (ended_levels (omega arith) (ended_make (e
 enum_with_agrees : {level : Level} {inner : Inner} {s : State} {before : ℕ} {context : Context} → LevelAgrees level inner → (number : Option ℕ) (t : State) (row : List Terminal) → Ended s t none none 0 0 before context row
     → Makes type_piece (enum_from level (maybe_bytes_at s.row number) context row) s (enum_with inner number t) before
 unfolding enum_from enum_with all_enumerators
-enum_with_agrees agrees number t [] far = agreed_at (if_false _ _ _ (same_first (is_mark (codes "{")) far)) (enum_by_tag number far)
+enum_with_agrees agrees number t [] far = agreed_at (chosen_no _ _ _ (same_first (is_mark (codes "{")) far)) (enum_by_tag number far)
 enum_with_agrees {level} {inner} {s} {before} {context} agrees number t (first ∷ others) far =
     agreed_test (is_mark (codes "{") first) (has_mark (codes "{") (rest t)) _ _ (same_first (is_mark (codes "{")) far)
     (λ opens. agreed_outcome (ap (λ (count : ℕ). then_read (read_list closes_braces (read_enumerator level) count context others) (λ values levels behind more. after_mark (codes "}") (behind_comma more) outcome.Nothing (λ closing end. outcome.Read (Enum (maybe_bytes_at s.row number) (Some values)) (1 + levels) behind end))) (one_more (length others)))

@@ -169,15 +169,15 @@ no_block_read most t scope at s numbered starts nothing =
     (sym (nothing_read (read_block (level most) (context_of s 0) (rest s)) (block_agrees (levels_agree most) s 0 (ready_at starts)) nothing) ∙ block_is most numbered starts)
 
 -- What is written at a token is exact.
-starts_there : (t : Tokens) (scope : List Names) (at : ℕ) → StartsAt t scope at (at_token t scope at)
+pub starts_there : (t : Tokens) (scope : List Names) (at : ℕ) → StartsAt t scope at (at_token t scope at)
 starts_there t scope at = record { row = refl; number = refl; status = refl; levels = refl; names = refl; events = refl }
 
-is_something : (status : Status) → not (is_nothing status) ≡ true → is_nothing status ≡ false
+pub is_something : (status : Status) → not (is_nothing status) ≡ true → is_nothing status ≡ false
 is_something Going found = refl
 is_something Stopped found = refl
 is_something Nothing found = cc
 
-is_no_more : (status : Status) → not (is_nothing status) ≡ false → status ≡ Nothing
+pub is_no_more : (status : Status) → not (is_nothing status) ≡ false → status ≡ Nothing
 is_no_more Going found = cc
 is_no_more Stopped found = cc
 is_no_more Nothing found = refl

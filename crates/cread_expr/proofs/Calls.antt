@@ -1,5 +1,5 @@
 -- What is written from a token of a text on, as what the grammar has there.
-use Rattle.std.proofs.Common.{◌≡◌, ℕ, ◌+◌, Bool, true, false, not, List, take, Option, None, Some, refl, ap, sym, ◌∙◌, subst}
+use Rattle.std.proofs.Common.{◌≡◌, ℕ, ◌+◌, true, false, not, List, take, Option, Some, refl, ap, sym, ◌∙◌, subst}
 use Rattle.std.specs.Prelude.{IsSome}
 use Rattle.std.specs.List.{prefix_len}
 use Rattle.cbase.specs.declared.tree.expr.Expr.{Expr}
@@ -13,29 +13,10 @@ use Rattle.creader.specs.ReadingSteps.{reads, inner_at}
 use Rattle.creader.specs.State.{State, is_nothing}
 use Rattle.creader.specs.StatementSteps.{block}
 use Rattle.creader.specs.Writings.{Writing, start_at, written_of}
-use Rattle.creader.specs.declared.status.Status.{Status}
-use Rattle.creader.specs.declared.status.Status.TheVariants.{Going, Stopped, Nothing}
 use Rattle.creader.specs.declared.wanted.Wanted.TheVariants as wanted
 use Rattle.ctokens.specs.declared.token.Tokens.{Tokens}
-use Rattle.cread_expr.specs.Exactly.{comes_before}
-use Rattle.cread_expr.proofs.Agreement.{StartsAt, expression_read, no_expression_read, block_read, no_block_read}
-
--- the reader at a token of a text, before it reads
-abbrev pub at_token : Tokens → List Names → ℕ → State
-at_token t scope at = start_at (terminals t) (prefix_len (comes_before at) (terminals t)) scope
-
-starts : (t : Tokens) (scope : List Names) (at : ℕ) → StartsAt t scope at (at_token t scope at)
-starts t scope at = record { row = refl; number = refl; status = refl; levels = refl; names = refl; events = refl }
-
-is_something : (status : Status) → not (is_nothing status) ≡ true → is_nothing status ≡ false
-is_something Going found = refl
-is_something Stopped found = refl
-is_something Nothing found = cc
-
-is_no_more : (status : Status) → not (is_nothing status) ≡ false → status ≡ Nothing
-is_no_more Going found = cc
-is_no_more Stopped found = cc
-is_no_more Nothing found = refl
+use Rattle.cread_expr.specs.Exactly.{at_token, comes_before}
+use Rattle.cread_expr.proofs.Agreement.{starts_there, is_something, is_no_more, expression_read, no_expression_read, block_read, no_block_read}
 
 is_some : {A : Type 0} (found : Option A) (tree : A) → found ≡ Some tree → IsSome found
 is_some found tree is = subst (λ (o : Option _). IsSome o) (sym is) refl
@@ -49,38 +30,38 @@ module _ (most : ℕ) (t : Tokens) (scope : List Names) (at : ℕ) (numbered : A
 
   expression_made : not (is_nothing expression_end.status) ≡ true → IsSome (expr_alone (built_all (terminals t) expression_end.events (Some start)))
   expression_made found =
-      let read = expression_read most t scope at (at_token t scope at) numbered (starts t scope at) (is_something expression_end.status found) in
+      let read = expression_read most t scope at (at_token t scope at) numbered (starts_there t scope at) (is_something expression_end.status found) in
       is_some _ read.expr (ap expr_alone read.built)
 
   expression_there : not (is_nothing expression_end.status) ≡ true → (expr : Expr) (after : ℕ) → expr_alone (built_all (terminals t) expression_end.events (Some start)) ≡ Some expr
       → after ≡ (last_place (take expression_end.at (terminals t))).at + 1 → IsLongestExpressionAt most t scope at after expr
   expression_there found expr after made is =
-      let read = expression_read most t scope at (at_token t scope at) numbered (starts t scope at) (is_something expression_end.status found) in
+      let read = expression_read most t scope at (at_token t scope at) numbered (starts_there t scope at) (is_something expression_end.status found) in
       let tree : read.expr ≡ expr = same_some _ read.expr expr (ap expr_alone read.built) made in
       subst (λ (e : Expr). IsLongestExpressionAt most t scope at after e) tree
       (subst (λ (n : ℕ). IsLongestExpressionAt most t scope at n read.expr) (sym is) read.longest)
 
   no_expression : not (is_nothing expression_end.status) ≡ false → (expr : Expr) (after : ℕ) → IsExpressionAt most t scope at after expr → ⊥
-  no_expression none = no_expression_read most t scope at (at_token t scope at) numbered (starts t scope at) (is_no_more expression_end.status none)
+  no_expression none = no_expression_read most t scope at (at_token t scope at) numbered (starts_there t scope at) (is_no_more expression_end.status none)
 
   abbrev block_end : State
   block_end = block (inner_at most) (at_token t scope at)
 
   block_made : not (is_nothing block_end.status) ≡ true → IsSome (block_alone (built_all (terminals t) block_end.events (Some start)))
   block_made found =
-      let read = block_read most t scope at (at_token t scope at) numbered (starts t scope at) (is_something block_end.status found) in
+      let read = block_read most t scope at (at_token t scope at) numbered (starts_there t scope at) (is_something block_end.status found) in
       is_some _ read.body (ap block_alone read.built)
 
   block_there : not (is_nothing block_end.status) ≡ true → (body : List Stmt) (after : ℕ) → block_alone (built_all (terminals t) block_end.events (Some start)) ≡ Some body
       → after ≡ (last_place (take block_end.at (terminals t))).at + 1 → IsBlockAt most t scope at after body
   block_there found body after made is =
-      let read = block_read most t scope at (at_token t scope at) numbered (starts t scope at) (is_something block_end.status found) in
+      let read = block_read most t scope at (at_token t scope at) numbered (starts_there t scope at) (is_something block_end.status found) in
       let tree : read.body ≡ body = same_some _ read.body body (ap block_alone read.built) made in
       subst (λ (b : List Stmt). IsBlockAt most t scope at after b) tree
       (subst (λ (n : ℕ). IsBlockAt most t scope at n read.body) (sym is) read.is)
 
   no_block : not (is_nothing block_end.status) ≡ false → (body : List Stmt) (after : ℕ) → IsBlockAt most t scope at after body → ⊥
-  no_block none = no_block_read most t scope at (at_token t scope at) numbered (starts t scope at) (is_no_more block_end.status none)
+  no_block none = no_block_read most t scope at (at_token t scope at) numbered (starts_there t scope at) (is_no_more block_end.status none)
 
 -- The same of what the code has: its row, the number of tokens before the place, and what is written.
 pub expression_built : (most : ℕ) (t : Tokens) (scope : List Names) (at first : ℕ) (row : List Terminal) (written : Writing) → AreNumbered t
