@@ -1,7 +1,7 @@
 -- Operands, with the brackets around expressions that they begin with.
 use Rattle.std.proofs.Common.{◌≡◌, ℕ, zero, suc, ◌+◌, Bool, true, false, List, [], ◌∷◌, codes, refl, ap, sym, ◌∙◌, subst, arith}
 use Rattle.std.specs.Prelude.{if◌then◌else◌}
-use Rattle.cgrammar.specs.Outcomes.{Outcome, Reader, then_read, continued}
+use Rattle.cgrammar.specs.Outcomes.{Outcome, then_read, continued}
 use Rattle.cgrammar.specs.Outcomes as outcome
 use Rattle.cgrammar.specs.Phrases.{Context}
 use Rattle.cgrammar.specs.ReadLevels.{Level}

@@ -9,7 +9,7 @@ use Rattle.cevents.specs.declared.event.Event.TheVariants as event
 use Rattle.cevents.specs.declared.piece.Piece.TheVariants as piece
 use Rattle.cgrammar.proofs.Truth.{and-right}
 use Rattle.cgrammar.specs.Grammar.{inside}
-use Rattle.cgrammar.specs.Outcomes.{Outcome, Reader, then_read, has_mark}
+use Rattle.cgrammar.specs.Outcomes.{Outcome, then_read}
 use Rattle.cgrammar.specs.Outcomes as outcome
 use Rattle.cgrammar.specs.Phrases.{Context}
 use Rattle.cgrammar.specs.ReadDeclarations.{specifiers_of, storage_at, storage_behind, read_specifiers, read_parameter, is_void_alone, read_parameters}

@@ -7,17 +7,17 @@ use Rattle.cbase.specs.declared.tree.spec.FieldName.{FieldName}
 use Rattle.cevents.specs.Workshop.{token_at}
 use Rattle.cevents.specs.declared.event.Event.TheVariants as event
 use Rattle.cevents.specs.declared.piece.Piece.TheVariants as piece
-use Rattle.cgrammar.specs.Outcomes.{Outcome, Reader, then_read, has_mark}
+use Rattle.cgrammar.specs.Outcomes.{Reader, then_read}
 use Rattle.cgrammar.specs.Outcomes as outcome
 use Rattle.cgrammar.specs.Phrases.{Context}
 use Rattle.cgrammar.specs.ReadLevels.{Level, read_list, read_until_brace}
-use Rattle.cgrammar.specs.ReadTypes.{star_count, behind_stars, never, closes_braces, read_sizes, read_field, read_fields, read_enumerator}
+use Rattle.cgrammar.specs.ReadTypes.{star_count, behind_stars, never, closes_braces, read_field, read_fields, read_enumerator}
 use Rattle.cgrammar.specs.ReadTypes as reader
 use Rattle.cgrammar.specs.Terminals.{Terminal, is_mark, is_name}
 use Rattle.cgrammar.specs.Trees as tree
 use Rattle.creader.specs.State.{State, rest}
 use Rattle.creader.specs.Steps.{Inner, all_parts, until_brace}
-use Rattle.creader.specs.TypeSteps.{all_sizes, field_name, field_names, fields, enumerator, enumerator_behind, all_enumerators, all_fields}
+use Rattle.creader.specs.TypeSteps.{field_name, field_names, fields, enumerator, enumerator_behind, all_enumerators}
 use Rattle.creader.specs.TypeSteps as steps
 use Rattle.creader.specs.declared.status.Status.TheVariants.{Nothing}
 use Rattle.creader.specs.declared.wanted.Wanted.TheVariants as wanted

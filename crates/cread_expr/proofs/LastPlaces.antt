@@ -1,6 +1,5 @@
 -- The last token of a row, and the first tokens of one.
-use Rattle.std.proofs.Common.{◌≡◌, ℕ, suc, ◌+◌, ◌-◌, ◌≤◌, List, [], ◌∷◌, length, get_or, refl, ap, sym, ◌∙◌, arith}
-use Rattle.cbase.specs.declared.place.Place.{Place}
+use Rattle.std.proofs.Common.{◌≡◌, ℕ, suc, ◌-◌, ◌≤◌, List, [], ◌∷◌, length, get_or, ap, ◌∙◌, arith}
 use Rattle.cgrammar.specs.Terminals.{Terminal, last_place}
 
 pub place_at_last : (row : List Terminal) (last : Terminal) → 1 ≤ length row → last ≡ get_or row (length row - 1) last
