@@ -37,6 +37,7 @@ abbrev pub or_nothing : Option Names → Names
 or_nothing None = []
 or_nothing (Some names) = names
 
+-- the names of parts that stand side by side, of a list that may be left out
 abbrev pub list_or_nothing : Option (List Names) → Names
 list_or_nothing None = []
 list_or_nothing (Some names) = joined names

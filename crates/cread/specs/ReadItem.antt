@@ -18,9 +18,11 @@ pub record Head : Type 0 where
   pub name : List ℕ
   pub declared : Declared
 
+-- such a declarator, from its name and its tree
 abbrev pub head_of : List ℕ → Declared → Head
 head_of name declared = record { name = name; declared = declared }
 
+-- stars, a name and a parameter list (C11 6.7.6.3)
 unfoldable pub read_head : Level → Reader Head
 read_head level context row =
     after_first is_name (behind_stars row) Nothing (λ name rest.

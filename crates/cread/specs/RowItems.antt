@@ -25,6 +25,7 @@ pub record IsItemOf (row : List Terminal) (before : Context) (item : Item) (afte
   pub spelled : SpellsItem item before row after
   pub small : item_levels item ≤ most_levels
 
+-- the row is no item of at most 1,024 levels; of the tokens of a text `IsNoItem` says this
 abbrev pub IsItemOfNone : List Terminal → Context → Type 0
 IsItemOfNone row before = (item : Item) (after : Context) → SpellsItem item before row after → item_levels item ≤ most_levels → ⊥
 

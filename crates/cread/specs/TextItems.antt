@@ -19,16 +19,20 @@ pub record ItemRow : Type 0 where
 abbrev pub IsNoItemOfFewLevels : List Names → List Terminal → Type 0
 IsNoItemOfFewLevels scope row = (item : Item) (behind : Context) → SpellsItem item (at_first scope) row behind → item_levels item ≤ few_levels → ⊥
 
+-- the row spells the expected item, or none of at most twelve levels where none is expected
 abbrev pub IsItem : List Names → List Terminal → Option Item → Type 0
 IsItem scope row None = IsNoItemOfFewLevels scope row
 IsItem scope row (Some item) = (behind : Context) × SpellsItem item (at_first scope) row behind
 
+-- each row of the table spells what is expected of it
 abbrev pub HaveItems : List ItemRow → Type 0
 HaveItems [] = Unit {0}
 HaveItems (row ∷ rows) = IsItem (typedefs row.names) (row_of_text row.text) row.expected × HaveItems rows
 
+-- a row of the table whose text spells the item
 abbrev pub spelled : List ℕ → List (List ℕ) → Item → ItemRow
 spelled text names item = record { text = text; names = names; expected = Some item }
 
+-- a row of the table whose text spells no item
 abbrev pub missed : List ℕ → List (List ℕ) → ItemRow
 missed text names = record { text = text; names = names; expected = None }

@@ -26,8 +26,8 @@ pub enum ReadNeeded {
 /// Reads the items with these numbers, one behind the other: each where the names that those before it declare are in
 /// scope, and as many expressions end before it as they have (C11 6.9).
 ///
-/// The first that is not read is refused. A number past the last item stands for none. The work grows with the text and with the
-/// items that are read alone. An error says that memory is wanting.
+/// The first that is not read is refused. A number past the last item stands for none. That the work grows with the text and
+/// with the items that are read alone is measured by `bench/read.py`. An error says that memory is wanting.
 #[tactic(auto, using(crate::proofs::NeededItems::answer_named, crate::proofs::NeededItems::spans_some))]
 pub fn read_needed(
     alloc: Global,

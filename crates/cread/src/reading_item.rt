@@ -48,8 +48,8 @@ pub enum ReadIn {
 /// passed over, and `expressions` how many expressions of the file end before the item, from 0: it is the number of its
 /// first.
 ///
-/// A change of layout is refused first, then a row that spells no item: by its first construct, or else as it begins. The
-/// work grows with the item alone. An error says that memory is wanting.
+/// A change of layout is refused first, then a row that spells no item: by its first construct, or else as it begins. That the
+/// work grows with the item alone is measured by `bench/read.py`. An error says that memory is wanting.
 #[tactic(auto, using(crate::proofs::FoundItems::passed_length))]
 pub fn read_item_in(
     alloc: Global,

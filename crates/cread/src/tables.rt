@@ -1,4 +1,4 @@
-//! A table of short texts, each with the item that it spells.
+//! A table of short texts, with the item that each spells, or that it spells none.
 
 ghost use Rattle.cread.specs.ItemRows.{ItemRows};
 
