@@ -1,7 +1,7 @@
 ghost use Rattle.std.specs.Prelude.{◌≡◌, ◌<◌, ◌≤◌, IfOk, length};
 ghost use Rattle.ctokens.specs.InText.{LieInText};
 ghost use Rattle.cgrammar.specs.Readings.{AreNumbered, at_first};
-ghost use Rattle.cread.specs.ItemAnswers.{HasOneAnswer, IsAnswer, answer_of};
+ghost use Rattle.cread.specs.ItemAnswers.{IsAnswer, answer_of};
 
 use crate::reading_item::{ReadIn, read_item_in};
 use crate::refusal::Refusal;
@@ -58,9 +58,3 @@ fn answer_of(read: ReadIn) -> ItemAnswer
         ReadIn::Refused(Refusal::Syntax { place }) => ItemAnswer::Syntax { place },
     }
 }
-
-/// Of an item at most one answer is true.
-#[tactic(auto, using(crate::proofs::OneAnswer::one_item_answer))]
-pub fn one_item_answer()
-    ensures { HasOneAnswer }
-{}

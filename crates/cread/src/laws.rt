@@ -1,5 +1,7 @@
-//! Laws that hold of every row.
+//! Laws that hold of every row, and of the items of every text.
 
+ghost use Rattle.cread.specs.ItemAnswers.{HasOneAnswer};
+ghost use Rattle.cread.specs.Needed.{HaveOneAnswer};
 ghost use Rattle.cread.specs.OneItem.{IsOneItem};
 ghost use Rattle.cread.specs.SpelledNames.{AreNamesSpelled};
 
@@ -15,4 +17,16 @@ pub fn each_row_is_one_item()
 #[tactic(auto, using(crate::proofs::NamesSpelled::names_spelled))]
 pub fn names_after_are_spelled()
     ensures { AreNamesSpelled }
+{}
+
+/// Of an item at most one answer is true.
+#[tactic(auto, using(crate::proofs::OneAnswer::one_item_answer))]
+pub fn one_item_answer()
+    ensures { HasOneAnswer }
+{}
+
+/// Of one list of items at most one answer is true: one program, or one refusal.
+#[tactic(auto, using(crate::proofs::NeededItems::one_answer))]
+pub fn needed_have_one_answer()
+    ensures { HaveOneAnswer }
 {}

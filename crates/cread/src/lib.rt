@@ -12,10 +12,12 @@ mod reading_item;
 mod refusal;
 mod tables;
 
-pub use answer::{ItemAnswer, one_item_answer, read_item};
-pub use laws::{each_row_is_one_item, names_after_are_spelled};
+pub use answer::{ItemAnswer, read_item};
+pub use laws::{
+    each_row_is_one_item, names_after_are_spelled, needed_have_one_answer, one_item_answer,
+};
 pub use names_after::scope_after;
-pub use needed_items::{ReadNeeded, needed_have_one_answer, read_needed};
+pub use needed_items::{ReadNeeded, read_needed};
 pub use reading_item::{ItemBehind, ReadIn, read_item_in};
 pub use refusal::Refusal;
 pub use tables::table_of_items;

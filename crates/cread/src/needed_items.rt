@@ -4,7 +4,7 @@ ghost use Rattle.ctokens.specs.Items.{IsItems};
 ghost use Rattle.ctokens.specs.InText.{LieInText};
 ghost use Rattle.ctokens.specs.TokenList.{HasNamedFiles};
 ghost use Rattle.cgrammar.specs.Readings.{AreNumbered};
-ghost use Rattle.cread.specs.Needed.{AreAnswered, HaveOneAnswer, IsSpanAmong, spans_of, with_span};
+ghost use Rattle.cread.specs.Needed.{AreAnswered, IsSpanAmong, spans_of, with_span};
 ghost use Rattle.cread.specs.Named.{IsNamed};
 
 use crate::reading_item::{ItemBehind, ReadIn, read_item_in};
@@ -103,9 +103,3 @@ fn read_all(alloc: Global, t: &Tokens, spans: &[ItemSpan]) -> Result<ReadNeeded,
     }
     Ok(ReadNeeded::Read(program))
 }
-
-/// Of one list of items at most one answer is true: one program, or one refusal.
-#[tactic(auto, using(crate::proofs::NeededItems::one_answer))]
-pub fn needed_have_one_answer()
-    ensures { HaveOneAnswer }
-{}
