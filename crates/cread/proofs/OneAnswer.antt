@@ -4,7 +4,7 @@ use Rattle.cbase.specs.declared.tree.item.Item.{Item}
 use Rattle.ctokens.specs.declared.token.Tokens.{Tokens}
 use Rattle.cgrammar.specs.Phrases.{Context}
 use Rattle.cread.proofs.Refusals.{one_read, read_or_refused, one_refusal}
-use Rattle.cread.specs.Answers.{IsReadIn}
+use Rattle.cread.specs.ReadIn.{IsReadIn}
 use Rattle.cread.specs.Refusals.{IsRefusal}
 use Rattle.cread.specs.ItemAnswers.{IsAnswer, HasOneAnswer, answer_of as answer_of_read}
 use Rattle.cread.specs.declared.reading_item.ReadIn.{ReadIn}

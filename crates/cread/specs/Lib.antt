@@ -5,7 +5,7 @@ pub mod TextItems
 pub mod ItemRows
 pub mod ItemsRead
 pub mod Refusals
-pub mod Answers
+pub mod ReadIn
 pub mod RowItems
 pub mod ItemAnswers
 pub mod Named

@@ -9,7 +9,7 @@ ghost use Rattle.cconstructs.specs.Layout.{HasNoLayout};
 ghost use Rattle.creader.specs.ItemSteps.{item_alone};
 ghost use Rattle.creader.specs.ReadingSteps.{inner_at};
 ghost use Rattle.creader.specs.Writings.{item_written_of, start_of};
-ghost use Rattle.cread.specs.Answers.{IsReadIn};
+ghost use Rattle.cread.specs.ReadIn.{IsReadIn};
 ghost use Rattle.cread.specs.Refusals.{IsPlaceIn, IsPlaceOf, IsRefusal, ShowsLayout};
 ghost use Rattle.cevents.specs.Building.{built_all};
 ghost use Rattle.cbuild.specs.ItemsMade.{item_made, nothing_made};

@@ -1,4 +1,4 @@
--- What is answered of an item: the item, the construct that is given up, or that nothing spells it.
+-- An item where it is read in a file: its tree with what stands behind it, or why it is not read.
 use Rattle.std.specs.Prelude.{ℕ}
 use Rattle.cgrammar.specs.Phrases.{Context}
 use Rattle.ctokens.specs.declared.token.Tokens.{Tokens}
