@@ -35,15 +35,13 @@ use Rattle.creader.specs.State.{State, rest, with_scope, skipped}
 use Rattle.creader.specs.StatementSteps.{block_item, block_items}
 use Rattle.creader.specs.Steps.{Inner, write, mark, until_brace}
 use Rattle.creader.specs.declared.status.Status.TheVariants.{Nothing}
-use Rattle.creader.specs.declared.wanted.Wanted.TheVariants as wanted
-use Rattle.cread_expr.proofs.Agreed.{Pieces, none, shop, Ended, Agreed, Follows, Continues, ends, context_of, LevelAgrees}
+use Rattle.cread_expr.proofs.Agreed.{Pieces, none, shop, Ended, Agreed, Follows, ends, context_of, LevelAgrees}
 use Rattle.cread_expr.proofs.AgreedDeclarations.{declaration_piece, declaration_agrees}
 use Rattle.cread_expr.proofs.AgreedDeclarationsParameters.{then_both, then_specifiers, still_parameters, parameters_agree}
-use Rattle.cread_expr.proofs.AgreedEntire.{entirely, entirely_asked, agreed_then, agreed_write}
 use Rattle.cread_expr.proofs.AgreedLists.{behind_brace, over_brace, until_brace_follows, still_braces}
 use Rattle.cread_expr.proofs.AgreedPlaces.{place_here}
 use Rattle.cread_expr.proofs.AgreedRules.{agreed_at, agreed_outcome, agreed_goes, agreed_test, if_first, then_ends, then_mark}
-use Rattle.cread_expr.proofs.AgreedStatements.{body_piece, as_ends}
+use Rattle.cread_expr.proofs.AgreedStatements.{body_piece, as_ends, block_item_agrees}
 use Rattle.cread_expr.proofs.AgreedSteps.{if_going, Still, still_lost, still_goes, still_mark, still_write, still_leave, ended_at, ended_levels, ended_part, ended_token, ended_write, ended_leave}
 use Rattle.cread_expr.proofs.AgreedTypesSizes.{read_ends, lost_here, ended_stars, if_behind}
 use Rattle.cread.specs.Items.{in_body, out_of}
@@ -162,12 +160,6 @@ left_is {s} {t} {others} far =
   where
     counted : (at found whole others : ℕ) → at ≤ found → found - at ≡ others → found ≡ whole → at ≡ whole - others
     counted at found whole others inside left row = omega (arith, inside, left, row)
-
-block_item_agrees : {level : Level} {inner : Inner} → LevelAgrees level inner → (done : List Stmt)
-    → Continues (body_piece done) (λ tree. body_piece (done ++ tree ∷ [])) ends (entirely level.item) (block_item inner)
-unfolding block_item
-block_item_agrees {level} {inner} agrees done s before is =
-    agreed_write event.Statement (λ tree count pieces. refl) (agreed_then (body_piece done) (ended_part s (body_piece done) before is) (entirely_asked level.item inner wanted.Item agrees.item s before is))
 
 still_block_items : {u v : State} (inner : Inner) → Still Nothing u v → Still Nothing u (block_items inner v)
 unfolding block_items

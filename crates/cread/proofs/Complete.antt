@@ -1,5 +1,5 @@
 -- The reader of items is complete: what spells an item is read.
-use Rattle.std.proofs.Common.{◌≡◌, ℕ, ◌+◌, ◌≤◌, max, Bool, true, false, refl, ap, sym, ◌∙◌, List, [], ◌∷◌, ◌++◌, map, length, codes, IsTrue, arith, not}
+use Rattle.std.proofs.Common.{◌≡◌, ℕ, ◌+◌, ◌≤◌, max, false, refl, ap, sym, ◌∙◌, List, [], ◌∷◌, ◌++◌, map, length, codes, arith, append-nil}
 use Rattle.std.proofs.lemmas.List.{append_assoc}
 use Rattle.cbase.specs.declared.tree.decl.Decl.{Decl}
 use Rattle.cbase.specs.declared.tree.decl.Declared.{Declared}
@@ -12,7 +12,7 @@ use Rattle.ctrees.specs.Weight.{joined}
 use Rattle.ctrees.specs.Levels.{depth, declared_levels, item_levels, spec_levels, stmt_levels}
 use Rattle.cgrammar.proofs.Complete.{complete}
 use Rattle.cgrammar.proofs.CompleteDeclarations.{no_void_alone, parameters_void, parameters_begin, begins_some, declarator_no_specifiers}
-use Rattle.cgrammar.proofs.CompletingOutcomes.{go_true, go_false, go_read, row_of_two, row_of_three}
+use Rattle.cgrammar.proofs.CompletingOutcomes.{go_true, go_false, go_read, not_is, row_of_two, row_of_three}
 use Rattle.cgrammar.proofs.CompletingParts.{read_levels, ends_known, declaration_row_no_mark}
 use Rattle.cgrammar.proofs.CompletingTokens.{stars_front, begins_apart, stars_and_name, begins_declarator}
 use Rattle.cgrammar.proofs.Firsts.{first}
@@ -75,14 +75,6 @@ head_begins _ _ _ _ _ (NoParameters stars name opening closing p1 p2 p3 p4) = st
 head_begins _ _ _ _ _ (VoidParameters stars name opening word closing p1 p2 p3 p4 p5) = stars_and_name stars name (opening ∷ (word ∷ (closing ∷ []))) p1 p2
 head_begins _ _ _ _ _ (WithParameters {xs} stars name opening closing p1 p2 p3 p4 d1 p5) = stars_and_name stars name (opening ∷ (xs ++ (closing ∷ []))) p1 p2
 
-not_is : (test : Bool) → test ≡ false → IsTrue (not test)
-not_is true is = sym is
-not_is false is = refl
-
-append_nothing : (xs : List Terminal) → xs ++ [] ≡ xs
-append_nothing [] = refl
-append_nothing (x ∷ xs) = ap (λ (ys : List Terminal). x ∷ ys) (append_nothing xs)
-
 complete_function : (before middle within last : Context) (xs ys zs : List Terminal) (storage : Storage) (type : TypeSpec) (name : List ℕ) (head : Declared) (body : List Stmt) (opening closing : Terminal)
     → Spells (Specifiers storage type) before xs middle
     → Spells (FunctionDeclarator name head) middle ys within
@@ -113,7 +105,7 @@ declaration_ends _ _ _ _ (WithDeclarators {xs} {ys} semicolon d1 d2 p1) =
     ap ends_with_brace (sym (append_assoc xs ys (semicolon ∷ []))) ∙ (ends_behind (xs ++ ys) semicolon ∙ other_mark (codes ";") (codes "}") semicolon refl p1)
 
 no_semicolon : (scopes : _) (xs : List Terminal) → Begins (begins_declaration scopes) xs → has_mark (codes ";") xs ≡ false
-no_semicolon scopes xs begins = ap (has_mark (codes ";")) (sym (append_nothing xs)) ∙ declaration_row_no_mark scopes (codes ";") xs [] begins
+no_semicolon scopes xs begins = ap (has_mark (codes ";")) (sym (append-nil xs)) ∙ declaration_row_no_mark scopes (codes ";") xs [] begins
 
 pub complete_item : (item : Item) (before after : Context) (row : List Terminal) → SpellsItem item before row after → (n : ℕ) → item_levels item ≤ n
     → read_external (level n) before row ≡ Read item (item_levels item) after []
@@ -122,7 +114,7 @@ complete_item _ _ _ _ (EmptyItem {before} semicolon p1) n small = go_true _ p1 r
 complete_item _ _ _ _ (DeclarationItem {before} {after} {row} {decl} d1) n small =
     go_false _ (no_semicolon before.scope row (first d1))
     (go_false _ (declaration_ends decl before after row d1)
-    (go_read _ (ap (λ (r : List Terminal). read_declaration (level n) before r) (sym (append_nothing row)) ∙ complete (Declaration decl) before after row d1 n [] small) refl))
+    (go_read _ (ap (λ (r : List Terminal). read_declaration (level n) before r) (sym (append-nil row)) ∙ complete (Declaration decl) before after row d1 n [] small) refl))
 complete_item _ _ _ _ (FunctionDefinition {before} {middle} {within} {last} {xs} {ys} {zs} {storage} {type} {name} {head} {body} opening closing d1 d2 p1 d3 p2) n small =
     let begins : Begins (begins_declaration before.scope) xs = first d1 in
     go_false _ (declaration_row_no_mark before.scope (codes ";") xs (ys ++ (opening ∷ (zs ++ (closing ∷ [])))) begins)

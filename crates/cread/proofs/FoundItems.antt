@@ -1,8 +1,8 @@
 -- What the reader's events make of a row is its item; where constructs and changes of layout stand.
 use Rattle.std.proofs.Common.{◌≡◌, ℕ, ◌+◌, ◌-◌, ◌<◌, ◌≤◌, Bool, true, false, if◌then◌else◌, Option, Some, List, [], ◌∷◌, length, map, take, drop, slice_get, length-drop, refl, ap, sym, ◌∙◌, subst, arith, inr, ◌↔◌}
 use Rattle.std.proofs.lemmas.List.{length-map, length-take}
-use Rattle.std.proofs.lemmas.List.Elements.{All-cons, All-drop, All-head, All-map, All-nil, All-tail, All-take}
-use Rattle.std.proofs.lemmas.Option.{get_or_from_slice_get, slice_get_within}
+use Rattle.std.proofs.lemmas.List.Elements.{All-drop, All-map, All-take}
+use Rattle.std.proofs.lemmas.Option.{slice_get_within}
 use Rattle.std.specs.List.{All}
 use Rattle.cbase.specs.declared.place.Place.{Place}
 use Rattle.cbase.specs.declared.tree.item.Item.{Item}
@@ -23,11 +23,12 @@ use Rattle.ctrees.specs.Levels.{item_levels}
 use Rattle.cgrammar.specs.Phrases.{Context}
 use Rattle.cgrammar.specs.Readings.{AreNumbered, most_levels, row_between}
 use Rattle.cgrammar.specs.Scope.{Names}
-use Rattle.cgrammar.specs.Terminals.{Terminal, terminal_of, unpassed}
+use Rattle.cgrammar.specs.Terminals.{Terminal, terminal_of}
 use Rattle.creader.specs.ItemSteps.{item_alone}
 use Rattle.creader.specs.ReadingSteps.{inner_at}
 use Rattle.creader.specs.State.{State}
 use Rattle.creader.specs.Writings.{ItemWriting, item_written_of, start_of}
+use Rattle.cread.proofs.Refusals.{All-at, All-unpassed}
 use Rattle.cread.proofs.ReadRows.{RowRead, row_read, no_row_read}
 use Rattle.cread.specs.Refusals.{IsPlaceOf, IsPlaceIn, IsRefusal, ShowsLayout}
 use Rattle.cread.specs.ItemsRead.{IsItemRead}
@@ -131,23 +132,14 @@ attribute_within from part (token ∷ others) number is = case (shows_layout par
     case true here further = let same : from ≡ number = cc here in record { behind = omega (arith, same); before = omega (arith, same) }
     case false later further = let there = further later in record { behind = omega (arith, there.behind); before = omega (arith, there.before) }
 
-all_at : {A : Type 0} (P : A → Type 0) (xs : List A) (at : ℕ) (x : A) → All P xs → slice_get xs at ≡ Some x → P x
-all_at P xs at x all found = subst P (get_or_from_slice_get xs at x x found) (all at x (slice_get_within xs at x found))
-
-all_unpassed : (P : Terminal → Type 0) (passed : List Bool) (row : List Terminal) → All P row → All P (unpassed passed row)
-all_unpassed P [] row all = All-nil P
-all_unpassed P (first ∷ others) [] all = All-nil P
-all_unpassed P (true ∷ others) (token ∷ row) all = all_unpassed P others row (All-tail P token row all)
-all_unpassed P (false ∷ others) (token ∷ row) all = All-cons P token (unpassed others row) (All-head P token row all) (all_unpassed P others row (All-tail P token row all))
-
 token_within : (t : Tokens) (from to at : ℕ) (word : Terminal) → AreNumbered t → slice_get (row_between t from to) at ≡ Some word → word.place.at < length t.list
 token_within t from to at word numbered found =
     let Inside : Terminal → Type 0 = λ (token : Terminal). token.place.at < length t.list in
     let InsideText : Token → Type 0 = λ (token : Token). token.place.at < length t.list in
     let tokens : All InsideText t.list = λ at other within. subst (λ (n : ℕ). n < length t.list) (sym (numbered at other within)) within in
-    let all : All Inside (row_between t from to) = all_unpassed Inside (take (to - from) (drop from (passed_tokens t))) (take (to - from) (drop from (map (terminal_of t.text) t.list)))
+    let all : All Inside (row_between t from to) = All-unpassed Inside (take (to - from) (drop from (passed_tokens t))) (take (to - from) (drop from (map (terminal_of t.text) t.list)))
     (All-take Inside (to - from) (drop from (map (terminal_of t.text) t.list)) (All-drop Inside from (map (terminal_of t.text) t.list) (All-map Inside (terminal_of t.text) t.list tokens))) in
-    all_at Inside (row_between t from to) at word all found
+    All-at Inside (row_between t from to) at word all found
 
 layout_at_within : (t : Tokens) (from to number : ℕ) → AreNumbered t → IsLayoutAt t from to number → number < length t.list
 layout_at_within t from to number numbered (ByAttribute _ is) =

@@ -14,12 +14,8 @@ use Rattle.cgrammar.specs.Scope.{Names}
 use Rattle.ctrees.specs.Weight.{joined as largest}
 use Rattle.ctrees.specs.Levels.{depth, type_name_levels, field_name_levels, spec_levels, maybe_levels}
 use Rattle.ctrees.proofs.Sizes as Sizes
+use Rattle.ctrees.proofs.Sizes.{map_options}
 use Rattle.cread.specs.NamesAfter.{joined, or_nothing, no_names, in_form, in_part, in_init, in_spec, in_type_name, in_expr, in_init_part, in_enumerator, in_field_decl, in_field_name, enumerator_names, expr_names, field_decl_names, field_name_names, init_names, init_part_names, maybe_names, spec_names, type_name_names}
-
-pub map_options : {A B C : Type 0} (h : B → C) (f : Option A → B) (g : Option A → C) → h (f None) ≡ g None → ((a : A) → h (f (Some a)) ≡ g (Some a)) → (xs : List (Option A)) → map h (map f xs) ≡ map g xs
-map_options h f g none some [] = refl
-map_options h f g none some (None ∷ xs) = λ i. none i ∷ map_options h f g none some xs i
-map_options h f g none some (Some x ∷ xs) = λ i. some x i ∷ map_options h f g none some xs i
 
 -- an option, by its two cases
 pub option_cases : {A B C : Type 0} (h : B → C) (f : Option A → B) (g : Option A → C) → h (f None) ≡ g None → ((a : A) → h (f (Some a)) ≡ g (Some a)) → (o : Option A) → h (f o) ≡ g o

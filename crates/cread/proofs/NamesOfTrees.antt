@@ -33,7 +33,8 @@ use Rattle.cgrammar.specs.Scope.{Names}
 use Rattle.cgrammar.specs.Terminals.{Terminal}
 use Rattle.cgrammar.specs.Trees.{object, function, field, fields, enumerator, type_name, declaration, initializer}
 use Rattle.cgrammar.specs.TypeWords.{declares_typedef}
-use Rattle.cread.proofs.NamesOfParts.{map_options, init_part_parts}
+use Rattle.ctrees.proofs.Sizes.{map_options}
+use Rattle.cread.proofs.NamesOfParts.{init_part_parts}
 use Rattle.cread.specs.NamesAfter.{joined, or_nothing, no_names, in_form, in_part, in_init, in_spec, in_type_name, in_expr, in_init_part, in_enumerator, in_field_decl, in_field_name, decl_names, declared_names, enumerator_names, expr_names, field_decl_names, field_name_names, form_names, init_names, init_part_names, maybe_names, part_names, spec_names, type_name_names}
 
 -- an expression, from what it is

@@ -28,9 +28,7 @@ use Rattle.cread.proofs.Complete.{complete_item}
 use Rattle.cread.proofs.Sound.{says_external, sound_item}
 use Rattle.cread.specs.Items.{SpellsItem}
 use Rattle.cread.specs.ReadItem.{read_external}
-
-abbrev pub before_row : List Names → ℕ → Context
-before_row scope expressions = record { scope = scope; expressions = expressions }
+use Rattle.cread.specs.RowItems.{context_at}
 
 -- the row is spelled, and the events make its item
 pub record RowRead (most : ℕ) (before : Context) (row : List Terminal) (u : State) : Type 0 where
@@ -79,20 +77,20 @@ answered most before row s t whole fresh (outcome.Read item levels behind (first
 
 -- what the whole of the steps comes to
 answer_of : (most expressions : ℕ) (row : List Terminal) (scope : List Names)
-    → RowAnswer most (before_row scope expressions) row (read_external (level most) (before_row scope expressions) row) (item_alone (inner_at most) (start_of row scope))
+    → RowAnswer most (context_at scope expressions) row (read_external (level most) (context_at scope expressions) row) (item_alone (inner_at most) (start_of row scope))
 unfolding item_alone
 answer_of most expressions row scope =
     let s : State = start_of row scope in
-    let before : Context = before_row scope expressions in
+    let before : Context = context_at scope expressions in
     let agrees : Agreed none item_piece ends 0 expressions (read_external (level most) before row) s (external (inner_at most) s) =
     external_agrees (sound_level most) (levels_agree most) s expressions (record { status = refl; inside = omega arith }) in
     answered most before row s (external (inner_at most) s) refl refl (read_external (level most) before row) agrees (sound_item most before row)
 
 -- where the steps go on to the end, the row is read
 pub row_read : (most expressions : ℕ) (row : List Terminal) (scope : List Names) → goes (item_alone (inner_at most) (start_of row scope)) ≡ true
-    → RowRead most (before_row scope expressions) row (item_alone (inner_at most) (start_of row scope))
+    → RowRead most (context_at scope expressions) row (item_alone (inner_at most) (start_of row scope))
 row_read most expressions row scope going =
-    case (read_external (level most) (before_row scope expressions) row) (answer_of most expressions row scope)
+    case (read_external (level most) (context_at scope expressions) row) (answer_of most expressions row scope)
   where
     u : State
     u = item_alone (inner_at most) (start_of row scope)
@@ -100,8 +98,8 @@ row_read most expressions row scope going =
     wrong : goes (item_alone (inner_at most) (start_of row scope)) ≡ false → ⊥
     wrong idle = let both : true ≡ false = sym going ∙ idle in cc both
 
-    case : (found : Outcome Item) → RowAnswer most (before_row scope expressions) row found (item_alone (inner_at most) (start_of row scope))
-        → RowRead most (before_row scope expressions) row (item_alone (inner_at most) (start_of row scope))
+    case : (found : Outcome Item) → RowAnswer most (context_at scope expressions) row found (item_alone (inner_at most) (start_of row scope))
+        → RowRead most (context_at scope expressions) row (item_alone (inner_at most) (start_of row scope))
     case outcome.Nothing is = absurd (wrong is)
     case (outcome.Stopped item others left) is = absurd is
     case (outcome.Read item levels behind []) is = is.1
@@ -109,9 +107,9 @@ row_read most expressions row scope going =
 
 -- where they do not, no item of so few levels spells it
 pub no_row_read : (most expressions : ℕ) (row : List Terminal) (scope : List Names) → goes (item_alone (inner_at most) (start_of row scope)) ≡ false
-    → (item : Item) (behind : Context) → SpellsItem item (before_row scope expressions) row behind → item_levels item ≤ most → ⊥
+    → (item : Item) (behind : Context) → SpellsItem item (context_at scope expressions) row behind → item_levels item ≤ most → ⊥
 no_row_read most expressions row scope idle item behind spells small =
-    let before : Context = before_row scope expressions in
+    let before : Context = context_at scope expressions in
     let u : State = item_alone (inner_at most) (start_of row scope) in
     let read : RowAnswer most before row (outcome.Read item (item_levels item) behind []) u =
     subst (λ (found : Outcome Item). RowAnswer most before row found u) (complete_item item before behind row spells most small) (answer_of most expressions row scope) in

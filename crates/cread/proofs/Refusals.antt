@@ -95,7 +95,7 @@ one_refusal t from to before (Syntax place) (Syntax second) is also = ap Syntax 
 
 -- ---- numbers and names
 
-All-at : {A : Type 0} (P : A → Type 0) (xs : List A) (at : ℕ) (x : A) → All P xs → slice_get xs at ≡ Some x → P x
+pub All-at : {A : Type 0} (P : A → Type 0) (xs : List A) (at : ℕ) (x : A) → All P xs → slice_get xs at ≡ Some x → P x
 All-at P xs at x all found = subst P (get_or_from_slice_get xs at x x found) (all at x (slice_get_within xs at x found))
 
 abbrev HaveNumbers : List (List ℕ × ℕ) → Type 0
@@ -127,7 +127,7 @@ refusal_numbered t from to before (Construct number place) (inl layout) = let se
 refusal_numbered t from to before (Construct number place) (inr is) = construct_numbered is.is.is
 refusal_numbered t from to before (Syntax place) is = tt
 
-All-unpassed : (P : Terminal → Type 0) (passed : List Bool) (row : List Terminal) → All P row → All P (unpassed passed row)
+pub All-unpassed : (P : Terminal → Type 0) (passed : List Bool) (row : List Terminal) → All P row → All P (unpassed passed row)
 All-unpassed P [] row all = All-nil P
 All-unpassed P (first ∷ others) [] all = All-nil P
 All-unpassed P (true ∷ others) (token ∷ row) all = All-unpassed P others row (All-tail P token row all)

@@ -1,5 +1,5 @@
 -- What the reader leaves of a row says which item it is.
-use Rattle.std.proofs.Common.{◌≡◌, ℕ, ◌≤◌, refl, ap, sym, ◌∙◌, subst, List, [], ◌∷◌, ◌++◌, Option, None, Some}
+use Rattle.std.proofs.Common.{◌≡◌, ℕ, ◌≤◌, ap, sym, ◌∙◌, subst, List, [], ◌∷◌, ◌++◌, Option, None, Some, append-nil}
 use Rattle.cbase.specs.declared.tree.item.Item.{Item}
 use Rattle.ctrees.specs.Levels.{item_levels}
 use Rattle.cgrammar.proofs.SoundSteps.{Sound, Got}
@@ -28,17 +28,13 @@ LeavesNone (Stopped found expressions rest) = Unit {0}
 LeavesNone (Read found levels behind []) = ⊥
 LeavesNone (Read found levels behind (first ∷ others)) = Unit {0}
 
-append_nothing : (xs : List Terminal) → xs ++ [] ≡ xs
-append_nothing [] = refl
-append_nothing (x ∷ xs) = ap (λ (ys : List Terminal). x ∷ ys) (append_nothing xs)
-
 whole_item : (most : ℕ) (before : Context) (row : List Terminal) (outcome : Outcome Item) (item : Item) → Sound says_external item_levels most before row outcome → LeavesWhole outcome item
     → (behind : Context) × SpellsItem item before row behind
 whole_item most before row Nothing item sound leaves = absurd leaves
 whole_item most before row (Stopped found expressions rest) item sound leaves = absurd leaves
 whole_item most before row (Read found levels behind rest) item sound leaves =
     let read : Got says_external item_levels most before row found levels behind rest = sound.is in
-    let front : read.front ≡ row = sym (append_nothing read.front) ∙ (ap (λ (end : List Terminal). read.front ++ end) (sym leaves.1) ∙ sym read.whole.is) in
+    let front : read.front ≡ row = sym (append-nil read.front) ∙ (ap (λ (end : List Terminal). read.front ++ end) (sym leaves.1) ∙ sym read.whole.is) in
     (behind, subst (λ (i : Item). SpellsItem i before row behind) leaves.0 (subst (λ (r : List Terminal). SpellsItem found before r behind) front read.spelled))
 
 no_whole : (outcome : Outcome Item) (item : Item) (levels : ℕ) (behind : Context) → LeavesNone outcome → outcome ≡ Read item levels behind [] → ⊥

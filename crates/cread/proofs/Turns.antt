@@ -1,5 +1,6 @@
 -- One turn of a loop over a list of parts that declares what each of them leaves.
 use Rattle.std.proofs.Common.{◌≡◌, ◌+◌, ◌<◌, ◌≤◌, suc, arith, ap, sym, ◌∙◌, List, ◌∷◌, ℕ, map, drop, length, get_or, add-one, drop-cons}
+use Rattle.cgrammar.proofs.TreeLevels.{joined_others}
 use Rattle.cgrammar.specs.Scope.{Names}
 use Rattle.ctrees.specs.Weight.{joined as largest}
 use Rattle.ctrees.specs.Levels.{depth}
@@ -21,13 +22,10 @@ with_next {A} names items index item scope after first within is declared_after 
     ∙ (ap (λ (others : List A). with_names (joined (map names others)) scope) (sym (next_item items index item within is)) ∙ before))
 
 -- what the next turns go over is no deeper than what this one and they do
-others_deep : (n : ℕ) (ns : List ℕ) → largest depth ns ≤ largest depth (n ∷ ns)
-others_deep n ns = omega arith
-
 pub deep_next : {A : Type 0} (levels : A → ℕ) (items : List A) (index : ℕ) (item : A)
     → index < length items → item ≡ get_or items index item
     → largest depth (map levels (drop index items)) ≤ largest depth (map levels items)
     → largest depth (map levels (drop (index + 1) items)) ≤ largest depth (map levels items)
 deep_next {A} levels items index item within is before =
     let whole : largest depth (map levels (drop index items)) ≡ largest depth (levels item ∷ map levels (drop (index + 1) items)) = ap (λ (others : List A). largest depth (map levels others)) (next_item items index item within is) in
-    omega (arith, whole, before, others_deep (levels item) (map levels (drop (index + 1) items)))
+    omega (arith, whole, before, joined_others (levels item) (map levels (drop (index + 1) items)))

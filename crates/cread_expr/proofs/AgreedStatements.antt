@@ -93,7 +93,7 @@ at_left s = step (goes s)
     step true = refl
     step false = refl
 
-block_item_agrees : {level : Level} {inner : Inner} → LevelAgrees level inner → (done : List Stmt)
+pub block_item_agrees : {level : Level} {inner : Inner} → LevelAgrees level inner → (done : List Stmt)
     → Continues (body_piece done) (λ tree. body_piece (done ++ tree ∷ [])) ends (entirely level.item) (block_item inner)
 unfolding block_item
 block_item_agrees {level} {inner} agrees done s before is =
