@@ -19,7 +19,7 @@ use Rattle.cgrammar.proofs.SoundSays.{SoundLevel}
 use Rattle.cgrammar.proofs.SoundLists.{levels_of_all}
 use Rattle.cgrammar.proofs.SoundStatements.{says_body, sound_items}
 use Rattle.cgrammar.proofs.SoundSteps.{Sound, first_of}
-use Rattle.cgrammar.specs.Outcomes.{Outcome, Reader, then_read, after_first, after_mark, behind_first}
+use Rattle.cgrammar.specs.Outcomes.{Outcome, then_read, after_first, after_mark, behind_first}
 use Rattle.cgrammar.specs.Outcomes as outcome
 use Rattle.cgrammar.specs.Phrases.{Context, scoped}
 use Rattle.cgrammar.specs.ReadDeclarations.{read_parameters, read_declaration}

@@ -1,12 +1,10 @@
 -- What is found of a whole row: the item that it spells, or that it spells none, and its first construct.
-use Rattle.std.specs.Prelude.{◌≡◌, ℕ, ◌≤◌, List, [], ◌∷◌, Option, Some}
+use Rattle.std.specs.Prelude.{◌≡◌, ℕ, ◌≤◌, List}
 use Rattle.cbase.specs.declared.place.Place.{Place}
 use Rattle.cbase.specs.declared.tree.item.Item.{Item}
 use Rattle.cbuild.specs.ItemsMade.{item_made, nothing_made}
 use Rattle.cevents.specs.Building.{built_all}
-use Rattle.cevents.specs.Workshop.{Workshop}
 use Rattle.cevents.specs.declared.event.Event.{Event}
-use Rattle.cevents.specs.declared.piece.Piece.TheVariants as piece
 use Rattle.ctrees.specs.Levels.{item_levels}
 use Rattle.cconstructs.specs.Constructs.{IsFirstConstruct}
 use Rattle.cgrammar.specs.Phrases.{Context}

@@ -1,14 +1,10 @@
-ghost use Rattle.std.specs.Prelude.{◌≡◌, ◌<◌, ◌≤◌, IfNone, IfOk, IfSome, List, length, true};
+ghost use Rattle.std.specs.Prelude.{◌≡◌, ◌<◌, ◌≤◌, IfNone, IfOk, IfSome, length};
 ghost use Rattle.ctokens.specs.Passed.{passed_tokens};
 ghost use Rattle.ctokens.specs.InText.{LieInText};
 ghost use Rattle.cgrammar.specs.Phrases.{Context};
-ghost use Rattle.cgrammar.specs.Scope.{Names};
-ghost use Rattle.cgrammar.specs.Readings.{AreNumbered, most_levels, row_between};
+ghost use Rattle.cgrammar.specs.Readings.{AreNumbered, row_between};
 ghost use Rattle.cconstructs.specs.Constructs.{HasNoConstruct};
 ghost use Rattle.cconstructs.specs.Layout.{HasNoLayout};
-ghost use Rattle.creader.specs.ItemSteps.{item_alone};
-ghost use Rattle.creader.specs.ReadingSteps.{inner_at};
-ghost use Rattle.creader.specs.Writings.{item_written_of, start_of};
 ghost use Rattle.cread.specs.ReadIn.{IsReadIn};
 ghost use Rattle.cread.specs.Refusals.{IsPlaceIn, IsPlaceOf, IsRefusal, ShowsLayout};
 ghost use Rattle.cevents.specs.Building.{built_all};

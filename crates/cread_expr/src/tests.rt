@@ -6,7 +6,6 @@ use crate::{Scope, read_block, read_expr};
 use cbase::{BinaryOp, Expr, ExprForm, NoMemory};
 use ctokens::{Tokens, tokens};
 use std::alloc::Global;
-use std::process::Abort;
 use std::test::Fail;
 
 mod deep;

@@ -1,7 +1,6 @@
-ghost use Rattle.std.specs.Prelude.{◌≡◌, ◌++◌, ◌∷◌, map, option_map, OnOk};
+ghost use Rattle.std.specs.Prelude.{◌≡◌, ◌++◌, map, option_map, OnOk};
 ghost use Rattle.cgrammar.specs.TypeWords.{declares_typedef};
 ghost use Rattle.cread.specs.NamesAfter.{decl_names, declared_names, init_names, joined, or_nothing, spec_names, with_names};
-ghost use Rattle.cbase.specs.declared.tree.expr.ExprForm.TheViews.{out-Declared};
 
 use crate::names_after::expressions::{declare_in_sizes, declare_in_spec};
 use crate::names_after::initializers::declare_in_init;
