@@ -22,7 +22,7 @@ use Rattle.cgrammar.proofs.SoundSteps.{Sound, first_of}
 use Rattle.cgrammar.specs.Outcomes.{Outcome, then_read, after_first, after_mark, behind_first}
 use Rattle.cgrammar.specs.Outcomes as outcome
 use Rattle.cgrammar.specs.Phrases.{Context, scoped}
-use Rattle.cgrammar.specs.ReadDeclarations.{read_parameters, read_declaration}
+use Rattle.cgrammar.specs.ReadDeclarations.{leaving, read_parameters, read_declaration}
 use Rattle.cgrammar.specs.ReadLevels.{Level, read_until_brace}
 use Rattle.cgrammar.specs.ReadTypes.{star_count, behind_stars}
 use Rattle.cgrammar.specs.Scope.{Names, declared_around, left}
@@ -44,7 +44,7 @@ use Rattle.cread_expr.proofs.AgreedRules.{agreed_at, agreed_outcome, agreed_goes
 use Rattle.cread_expr.proofs.AgreedStatements.{body_piece, as_ends, block_item_agrees}
 use Rattle.cread_expr.proofs.AgreedSteps.{if_going, Still, still_lost, still_goes, still_mark, still_write, still_leave, ended_at, ended_levels, ended_part, ended_token, ended_write, ended_leave}
 use Rattle.cread_expr.proofs.AgreedTypesSizes.{read_ends, lost_here, ended_stars, if_behind}
-use Rattle.cread.specs.Items.{in_body, out_of}
+use Rattle.cread.specs.Items.{in_body}
 use Rattle.cread.specs.ReadItem.{Head, head_of, read_head, read_function, read_external}
 
 abbrev pub item_piece : Item → Pieces
@@ -178,7 +178,7 @@ body_agrees : {level : Level} {inner : Inner} {s u : State} {levels before : ℕ
     (after_mark (codes "{") row outcome.Nothing (λ opening others.
     then_read (read_until_brace level.item (length others + 1) (in_body name.bytes (declares_typedef storage) within) others) (λ body bodies last end.
     after_mark (codes "}") end outcome.Nothing (λ closing final.
-    outcome.Read (item.Function type storage head body closing.place) (deep bodies) (out_of last) final)))) s
+    outcome.Read (item.Function type storage head body closing.place) (deep bodies) (leaving last) final)))) s
     (definition_body inner storage at u)
 unfolding definition_body definition_inside defined block_items
 body_agrees {level} {inner} {s} {u} {levels} {before} {within} type storage name at head row deep sound agrees named total far =
@@ -186,7 +186,7 @@ body_agrees {level} {inner} {s} {u} {levels} {before} {within} type storage name
     let t : State = declare_around at (declares_typedef storage) (mark (codes "{") u) in
     let inside = ended_declare_around at name.bytes (declares_typedef storage) (λ i. (named i).bytes) behind_opening in
     let there : drop t.at s.row ≡ others = ap (λ (row : List Terminal). drop t.at row) (sym inside.went.row) ∙ inside.left in
-    agreed_outcome (body_closed level sound (length others + 1) t.at (in_body name.bytes (declares_typedef storage) within) s.row others (λ body bodies last place final. outcome.Read (item.Function type storage head body place) (deep bodies) (out_of last) final) there)
+    agreed_outcome (body_closed level sound (length others + 1) t.at (in_body name.bytes (declares_typedef storage) within) s.row others (λ body bodies last place final. outcome.Read (item.Function type storage head body place) (deep bodies) (leaving last) final) there)
     (then_ends (λ pieces. piece.Declarators (head ∷ []) ∷ (piece.Type type ∷ pieces)) (λ context row. over_brace (read_until_brace level.item (length row + 1)) context row) (λ t. until_brace (block_item inner) (write event.NoStatements t)) _ inside
     (until_brace_follows body_piece level.item (block_item inner) event.NoStatements (λ row count pieces. refl) (λ done. block_item_agrees agrees done)) (still_write _ (still_leave still_lost)) (λ body bodies last final further.
     let end = ended_leave further in
@@ -202,7 +202,7 @@ definition_with_agrees : {level : Level} {inner : Inner} {s t : State} {more bef
     after_mark (codes "{") end outcome.Nothing (λ opening others.
     then_read (read_until_brace level.item (length others + 1) (in_body head.name (declares_typedef storage) within) others) (λ body bodies last end.
     after_mark (codes "}") end outcome.Nothing (λ closing final.
-    outcome.Read (item.Function type storage head.declared body closing.place) (max more (max heads bodies)) (out_of last) final)))) name)) s
+    outcome.Read (item.Function type storage head.declared body closing.place) (max more (max heads bodies)) (leaving last) final)))) name)) s
     (definition_with inner storage at stars t)
 unfolding definition_with
 definition_with_agrees {level} {inner} {s} {t} {more} {before} {context} type storage name at stars row sound agrees is far =
@@ -222,7 +222,7 @@ definition_behind_agrees : {level : Level} {inner : Inner} {s u : State} {more b
     after_mark (codes "{") end outcome.Nothing (λ opening others.
     then_read (read_until_brace level.item (length others + 1) (in_body head.name (declares_typedef storage) within) others) (λ body bodies last end.
     after_mark (codes "}") end outcome.Nothing (λ closing final.
-    outcome.Read (item.Function type storage head.declared body closing.place) (max more (max heads bodies)) (out_of last) final))))) s
+    outcome.Read (item.Function type storage head.declared body closing.place) (max more (max heads bodies)) (leaving last) final))))) s
     (definition_behind inner storage u)
 unfolding definition_behind
 definition_behind_agrees {level} {inner} {s} {u} {more} {before} {context} type storage row sound agrees far =

@@ -25,13 +25,13 @@ use Rattle.cgrammar.specs.Firsts.{Begins, begins_declaration}
 use Rattle.cgrammar.specs.Grammar.{Spells, NoDeclarator, WithDeclarators, NoParameters, VoidParameters, WithParameters, inside}
 use Rattle.cgrammar.specs.Outcomes.{Outcome, Nothing, Stopped, Read, then_read, has_mark, after_mark}
 use Rattle.cgrammar.specs.Phrases.{Context, Specifiers, Declaration, FunctionDeclarator, BlockItems, Parameters}
-use Rattle.cgrammar.specs.ReadDeclarations.{read_parameters, read_declaration}
+use Rattle.cgrammar.specs.ReadDeclarations.{leaving, read_parameters, read_declaration}
 use Rattle.cgrammar.specs.ReadLevels.{Level}
 use Rattle.cgrammar.specs.Reader.{level}
 use Rattle.cgrammar.specs.Terminals.{Terminal, is_mark, IsMark, IsName, AreStars}
 use Rattle.cgrammar.specs.Trees.{function}
 use Rattle.cgrammar.specs.TypeWords.{declares_typedef}
-use Rattle.cread.specs.Items.{SpellsItem, EmptyItem, DeclarationItem, FunctionDefinition, in_body, out_of}
+use Rattle.cread.specs.Items.{SpellsItem, EmptyItem, DeclarationItem, FunctionDefinition, in_body}
 use Rattle.cread.specs.OneItem.{IsOneItem}
 use Rattle.cread.specs.ReadItem.{Head, head_of, read_head, read_function, read_external}
 use Rattle.creader.specs.ItemSteps.{ends_with_brace}
@@ -83,7 +83,7 @@ complete_function : (before middle within last : Context) (xs ys zs : List Termi
     → IsMark (codes "}") closing
     → (n : ℕ) → max (spec_levels type) (max (declared_levels head) (joined depth (map stmt_levels body))) ≤ n
     → read_function (level n) before (xs ++ (ys ++ (opening ∷ (zs ++ (closing ∷ [])))))
-    ≡ Read (Function type storage head body closing.place) (max (spec_levels type) (max (declared_levels head) (joined depth (map stmt_levels body)))) (out_of last) []
+    ≡ Read (Function type storage head body closing.place) (max (spec_levels type) (max (declared_levels head) (joined depth (map stmt_levels body)))) (leaving last) []
 unfolding read_function
 complete_function before middle within last xs ys zs storage type name head body opening closing d1 d2 p1 d3 p2 n small =
     go_read _ (complete (Specifiers storage type) before middle xs d1 n (ys ++ (opening ∷ (zs ++ (closing ∷ [])))) (omega (arith, small))

@@ -11,17 +11,14 @@ use Rattle.cbase.specs.declared.tree.spec.TypeSpec.{TypeSpec}
 use Rattle.cbase.specs.declared.tree.stmt.Stmt.{Stmt}
 use Rattle.cgrammar.specs.Grammar.{Spells}
 use Rattle.cgrammar.specs.Phrases.{Context, Specifiers, Declaration, FunctionDeclarator, BlockItems, scoped}
-use Rattle.cgrammar.specs.Scope.{declared_around, left}
+use Rattle.cgrammar.specs.ReadDeclarations.{leaving}
+use Rattle.cgrammar.specs.Scope.{declared_around}
 use Rattle.cgrammar.specs.Terminals.{Terminal, IsMark}
 use Rattle.cgrammar.specs.TypeWords.{declares_typedef}
 
 -- In the body of a function its name is in scope, outside its parameters (C11 6.2.1p4, 6.2.1p7).
 abbrev pub in_body : List ℕ → Bool → Context → Context
 in_body name typedef within = scoped within (declared_around name typedef within.scope)
-
--- outside the innermost scope again
-abbrev pub out_of : Context → Context
-out_of context = scoped context (left context.scope)
 
 -- `SpellsItem item before row after`: the row, where `before` stands before it, is the item, and then `after` stands
 -- before what follows. The parameters of a function and the block of its body are one scope.
@@ -38,4 +35,4 @@ pub data SpellsItem : Item → Context → List Terminal → Context → Type 0 
       → IsMark (codes "{") opening
       → Spells (BlockItems body) (in_body name (declares_typedef storage) within) zs last
       → IsMark (codes "}") closing
-      → SpellsItem (Function type storage head body closing.place) before (xs ++ (ys ++ (opening ∷ (zs ++ (closing ∷ []))))) (out_of last)
+      → SpellsItem (Function type storage head body closing.place) before (xs ++ (ys ++ (opening ∷ (zs ++ (closing ∷ []))))) (leaving last)

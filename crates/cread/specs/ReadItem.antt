@@ -4,13 +4,13 @@ use Rattle.cbase.specs.declared.tree.decl.Declared.{Declared}
 use Rattle.cbase.specs.declared.tree.item.Item.{Item}
 use Rattle.cbase.specs.declared.tree.item.Item.TheVariants.{Empty, Declare, Function}
 use Rattle.cgrammar.specs.Outcomes.{Nothing, Read, Reader, then_read, after_first, after_mark, has_mark, behind_first}
-use Rattle.cgrammar.specs.ReadDeclarations.{read_specifiers, read_parameters, read_declaration}
+use Rattle.cgrammar.specs.ReadDeclarations.{leaving, read_specifiers, read_parameters, read_declaration}
 use Rattle.cgrammar.specs.ReadLevels.{Level, read_until_brace}
 use Rattle.cgrammar.specs.ReadTypes.{star_count, behind_stars}
 use Rattle.cgrammar.specs.Terminals.{is_name}
 use Rattle.cgrammar.specs.Trees.{function}
 use Rattle.cgrammar.specs.TypeWords.{declares_typedef}
-use Rattle.cread.specs.Items.{in_body, out_of}
+use Rattle.cread.specs.Items.{in_body}
 use Rattle.creader.specs.ItemSteps.{ends_with_brace}
 
 -- a function's declarator with its name; behind it the scope of the parameters is still entered
@@ -38,7 +38,7 @@ read_function level context row =
     after_mark (codes "{") more Nothing (λ opening others.
     then_read (read_until_brace level.item (length others + 1) (in_body head.name (declares_typedef specifiers.storage) within) others) (λ body bodies last end.
     after_mark (codes "}") end Nothing (λ closing final.
-    Read (Function specifiers.spec specifiers.storage head.declared body closing.place) (max levels (max heads bodies)) (out_of last) final)))))
+    Read (Function specifiers.spec specifiers.storage head.declared body closing.place) (max levels (max heads bodies)) (leaving last) final)))))
 
 -- what the row is, as its last token tells
 unfoldable pub read_external : Level → Reader Item
