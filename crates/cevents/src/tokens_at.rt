@@ -4,20 +4,15 @@ ghost use Rattle.cevents.specs.Workshop.{place_at, bytes_at};
 use cbase::Place;
 use cgrammar::Terminal;
 
-/// Where the token of the row with the number `at` stands in its text. Where there is no such token it is line 0, which no
-/// token has.
+/// Where the token of the row with the number `at` stands in its text. Where there is no such token it is the place of none,
+/// in column 0, which no token has.
 pub fn place_at(row: &[Terminal<'_>], at: usize) -> Place
     ensures { result ≡ place_at row.now at }
 {
     if at < row.len() {
         return row[at].place();
     }
-    Place {
-        file: 0,
-        line: 0,
-        column: 0,
-        at: 0,
-    }
+    Place::NONE
 }
 
 /// The bytes of the token of the row with the number `at` as it is read, and none where there is no such token.
