@@ -1,7 +1,6 @@
 -- Which trees events make: each takes the pieces that its tree is made of off the top and puts the tree there. Where
 -- other pieces stand there it makes nothing.
-use Rattle.std.specs.Prelude.{ℕ, false, true, List, [], ◌∷◌, ◌++◌, Option, None, Some}
-use Rattle.cbase.specs.declared.tree.decl.Storage.{Storage}
+use Rattle.std.specs.Prelude.{ℕ, List, [], ◌∷◌, ◌++◌, Option, None, Some}
 use Rattle.cbase.specs.declared.tree.expr.ExprForm.TheVariants.{Name, Constant, Unary, Binary, Assign, Count, Choose, Cast, SizeOf, SizeOfType, OffsetOf, Index, Member, Call, Inner, AssertFail}
 use Rattle.cbase.specs.declared.tree.expr.Part.TheVariants.{Member as NamedPart, At}
 use Rattle.cbase.specs.declared.tree.init.Init.TheVariants.{Value, Braces}
@@ -149,11 +148,12 @@ built row (event.FunctionItem storage close) count pieces =
     with_statements pieces (λ body lower. with_declarator lower (λ head below. with_type below (λ type others.
     pushed count (piece.Item (Function type storage head body (place_at row close))) others)))
 
--- what a row of events makes
+-- what one event more makes
 abbrev pub built_next : List Terminal → Event → Option Workshop → Option Workshop
 built_next row event None = None
 built_next row event (Some workshop) = built row event workshop.count workshop.pieces
 
+-- what a row of events makes, one after the other
 unfoldable pub built_all : List Terminal → List Event → Option Workshop → Option Workshop
 built_all row [] workshop = workshop
 built_all row (event ∷ events) workshop = built_all row events (built_next row event workshop)

@@ -22,23 +22,28 @@ use Rattle.cevents.specs.declared.piece.Piece.TheVariants as piece
 use Rattle.ctokens.specs.declared.token.TokenKind.TheVariants.{Mark}
 use Rattle.cgrammar.specs.Terminals.{Terminal, no_place}
 
+-- `count` is the number of the next expression, and `pieces` has the piece on top first
 pub record Workshop : Type 0 where
   pub count : ℕ
   pub pieces : List Piece
 
--- the token of a row with that number, and one without bytes where there is none
+-- what is taken for a token where there is none: it has no bytes, and the place of no token
 abbrev pub no_token : Terminal
 no_token = record { kind = Mark; bytes = []; place = no_place }
 
+-- the token of a row with that number, and `no_token` where there is none
 abbrev pub token_at : List Terminal → ℕ → Terminal
 token_at row at = slice_index_or row at no_token
 
+-- where that token stands in its text
 abbrev pub place_at : List Terminal → ℕ → Place
 place_at row at = (token_at row at).place
 
+-- its bytes
 abbrev pub bytes_at : List Terminal → ℕ → List ℕ
 bytes_at row at = (token_at row at).bytes
 
+-- the bytes of the token with a number that may be left out
 abbrev pub maybe_bytes_at : List Terminal → Option ℕ → Option (List ℕ)
 maybe_bytes_at row None = None
 maybe_bytes_at row (Some at) = Some (bytes_at row at)
@@ -76,6 +81,7 @@ abbrev pub top_of : {A : Type 0} → (Piece → Option A) → List Piece → Opt
 top_of kind [] = None
 top_of kind (piece ∷ pieces) = kind piece
 
+-- what is made of a tree and the pieces below it; nothing where there is no such tree
 abbrev pub with_tree : {A : Type 0} → Option A → List Piece → (A → List Piece → Option Workshop) → Option Workshop
 with_tree None pieces go = None
 with_tree (Some tree) pieces go = go tree pieces
@@ -221,10 +227,12 @@ abbrev pub only : List Piece → Option Piece
 only (piece ∷ []) = Some piece
 only _ = None
 
+-- the piece that is left in the end, where all is made and it is the only one
 abbrev pub alone : Option Workshop → Option Piece
 alone None = None
 alone (Some workshop) = only workshop.pieces
 
+-- what that piece is, where it is of the kind that is wanted
 abbrev pub kind_in : {A : Type 0} → (Piece → Option A) → Option Piece → Option A
 kind_in kind None = None
 kind_in kind (Some piece) = kind piece
