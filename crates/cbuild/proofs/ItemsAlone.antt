@@ -1,5 +1,5 @@
 -- An item that is made alone.
-use Rattle.std.proofs.Common.{◌≡◌, ℕ, List, [], ◌∷◌, Option, None, Some, refl, sym, ◌∙◌, ap}
+use Rattle.std.proofs.Common.{◌≡◌, ℕ, List, [], ◌∷◌, Option, None, Some, sym, ◌∙◌, ap}
 use Rattle.cbase.specs.declared.tree.item.Item.{Item}
 use Rattle.cevents.specs.Workshop.{Workshop}
 use Rattle.cevents.specs.declared.piece.Piece.{Piece}

@@ -13,8 +13,11 @@ use std::marker::Model;
 /// left.
 #[derive(Drop)]
 pub(crate) struct Builder {
+    /// Where its memory comes from. It is not seen.
     pub(crate) alloc: Global,
+    /// The number of the next expression: how many end before it.
     pub(crate) count: u32,
+    /// The pieces, of which an event takes the ones on top.
     pub(crate) pieces: Stack,
 }
 

@@ -58,7 +58,7 @@ fn item_alone(
     Ok(counted(item_in(piece), count))
 }
 
-/// An item with how many expressions end behind it.
+/// An item with how many expressions end up to its end.
 fn counted(item: Option<Item>, count: u32) -> Option<BuiltItem>
     ensures some { IfSome result (λ built. counted_item count item ≡ Some (built.item, built.count)) }
     ensures none { IfNone result (counted_item count item ≡ None) }
@@ -69,7 +69,7 @@ fn counted(item: Option<Item>, count: u32) -> Option<BuiltItem>
     }
 }
 
-/// An item that may be there.
+/// The item that a piece is, where there is one of that kind.
 fn item_in(piece: Option<Piece>) -> Option<Item>
     ensures { result ≡ item_in piece }
 {

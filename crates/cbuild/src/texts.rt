@@ -45,7 +45,8 @@ pub(crate) fn list_of_one<T: Drop>(alloc: Global, item: T) -> Result<List<T>, No
     Ok(list)
 }
 
-/// How many `*` there are, as a number of a tree. More than such a number says are in no memory.
+/// How many `*` there are, as a number of a tree. A count that fits no such number is told as want of memory: it needs more
+/// tokens than memory holds.
 pub(crate) fn count_of(stars: usize) -> Result<u32, NoMemory>
     ensures { IfOk result (λ count. count ≡ stars) }
 {

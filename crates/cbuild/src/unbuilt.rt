@@ -5,7 +5,7 @@ use cbase::NoMemory;
 pub enum Unbuilt {
     /// They are the events of no tree of the kind.
     Wrong,
-    /// Memory was wanting. There are fewer numbers of expressions, and of `*` before a name, than 2 to the 32nd: more of
-    /// them are in no memory.
+    /// Memory was wanting. It is told also where a count of expressions, or of `*` before a name, fits no number of 32 bits:
+    /// it needs more tokens than memory holds.
     NoMemory,
 }
