@@ -27,7 +27,7 @@ use Rattle.creader.specs.declared.wanted.Wanted.TheVariants as wanted
 unfoldable pub as_operand : Bool → State → State
 as_operand unary s = if is_nothing s.status then s else with_unary unary s
 
--- a cast is nothing here
+-- nothing is read where the operand is a cast: a unary expression alone may stand there (C11 6.5.3)
 unfoldable pub unary_alone : State → State
 unary_alone s = if not (is_nothing s.status) && not s.unary then lost s else s
 

@@ -11,6 +11,7 @@ use Rattle.creader.specs.TypeSteps.{specifier}
 use Rattle.creader.specs.declared.wanted.Wanted.{Wanted}
 use Rattle.creader.specs.declared.wanted.Wanted.TheVariants as wanted
 
+-- what is wanted of one kind, of which what stands in it is read by the readers `inner`
 abbrev pub reads_with : Inner → Wanted → State → State
 reads_with inner wanted.Cast s = cast inner s
 reads_with inner (wanted.Operation loosest) s = all_operations inner loosest (cast inner s)
@@ -28,5 +29,6 @@ unfoldable pub reads : ℕ → Wanted → State → State
 reads zero wanted s = lost s
 reads (suc most) wanted s = reads_with (record { most = most; reads = reads most }) wanted s
 
+-- the readers of what stands in a tree, which has at most so many levels
 abbrev pub inner_at : ℕ → Inner
 inner_at most = record { most = most; reads = reads most }

@@ -22,17 +22,21 @@ pub record State : Type 0 where
 abbrev pub rest : State → List Terminal
 rest s = drop s.at s.row
 
+-- whether what was read so far is read to its end, and more may follow
 abbrev pub is_going : Status → Bool
 is_going Going = true
 is_going _ = false
 
+-- whether nothing of the kind begins there
 abbrev pub is_nothing : Status → Bool
 is_nothing Nothing = true
 is_nothing _ = false
 
+-- whether a reader goes on
 abbrev pub goes : State → Bool
 goes s = is_going s.status
 
+-- the same with one field replaced, and with one event more
 abbrev pub with_status : Status → State → State
 with_status status s =
     record { row = s.row; at = s.at; status = status; levels = s.levels; unary = s.unary; scope = s.scope; events = s.events }

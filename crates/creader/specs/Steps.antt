@@ -16,9 +16,11 @@ use Rattle.creader.specs.declared.wanted.Wanted.{Wanted}
 abbrev pub over : (Terminal → Bool) → State → State
 over test s = if goes s then (if has_first test (rest s) then skipped 1 s else lost s) else s
 
+-- over a mark with these bytes
 unfoldable pub mark : List ℕ → State → State
 mark bytes s = over (is_mark bytes) s
 
+-- over a word with these bytes
 unfoldable pub word : List ℕ → State → State
 word bytes s = over (is_word bytes) s
 
@@ -46,21 +48,23 @@ write event s = if goes s then with_event event s else s
 unfoldable pub make : Event → State → State
 make event s = if goes s then with_levels (s.levels + 1) (with_event event s) else s
 
--- the same, also where the reader stopped behind the last of the parts
+-- what is written of a tree at its end, by how its last part ended: where the reader stopped behind that, no level is counted
 abbrev pub wrapped : Event → Status → State → State
 wrapped event Going s = with_levels (s.levels + 1) (with_event event s)
 wrapped event Stopped s = with_event event s
 wrapped event Nothing s = s
 
+-- a tree is read to its end, also where the reader stopped behind the last of its parts
 unfoldable pub wrap : Event → State → State
 wrap event s = wrapped event s.status s
 
--- the same, where with no right operand the tree up to a point is all that is read
+-- the same of a tree with a right operand: where none is read, the tree up to a point is all that is read
 abbrev pub joined : Point → Event → Status → State → State
 joined point event Going s = with_levels (s.levels + 1) (with_event event s)
 joined point event Stopped s = with_event event s
 joined point event Nothing s = back_at point s
 
+-- a tree is read to the end of its right operand
 unfoldable pub join : Point → Event → State → State
 join point event s = joined point event s.status s
 
@@ -68,9 +72,11 @@ join point event s = joined point event s.status s
 unfoldable pub declare : ℕ → Bool → State → State
 declare at typedef s = if goes s then with_scope (declared (bytes_at s.row at) typedef s.scope) s else s
 
+-- a scope is entered (C11 6.2.1)
 unfoldable pub enter : State → State
 enter s = if goes s then with_scope (entered s.scope) s else s
 
+-- the innermost scope is left
 unfoldable pub leave : State → State
 leave s = if goes s then with_scope (left s.scope) s else s
 
@@ -79,6 +85,7 @@ pub record Inner : Type 0 where
   pub most : ℕ
   pub reads : Wanted → State → State
 
+-- the levels are no fewer than those before
 abbrev pub with_deeper : ℕ → State → State
 with_deeper before s = with_levels (max before s.levels) s
 
@@ -104,6 +111,7 @@ abbrev pub parts_behind : (List Terminal → Bool) → (State → State) → Sta
 parts_behind closes go s =
     if goes s && (has_mark (codes ",") (rest s) && not (closes (behind_first (rest s)))) then go (skipped 1 s) else s
 
+-- at most so many of such parts, and nothing where there are more
 unfoldable pub parts : (List Terminal → Bool) → (State → State) → ℕ → State → State
 parts closes part zero s = lost s
 parts closes part (suc count) s = parts_behind closes (parts closes part count) (part s)
@@ -112,13 +120,15 @@ parts closes part (suc count) s = parts_behind closes (parts closes part count) 
 abbrev pub all_parts : (List Terminal → Bool) → (State → State) → State → State
 all_parts closes part s = parts closes part (length (rest s) + 1) s
 
--- parts up to a `}`, and over it
+-- over a `}`, or on where none stands there
 abbrev pub until_brace_with : (State → State) → State → State
 until_brace_with go s = if goes s then (if has_mark (codes "}") (rest s) then skipped 1 s else go s) else s
 
+-- fewer than so many such parts, and nothing where there are more
 unfoldable pub parts_until_brace : (State → State) → ℕ → State → State
 parts_until_brace part zero s = lost s
 parts_until_brace part (suc count) s = until_brace_with (λ state. parts_until_brace part count (part state)) s
 
+-- parts up to a `}`, and over it: each takes a token, so that there are no more of them than tokens
 abbrev pub until_brace : (State → State) → State → State
 until_brace part s = parts_until_brace part (length (rest s) + 1) s

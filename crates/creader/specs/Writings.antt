@@ -12,6 +12,7 @@ pub record Writing : Type 0 where
   pub at : ℕ
   pub events : List Event
 
+-- what a reader has written of a tree: it is read where the reader goes on, and where it stopped
 abbrev pub written_of : State → Writing
 written_of s = record { found = not (is_nothing s.status); at = s.at; events = s.events }
 
@@ -21,6 +22,7 @@ pub record ItemWriting : Type 0 where
   pub events : List Event
   pub scope : List Names
 
+-- what a reader has written of an item: it is read where the reader goes on
 abbrev pub item_written_of : State → ItemWriting
 item_written_of s = record { found = goes s; events = s.events; scope = s.scope }
 

@@ -1,5 +1,5 @@
-//! The reader of expressions, types, declarations and statements of C: a step for each token, and what it writes of the
-//! tree that it reads.
+//! The reader of expressions, types, declarations, statements and items of C: a function for each rule of the grammar, and
+//! what it writes of the tree that it reads.
 //!
 //! It knows how a row of tokens is gone through. It makes no trees, and does not know which rows the grammar spells.
 #![tactic(auto)]

@@ -13,7 +13,7 @@ use cevents::Event;
 use cgrammar::{OperandStart, begins_type};
 
 impl<'a> Reader<'a> {
-    /// A cast is nothing here.
+    /// Nothing is read where the operand is a cast: a unary expression alone may stand here (C11 6.5.3).
     #[tactic(auto, unfolding(crate::specs::OperandSteps::unary_alone))]
     pub fn unary_alone(&mut self)
         ensures { self.new ≡ unary_alone self.old }

@@ -144,7 +144,8 @@ impl<'a> Reader<'a> {
         Ok(())
     }
 
-    /// What is read has one level more. As many levels as numbers suffice for are in no memory.
+    /// What is read has one level more. A count of levels that fits no number is told as want of memory: it needs more
+    /// tokens than memory holds.
     fn deepen(&mut self) -> Result<(), NoMemory>
         ensures { OnOk result (self.new ≡ with_levels (self.old.levels + 1) self.old) }
     {
