@@ -1,7 +1,7 @@
 ghost use Rattle.std.specs.Prelude.{◌≡◌, ◌+◌, ◌≤◌, ◌<◌, ◌^◌, IfOk, OnOk, drop, length};
 ghost use Rattle.std.specs.List.{prefix_len};
 ghost use Rattle.creader.specs.Nests.{Nests};
-ghost use Rattle.creader.specs.OperandSteps.{over_matched, opened, opens_row, is_no_word, closed, all_closed, cast_behind, cast};
+ghost use Rattle.creader.specs.OperandSteps.{over_matched, opened, opens_row, is_no_word, closed, all_closed, cast};
 ghost use Rattle.creader.specs.ReadingSteps.{inner_at};
 ghost use Rattle.creader.specs.State.{rest};
 

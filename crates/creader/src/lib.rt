@@ -44,12 +44,9 @@ mod wanted;
 mod written;
 mod written_item;
 
-pub use braced::Braced;
-pub use grammar::Grammar;
-pub use listed::Listed;
 pub use point::Point;
 pub use reader::Reader;
-pub use reading::{read, read_expression, read_item, read_statements};
+pub use reading::{read_expression, read_item, read_statements};
 pub use status::Status;
 pub use wanted::Wanted;
 pub use written::Written;

@@ -1,7 +1,7 @@
-ghost use Rattle.std.specs.Prelude.{◌≡◌, ◌≤◌, IfOk, IsTrue, OnOk, if◌then◌else◌, length};
+ghost use Rattle.std.specs.Prelude.{◌≡◌, IfOk, OnOk, if◌then◌else◌};
 ghost use Rattle.creader.specs.Nests.{Nests};
 ghost use Rattle.creader.specs.ReadingSteps.{inner_at};
-ghost use Rattle.creader.specs.State.{State, rest};
+ghost use Rattle.creader.specs.State.{State};
 ghost use Rattle.creader.specs.OperandSteps.{path_member, path_index, path_turn, whole_path, offset_path, offset_of};
 
 use crate::grammar::Grammar;

@@ -1,7 +1,7 @@
-ghost use Rattle.std.specs.Prelude.{◌≡◌, ◌≤◌, IfOk, IsTrue, OnOk, if◌then◌else◌, length};
+ghost use Rattle.std.specs.Prelude.{◌≡◌, ◌≤◌, IsTrue, OnOk, length};
 ghost use Rattle.creader.specs.Nests.{Nests};
 ghost use Rattle.creader.specs.ReadingSteps.{inner_at};
-ghost use Rattle.creader.specs.State.{State, rest};
+ghost use Rattle.creader.specs.State.{rest};
 ghost use Rattle.creader.specs.OperandSteps.{unary_alone, statement_expression, cast_to, bracket, begins, begins_type_in_brackets, size_of, size_of_type, assert_fail, counted, unary, primary, prefixed, plain_with, plain};
 
 use crate::grammar::Grammar;
