@@ -157,7 +157,7 @@ layout_within t from to answer number numbered exact is = let first = (exact num
 
 pub layout_placed : (t : Tokens) (from to : ℕ) (answer : Option ℕ) (number : ℕ) (place : Place) → ((number : ℕ) → (answer ≡ Some number) ↔ IsFirstLayout t from to number)
     → answer ≡ Some number → IsPlaceOf t number place → ShowsLayout t from to 7 place
-layout_placed t from to answer number place exact is placed = record { at = number; is = (exact number).0 is; placed = placed; seven = refl }
+layout_placed t from to answer number place exact is placed = record { at = number; is = (exact number).0 is; placed = placed; is_layout = refl }
 
 -- What is refused.
 pub refused_construct : (t : Tokens) (from to : ℕ) (row : List Terminal) (before : Context) (number : ℕ) (place : Place) → row ≡ row_between t from to → HasNoLayout t from to

@@ -61,7 +61,7 @@ one_layout : (t : Tokens) (from to number other : ℕ) (place second : Place) �
 one_layout t from to number other place second is also =
     let at : is.at ≡ also.at = one_first _ is.at also.at is.is.is is.is.first also.is.is also.is.first in
     let places = one_place t also.at place second (subst (λ (n : ℕ). IsPlaceOf t n place) at is.placed) also.placed in
-    let numbers : number ≡ other = is.seven ∙ sym also.seven in
+    let numbers : number ≡ other = is.is_layout ∙ sym also.is_layout in
     cc
 
 one_construct : (row : List Terminal) (at other number second : ℕ) → IsFirstConstruct row at number → IsFirstConstruct row other second
@@ -123,7 +123,7 @@ construct_numbered (StringLiteral token found quoted free) = (lit≤ tt, lit≤ 
 construct_numbered (FunctionPointer opening star first opens second stars headed pointed) = (lit≤ tt, lit≤ tt)
 
 pub refusal_numbered : (t : Tokens) (from to : ℕ) (before : Context) (refusal : Refusal) → IsRefusal t from to before refusal → HasNumber refusal
-refusal_numbered t from to before (Construct number place) (inl layout) = let seven = layout.seven in (omega (arith, seven), omega (arith, seven))
+refusal_numbered t from to before (Construct number place) (inl layout) = let seven = layout.is_layout in (omega (arith, seven), omega (arith, seven))
 refusal_numbered t from to before (Construct number place) (inr is) = construct_numbered is.is.is
 refusal_numbered t from to before (Syntax place) is = tt
 

@@ -4,6 +4,7 @@ use Rattle.cbase.specs.declared.place.Place.{Place}
 use Rattle.cbase.specs.declared.tree.item.Item.{Item}
 use Rattle.cconstructs.specs.Constructs.{HasNoConstruct, IsFirstConstruct}
 use Rattle.cconstructs.specs.Layout.{HasNoLayout, IsFirstLayout}
+use Rattle.cconstructs.specs.Numbers.{layout_attribute}
 use Rattle.cgrammar.specs.Phrases.{Context}
 use Rattle.cgrammar.specs.Readings.{most_levels, row_between}
 use Rattle.cgrammar.specs.Terminals.{Terminal}
@@ -35,7 +36,7 @@ pub record ShowsLayout (t : Tokens) (from to number : ℕ) (place : Place) : Typ
   pub at : ℕ
   pub is : IsFirstLayout t from to at
   pub placed : IsPlaceOf t at place
-  pub seven : number ≡ 7
+  pub is_layout : number ≡ layout_attribute
 
 -- there is no change of layout and no item, and the first construct stands at the place
 pub record ShowsConstruct (t : Tokens) (from to : ℕ) (before : Context) (number : ℕ) (place : Place) : Type 0 where

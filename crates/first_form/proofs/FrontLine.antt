@@ -1,5 +1,6 @@
 -- What stands at the front of tokens, against what a program spells.
 use Rattle.std.proofs.Common.{◌≡◌, ℕ, ◌+◌, ◌<◌, Bool, true, false, List, [], ◌∷◌, ◌++◌, length, nat_eq, refl, ◌∙◌, ap, subst, arith, Option, None, Some, option_map, if◌then◌else◌, eqb-true, length-append}
+use Rattle.ctokens.proofs.ItemsExact.{some_same}
 use Rattle.first_form.specs.declared.token.Token.{Token}
 use Rattle.first_form.specs.declared.token.Token.TheVariants as token
 use Rattle.first_form.specs.declared.token.Token.TheVariants.{Void, Return, Malloc, Name, Number, LeftParenthesis, RightParenthesis, RightBrace, Star, Equals, Semicolon}
@@ -11,9 +12,6 @@ use Rattle.first_form.specs.FirstForm.{source_tokens, line_tokens, body_tokens, 
 use Rattle.first_form.specs.FrontLine.{front_source, declaring, assigning, front_line, is_end}
 
 -- what is in two equal options is equal
-pub some-injective : {A : Type 0} (a b : A) → Some a ≡ Some b → a ≡ b
-some-injective a b h = cc
-
 -- a line that is spelled in front, with its numbers, is read
 pub front_line-spelled : (first : ℕ) (line : Line) (rest : List Token) → IsNumbered first line → front_line first (line_tokens line ++ rest) ≡ Some (line, rest)
 front_line-spelled first (Declare name None end) rest numbered =
@@ -53,16 +51,16 @@ null_front : (first value : ℕ) (rest : List Token) (test : Bool) (read : Sourc
     → (if test then Some (Null, first + 1, rest) else None) ≡ Some read → IsSourced first (Number value ∷ (Semicolon ∷ rest)) read
 null_front first value rest true read is h =
     let zero : value ≡ 0 = eqb-true value 0 is in
-    subst (IsSourced first (Number value ∷ (Semicolon ∷ rest))) (some-injective _ _ h) (ap (λ n. Number n ∷ (Semicolon ∷ rest)) zero, refl)
+    subst (IsSourced first (Number value ∷ (Semicolon ∷ rest))) (some_same _ _ h) (ap (λ n. Number n ∷ (Semicolon ∷ rest)) zero, refl)
 null_front first value rest false read is h = cc
 
 -- a source that is read is spelled in front
 front_source-read : (first : ℕ) (tokens : List Token) (read : Sourced) → front_source first tokens ≡ Some read → IsSourced first tokens read
 front_source-read first (Number value ∷ (Semicolon ∷ rest)) read h = null_front first value rest (nat_eq value 0) read refl h
 front_source-read first (Name name ∷ (Semicolon ∷ rest)) read h =
-    subst (IsSourced first (Name name ∷ (Semicolon ∷ rest))) (some-injective _ _ h) (refl, refl)
+    subst (IsSourced first (Name name ∷ (Semicolon ∷ rest))) (some_same _ _ h) (refl, refl)
 front_source-read first (Malloc ∷ (LeftParenthesis ∷ (Number size ∷ (RightParenthesis ∷ (Semicolon ∷ rest))))) read h =
-    subst (IsSourced first (Malloc ∷ (LeftParenthesis ∷ (Number size ∷ (RightParenthesis ∷ (Semicolon ∷ rest)))))) (some-injective _ _ h) (refl, refl)
+    subst (IsSourced first (Malloc ∷ (LeftParenthesis ∷ (Number size ∷ (RightParenthesis ∷ (Semicolon ∷ rest)))))) (some_same _ _ h) (refl, refl)
 front_source-read first _ read h = cc
 
 -- a declaration with its initialiser that is read is spelled in front
@@ -71,7 +69,7 @@ declared_front : (first name : ℕ) (tokens : List Token) (source : Option Sourc
 declared_front first name tokens None read is h = cc
 declared_front first name tokens (Some source) read is h =
     let (spelled, number) = front_source-read (first + 4) tokens source is in
-    subst (IsLined first (Void ∷ (Star ∷ (Name name ∷ (Equals ∷ tokens))))) (some-injective _ _ h) (
+    subst (IsLined first (Void ∷ (Star ∷ (Name name ∷ (Equals ∷ tokens))))) (some_same _ _ h) (
       ap (λ more. Void ∷ (Star ∷ (Name name ∷ (Equals ∷ more)))) spelled,
       omega (arith, number, length-append (source_tokens source.0) (Semicolon ∷ [])),
     )
@@ -82,7 +80,7 @@ assigned_front : (first name : ℕ) (tokens : List Token) (source : Option Sourc
 assigned_front first name tokens None read is h = cc
 assigned_front first name tokens (Some source) read is h =
     let (spelled, number) = front_source-read (first + 2) tokens source is in
-    subst (IsLined first (Name name ∷ (Equals ∷ tokens))) (some-injective _ _ h) (
+    subst (IsLined first (Name name ∷ (Equals ∷ tokens))) (some_same _ _ h) (
       ap (λ more. Name name ∷ (Equals ∷ more)) spelled,
       omega (arith, number, length-append (source_tokens source.0) (Semicolon ∷ [])),
     )
@@ -90,11 +88,11 @@ assigned_front first name tokens (Some source) read is h =
 -- a line that is read is spelled in front, and its numbers are right
 pub front_line-read : (first : ℕ) (tokens : List Token) (read : Line × List Token) → front_line first tokens ≡ Some read → IsLined first tokens read
 front_line-read first (Void ∷ (Star ∷ (Name name ∷ (Semicolon ∷ rest)))) read h =
-    subst (IsLined first (Void ∷ (Star ∷ (Name name ∷ (Semicolon ∷ rest))))) (some-injective _ _ h) (refl, omega arith)
+    subst (IsLined first (Void ∷ (Star ∷ (Name name ∷ (Semicolon ∷ rest))))) (some_same _ _ h) (refl, omega arith)
 front_line-read first (Void ∷ (Star ∷ (Name name ∷ (Equals ∷ rest)))) read h = declared_front first name rest (front_source (first + 4) rest) read refl h
 front_line-read first (Name name ∷ (Equals ∷ rest)) read h = assigned_front first name rest (front_source (first + 2) rest) read refl h
 front_line-read first (token.Free ∷ (LeftParenthesis ∷ (Name name ∷ (RightParenthesis ∷ (Semicolon ∷ rest))))) read h =
-    subst (IsLined first (token.Free ∷ (LeftParenthesis ∷ (Name name ∷ (RightParenthesis ∷ (Semicolon ∷ rest)))))) (some-injective _ _ h)
+    subst (IsLined first (token.Free ∷ (LeftParenthesis ∷ (Name name ∷ (RightParenthesis ∷ (Semicolon ∷ rest)))))) (some_same _ _ h)
     (refl, (refl, omega arith))
 front_line-read first _ read h = cc
 

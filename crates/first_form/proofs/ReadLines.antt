@@ -1,6 +1,7 @@
 -- What lines that were read one after another say of the whole program: the same tokens spell no other lines.
 use Rattle.std.proofs.Common.{◌≡◌, ℕ, ◌+◌, ◌<◌, ◌≤◌, length, true, false, List, [], ◌∷◌, ◌++◌, refl, sym, ◌∙◌, ap, append_assoc, arith, None, Some, IsTrue, subst}
 use Rattle.std.proofs.lemmas.List.{append-nil}
+use Rattle.ctokens.proofs.ItemsExact.{some_same}
 use Rattle.first_form.specs.declared.token.Token.{Token}
 use Rattle.first_form.specs.declared.line.Line.{Line}
 use Rattle.first_form.specs.declared.line.Line.TheVariants.{Declare, Assign, Free}
@@ -8,7 +9,7 @@ use Rattle.first_form.specs.declared.line.Program.{Program}
 use Rattle.first_form.specs.FirstForm.{line_tokens, body_tokens, program_tokens, allocations, IsNumbered, AreNumbered, IsProgram, lines_tokens}
 use Rattle.first_form.specs.Scope.{is_scoped}
 use Rattle.first_form.specs.FrontLine.{front_line, is_end}
-use Rattle.first_form.proofs.FrontLine.{some-injective, front_line-spelled, front_line-read, is_end-read}
+use Rattle.first_form.proofs.FrontLine.{front_line-spelled, front_line-read, is_end-read}
 
 -- the lines and the end spell the body
 pub lines_tokens-body : (lines more : List Line) → lines_tokens lines ++ body_tokens more ≡ body_tokens (lines ++ more)
@@ -45,7 +46,7 @@ front_of_body : (number : ℕ) (line first : Line) (rest : List Token) (lines : 
 front_of_body number line first rest lines numbered also h =
     let read : Some (line, rest) ≡ Some (first, body_tokens lines) =
     sym (front_line-spelled number line rest numbered) ∙ ap (front_line number) h ∙ front_line-spelled number first (body_tokens lines) also in
-    let same = some-injective _ _ read in
+    let same = some_same _ _ read in
     (ap (λ q. q.0) same, ap (λ q. q.1) same)
 
 -- the numbers of the lines behind equal lines begin with the same

@@ -4,14 +4,11 @@ use Rattle.std.specs.List.{AllPairs, Contains}
 use Rattle.std.specs.List.Sorted.{IsStrictlyIncreasing}
 use Rattle.std.specs.Prelude.{slice_index_or}
 use Rattle.std.proofs.lemmas.List.Kept.{AllPairs-from_increasing}
-use Rattle.ctokens.proofs.Marks.{contains_cons}
+use Rattle.ctokens.proofs.Marks.{contains_cons, contains_none}
 
 -- each number is below all later ones
 abbrev Rises : List ℕ → Type 0
 Rises xs = AllPairs (λ x y. x < y) xs
-
-pub contains_nothing : (y : ℕ) → Contains [] y → ⊥
-contains_nothing y (k, below, here) = omega arith
 
 pub contains_first : (x : ℕ) (xs : List ℕ) → Contains (x ∷ xs) x
 contains_first x xs = (0, omega arith, refl)
@@ -52,8 +49,8 @@ same_later x xs ys rises k within among =
 
 rising_same : (xs ys : List ℕ) → Rises xs → Rises ys → ((k : ℕ) → Contains xs k → Contains ys k) → ((k : ℕ) → Contains ys k → Contains xs k) → xs ≡ ys
 rising_same [] [] left right to from = refl
-rising_same [] (y ∷ ys) left right to from = absurd (contains_nothing y (from y (contains_first y ys)))
-rising_same (x ∷ xs) [] left right to from = absurd (contains_nothing x (to x (contains_first x xs)))
+rising_same [] (y ∷ ys) left right to from = absurd (contains_none y (from y (contains_first y ys)))
+rising_same (x ∷ xs) [] left right to from = absurd (contains_none x (to x (contains_first x xs)))
 rising_same (x ∷ xs) (y ∷ ys) left right to from =
     let same : x ≡ y = same_first x xs y ys left right (to x (contains_first x xs)) (from y (contains_first y ys)) in
     let later : xs ≡ ys =

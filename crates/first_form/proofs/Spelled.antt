@@ -8,16 +8,11 @@ use Rattle.std.proofs.lemmas.Slice.Eq.{bytes_eq-Decides}
 use Rattle.ctokens.proofs.Choices.{from_choice, both_true, true_and, chosen_yes, chosen_no, false_and}
 use Rattle.ctokens.specs.Bytes.{is_digit}
 use Rattle.ctokens.specs.Directive.{decimal_value}
+use Rattle.ctokens.proofs.Markers.{decimal_value-rises}
 use Rattle.first_form.specs.Tokens.{is_lower, has_no_leading_zero, IsSize, IsSpelling}
 use Rattle.first_form.specs.Spelling.{size_after, size_of, keyword_of, mark_of, single_of, token_of}
 use Rattle.first_form.specs.declared.token.Token.{Token}
 use Rattle.first_form.specs.declared.token.Token.TheVariants.{Int, Main, Void, Return, Malloc, Free, Name, Number, LeftParenthesis, RightParenthesis, LeftBrace, RightBrace, Star, Equals, Semicolon}
-
--- a further digit makes no value smaller
-decimal_value_grows : (before : ℕ) (digits : List ℕ) → before ≤ decimal_value before digits
-decimal_value_grows before [] = omega arith
-decimal_value_grows before (digit ∷ rest) =
-    let further = decimal_value_grows (10 * before + (digit - 48)) rest in omega (arith, further)
 
 size_after-from_digits : (before : ℕ) (digits : List ℕ) → list_all is_digit digits ≡ true → decimal_value before digits ≤ 65536
     → size_after before digits ≡ Some (decimal_value before digits)
@@ -25,7 +20,7 @@ size_after-from_digits before [] are_digits in_range = refl
 size_after-from_digits before (digit ∷ rest) are_digits in_range =
     let (is_one, others) = both_true (is_digit digit) (list_all is_digit rest) are_digits in
     let value : ℕ = 10 * before + (digit - 48) in
-    let within : value ≤ 65536 = omega (arith, decimal_value_grows (10 * before + (digit - 48)) rest) in
+    let within : value ≤ 65536 = omega (arith, decimal_value-rises (10 * before + (digit - 48)) rest) in
     chosen_yes (is_digit digit && nat_le value 65536) (size_after value rest) None (true_and _ _ is_one (le-leb _ _ within))
     ∙ size_after-from_digits value rest others in_range
 
