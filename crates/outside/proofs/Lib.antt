@@ -1,3 +1,4 @@
 pub mod Appended
 pub mod Answer
+pub mod Known
 pub mod Places

@@ -1,5 +1,6 @@
 pub mod Faults
 pub mod Files
+pub mod Known
 pub mod MemoryFiles
 pub mod MemorySink
 pub mod Reading

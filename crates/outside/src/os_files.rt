@@ -1,5 +1,7 @@
-ghost use Rattle.std.specs.Prelude.{◌≡◌, ℕ, true, false, None, []};
-ghost use Rattle.outside.specs.Files.{Takes};
+ghost use Rattle.std.specs.Prelude.{◌≡◌, ◌^◌, ◌<◌, ◌≤◌, ℕ, true, false, None, IfSome, is_some, [], length};
+ghost use Rattle.outside.specs.Faults.{Rose};
+ghost use Rattle.outside.specs.Files.{Takes, is_failed};
+ghost use Rattle.outside.specs.Known.{TakesFrom};
 
 use crate::faults::faults_after;
 use crate::files::{Began, Files, Taken};
@@ -72,7 +74,18 @@ impl<'a, R: rt::Files> Files for OsFiles<'a, R> {
         }
     }
 
-    fn take(&mut self, into: &mut [u8]) -> Taken {
+    fn take(&mut self, into: &mut [u8]) -> Taken
+        requires room { 0 < length into.old }
+        requires ready { is_some self.old.file ≡ true }
+        ensures begun { self.new.begun ≡ self.old.begun }
+        ensures ready { is_some self.new.file ≡ true }
+        ensures failed { self.new.failed ≡ is_failed result }
+        ensures counted { self.new.faults < 2 ^ 64 }
+        ensures later { self.old.faults ≤ self.new.faults }
+        ensures cause { result ≡ Taken.Failed → Rose self.old.faults self.new.faults }
+        ensures bytes { Takes false [] [] into.new result }
+        ensures known { IfSome self.old.file (λ before. IfSome self.new.file (λ after. TakesFrom (R.File.remaining before) (R.File.remaining after) into.new result)) }
+    {
         let Some(file) = &mut self.file else {
             unreachable!();
         };
@@ -100,8 +113,11 @@ fn open<R: rt::Files>(runtime: &R, name: &[u8]) -> Option<R::File> {
 }
 
 /// Reads the next bytes of `file` into the front of `into`.
+#[tactic(auto, using(crate::proofs::Known::keeps_same, crate::proofs::Known::keeps_again, crate::proofs::Known::keeps_taken, crate::proofs::Known::taken_nothing))]
 fn read_some<F: Read>(file: &mut F, into: &mut [u8]) -> Taken
-    ensures { Takes false [] [] into.new result }
+    requires { 0 < length into.old }
+    ensures bytes { Takes false [] [] into.new result }
+    ensures known { TakesFrom (F.remaining file.old) (F.remaining file.new) into.new result }
 {
     for _ in 0..MOST_TRIES {
         match file.read(into) {

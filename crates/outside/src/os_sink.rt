@@ -1,4 +1,6 @@
-ghost use Rattle.std.specs.Prelude.{◌≡◌, None};
+ghost use Rattle.std.specs.Prelude.{◌≡◌, ◌^◌, ◌<◌, ◌≤◌, None};
+ghost use Rattle.outside.specs.Faults.{Rose};
+ghost use Rattle.outside.specs.Known.{GivesTo};
 ghost use Rattle.outside.specs.Sink.{Gives};
 
 use crate::faults::faults_after;
@@ -32,7 +34,13 @@ impl<W: Write + Drop> Sink for OsSink<W> {
 
     ghost faults = { λ s. s.faults };
 
-    fn give(&mut self, piece: &[u8]) -> Given {
+    fn give(&mut self, piece: &[u8]) -> Given
+        ensures bytes { Gives None None piece.now result }
+        ensures counted { self.new.faults < 2 ^ 64 }
+        ensures later { self.old.faults ≤ self.new.faults }
+        ensures cause { result ≡ Given.Failed → Rose self.old.faults self.new.faults }
+        ensures known { GivesTo (W.contents self.old.writer) (W.contents self.new.writer) piece.now result }
+    {
         let given = write_some(&mut self.writer, piece);
         self.faults = faults_after(self.faults, given == Given::Failed);
         given
@@ -40,8 +48,10 @@ impl<W: Write + Drop> Sink for OsSink<W> {
 }
 
 /// Writes the first bytes of `piece`.
+#[tactic(auto, using(crate::proofs::Known::keeps_same, crate::proofs::Known::keeps_again, crate::proofs::Known::keeps_put, crate::proofs::Known::put_nothing))]
 fn write_some<W: Write>(writer: &mut W, piece: &[u8]) -> Given
-    ensures { Gives None None piece.now result }
+    ensures bytes { Gives None None piece.now result }
+    ensures known { GivesTo (W.contents writer.old) (W.contents writer.new) piece.now result }
 {
     for _ in 0..MOST_TRIES {
         match writer.write(piece) {

@@ -1,4 +1,5 @@
-ghost use Rattle.std.specs.Prelude.{◌≡◌, ℕ, true, false, Some, None, List, [], drop, length};
+ghost use Rattle.std.specs.Prelude.{◌≡◌, ◌<◌, ℕ, true, false, Some, None, List, [], drop, length};
+ghost use Rattle.outside.specs.Files.{Takes, is_failed};
 
 use crate::copying::copy_front;
 use crate::files::{Began, Files, Taken};
@@ -62,13 +63,21 @@ impl Files for SteadyFiles {
 
     ghost failed = { λ _. false };
 
-    fn begin(&mut self, name: Text) -> Began {
+    fn begin(&mut self, name: Text) -> Began
+        ensures answer { result ≡ Began.Ready }
+        ensures after { self.new ≡ record self.old { begun = Some name; position = 0 } }
+    {
         self.begun = Some(name);
         self.position = 0;
         Began::Ready
     }
 
-    fn take(&mut self, into: &mut [u8]) -> Taken {
+    fn take(&mut self, into: &mut [u8]) -> Taken
+        requires { 0 < length into.old }
+        ensures answer { is_failed result ≡ false }
+        ensures after { self.new ≡ record self.old { position = self.new.position } }
+        ensures bytes { Takes true (drop self.old.position self.old.bytes) (drop self.new.position self.new.bytes) into.new result }
+    {
         let rest = self.bytes.as_slice().get(self.position..);
         let Some(rest) = rest else {
             return Taken::End;
