@@ -29,7 +29,7 @@ use Rattle.cbase.specs.declared.tree.expr.ExprForm.TheShapes.{former-StmtForm-Ev
 use Rattle.cbase.specs.declared.tree.expr.ExprForm.TheOpen as Open
 use Rattle.ctrees.specs.Levels.{depth, form_levels, part_levels, init_levels, spec_levels, statement_form_levels, decl_levels, declared_levels, param_levels, type_name_levels, expr_levels, init_part_levels, field_decl_levels, field_name_levels, enumerator_levels, stmt_levels, maybe_levels}
 use Rattle.ctrees.specs.Weight.{joined, or_nothing, in_form, in_part, in_init, in_spec, in_statement_form, in_decl, in_declared, in_param, in_type_name, in_expr, in_init_part, in_enumerator, in_field_decl, in_field_name, in_stmt}
-use Rattle.ctrees.proofs.Sizes.{map_options}
+use Rattle.ctrees.proofs.Sizes.{map_options, option_cases, both}
 use Rattle.cgrammar.specs.Terminals.{Terminal}
 use Rattle.cgrammar.specs.Trees.{object, function, field, fields, enumerator, parameter, type_name, declaration, initializer, statement}
 
@@ -39,14 +39,6 @@ max_nothing n = omega arith
 
 nothing_max : (n : ℕ) → max 0 n ≡ n
 nothing_max n = omega arith
-
-both : {A B C : Type 0} (f : A → B → C) (a c : A) (b d : B) → a ≡ c → b ≡ d → f a b ≡ f c d
-both f a c b d p q = λ i. f (p i) (q i)
-
--- a function of an option, and of each option of a list, by the two cases
-option_cases : {A B C : Type 0} (h : B → C) (f : Option A → B) (g : Option A → C) → h (f None) ≡ g None → ((a : A) → h (f (Some a)) ≡ g (Some a)) → (o : Option A) → h (f o) ≡ g o
-option_cases h f g none some None = none
-option_cases h f g none some (Some x) = some x
 
 -- what is joined
 pub joined_nothing : joined depth [] ≡ 0

@@ -14,16 +14,8 @@ use Rattle.cgrammar.specs.Scope.{Names}
 use Rattle.ctrees.specs.Weight.{joined as largest}
 use Rattle.ctrees.specs.Levels.{depth, type_name_levels, field_name_levels, spec_levels, maybe_levels}
 use Rattle.ctrees.proofs.Sizes as Sizes
-use Rattle.ctrees.proofs.Sizes.{map_options}
+use Rattle.ctrees.proofs.Sizes.{map_options, option_cases, both}
 use Rattle.cread.specs.NamesAfter.{joined, or_nothing, no_names, in_form, in_part, in_init, in_spec, in_type_name, in_expr, in_init_part, in_enumerator, in_field_decl, in_field_name, enumerator_names, expr_names, field_decl_names, field_name_names, init_names, init_part_names, maybe_names, spec_names, type_name_names}
-
--- an option, by its two cases
-pub option_cases : {A B C : Type 0} (h : B → C) (f : Option A → B) (g : Option A → C) → h (f None) ≡ g None → ((a : A) → h (f (Some a)) ≡ g (Some a)) → (o : Option A) → h (f o) ≡ g o
-option_cases h f g none some None = none
-option_cases h f g none some (Some x) = some x
-
-pub both : {A B C : Type 0} (f : A → B → C) (a c : A) (b d : B) → a ≡ c → b ≡ d → f a b ≡ f c d
-both f a c b d p q = λ i. f (p i) (q i)
 
 pub type_name_parts : (p : TypeName) → type_name_names p ≡ spec_names (out-TypeName p).spec ++ joined (map maybe_names (out-TypeName p).sizes)
 type_name_parts p = fold_out-TypeName Names Names Names Names Names Names Names Names Names Names Names Names Names Names Names in_form in_part in_init in_spec no_names no_names no_names no_names in_type_name in_expr in_init_part in_enumerator in_field_decl in_field_name no_names p ∙ ap (λ (ns : List Names). spec_names (out-TypeName p).spec ++ joined ns) (map_options or_nothing _ maybe_names refl (λ e. refl) (out-TypeName p).sizes)

@@ -14,17 +14,19 @@ use Rattle.ctrees.specs.Weight.{Weight, joined, or_nothing, list_or_nothing, ini
 use Rattle.ctrees.specs.Levels.{depth, param_levels, type_name_levels, field_name_levels, declared_levels, spec_levels, init_levels, maybe_levels}
 use Rattle.ctrees.specs.Expressions.{counted, param_expressions, type_name_expressions, field_name_expressions, declared_expressions, spec_expressions, init_expressions, maybe_expressions}
 
+-- a function of each option of a list, by the two cases
 pub map_options : {A B C : Type 0} (h : B → C) (f : Option A → B) (g : Option A → C) → h (f None) ≡ g None → ((a : A) → h (f (Some a)) ≡ g (Some a)) → (xs : List (Option A)) → map h (map f xs) ≡ map g xs
 map_options h f g none some [] = refl
 map_options h f g none some (None ∷ xs) = λ i. none i ∷ map_options h f g none some xs i
 map_options h f g none some (Some x ∷ xs) = λ i. some x i ∷ map_options h f g none some xs i
 
--- an option, by its two cases
-option_cases : {A B C : Type 0} (h : B → C) (f : Option A → B) (g : Option A → C) → h (f None) ≡ g None → ((a : A) → h (f (Some a)) ≡ g (Some a)) → (o : Option A) → h (f o) ≡ g o
+-- a function of an option, by its two cases
+pub option_cases : {A B C : Type 0} (h : B → C) (f : Option A → B) (g : Option A → C) → h (f None) ≡ g None → ((a : A) → h (f (Some a)) ≡ g (Some a)) → (o : Option A) → h (f o) ≡ g o
 option_cases h f g none some None = none
 option_cases h f g none some (Some x) = some x
 
-both : {A B C : Type 0} (f : A → B → C) (a c : A) (b d : B) → a ≡ c → b ≡ d → f a b ≡ f c d
+-- a function of two arguments, each of which is another's equal
+pub both : {A B C : Type 0} (f : A → B → C) (a c : A) (b d : B) → a ≡ c → b ≡ d → f a b ≡ f c d
 both f a c b d p q = λ i. f (p i) (q i)
 
 abbrev maybe_weight : Weight → Option Expr → ℕ
