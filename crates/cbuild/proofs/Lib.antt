@@ -1,3 +1,2 @@
 pub mod ItemsAlone
 pub mod Made
-pub mod Stacks

@@ -52,7 +52,7 @@ impl Stack {
     }
 
     /// Puts a piece on top.
-    #[tactic(auto, using(crate::proofs::Stacks::pushed_on_top))]
+    #[tactic(auto, using(cgrammar::proofs::Stacks::pushed))]
     pub(crate) fn push(&mut self, piece: Piece) -> Result<(), NoMemory>
         ensures { OnOk result (self.new ≡ piece ∷ self.old) }
     {
@@ -61,7 +61,7 @@ impl Stack {
     }
 
     /// Takes the piece on top, where there is one.
-    #[tactic(auto, using(crate::proofs::Stacks::popped_from_top))]
+    #[tactic(auto, using(cgrammar::proofs::Stacks::popped))]
     pub(crate) fn pop(&mut self) -> Option<Piece>
         ensures { MatchOption result ((self.old ≡ []) × (self.new ≡ [])) (λ piece. self.old ≡ piece ∷ self.new) }
     {

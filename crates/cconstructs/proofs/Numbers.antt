@@ -6,7 +6,8 @@ use Rattle.std.specs.Str.{bytes_eq}
 use Rattle.std.proofs.lemmas.Slice.Eq.{bytes_eq-Decides}
 use Rattle.ctokens.specs.declared.token.TokenKind.{TokenKind}
 use Rattle.ctokens.specs.declared.token.TokenKind.TheVariants.{Word, Number, Letter, Quoted, Mark}
-use Rattle.cgrammar.proofs.Truth.{and-left, and-right, and-both}
+use Rattle.cgrammar.proofs.TokenKinds.{mark_kind_is, word_kind_is}
+use Rattle.cgrammar.proofs.Truth.{and-left, and-right, and-both, not-true}
 use Rattle.cgrammar.specs.ConstantParts.{is_integer}
 use Rattle.cgrammar.specs.Operators.{row_of}
 use Rattle.cgrammar.specs.Terminals.{Terminal, is_mark_kind, is_word_kind, IsMark}
@@ -15,7 +16,7 @@ use Rattle.cconstructs.specs.Constructs.{word_rows, IsConstructAt, NamedWord, Fl
 use Rattle.cconstructs.specs.Finding.{at_front, behind, mark_number, number_at, number_of, word_number}
 use Rattle.cconstructs.proofs.Guards.{guarded_complete, guarded_sound, in_brackets}
 use Rattle.cconstructs.proofs.Options.{no_some, same_some}
-use Rattle.cconstructs.proofs.Pointers.{not-true, pointed_at, star_complete, star_sound}
+use Rattle.cconstructs.proofs.Pointers.{pointed_at, star_complete, star_sound}
 
 -- the number of the token at a place
 abbrev pub number_from : Before → List Terminal → ℕ → Option ℕ
@@ -33,20 +34,6 @@ unfolding behind
 there_same [] before at = refl
 there_same (token ∷ others) before zero = refl
 there_same (token ∷ others) before (suc at) = there_same others (behind before (token ∷ others)) at
-
-word_kind : (kind : TokenKind) → is_word_kind kind ≡ true → kind ≡ Word
-word_kind Word is = refl
-word_kind Number is = cc is
-word_kind Letter is = cc is
-word_kind Quoted is = cc is
-word_kind Mark is = cc is
-
-mark_kind : (kind : TokenKind) → is_mark_kind kind ≡ true → kind ≡ Mark
-mark_kind Word is = cc is
-mark_kind Number is = cc is
-mark_kind Letter is = cc is
-mark_kind Quoted is = cc is
-mark_kind Mark is = refl
 
 abbrev is_floating : List ℕ → Bool
 is_floating bytes = starts_with nat_eq bytes (codes "_Float")
@@ -113,11 +100,11 @@ construct_found : (row : List Terminal) (at number : ℕ) → IsConstructAt row 
 unfolding word_number
 construct_found row at number (NamedWord token there is listed) =
     ap (number_there (in_brackets 0 false row at) (pointed_at false false row at)) there
-    ∙ (ap (λ (k : TokenKind). number_of k (in_brackets 0 false row at) (pointed_at false false row at) token.bytes) (word_kind token.kind is)
+    ∙ (ap (λ (k : TokenKind). number_of k (in_brackets 0 false row at) (pointed_at false false row at) token.bytes) (word_kind_is token.kind is)
     ∙ (ap (λ (b : Bool). if b then Some 4 else row_of token.bytes word_rows) (table_apart token.bytes number listed) ∙ listed))
 construct_found row at _ (FloatingWord token there is floats) =
     ap (number_there (in_brackets 0 false row at) (pointed_at false false row at)) there
-    ∙ (ap (λ (k : TokenKind). number_of k (in_brackets 0 false row at) (pointed_at false false row at) token.bytes) (word_kind token.kind is)
+    ∙ (ap (λ (k : TokenKind). number_of k (in_brackets 0 false row at) (pointed_at false false row at) token.bytes) (word_kind_is token.kind is)
     ∙ ap (λ (b : Bool). if b then Some 4 else row_of token.bytes word_rows) floats)
 construct_found row at _ (FloatingConstant token there is floats) =
     ap (number_there (in_brackets 0 false row at) (pointed_at false false row at)) there
@@ -126,7 +113,7 @@ construct_found row at _ (FloatingConstant token there is floats) =
 construct_found row at _ (VariableArguments token there is) =
     ap (number_there (in_brackets 0 false row at) (pointed_at false false row at)) there
     ∙ (ap (λ (k : TokenKind). number_of k (in_brackets 0 false row at) (pointed_at false false row at) token.bytes)
-    (mark_kind token.kind (and-left (is_mark_kind token.kind) (bytes_eq token.bytes (codes "...")) is))
+    (mark_kind_is token.kind (and-left (is_mark_kind token.kind) (bytes_eq token.bytes (codes "...")) is))
     ∙ ap (λ (b : Bool). if b then Some 5 else (if pointed_at false false row at && bytes_eq token.bytes (codes "*") then Some 20 else None))
     (and-right (is_mark_kind token.kind) (bytes_eq token.bytes (codes "...")) is))
 construct_found row at _ (StringLiteral token there is outside) =
@@ -140,7 +127,7 @@ construct_found row at _ (StringLiteral token there is outside) =
 construct_found row _ _ (FunctionPointer {before} opening star first opens second marked headed pointed) =
     ap (number_there (in_brackets 0 false row (suc before)) (pointed_at false false row (suc before))) second
     ∙ (ap (λ (k : TokenKind). number_of k (in_brackets 0 false row (suc before)) (pointed_at false false row (suc before)) star.bytes)
-    (mark_kind star.kind (and-left (is_mark_kind star.kind) (bytes_eq star.bytes (codes "*")) marked))
+    (mark_kind_is star.kind (and-left (is_mark_kind star.kind) (bytes_eq star.bytes (codes "*")) marked))
     ∙ (ap (λ (bytes : List ℕ). mark_number (pointed_at false false row (suc before)) bytes)
     ((bytes_eq-Decides star.bytes (codes "*")).0 (and-right (is_mark_kind star.kind) (bytes_eq star.bytes (codes "*")) marked))
     ∙ ap (λ (b : Bool). mark_number b (codes "*")) (star_complete row before opening star first opens second headed pointed)))

@@ -1,7 +1,7 @@
 -- Where the `*` of a function pointer stands, by what stands before it and behind it.
 use Rattle.std.proofs.Common.{◌≡◌, ℕ, zero, suc, ◌+◌, Bool, true, false, not, ◌&&◌, IsTrue, refl, ap, sym, ◌∙◌, subst, ◌⊎◌, inl, inr, List, [], ◌∷◌, Some, drop, codes, arith}
 use Rattle.std.specs.Prelude.{slice_get}
-use Rattle.cgrammar.proofs.Truth.{and-left, and-right, and-both, or-cases, or-left, or-right}
+use Rattle.cgrammar.proofs.Truth.{and-left, and-right, and-both, or-cases, or-left, or-right, not-true}
 use Rattle.cgrammar.specs.Terminals.{Terminal, is_mark, is_name, IsMark}
 use Rattle.cconstructs.specs.Constructs.{is_header, IsCalled, IsNotHeaded, IsPointed, Unnamed, Identified}
 use Rattle.cconstructs.specs.Finding.{is_called, is_pointed}
@@ -55,10 +55,6 @@ pub record PointedAt (headed : Bool) (row : List Terminal) (before : ℕ) : Type
   pub opens : IsMark (codes "(") opening
   pub apart : NotHeaded headed row before
   pub behind : IsPointed (drop (suc (suc before)) row)
-
-pub not-true : (b : Bool) → not b ≡ true → b ≡ false
-not-true true is = sym is
-not-true false is = refl
 
 apart_later : (headed : Bool) (token : Terminal) (others : List Terminal) (before : ℕ) → NotHeaded (is_header token) others before → NotHeaded headed (token ∷ others) (suc before)
 apart_later headed token others zero apart = λ other is. ap not (ap is_header (sym (same_some token other is)) ∙ apart)

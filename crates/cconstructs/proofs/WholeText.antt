@@ -3,13 +3,13 @@ use Rattle.std.proofs.Common.{◌≡◌, ℕ, ◌-◌, ◌<◌, ◌≤◌, ap, s
 use Rattle.std.proofs.lemmas.List.{length-map, take_all}
 use Rattle.std.proofs.lemmas.List.Elements.{All-weaker}
 use Rattle.ctokens.proofs.ItemsInside.{length_passed}
-use Rattle.ctokens.specs.Passed.{passed_tokens}
+use Rattle.ctokens.specs.Passed.{passed_tokens, unpassed}
 use Rattle.ctokens.specs.InText.{LieInText, most_bytes}
 use Rattle.ctokens.specs.TokenList.{AreOfText, AreTokens, IsOfText}
 use Rattle.ctokens.specs.declared.token.Token.{Token}
 use Rattle.ctokens.specs.declared.token.Tokens.{Tokens}
 use Rattle.cgrammar.specs.Readings.{row_between}
-use Rattle.cgrammar.specs.Terminals.{Terminal, terminal_of, terminals, unpassed}
+use Rattle.cgrammar.specs.Terminals.{Terminal, terminal_of, terminals}
 
 pub tokens_lie : (file text : List ℕ) (t : Tokens) → AreTokens file text t → AreOfText text t.list → length text ≤ most_bytes → LieInText t
 tokens_lie file text t are of_text few = record {

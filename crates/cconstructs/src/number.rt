@@ -1,6 +1,6 @@
 ghost use Rattle.std.specs.Prelude.{◌≡◌, map};
 ghost use Rattle.cgrammar.specs.Operators.{row_of};
-ghost use Rattle.cgrammar.specs.CodeTables.{row_read};
+ghost use Rattle.ctokens.specs.SymbolRows.{row_read};
 ghost use Rattle.cconstructs.specs.Constructs.{word_rows};
 ghost use Rattle.cconstructs.specs.Finding.{is_called, is_pointed, mark_number, number_at, number_of, word_number};
 

@@ -4,9 +4,9 @@ use Rattle.std.specs.List.{prefix_len, list_all, list_any}
 use Rattle.std.specs.Str.{bytes_eq}
 use Rattle.std.proofs.lemmas.Slice.Eq.{bytes_eq-Decides}
 use Rattle.cbase.specs.declared.tree.spec.BasicType.{BasicType}
-use Rattle.cgrammar.specs.FrontReadings.{basic_words, is_basic_word}
+use Rattle.cgrammar.specs.FrontReadings.{is_basic_word}
 use Rattle.cgrammar.specs.Terminals.{Terminal, is_any_word, is_word_kind, bytes_of}
-use Rattle.cgrammar.specs.TypeWords.{basic_rows, basic_of, are_same, times, IsBasic}
+use Rattle.cgrammar.specs.TypeWords.{basic_rows, basic_of, are_same, times, IsBasic, basic_words}
 use Rattle.cgrammar.proofs.Truth.{and-left, and-right, and-both, or-left, or-right, of-any}
 
 pub passing_front : (test : Terminal → Bool) (row : List Terminal) → list_all test (take (prefix_len test row) row) ≡ true

@@ -5,7 +5,8 @@ use Rattle.std.specs.List.{prefix_len}
 use Rattle.std.proofs.lemmas.Bool.{ltb-true, lt-ltb}
 use Rattle.std.proofs.lemmas.List.{length-append}
 use Rattle.ctokens.specs.declared.token.Token.{Token}
-use Rattle.cgrammar.specs.Terminals.{Terminal, terminal_of, unpassed, last_place}
+use Rattle.ctokens.specs.Passed.{unpassed}
+use Rattle.cgrammar.specs.Terminals.{Terminal, terminal_of, last_place, comes_before}
 
 unpassed_of_nothing : (passed : List Bool) → unpassed passed [] ≡ []
 unpassed_of_nothing [] = refl
@@ -108,10 +109,6 @@ up_to_last base (false ∷ passed) (token ∷ tokens) first (next ∷ front) res
     let from : base + 1 ≤ (last_place (next ∷ front)).at = last_from (base + 1) next front (rises_front (base + 1) (next ∷ front) rest rises) in
     let more : (last_place (first ∷ (next ∷ front))).at + 1 - base ≡ suc ((last_place (next ∷ front)).at + 1 - (base + 1)) = omega (arith, from) in
     rw more (ap (λ (row : List Terminal). token ∷ row) (up_to_last (base + 1) passed tokens next front rest counts.1 others) ∙ ap (λ (t : Terminal). t ∷ (next ∷ front)) same)
-
--- how many tokens of a row come before the token of that number
-abbrev pub comes_before : ℕ → Terminal → Bool
-comes_before number token = nat_lt token.place.at number
 
 none_before : (base : ℕ) (row : List Terminal) → Rises base row → prefix_len (comes_before base) row ≡ 0
 none_before base [] rises = refl

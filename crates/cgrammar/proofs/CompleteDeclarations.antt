@@ -25,7 +25,7 @@ use Rattle.cgrammar.proofs.Reached.{Completes, Ends, goes_on_assignment, goes_on
 use Rattle.cgrammar.proofs.TokenKinds.{name_is_no_mark, other_mark, other_word, word_is_no_mark, word_bytes, word_kind_no_mark}
 use Rattle.cgrammar.proofs.TreeLevels.{levels_parameter, levels_declaration, levels_type_declaration, levels_object, levels_initialized, levels_function, joined_one}
 use Rattle.cgrammar.proofs.Truth.{and-left, and-right, and-both, or-cases, not-true, clash, false-of, or-false-left, or-false-right}
-use Rattle.cgrammar.specs.FrontReadings.{is_basic_word, basic_words}
+use Rattle.cgrammar.specs.FrontReadings.{is_basic_word}
 use Rattle.cgrammar.specs.Firsts.{begins_type, begins_declaration, Begins, is_among, type_words}
 use Rattle.cgrammar.specs.Grammar.{Spells, declaring, inside, outside, is_void, BasicWords, TypedefName, TypeOfExpression, TypeOfType, StructWithFields, StructByTag, EnumWithValues, EnumByTag, NoMoreSizes, SizeLeftOut, SizeGiven, TypeAlone, StorageBefore, StorageBehind, OneDeclarator, MoreDeclarators, ObjectDeclarator, InitializedDeclarator, DeclaratorOfFunction, NoParameters, VoidParameters, WithParameters, OneParameter, MoreParameters, NamedParameter, UnnamedParameter}
 use Rattle.cgrammar.specs.Outcomes.{Outcome, Read, then_read, after_mark, has_first, has_mark}
@@ -39,7 +39,7 @@ use Rattle.cgrammar.specs.Scope.{Names}
 use Rattle.cgrammar.specs.Terminals.{Terminal, is_word_kind, is_word, IsWord, is_mark, IsMark, is_name, IsName, is_typedef, AreStars}
 use Rattle.cgrammar.specs.TokenReadings.{storage_of}
 use Rattle.cgrammar.specs.Trees.{object, function, parameter, declaration}
-use Rattle.cgrammar.specs.TypeWords.{IsStorage, declares_typedef, IsBasic}
+use Rattle.cgrammar.specs.TypeWords.{IsStorage, declares_typedef, IsBasic, basic_words}
 
 -- storage words
 storage_is : (storage : Storage) (word : Terminal) → IsStorage storage word → storage_of word ≡ Some storage

@@ -11,7 +11,8 @@ use Rattle.cgrammar.proofs.Reached.{goes_on_type, goes_on_specifiers, is_storage
 use Rattle.cgrammar.proofs.Starting.{operand_not_mark}
 use Rattle.cgrammar.proofs.TokenKinds.{mark_is_mark_kind, word_is_word_kind, mark_bytes, word_bytes, name_is_no_mark, name_is_no_word, mark_kind_is, word_kind_is, no_identifier}
 use Rattle.cgrammar.proofs.Truth.{and-left, and-right, or-cases, of-any, or-left, or-right, false-of}
-use Rattle.cgrammar.specs.FrontReadings.{basic_words, is_basic_word}
+use Rattle.cgrammar.specs.TypeWords.{basic_words}
+use Rattle.cgrammar.specs.FrontReadings.{is_basic_word}
 use Rattle.cgrammar.specs.Firsts.{is_among, Begins}
 use Rattle.cgrammar.specs.Outcomes.{has_first}
 use Rattle.cgrammar.specs.ReadTypes.{star_count, behind_stars}

@@ -4,9 +4,9 @@ use Rattle.std.specs.List.{prefix_len}
 use Rattle.cbase.specs.declared.tree.expr.Expr.{Expr}
 use Rattle.cbase.specs.declared.tree.stmt.Stmt.{Stmt}
 use Rattle.ctrees.specs.Levels.{expr_levels}
-use Rattle.ctokens.specs.Passed.{passed_tokens}
+use Rattle.ctokens.specs.Passed.{passed_tokens, unpassed}
 use Rattle.ctokens.specs.declared.token.Tokens.{Tokens}
-use Rattle.cgrammar.proofs.Between.{Counts, Rises, unpassed_split, counts_behind, unpassed_rises, last_rises, up_to_last, comes_before, from_token, fronts_agree, numbered_counts}
+use Rattle.cgrammar.proofs.Between.{Counts, Rises, unpassed_split, counts_behind, unpassed_rises, last_rises, up_to_last, from_token, fronts_agree, numbered_counts}
 use Rattle.cgrammar.proofs.Fronts.{front_of_both, last_place_of_nonempty, take_and_drop}
 use Rattle.cgrammar.proofs.Reached.{Fronts, IsSound, Goes, Reaches, goes_on_expression}
 use Rattle.cgrammar.proofs.Starting.{starts}
@@ -17,16 +17,17 @@ use Rattle.cgrammar.specs.Outcomes.{Outcome, Nothing, Stopped, Read}
 use Rattle.cgrammar.specs.Phrases.{Phrase, Context, Expression, CompoundStatement}
 use Rattle.cgrammar.specs.ReadStatements.{read_block}
 use Rattle.cgrammar.specs.Reader.{level}
-use Rattle.cgrammar.specs.Readings.{AreNumbered, row_between, at_first, IsReadAt, IsExpressionAt, IsLongestExpressionAt, IsBlockAt, block_levels}
+use Rattle.ctokens.specs.TokenList.{AreNumbered}
+use Rattle.cgrammar.specs.Readings.{row_between, at_first, IsReadAt, IsExpressionAt, IsLongestExpressionAt, IsBlockAt, block_levels}
 use Rattle.cgrammar.specs.Scope.{Names}
 use Rattle.cgrammar.specs.Starts.{begins_operand}
-use Rattle.cgrammar.specs.Terminals.{Terminal, is_mark, terminal_of, terminals, unpassed, last_place}
+use Rattle.cgrammar.specs.Terminals.{Terminal, is_mark, terminal_of, terminals, last_place, comes_before}
 
 -- what stands at and behind a token of a text
 abbrev pub row_from : Tokens → ℕ → List Terminal
 row_from t at = unpassed (drop at (passed_tokens t)) (drop at (map (terminal_of t.text) t.list))
 
-counts_from : (t : Tokens) (at : ℕ) → AreNumbered t → Counts at (drop at (map (terminal_of t.text) t.list))
+counts_from : (t : Tokens) (at : ℕ) → AreNumbered t.list → Counts at (drop at (map (terminal_of t.text) t.list))
 counts_from t at numbered =
     let all : Counts 0 (map (terminal_of t.text) t.list) = numbered_counts t.text 0 t.list (λ number other inside. numbered number other inside ∙ omega arith) in
     let from : 0 + at ≡ at = omega arith in
@@ -34,18 +35,18 @@ counts_from t at numbered =
     subst P from (counts_behind at 0 (map (terminal_of t.text) t.list) all)
 
 -- the tokens of the row that come before a token of the text are those before what stands there
-pub row_at : (t : Tokens) (at : ℕ) → AreNumbered t → drop (prefix_len (comes_before at) (terminals t)) (terminals t) ≡ row_from t at
+pub row_at : (t : Tokens) (at : ℕ) → AreNumbered t.list → drop (prefix_len (comes_before at) (terminals t)) (terminals t) ≡ row_from t at
 row_at t at numbered =
     let all : Counts 0 (map (terminal_of t.text) t.list) = numbered_counts t.text 0 t.list (λ number other inside. numbered number other inside ∙ omega arith) in
     let from : 0 + at ≡ at = omega arith in
     let P : ℕ → Type 0 = λ n. drop (prefix_len (comes_before n) (terminals t)) (terminals t) ≡ row_from t at in
     subst P from (from_token at 0 (passed_tokens t) (map (terminal_of t.text) t.list) all)
 
-rises_at : (t : Tokens) (at : ℕ) → AreNumbered t → Rises at (row_from t at)
+rises_at : (t : Tokens) (at : ℕ) → AreNumbered t.list → Rises at (row_from t at)
 rises_at t at numbered = unpassed_rises at (drop at (passed_tokens t)) (drop at (map (terminal_of t.text) t.list)) (counts_from t at numbered)
 
 -- what is spelled at the front of that row is read there
-read_there : (t : Tokens) (scope : List Names) (at : ℕ) (phrase : Phrase) (behind : Context) (first : Terminal) (front rest : List Terminal) → AreNumbered t
+read_there : (t : Tokens) (scope : List Names) (at : ℕ) (phrase : Phrase) (behind : Context) (first : Terminal) (front rest : List Terminal) → AreNumbered t.list
     → row_from t at ≡ first ∷ (front ++ rest) → Spells phrase (at_first scope) (first ∷ front) behind
     → IsReadAt t scope at ((last_place (first ∷ front)).at + 1) phrase
 read_there t scope at phrase behind first front rest numbered whole spelled =
@@ -136,7 +137,7 @@ last_taken row front first start end whole =
     append_assoc (x ∷ xs) ys zs = ap (λ (ws : List Terminal). x ∷ ws) (append_assoc xs ys zs)
 
 -- from a front of the row at a token to what is read there
-pub found_there : {A : Type 0} (phrase : A → Phrase) (levels : A → ℕ) (most : ℕ) (t : Tokens) (scope : List Names) (at end : ℕ) (tree : A) → AreNumbered t
+pub found_there : {A : Type 0} (phrase : A → Phrase) (levels : A → ℕ) (most : ℕ) (t : Tokens) (scope : List Names) (at end : ℕ) (tree : A) → AreNumbered t.list
     → ((front : List Terminal) (behind : Context) → Spells (phrase tree) (at_first scope) front behind → (test : Terminal → Bool) × Begins test front)
     → IsSpelled phrase levels most (at_first scope) (row_from t at) tree (drop end (terminals t))
     → IsReadAt t scope at ((last_place (take end (terminals t))).at + 1) (phrase tree)
@@ -167,7 +168,7 @@ expression_begins : (expr : Expr) (before : Context) (front : List Terminal) (be
 expression_begins expr before front behind spells = (begins_operand, starts spells)
 
 -- the row that is spelled from a token on has a first token, and what it goes on to ends no later than a longer one
-ends_no_later : (t : Tokens) (scope : List Names) (at end number : ℕ) (other : Expr) (first : Terminal) (front : List Terminal) → AreNumbered t
+ends_no_later : (t : Tokens) (scope : List Names) (at end number : ℕ) (other : Expr) (first : Terminal) (front : List Terminal) → AreNumbered t.list
     → row_from t at ≡ first ∷ (front ++ drop end (terminals t))
     → (there : IsReadAt t scope at number (Expression other))
     → length (drop end (terminals t)) ≤ length ((front_there t at number).0)
@@ -184,7 +185,7 @@ ends_no_later t scope at end number other first front numbered whole there short
         omega (arith, later, last)
 
 -- what the reader leaves is the longest expression
-pub longest_there : ExpressionsComplete → ExpressionsSound → (t : Tokens) (scope : List Names) (at end most : ℕ) (outcome : Outcome Expr) (tree : Expr) → AreNumbered t
+pub longest_there : ExpressionsComplete → ExpressionsSound → (t : Tokens) (scope : List Names) (at end most : ℕ) (outcome : Outcome Expr) (tree : Expr) → AreNumbered t.list
     → outcome ≡ (level most).expression (at_first scope) (row_from t at) → Leaves outcome tree (drop end (terminals t))
     → IsLongestExpressionAt most t scope at ((last_place (take end (terminals t))).at + 1) tree
 longest_there complete sound t scope at end most outcome tree numbered is leaves =
@@ -222,7 +223,7 @@ none_there complete t scope at most is expr after there =
 block_begins : (body : List Stmt) (before : Context) (front : List Terminal) (behind : Context) → Spells (CompoundStatement body) before front behind → (test : Terminal → Bool) × Begins test front
 block_begins body before front behind spells = (is_mark (codes "{"), starts spells)
 
-pub block_there : BlocksSound → (t : Tokens) (scope : List Names) (at end most : ℕ) (outcome : Outcome (List Stmt)) (body : List Stmt) → AreNumbered t
+pub block_there : BlocksSound → (t : Tokens) (scope : List Names) (at end most : ℕ) (outcome : Outcome (List Stmt)) (body : List Stmt) → AreNumbered t.list
     → outcome ≡ read_block (level most) (at_first scope) (row_from t at) → Leaves outcome body (drop end (terminals t))
     → IsBlockAt most t scope at ((last_place (take end (terminals t))).at + 1) body
 block_there sound t scope at end most outcome body numbered is leaves =

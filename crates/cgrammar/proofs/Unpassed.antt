@@ -3,7 +3,8 @@ use Rattle.std.proofs.Common.{◌≡◌, ℕ, zero, suc, ◌+◌, ◌-◌, ◌<�
 use Rattle.std.specs.List.{All, drop-map, take-map}
 use Rattle.std.proofs.lemmas.List.Elements.{All-take, All-drop}
 use Rattle.ctokens.specs.declared.token.Token.{Token}
-use Rattle.cgrammar.specs.Terminals.{terminal_of, unpassed}
+use Rattle.ctokens.specs.Passed.{unpassed}
+use Rattle.cgrammar.specs.Terminals.{terminal_of}
 
 pub unpassed_behind : (text : List ℕ) (passed : List Bool) (list : List Token) (index : ℕ) (other : Bool) → index < length passed → index < length list
     → get_or passed index other ≡ true

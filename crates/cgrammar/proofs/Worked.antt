@@ -4,7 +4,8 @@ use Rattle.ctokens.specs.SymbolTables.{keyword_symbol, name_symbol, passed_symbo
 use Rattle.cbase.specs.declared.tree.decl.Storage.TheVariants.{Plain, Extern, Static}
 use Rattle.cgrammar.specs.Brackets.{NothingMore, NoBracket, InBrackets}
 use Rattle.cgrammar.specs.Grammar.{OneAssignment, CommaOperator, OneConditional, AssignmentOperator, OneOperation, ConditionalOperator, OneCast, BinaryOperator, OneUnary, CastOperator, OnePostfix, CountBefore, UnaryOperator, SizeOfExpression, SizeOfTypeName, OnePrimary, IndexOperator, CallOfNothing, CallOperator, MemberOperator, CountBehind, OneArgument, MoreArguments, OneName, OneConstant, Bracketed, StatementExpression, OffsetOfMember, NoMoreMembers, PathToMember, PathToItem, FailedAssertion, BasicWords, TypedefName, TypeOfExpression, TypeOfType, StructWithFields, StructByTag, NoMoreFields, MoreFields, OneFieldDeclaration, OneField, MoreFieldNames, NamedField, NamedBits, UnnamedBits, EnumWithValues, EnumByTag, LastEnumerator, MoreEnumerators, PlainEnumerator, ValuedEnumerator, OneTypeName, NoMoreSizes, SizeLeftOut, SizeGiven, TypeAlone, StorageBefore, StorageBehind, NoDeclarator, WithDeclarators, OneDeclarator, MoreDeclarators, ObjectDeclarator, InitializedDeclarator, DeclaratorOfFunction, NoParameters, VoidParameters, WithParameters, OneParameter, MoreParameters, NamedParameter, UnnamedParameter, InitializedTo, EmptyBraces, InBraces, OneInitializer, MoreInitializers, NextPart, MemberPart, OneBlock, NoMoreItems, NextDeclaration, NextStatement, BlockStatement, EmptyStatement, ExpressionStatement, IfStatement, IfElseStatement, WhileStatement, DoStatement, ForStatement, FirstDeclaration, FirstLeftOut, FirstExpression, NoExpression, SomeExpression, BreakStatement, ContinueStatement, ReturnStatement, LabeledStatement}
-use Rattle.cgrammar.specs.Rows.{context, ReadsTwoSubtractions, ReadsPassedOver, ReadsBlock, ReadsLabel, word, number, quoted, mark, TwoSubtractions, Levels, Chosen, Assigned, CastOfMinus, BracketsAndMinus, SizeAndMinus, SizeOfItem, CallPlace, Container, Assertion, NearestIf, Labels, Loops, Declarations, Hidden, Rest, Structs}
+use Rattle.cgrammar.specs.Phrases.{context_at}
+use Rattle.cgrammar.specs.Rows.{ReadsTwoSubtractions, ReadsPassedOver, ReadsBlock, ReadsLabel, word, number, quoted, mark, TwoSubtractions, Levels, Chosen, Assigned, CastOfMinus, BracketsAndMinus, SizeAndMinus, SizeOfItem, CallPlace, Container, Assertion, NearestIf, Labels, Loops, Declarations, Hidden, Rest, Structs}
 
 pub two_subtractions : TwoSubtractions
 unfolding keyword_symbol name_symbol passed_symbol
@@ -80,16 +81,16 @@ structs = OneBlock (mark (codes "{") 0) (mark (codes "}") 36) refl (NextDeclarat
 
 pub reads_two_subtractions : ReadsTwoSubtractions
 unfolding keyword_symbol name_symbol passed_symbol mark_symbol read_as symbol_of
-reads_two_subtractions = record { behind = context ([] ∷ []) 5; spelled = OneAssignment (OneConditional (OneOperation (BinaryOperator {tighter = 8} (mark (codes "-") 3) (lit≤ tt) (BinaryOperator {tighter = 8} (mark (codes "-") 1) (lit≤ tt) (OneCast (OneUnary (OnePostfix (OnePrimary (OneName (word (codes "a") 0) refl))))) refl (OneCast (OneUnary (OnePostfix (OnePrimary (OneName (word (codes "b") 2) refl)))))) refl (OneCast (OneUnary (OnePostfix (OnePrimary (OneName (word (codes "c") 4) refl)))))))); last = refl }
+reads_two_subtractions = record { behind = context_at ([] ∷ []) 5; spelled = OneAssignment (OneConditional (OneOperation (BinaryOperator {tighter = 8} (mark (codes "-") 3) (lit≤ tt) (BinaryOperator {tighter = 8} (mark (codes "-") 1) (lit≤ tt) (OneCast (OneUnary (OnePostfix (OnePrimary (OneName (word (codes "a") 0) refl))))) refl (OneCast (OneUnary (OnePostfix (OnePrimary (OneName (word (codes "b") 2) refl)))))) refl (OneCast (OneUnary (OnePostfix (OnePrimary (OneName (word (codes "c") 4) refl)))))))); last = refl }
 
 pub reads_passed_over : ReadsPassedOver
 unfolding keyword_symbol name_symbol passed_symbol mark_symbol read_as symbol_of
-reads_passed_over = record { behind = context ([] ∷ []) 2; spelled = OneAssignment (OneConditional (OneOperation (OneCast (CastOperator (mark (codes "(") 0) (mark (codes ")") 4) refl (OneTypeName ((mark (codes "*") 3) ∷ []) (BasicWords ((word (codes "char") 2) ∷ []) (refl, refl)) refl NoMoreSizes) refl (OneUnary (OnePostfix (OnePrimary (OneName (word (codes "a") 5) refl)))))))); last = refl }
+reads_passed_over = record { behind = context_at ([] ∷ []) 2; spelled = OneAssignment (OneConditional (OneOperation (OneCast (CastOperator (mark (codes "(") 0) (mark (codes ")") 4) refl (OneTypeName ((mark (codes "*") 3) ∷ []) (BasicWords ((word (codes "char") 2) ∷ []) (refl, refl)) refl NoMoreSizes) refl (OneUnary (OnePostfix (OnePrimary (OneName (word (codes "a") 5) refl)))))))); last = refl }
 
 pub reads_block : ReadsBlock
 unfolding keyword_symbol name_symbol passed_symbol mark_symbol read_as symbol_of
-reads_block = record { behind = context ([] ∷ []) 0; spelled = OneBlock (mark (codes "{") 0) (mark (codes "}") 2) refl (NextStatement (EmptyStatement (mark (codes ";") 1) refl) NoMoreItems) refl; last = refl }
+reads_block = record { behind = context_at ([] ∷ []) 0; spelled = OneBlock (mark (codes "{") 0) (mark (codes "}") 2) refl (NextStatement (EmptyStatement (mark (codes ";") 1) refl) NoMoreItems) refl; last = refl }
 
 pub reads_label : ReadsLabel
 unfolding keyword_symbol name_symbol passed_symbol mark_symbol read_as symbol_of
-reads_label = record { behind = context ([] ∷ []) 0; spelled = OneBlock (mark (codes "{") 0) (mark (codes "}") 4) refl (NextStatement (LabeledStatement (word (codes "ERROR") 1) (mark (codes ":") 2) refl refl refl (EmptyStatement (mark (codes ";") 3) refl)) NoMoreItems) refl; last = refl }
+reads_label = record { behind = context_at ([] ∷ []) 0; spelled = OneBlock (mark (codes "{") 0) (mark (codes "}") 4) refl (NextStatement (LabeledStatement (word (codes "ERROR") 1) (mark (codes ":") 2) refl refl refl (EmptyStatement (mark (codes ";") 3) refl)) NoMoreItems) refl; last = refl }

@@ -3,10 +3,6 @@ use denote.Ref.{Bor}
 use Rattle.std.specs.Prelude.{ℕ, List, map}
 use Rattle.cbase.specs.declared.tree.spec.BasicType.{BasicType}
 
--- a row of a table as the code keeps it: its text, and what it says
-abbrev pub row_read : {A : Type 0} → Bor (List ℕ) × A → List ℕ × A
-row_read row = (row.0.now, row.1)
-
 -- a text as the code keeps it
 abbrev pub text_read : Bor (List ℕ) → List ℕ
 text_read text = text.now

@@ -2,6 +2,7 @@
 use Rattle.std.specs.Prelude.{◌≡◌, ℕ, Bool, false, ◌&&◌, not, List, [], ◌∷◌, codes, take}
 use Rattle.cgrammar.specs.Firsts.{is_among}
 use Rattle.cgrammar.specs.Scope.{Names}
+use Rattle.cgrammar.specs.TypeWords.{basic_words}
 use Rattle.cgrammar.specs.Terminals.{Terminal, is_mark, IsMark, is_name, IsName, is_typedef, IsNoType}
 
 -- a label with its `:` (C11 6.8.1)
@@ -15,11 +16,6 @@ begins_with_label scopes [] = false
 begins_with_label scopes (label ∷ []) = false
 begins_with_label scopes (label ∷ (colon ∷ others)) = is_name label && (not (is_typedef scopes label) && is_mark (codes ":") colon)
 
--- the keywords that basic types are spelled by (C11 6.7.2)
-abbrev pub basic_words : List (List ℕ)
-basic_words =
-    codes "void" ∷ codes "_Bool" ∷ codes "char" ∷ codes "signed" ∷ codes "unsigned" ∷ codes "short" ∷ codes "int" ∷ codes "long" ∷ []
-
--- the token is one of these keywords
+-- the token is one of the keywords that basic types are spelled by
 abbrev pub is_basic_word : Terminal → Bool
 is_basic_word token = is_among basic_words token

@@ -61,6 +61,10 @@ pub record Context : Type 0 where
   pub scope : List Names
   pub expressions : ℕ
 
+-- these names are in scope, and so many expressions end before
+abbrev pub context_at : List Names → ℕ → Context
+context_at scope expressions = record { scope = scope; expressions = expressions }
+
 -- behind one more expression
 abbrev pub counted : Context → Context
 counted context = record { scope = context.scope; expressions = context.expressions + 1 }

@@ -1,20 +1,15 @@
 -- What is read at a token of a text: an expression or a block of at most so many levels.
-use Rattle.std.specs.Prelude.{◌≡◌, ℕ, ◌+◌, ◌-◌, ◌<◌, ◌≤◌, List, take, drop, map, length, slice_index_or}
+use Rattle.std.specs.Prelude.{◌≡◌, ℕ, ◌+◌, ◌-◌, ◌≤◌, List, take, drop, map}
 use Rattle.ctrees.specs.Weight.{joined}
 use Rattle.ctrees.specs.Levels.{depth, expr_levels, stmt_levels}
 use Rattle.cbase.specs.declared.tree.expr.Expr.{Expr}
 use Rattle.cbase.specs.declared.tree.stmt.Stmt.{Stmt}
-use Rattle.ctokens.specs.Passed.{passed_tokens}
-use Rattle.ctokens.specs.declared.token.Token.{Token}
+use Rattle.ctokens.specs.Passed.{passed_tokens, unpassed}
 use Rattle.ctokens.specs.declared.token.Tokens.{Tokens}
 use Rattle.cgrammar.specs.Grammar.{Spells}
-use Rattle.cgrammar.specs.Phrases.{Phrase, Context, Expression, CompoundStatement}
+use Rattle.cgrammar.specs.Phrases.{Phrase, Context, context_at, Expression, CompoundStatement}
 use Rattle.cgrammar.specs.Scope.{Names}
-use Rattle.cgrammar.specs.Terminals.{Terminal, terminal_of, unpassed, last_place}
-
--- each token's place has its number
-abbrev pub AreNumbered : Tokens → Type 0
-AreNumbered t = (number : ℕ) (other : Token) → number < length t.list → (slice_index_or t.list number other).place.at ≡ number
+use Rattle.cgrammar.specs.Terminals.{Terminal, terminal_of, last_place}
 
 -- the tokens from one number up to another, less those that are passed over
 abbrev pub row_between : Tokens → ℕ → ℕ → List Terminal
@@ -23,7 +18,7 @@ row_between t from to =
 
 -- these names are in scope, and no expression ends before
 abbrev pub at_first : List Names → Context
-at_first scope = record { scope = scope; expressions = 0 }
+at_first scope = context_at scope 0
 
 -- the phrase begins at the token `at`, where these names are in scope, and its last token stands before the token `after`
 pub record IsReadAt (t : Tokens) (scope : List Names) (at after : ℕ) (phrase : Phrase) : Type 0 where

@@ -1,9 +1,8 @@
 -- The tokens of a text as the grammar sees them: those that are not passed over, each with its kind, its bytes as it
 -- is read, and its place.
-use Rattle.std.specs.Prelude.{ℕ, Bool, true, false, ◌&&◌, ◌||◌, not, if◌then◌else◌, IsTrue, List, [], ◌∷◌, ◌++◌, map, codes}
+use Rattle.std.specs.Prelude.{ℕ, Bool, true, false, ◌&&◌, ◌||◌, not, if◌then◌else◌, IsTrue, List, [], ◌∷◌, ◌++◌, map, codes, nat_eq, nat_lt}
 use Rattle.std.specs.List.{list_any, filter, starts_with}
 use Rattle.std.specs.Str.{bytes_eq}
-use Rattle.std.specs.Prelude.{nat_eq}
 use Rattle.cbase.specs.declared.place.Place.{Place}
 use Rattle.ctokens.specs.declared.token.Token.{Token}
 use Rattle.ctokens.specs.declared.token.TokenKind.{TokenKind}
@@ -12,7 +11,7 @@ use Rattle.ctokens.specs.declared.token.Tokens.{Tokens}
 use Rattle.ctokens.specs.Symbol.{is_identifier}
 use Rattle.ctokens.specs.TokenSymbols.{bytes_of as token_bytes}
 use Rattle.ctokens.specs.SymbolTables.{read_as, word_symbol}
-use Rattle.ctokens.specs.Passed.{passed_tokens}
+use Rattle.ctokens.specs.Passed.{passed_tokens, unpassed}
 use Rattle.cgrammar.specs.Scope.{Names, is_typedef_name}
 
 -- a token as the grammar sees it: its kind, its bytes as they are read, and its place
@@ -33,14 +32,13 @@ bytes_read Mark bytes = bytes
 abbrev pub terminal_of : List ℕ → Token → Terminal
 terminal_of text token = record { kind = token.kind; bytes = bytes_read token.kind (token_bytes text token); place = token.place }
 
--- the tokens that are not passed over
-abbrev pub unpassed : List Bool → List Terminal → List Terminal
-unpassed (passed ∷ others) (token ∷ tokens) = if passed then unpassed others tokens else token ∷ unpassed others tokens
-unpassed _ _ = []
-
 -- the row of a text
 abbrev pub terminals : Tokens → List Terminal
 terminals t = unpassed (passed_tokens t) (map (terminal_of t.text) t.list)
+
+-- whether the token comes before that of the number
+abbrev pub comes_before : ℕ → Terminal → Bool
+comes_before number token = nat_lt token.place.at number
 
 -- whether tokens of the kind are words
 abbrev pub is_word_kind : TokenKind → Bool

@@ -9,6 +9,11 @@ use Rattle.cbase.specs.declared.tree.spec.BasicType.TheVariants.{Void, Bool as T
 use Rattle.cbase.specs.declared.tree.spec.Rank.TheVariants.{Char, Short, Int, Long, LongLong}
 use Rattle.cgrammar.specs.Terminals.{Terminal, is_any_word, IsWord, bytes_of}
 
+-- the keywords that basic types are spelled by (C11 6.7.2)
+abbrev pub basic_words : List (List ℕ)
+basic_words =
+    codes "void" ∷ codes "_Bool" ∷ codes "char" ∷ codes "signed" ∷ codes "unsigned" ∷ codes "short" ∷ codes "int" ∷ codes "long" ∷ []
+
 -- each type with the words of one way to spell it
 abbrev pub basic_rows : List (List (List ℕ) × BasicType)
 basic_rows =

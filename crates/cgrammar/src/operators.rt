@@ -1,6 +1,6 @@
 ghost use Rattle.std.specs.Prelude.{◌≡◌, map};
 ghost use Rattle.cgrammar.specs.Operators.{row_of, unary_rows, count_rows, member_rows, binary_rows, assignment_rows};
-ghost use Rattle.cgrammar.specs.CodeTables.{row_read};
+ghost use Rattle.ctokens.specs.SymbolRows.{row_read};
 
 use cbase::{BinaryOp, UnaryOp};
 

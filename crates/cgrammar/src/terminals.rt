@@ -1,10 +1,10 @@
 ghost use Rattle.std.specs.Prelude.{◌≡◌, ◌<◌, ◌≤◌, length, map, IfOk};
 ghost use Rattle.std.specs.List.{All};
-ghost use Rattle.ctokens.specs.Passed.{passed_tokens};
+ghost use Rattle.ctokens.specs.Passed.{passed_tokens, unpassed};
 ghost use Rattle.ctokens.specs.InText.{LieInText};
 ghost use Rattle.ctokens.specs.declared.token.Token.{Token};
 ghost use Rattle.cgrammar.specs.Readings.{row_between};
-ghost use Rattle.cgrammar.specs.Terminals.{terminal_of, terminals, unpassed};
+ghost use Rattle.cgrammar.specs.Terminals.{terminal_of, terminals};
 
 use crate::terminal::{Terminal, terminal_of};
 use cbase::NoMemory;

@@ -20,8 +20,9 @@ use Rattle.ctokens.specs.Passed.{passed_tokens}
 use Rattle.ctokens.specs.declared.token.Token.{Token}
 use Rattle.ctokens.specs.declared.token.Tokens.{Tokens}
 use Rattle.ctrees.specs.Levels.{item_levels}
-use Rattle.cgrammar.specs.Phrases.{Context}
-use Rattle.cgrammar.specs.Readings.{AreNumbered, most_levels, row_between}
+use Rattle.cgrammar.specs.Phrases.{Context, context_at}
+use Rattle.ctokens.specs.TokenList.{AreNumbered}
+use Rattle.cgrammar.specs.Readings.{most_levels, row_between}
 use Rattle.cgrammar.specs.Scope.{Names}
 use Rattle.cgrammar.specs.Terminals.{Terminal, terminal_of}
 use Rattle.creader.specs.ItemSteps.{item_alone}
@@ -34,7 +35,7 @@ use Rattle.cread.specs.Refusals.{IsPlaceOf, IsPlaceIn, IsRefusal, ShowsLayout}
 use Rattle.cread.specs.ItemsRead.{IsItemRead}
 use Rattle.cread.specs.Items.{SpellsItem}
 use Rattle.cbuild.specs.ItemsMade.{item_made, nothing_made}
-use Rattle.cread.specs.RowItems.{context_at, IsItemOf, IsItemOfNone, IsConstructOf, MakeItem}
+use Rattle.cread.specs.RowItems.{IsItemOf, IsItemOfNone, IsConstructOf, MakeItem}
 use Rattle.cread.specs.declared.refusal.Refusal.TheVariants.{Construct, Syntax}
 
 -- Items.
@@ -132,7 +133,7 @@ attribute_within from part (token ∷ others) number is = case (shows_layout par
     case true here further = let same : from ≡ number = cc here in record { behind = omega (arith, same); before = omega (arith, same) }
     case false later further = let there = further later in record { behind = omega (arith, there.behind); before = omega (arith, there.before) }
 
-token_within : (t : Tokens) (from to at : ℕ) (word : Terminal) → AreNumbered t → slice_get (row_between t from to) at ≡ Some word → word.place.at < length t.list
+token_within : (t : Tokens) (from to at : ℕ) (word : Terminal) → AreNumbered t.list → slice_get (row_between t from to) at ≡ Some word → word.place.at < length t.list
 token_within t from to at word numbered found =
     let Inside : Terminal → Type 0 = λ (token : Terminal). token.place.at < length t.list in
     let InsideText : Token → Type 0 = λ (token : Token). token.place.at < length t.list in
@@ -141,7 +142,7 @@ token_within t from to at word numbered found =
     (All-take Inside (to - from) (drop from (map (terminal_of t.text) t.list)) (All-drop Inside from (map (terminal_of t.text) t.list) (All-map Inside (terminal_of t.text) t.list tokens))) in
     All-at Inside (row_between t from to) at word all found
 
-layout_at_within : (t : Tokens) (from to number : ℕ) → AreNumbered t → IsLayoutAt t from to number → number < length t.list
+layout_at_within : (t : Tokens) (from to number : ℕ) → AreNumbered t.list → IsLayoutAt t from to number → number < length t.list
 layout_at_within t from to number numbered (ByAttribute _ is) =
     let within = attribute_within from (outside false) (tokens_between t from to) number is in
     let some = length-take (to - from) (drop from (map (terminal_of t.text) t.list)) in
@@ -151,7 +152,7 @@ layout_at_within t from to number numbered (ByAttribute _ is) =
 layout_at_within t from to _ numbered (ByPragma at line word found full first behind) = token_within t from to at word numbered found
 
 -- of an answer that is the first change of layout
-pub layout_within : (t : Tokens) (from to : ℕ) (answer : Option ℕ) (number : ℕ) → AreNumbered t → ((number : ℕ) → (answer ≡ Some number) ↔ IsFirstLayout t from to number)
+pub layout_within : (t : Tokens) (from to : ℕ) (answer : Option ℕ) (number : ℕ) → AreNumbered t.list → ((number : ℕ) → (answer ≡ Some number) ↔ IsFirstLayout t from to number)
     → answer ≡ Some number → number < length t.list
 layout_within t from to answer number numbered exact is = let first = (exact number).0 is in layout_at_within t from to number numbered first.is
 

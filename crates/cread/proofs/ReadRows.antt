@@ -10,7 +10,7 @@ use Rattle.cgrammar.proofs.Sound.{sound_level}
 use Rattle.cgrammar.proofs.SoundSteps.{Sound, Got}
 use Rattle.cgrammar.specs.Outcomes.{Outcome}
 use Rattle.cgrammar.specs.Outcomes as outcome
-use Rattle.cgrammar.specs.Phrases.{Context}
+use Rattle.cgrammar.specs.Phrases.{Context, context_at}
 use Rattle.cgrammar.specs.Reader.{level}
 use Rattle.cgrammar.specs.Scope.{Names}
 use Rattle.cgrammar.specs.Terminals.{Terminal}
@@ -28,7 +28,6 @@ use Rattle.cread.proofs.Complete.{complete_item}
 use Rattle.cread.proofs.Sound.{says_external, sound_item}
 use Rattle.cread.specs.Items.{SpellsItem}
 use Rattle.cread.specs.ReadItem.{read_external}
-use Rattle.cread.specs.RowItems.{context_at}
 
 -- the row is spelled, and the events make its item
 pub record RowRead (most : ℕ) (before : Context) (row : List Terminal) (u : State) : Type 0 where

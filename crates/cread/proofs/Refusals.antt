@@ -14,10 +14,10 @@ use Rattle.cconstructs.proofs.First.{first_exact}
 use Rattle.cgrammar.specs.Phrases.{Context}
 use Rattle.cgrammar.specs.Readings.{row_between}
 use Rattle.cgrammar.specs.Operators.{row_of}
-use Rattle.cgrammar.specs.Terminals.{Terminal, terminal_of, unpassed}
+use Rattle.cgrammar.specs.Terminals.{Terminal, terminal_of}
 use Rattle.ctokens.specs.declared.token.Token.{Token}
 use Rattle.ctokens.specs.declared.token.Tokens.{Tokens}
-use Rattle.ctokens.specs.Passed.{passed_tokens}
+use Rattle.ctokens.specs.Passed.{passed_tokens, unpassed}
 use Rattle.ctokens.specs.TokenList.{HasNamedFiles}
 use Rattle.cread.specs.Refusals.{IsPlaceIn, IsPlaceOf, IsRefusal, ShowsConstruct, ShowsLayout}
 use Rattle.cread.specs.ItemsRead.{IsItemRead}

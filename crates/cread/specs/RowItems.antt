@@ -14,10 +14,6 @@ use Rattle.cgrammar.specs.Terminals.{Terminal}
 use Rattle.cread.specs.Refusals.{IsPlaceIn}
 use Rattle.cread.specs.Items.{SpellsItem}
 
--- these names are in scope, and so many expressions end before
-abbrev pub context_at : List Names → ℕ → Context
-context_at scope expressions = record { scope = scope; expressions = expressions }
-
 -- the row is the item, which has few enough levels
 pub record IsItemOf (row : List Terminal) (before : Context) (item : Item) (after : Context) : Type 0 where
   pub spelled : SpellsItem item before row after

@@ -1,6 +1,7 @@
 ghost use Rattle.std.specs.Prelude.{◌≡◌, ◌<◌, ◌≤◌, IfOk, length};
 ghost use Rattle.ctokens.specs.InText.{LieInText};
-ghost use Rattle.cgrammar.specs.Readings.{AreNumbered, at_first};
+ghost use Rattle.ctokens.specs.TokenList.{AreNumbered};
+ghost use Rattle.cgrammar.specs.Readings.{at_first};
 ghost use Rattle.cread.specs.ItemAnswers.{IsAnswer, answer_of};
 
 use crate::reading_item::{ReadIn, read_item_in};
@@ -35,7 +36,7 @@ pub fn read_item(
     scope: &Scope,
 ) -> Result<ItemAnswer, NoMemory>
     requires text { LieInText t.now }
-    requires numbered { AreNumbered t.now }
+    requires numbered { AreNumbered t.now.list }
     requires some { span.now.first < span.now.after }
     requires inside { span.now.after ≤ length t.now.list }
     ensures { IfOk result (λ answer. IsAnswer t.now span.now.first span.now.after (at_first scope.now) answer) }

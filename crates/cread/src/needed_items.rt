@@ -2,8 +2,7 @@ ghost use Rattle.std.specs.Prelude.{◌≡◌, ◌++◌, [], Ok, IfOk, OnOk, len
 ghost use Rattle.std.specs.List.{All};
 ghost use Rattle.ctokens.specs.Items.{IsItems};
 ghost use Rattle.ctokens.specs.InText.{LieInText};
-ghost use Rattle.ctokens.specs.TokenList.{HasNamedFiles};
-ghost use Rattle.cgrammar.specs.Readings.{AreNumbered};
+ghost use Rattle.ctokens.specs.TokenList.{HasNamedFiles, AreNumbered};
 ghost use Rattle.cread.specs.Needed.{AreAnswered, IsSpanAmong, spans_of, with_span};
 ghost use Rattle.cread.specs.Named.{IsNamed};
 
@@ -36,7 +35,7 @@ pub fn read_needed(
     numbers: &[u32],
 ) -> Result<ReadNeeded, NoMemory>
     requires text { LieInText t.now }
-    requires numbered { AreNumbered t.now }
+    requires numbered { AreNumbered t.now.list }
     requires spans { IsItems t.now (Ok items.now) }
     requires named { HasNamedFiles t.now }
     ensures answered { IfOk result (AreAnswered t.now (spans_of items.now numbers.now)) }
@@ -78,7 +77,7 @@ fn push_found(spans: &mut List<ItemSpan>, found: Option<ItemSpan>) -> Result<(),
 /// Reads these items, one behind the other, from the beginning of a file.
 fn read_all(alloc: Global, t: &Tokens, spans: &[ItemSpan]) -> Result<ReadNeeded, NoMemory>
     requires text { LieInText t.now }
-    requires numbered { AreNumbered t.now }
+    requires numbered { AreNumbered t.now.list }
     requires some { All (IsSpanAmong (length t.now.list)) spans.now }
     ensures { IfOk result (AreAnswered t.now spans.now) }
 {

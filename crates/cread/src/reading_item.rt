@@ -1,15 +1,16 @@
 ghost use Rattle.std.specs.Prelude.{◌≡◌, ◌<◌, ◌≤◌, IfNone, IfOk, IfSome, length};
 ghost use Rattle.ctokens.specs.Passed.{passed_tokens};
 ghost use Rattle.ctokens.specs.InText.{LieInText};
-ghost use Rattle.cgrammar.specs.Phrases.{Context};
-ghost use Rattle.cgrammar.specs.Readings.{AreNumbered, row_between};
+ghost use Rattle.cgrammar.specs.Phrases.{Context, context_at};
+ghost use Rattle.ctokens.specs.TokenList.{AreNumbered};
+ghost use Rattle.cgrammar.specs.Readings.{row_between};
 ghost use Rattle.cconstructs.specs.Constructs.{HasNoConstruct};
 ghost use Rattle.cconstructs.specs.Layout.{HasNoLayout};
 ghost use Rattle.cread.specs.ReadIn.{IsReadIn};
 ghost use Rattle.cread.specs.Refusals.{IsPlaceIn, IsPlaceOf, IsRefusal, ShowsLayout};
 ghost use Rattle.cevents.specs.Building.{built_all};
 ghost use Rattle.cbuild.specs.ItemsMade.{item_made, nothing_made};
-ghost use Rattle.cread.specs.RowItems.{IsConstructOf, IsItemOf, IsItemOfNone, MakeItem, context_at};
+ghost use Rattle.cread.specs.RowItems.{IsConstructOf, IsItemOf, IsItemOfNone, MakeItem};
 
 use crate::refusal::Refusal;
 use cbase::{Item, NoMemory, Place};
@@ -56,7 +57,7 @@ pub fn read_item_in(
     expressions: u32,
 ) -> Result<ReadIn, NoMemory>
     requires text { LieInText t.now }
-    requires numbered { AreNumbered t.now }
+    requires numbered { AreNumbered t.now.list }
     requires passed { passed.now ≡ passed_tokens t.now }
     requires some { span.first < span.after }
     requires inside { span.after ≤ length t.now.list }
@@ -182,7 +183,7 @@ fn place_in(row: &[Terminal<'_>], at: usize) -> Place
 /// The place of the first change of layout in an item.
 fn layout_place(t: &Tokens, row: &[Terminal<'_>], from: u32, to: u32) -> Option<Place>
     requires text { LieInText t.now }
-    requires numbered { AreNumbered t.now }
+    requires numbered { AreNumbered t.now.list }
     requires same { row.now ≡ row_between t.now from to }
     ensures found { IfSome result (λ place. ShowsLayout t.now from to 7 place) }
     ensures none { IfNone result (HasNoLayout t.now from to) }

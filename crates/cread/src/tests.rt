@@ -1,7 +1,7 @@
 ghost use Rattle.std.specs.Prelude.{◌≡◌, IfOk, IfSome};
 ghost use Rattle.ctokens.specs.Passed.{passed_tokens};
 ghost use Rattle.ctokens.specs.InText.{LieInText};
-ghost use Rattle.cgrammar.specs.Readings.{AreNumbered};
+ghost use Rattle.ctokens.specs.TokenList.{AreNumbered};
 
 use crate::{ItemAnswer, ReadIn, read_item, read_item_in, scope_after};
 use cbase::NoMemory;
@@ -16,7 +16,7 @@ mod items;
 /// The tokens of a text, where it has any and is not too long.
 fn cut(alloc: Global, text: &[u8]) -> Result<Option<Tokens>, NoMemory>
     ensures text { IfOk result (λ answer. IfSome answer LieInText) }
-    ensures numbered { IfOk result (λ answer. IfSome answer AreNumbered) }
+    ensures numbered { IfOk result (λ answer. IfSome answer (λ t. AreNumbered t.list)) }
 {
     if text.len() > 4_194_304 {
         return Ok(None);
@@ -36,7 +36,7 @@ fn behind_item(
     scope: Scope,
 ) -> Result<Option<Scope>, NoMemory>
     requires text { LieInText t.now }
-    requires numbered { AreNumbered t.now }
+    requires numbered { AreNumbered t.now.list }
     requires passed { passed.now ≡ passed_tokens t.now }
 {
     if span.first >= span.after {
@@ -54,7 +54,7 @@ fn behind_item(
 /// The names in scope behind items of a text, one behind the other from its beginning, where each is read.
 fn behind_items(alloc: Global, t: &Tokens, spans: &[ItemSpan]) -> Result<Option<Scope>, NoMemory>
     requires text { LieInText t.now }
-    requires numbered { AreNumbered t.now }
+    requires numbered { AreNumbered t.now.list }
 {
     let passed = passed_over(alloc, t)?;
     let mut scope = Scope::new(alloc)?;
@@ -83,7 +83,7 @@ fn shown(alloc: Global, answer: &ItemAnswer) -> Result<String, NoMemory> {
 /// What is answered of an item, where these names are in scope.
 fn shown_item(alloc: Global, t: &Tokens, span: &ItemSpan, scope: &Scope) -> Result<String, NoMemory>
     requires text { LieInText t.now }
-    requires numbered { AreNumbered t.now }
+    requires numbered { AreNumbered t.now.list }
 {
     if span.first >= span.after {
         return Ok(String::from_str(alloc, "no token")?);
@@ -98,7 +98,7 @@ fn shown_item(alloc: Global, t: &Tokens, span: &ItemSpan, scope: &Scope) -> Resu
 /// What is answered of the last of these items, where each before it is read.
 fn shown_last(alloc: Global, t: &Tokens, spans: &[ItemSpan]) -> Result<String, NoMemory>
     requires text { LieInText t.now }
-    requires numbered { AreNumbered t.now }
+    requires numbered { AreNumbered t.now.list }
 {
     let count = spans.len();
     if count == 0 {
@@ -198,7 +198,7 @@ fn is_typedef_behind(
     scope: &Scope,
 ) -> Result<bool, NoMemory>
     requires text { LieInText t.now }
-    requires numbered { AreNumbered t.now }
+    requires numbered { AreNumbered t.now.list }
 {
     if span.first >= span.after {
         return Ok(false);

@@ -5,16 +5,16 @@ use Rattle.cbase.specs.declared.tree.expr.Expr.{Expr}
 use Rattle.cbase.specs.declared.tree.stmt.Stmt.{Stmt}
 use Rattle.cevents.specs.Building.{built_all}
 use Rattle.cevents.specs.declared.event.Event.{Event}
-use Rattle.cgrammar.proofs.Between.{comes_before}
 use Rattle.cgrammar.proofs.Exact.{expressions_complete, expressions_sound, blocks_complete, blocks_sound}
 use Rattle.cgrammar.proofs.ReadAt.{Leaves, row_from, row_at, longest_there, none_there, block_there, no_block_there}
 use Rattle.cgrammar.specs.Outcomes.{Outcome}
 use Rattle.cgrammar.specs.Outcomes as outcome
 use Rattle.cgrammar.specs.ReadStatements.{read_block}
 use Rattle.cgrammar.specs.Reader.{level}
-use Rattle.cgrammar.specs.Readings.{AreNumbered, at_first, IsExpressionAt, IsLongestExpressionAt, IsBlockAt}
+use Rattle.ctokens.specs.TokenList.{AreNumbered}
+use Rattle.cgrammar.specs.Readings.{at_first, IsExpressionAt, IsLongestExpressionAt, IsBlockAt}
 use Rattle.cgrammar.specs.Scope.{Names}
-use Rattle.cgrammar.specs.Terminals.{Terminal, terminals, last_place}
+use Rattle.cgrammar.specs.Terminals.{Terminal, terminals, last_place, comes_before}
 use Rattle.creader.specs.ReadingSteps.{reads, inner_at}
 use Rattle.creader.specs.State.{State, rest, is_nothing}
 use Rattle.creader.specs.StatementSteps.{block}
@@ -51,7 +51,7 @@ ready_at {t} {at} {s} starts = record {
       (subst (λ (number : ℕ). number ≤ length (terminals t)) (sym starts.number) (prefix_within (comes_before at) (terminals t)));
 }
 
-rest_at : {t : Tokens} {scope : List Names} {at : ℕ} {s : State} → AreNumbered t → StartsAt t scope at s → rest s ≡ row_from t at
+rest_at : {t : Tokens} {scope : List Names} {at : ℕ} {s : State} → AreNumbered t.list → StartsAt t scope at s → rest s ≡ row_from t at
 rest_at {t} {at} {s} numbered starts =
     let there : drop s.at s.row ≡ drop (prefix_len (comes_before at) (terminals t)) (terminals t) = λ i. drop (starts.number i) (starts.row i) in
     there ∙ row_at t at numbered
@@ -107,13 +107,13 @@ pub record ExpressionRead (most : ℕ) (t : Tokens) (scope : List Names) (at : �
   pub built : built_all (terminals t) u.events (shop 0 []) ≡ shop count (expr_piece expr [])
   pub longest : IsLongestExpressionAt most t scope at ((last_place (take u.at (terminals t))).at + 1) expr
 
-expression_is : {t : Tokens} {scope : List Names} {at : ℕ} {s : State} (most : ℕ) → AreNumbered t → StartsAt t scope at s
+expression_is : {t : Tokens} {scope : List Names} {at : ℕ} {s : State} (most : ℕ) → AreNumbered t.list → StartsAt t scope at s
     → (level most).expression (context_of s 0) (rest s) ≡ (level most).expression (at_first scope) (row_from t at)
 expression_is {s} most numbered starts =
     let row = rest_at numbered starts in
     λ i. (level most).expression (at_first (starts.names i)) (row i)
 
-pub expression_read : (most : ℕ) (t : Tokens) (scope : List Names) (at : ℕ) (s : State) → AreNumbered t → StartsAt t scope at s
+pub expression_read : (most : ℕ) (t : Tokens) (scope : List Names) (at : ℕ) (s : State) → AreNumbered t.list → StartsAt t scope at s
     → is_nothing (reads most wanted.Expression s).status ≡ false → ExpressionRead most t scope at (reads most wanted.Expression s)
 expression_read most t scope at s numbered starts some =
     let u : State = reads most wanted.Expression s in
@@ -128,7 +128,7 @@ expression_read most t scope at s numbered starts some =
           (expression_is most numbered starts) (leaves_there t _ made.tree s u made.row starts.row made.leaves);
     }
 
-pub no_expression_read : (most : ℕ) (t : Tokens) (scope : List Names) (at : ℕ) (s : State) → AreNumbered t → StartsAt t scope at s
+pub no_expression_read : (most : ℕ) (t : Tokens) (scope : List Names) (at : ℕ) (s : State) → AreNumbered t.list → StartsAt t scope at s
     → (reads most wanted.Expression s).status ≡ Nothing → (expr : Expr) (after : ℕ) → IsExpressionAt most t scope at after expr → ⊥
 no_expression_read most t scope at s numbered starts nothing =
     let agree = levels_agree most in
@@ -142,13 +142,13 @@ pub record BlockRead (most : ℕ) (t : Tokens) (scope : List Names) (at : ℕ) (
   pub built : built_all (terminals t) u.events (shop 0 []) ≡ shop count (body_piece body [])
   pub is : IsBlockAt most t scope at ((last_place (take u.at (terminals t))).at + 1) body
 
-block_is : {t : Tokens} {scope : List Names} {at : ℕ} {s : State} (most : ℕ) → AreNumbered t → StartsAt t scope at s
+block_is : {t : Tokens} {scope : List Names} {at : ℕ} {s : State} (most : ℕ) → AreNumbered t.list → StartsAt t scope at s
     → read_block (level most) (context_of s 0) (rest s) ≡ read_block (level most) (at_first scope) (row_from t at)
 block_is {s} most numbered starts =
     let row = rest_at numbered starts in
     λ i. read_block (level most) (at_first (starts.names i)) (row i)
 
-pub block_read : (most : ℕ) (t : Tokens) (scope : List Names) (at : ℕ) (s : State) → AreNumbered t → StartsAt t scope at s
+pub block_read : (most : ℕ) (t : Tokens) (scope : List Names) (at : ℕ) (s : State) → AreNumbered t.list → StartsAt t scope at s
     → is_nothing (block (inner_at most) s).status ≡ false → BlockRead most t scope at (block (inner_at most) s)
 block_read most t scope at s numbered starts some =
     let u : State = block (inner_at most) s in
@@ -162,7 +162,7 @@ block_read most t scope at s numbered starts some =
           (block_is most numbered starts) (leaves_there t _ made.tree s u made.row starts.row made.leaves);
     }
 
-pub no_block_read : (most : ℕ) (t : Tokens) (scope : List Names) (at : ℕ) (s : State) → AreNumbered t → StartsAt t scope at s
+pub no_block_read : (most : ℕ) (t : Tokens) (scope : List Names) (at : ℕ) (s : State) → AreNumbered t.list → StartsAt t scope at s
     → (block (inner_at most) s).status ≡ Nothing → (body : List Stmt) (after : ℕ) → IsBlockAt most t scope at after body → ⊥
 no_block_read most t scope at s numbered starts nothing =
     no_block_there blocks_complete t scope at most

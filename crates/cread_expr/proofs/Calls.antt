@@ -6,16 +6,17 @@ use Rattle.cbase.specs.declared.tree.expr.Expr.{Expr}
 use Rattle.cbase.specs.declared.tree.stmt.Stmt.{Stmt}
 use Rattle.cevents.specs.Building.{built_all}
 use Rattle.cevents.specs.Workshop.{start, expr_alone, block_alone}
-use Rattle.cgrammar.specs.Readings.{AreNumbered, IsExpressionAt, IsLongestExpressionAt, IsBlockAt}
+use Rattle.ctokens.specs.TokenList.{AreNumbered}
+use Rattle.cgrammar.specs.Readings.{IsExpressionAt, IsLongestExpressionAt, IsBlockAt}
 use Rattle.cgrammar.specs.Scope.{Names}
-use Rattle.cgrammar.specs.Terminals.{Terminal, terminals, last_place}
+use Rattle.cgrammar.specs.Terminals.{Terminal, terminals, last_place, comes_before}
 use Rattle.creader.specs.ReadingSteps.{reads, inner_at}
 use Rattle.creader.specs.State.{State, is_nothing}
 use Rattle.creader.specs.StatementSteps.{block}
 use Rattle.creader.specs.Writings.{Writing, start_at, written_of}
 use Rattle.creader.specs.declared.wanted.Wanted.TheVariants as wanted
 use Rattle.ctokens.specs.declared.token.Tokens.{Tokens}
-use Rattle.cread_expr.specs.Exactly.{at_token, comes_before}
+use Rattle.cread_expr.specs.Exactly.{at_token}
 use Rattle.cread_expr.proofs.Agreement.{starts_there, is_something, is_no_more, expression_read, no_expression_read, block_read, no_block_read}
 
 is_some : {A : Type 0} (found : Option A) (tree : A) → found ≡ Some tree → IsSome found
@@ -24,7 +25,7 @@ is_some found tree is = subst (λ (o : Option _). IsSome o) (sym is) refl
 same_some : {A : Type 0} (found : Option A) (tree other : A) → found ≡ Some tree → found ≡ Some other → tree ≡ other
 same_some found tree other is also = let both = sym is ∙ also in cc
 
-module _ (most : ℕ) (t : Tokens) (scope : List Names) (at : ℕ) (numbered : AreNumbered t) where
+module _ (most : ℕ) (t : Tokens) (scope : List Names) (at : ℕ) (numbered : AreNumbered t.list) where
   abbrev expression_end : State
   expression_end = reads most wanted.Expression (at_token t scope at)
 
@@ -64,7 +65,7 @@ module _ (most : ℕ) (t : Tokens) (scope : List Names) (at : ℕ) (numbered : A
   no_block none = no_block_read most t scope at (at_token t scope at) numbered (starts_there t scope at) (is_no_more block_end.status none)
 
 -- The same of what the code has: its row, the number of tokens before the place, and what is written.
-pub expression_built : (most : ℕ) (t : Tokens) (scope : List Names) (at first : ℕ) (row : List Terminal) (written : Writing) → AreNumbered t
+pub expression_built : (most : ℕ) (t : Tokens) (scope : List Names) (at first : ℕ) (row : List Terminal) (written : Writing) → AreNumbered t.list
     → row ≡ terminals t → first ≡ prefix_len (comes_before at) row → written ≡ written_of (reads most wanted.Expression (start_at row first scope))
     → written.found ≡ true → IsSome (expr_alone (built_all row written.events (Some start)))
 expression_built most t scope at first row written numbered rows firsts is found =
@@ -74,7 +75,7 @@ expression_built most t scope at first row written numbered rows firsts is found
     (subst (λ (r : List Terminal). IsSome (expr_alone (built_all r (reads most wanted.Expression (at_token t scope at)).events (Some start)))) (sym rows)
     (expression_made most t scope at numbered (sym (ap (λ (w : Writing). w.found) same) ∙ found)))
 
-pub expression_is_longest : (most : ℕ) (t : Tokens) (scope : List Names) (at first : ℕ) (row : List Terminal) (written : Writing) → AreNumbered t
+pub expression_is_longest : (most : ℕ) (t : Tokens) (scope : List Names) (at first : ℕ) (row : List Terminal) (written : Writing) → AreNumbered t.list
     → row ≡ terminals t → first ≡ prefix_len (comes_before at) row → written ≡ written_of (reads most wanted.Expression (start_at row first scope))
     → written.found ≡ true → (expr : Expr) (after : ℕ) → expr_alone (built_all row written.events (Some start)) ≡ Some expr
     → after ≡ (last_place (take written.at row)).at + 1 → IsLongestExpressionAt most t scope at after expr
@@ -85,7 +86,7 @@ expression_is_longest most t scope at first row written numbered rows firsts is 
     (sym (λ i. expr_alone (built_all (rows i) ((same i).events) (Some start))) ∙ made)
     (end ∙ (λ i. (last_place (take ((same i).at) (rows i))).at + 1))
 
-pub expression_is_none : (most : ℕ) (t : Tokens) (scope : List Names) (at first : ℕ) (row : List Terminal) (written : Writing) → AreNumbered t
+pub expression_is_none : (most : ℕ) (t : Tokens) (scope : List Names) (at first : ℕ) (row : List Terminal) (written : Writing) → AreNumbered t.list
     → row ≡ terminals t → first ≡ prefix_len (comes_before at) row → written ≡ written_of (reads most wanted.Expression (start_at row first scope))
     → written.found ≡ false → (expr : Expr) (after : ℕ) → IsExpressionAt most t scope at after expr → ⊥
 expression_is_none most t scope at first row written numbered rows firsts is none =
@@ -93,7 +94,7 @@ expression_is_none most t scope at first row written numbered rows firsts is non
     is ∙ (λ i. written_of (reads most wanted.Expression (start_at (rows i) ((firsts ∙ ap (prefix_len (comes_before at)) rows) i) scope))) in
     no_expression most t scope at numbered (sym (ap (λ (w : Writing). w.found) same) ∙ none)
 
-pub block_built : (most : ℕ) (t : Tokens) (scope : List Names) (at first : ℕ) (row : List Terminal) (written : Writing) → AreNumbered t
+pub block_built : (most : ℕ) (t : Tokens) (scope : List Names) (at first : ℕ) (row : List Terminal) (written : Writing) → AreNumbered t.list
     → row ≡ terminals t → first ≡ prefix_len (comes_before at) row → written ≡ written_of (block (inner_at most) (start_at row first scope))
     → written.found ≡ true → IsSome (block_alone (built_all row written.events (Some start)))
 block_built most t scope at first row written numbered rows firsts is found =
@@ -103,7 +104,7 @@ block_built most t scope at first row written numbered rows firsts is found =
     (subst (λ (r : List Terminal). IsSome (block_alone (built_all r (block (inner_at most) (at_token t scope at)).events (Some start)))) (sym rows)
     (block_made most t scope at numbered (sym (ap (λ (w : Writing). w.found) same) ∙ found)))
 
-pub block_is_there : (most : ℕ) (t : Tokens) (scope : List Names) (at first : ℕ) (row : List Terminal) (written : Writing) → AreNumbered t
+pub block_is_there : (most : ℕ) (t : Tokens) (scope : List Names) (at first : ℕ) (row : List Terminal) (written : Writing) → AreNumbered t.list
     → row ≡ terminals t → first ≡ prefix_len (comes_before at) row → written ≡ written_of (block (inner_at most) (start_at row first scope))
     → written.found ≡ true → (body : List Stmt) (after : ℕ) → block_alone (built_all row written.events (Some start)) ≡ Some body
     → after ≡ (last_place (take written.at row)).at + 1 → IsBlockAt most t scope at after body
@@ -114,7 +115,7 @@ block_is_there most t scope at first row written numbered rows firsts is found b
     (sym (λ i. block_alone (built_all (rows i) ((same i).events) (Some start))) ∙ made)
     (end ∙ (λ i. (last_place (take ((same i).at) (rows i))).at + 1))
 
-pub block_is_none : (most : ℕ) (t : Tokens) (scope : List Names) (at first : ℕ) (row : List Terminal) (written : Writing) → AreNumbered t
+pub block_is_none : (most : ℕ) (t : Tokens) (scope : List Names) (at first : ℕ) (row : List Terminal) (written : Writing) → AreNumbered t.list
     → row ≡ terminals t → first ≡ prefix_len (comes_before at) row → written ≡ written_of (block (inner_at most) (start_at row first scope))
     → written.found ≡ false → (body : List Stmt) (after : ℕ) → IsBlockAt most t scope at after body → ⊥
 block_is_none most t scope at first row written numbered rows firsts is none =

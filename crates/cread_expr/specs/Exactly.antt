@@ -1,24 +1,21 @@
 -- What the reader writes at a token of a text, and what the grammar has there.
-use Rattle.std.specs.Prelude.{◌≡◌, ℕ, ◌+◌, true, false, nat_lt, Bool, List, [], take, Some}
+use Rattle.std.specs.Prelude.{◌≡◌, ℕ, ◌+◌, true, false, List, [], take, Some}
 use Rattle.std.specs.List.{prefix_len}
 use Rattle.cbase.specs.declared.tree.expr.Expr.{Expr}
 use Rattle.cbase.specs.declared.tree.stmt.Stmt.{Stmt}
 use Rattle.cevents.specs.Building.{built_all}
 use Rattle.cevents.specs.Workshop.{pushed, start}
 use Rattle.cevents.specs.declared.piece.Piece.TheVariants as piece
-use Rattle.cgrammar.specs.Readings.{AreNumbered, IsExpressionAt, IsLongestExpressionAt, IsBlockAt}
+use Rattle.ctokens.specs.TokenList.{AreNumbered}
+use Rattle.cgrammar.specs.Readings.{IsExpressionAt, IsLongestExpressionAt, IsBlockAt}
 use Rattle.cgrammar.specs.Scope.{Names}
-use Rattle.cgrammar.specs.Terminals.{Terminal, terminals, last_place}
+use Rattle.cgrammar.specs.Terminals.{terminals, last_place, comes_before}
 use Rattle.creader.specs.ReadingSteps.{reads, inner_at}
 use Rattle.creader.specs.State.{State}
 use Rattle.creader.specs.StatementSteps.{block}
 use Rattle.creader.specs.Writings.{Writing, start_at, written_of}
 use Rattle.creader.specs.declared.wanted.Wanted.TheVariants as wanted
 use Rattle.ctokens.specs.declared.token.Tokens.{Tokens}
-
--- the token comes before that of the number
-abbrev pub comes_before : ℕ → Terminal → Bool
-comes_before number token = nat_lt token.place.at number
 
 -- the reader at a token of a text, before it reads
 abbrev pub at_token : Tokens → List Names → ℕ → State
@@ -59,9 +56,9 @@ pub record IsExactBlock (most : ℕ) (t : Tokens) (scope : List Names) (at : ℕ
 -- expressions are written exactly: in every text, at every token, with any names in scope
 abbrev pub ExpressionsAreExact : Type 0
 ExpressionsAreExact =
-    (most : ℕ) (t : Tokens) (scope : List Names) (at : ℕ) → AreNumbered t → IsExactExpression most t scope at (expression_written most t scope at)
+    (most : ℕ) (t : Tokens) (scope : List Names) (at : ℕ) → AreNumbered t.list → IsExactExpression most t scope at (expression_written most t scope at)
 
 -- blocks are written exactly: in every text, at every token, with any names in scope
 abbrev pub BlocksAreExact : Type 0
 BlocksAreExact =
-    (most : ℕ) (t : Tokens) (scope : List Names) (at : ℕ) → AreNumbered t → IsExactBlock most t scope at (block_written most t scope at)
+    (most : ℕ) (t : Tokens) (scope : List Names) (at : ℕ) → AreNumbered t.list → IsExactBlock most t scope at (block_written most t scope at)

@@ -2,7 +2,8 @@ ghost use Rattle.std.specs.Prelude.{◌≡◌, ◌+◌, ℕ, List, false, true, 
 ghost use Rattle.cbase.specs.declared.tree.stmt.Stmt.{Stmt};
 ghost use Rattle.cevents.specs.Building.{built_all};
 ghost use Rattle.cevents.specs.Workshop.{block_alone, start};
-ghost use Rattle.cgrammar.specs.Readings.{AreNumbered, IsBlockAt, most_levels};
+ghost use Rattle.ctokens.specs.TokenList.{AreNumbered};
+ghost use Rattle.cgrammar.specs.Readings.{IsBlockAt, most_levels};
 ghost use Rattle.cgrammar.specs.Terminals.{last_place};
 ghost use Rattle.ctokens.specs.InText.{LieInText};
 
@@ -34,7 +35,7 @@ pub fn read_block(
     at: u32,
 ) -> Result<Option<ReadBlock>, NoMemory>
     requires text { LieInText t.now }
-    requires numbered { AreNumbered t.now }
+    requires numbered { AreNumbered t.now.list }
     ensures block { IfOk result (λ found. IfSome found (λ read. IsBlockAt most_levels t.now scope.now at read.after read.body)) }
     ensures none { IfOk result (λ found. IfNone found ((body : List Stmt) (after : ℕ) → IsBlockAt most_levels t.now scope.now at after body → ⊥)) }
 {

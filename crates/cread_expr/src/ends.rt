@@ -1,7 +1,6 @@
 ghost use Rattle.std.specs.Prelude.{◌≡◌, ◌+◌, take, IfOk};
 ghost use Rattle.std.specs.List.{prefix_len};
-ghost use Rattle.cgrammar.specs.Terminals.{last_place};
-ghost use Rattle.cread_expr.specs.Exactly.{comes_before};
+ghost use Rattle.cgrammar.specs.Terminals.{last_place, comes_before};
 
 use cbase::{NoMemory, Place};
 use cgrammar::Terminal;

@@ -2,7 +2,8 @@ ghost use Rattle.std.specs.Prelude.{◌≡◌, ◌+◌, ℕ, false, true, take, 
 ghost use Rattle.cbase.specs.declared.tree.expr.Expr.{Expr};
 ghost use Rattle.cevents.specs.Building.{built_all};
 ghost use Rattle.cevents.specs.Workshop.{expr_alone, start};
-ghost use Rattle.cgrammar.specs.Readings.{AreNumbered, IsExpressionAt, IsLongestExpressionAt, most_levels};
+ghost use Rattle.ctokens.specs.TokenList.{AreNumbered};
+ghost use Rattle.cgrammar.specs.Readings.{IsExpressionAt, IsLongestExpressionAt, most_levels};
 ghost use Rattle.cgrammar.specs.Terminals.{last_place};
 ghost use Rattle.ctokens.specs.InText.{LieInText};
 
@@ -34,7 +35,7 @@ pub fn read_expr(
     at: u32,
 ) -> Result<Option<ReadExpr>, NoMemory>
     requires text { LieInText t.now }
-    requires numbered { AreNumbered t.now }
+    requires numbered { AreNumbered t.now.list }
     ensures longest { IfOk result (λ found. IfSome found (λ read. IsLongestExpressionAt most_levels t.now scope.now at read.after read.expr)) }
     ensures none { IfOk result (λ found. IfNone found ((expr : Expr) (after : ℕ) → IsExpressionAt most_levels t.now scope.now at after expr → ⊥)) }
 {

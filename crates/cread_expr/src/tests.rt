@@ -1,6 +1,6 @@
 ghost use Rattle.std.specs.Prelude.{IfOk, IfSome};
 ghost use Rattle.ctokens.specs.InText.{LieInText};
-ghost use Rattle.cgrammar.specs.Readings.{AreNumbered};
+ghost use Rattle.ctokens.specs.TokenList.{AreNumbered};
 
 use crate::{Scope, read_block, read_expr};
 use cbase::{BinaryOp, Expr, ExprForm, NoMemory};
@@ -15,7 +15,7 @@ mod trees;
 /// The tokens of a text, where it has any and is not too long.
 fn cut(alloc: Global, text: &[u8]) -> Result<Option<Tokens>, NoMemory>
     ensures text { IfOk result (λ answer. IfSome answer LieInText) }
-    ensures numbered { IfOk result (λ answer. IfSome answer AreNumbered) }
+    ensures numbered { IfOk result (λ answer. IfSome answer (λ t. AreNumbered t.list)) }
 {
     if text.len() > 4_194_304 {
         return Ok(None);

@@ -4,9 +4,12 @@ ghost use Rattle.cgrammar.specs.Outcomes.{has_mark, has_first};
 ghost use Rattle.cgrammar.specs.ReadTypes.{star_count};
 ghost use Rattle.cgrammar.specs.Terminals.{is_word, is_name, begins_with_typedef};
 ghost use Rattle.creader.specs.State.{rest, goes, point_of};
+ghost use Rattle.creader.specs.Writings.{item_written_of, start_at, written_of};
 
 use crate::point::Point;
 use crate::status::Status;
+use crate::written::Written;
+use crate::written_item::WrittenItem;
 use cevents::Event;
 use cgrammar::{Scope, Terminal, begins_declaration, begins_type, stars_length};
 use std::alloc::Global;
@@ -46,6 +49,44 @@ impl<'a> Model for Reader<'a> {
 }
 
 impl<'a> Reader<'a> {
+    /// A reader at the token of the row with the number `at`, which has read nothing yet.
+    pub fn new(alloc: Global, row: &'a [Terminal<'a>], at: usize, scope: Scope) -> Reader<'a>
+        ensures { result ≡ start_at row.now at scope }
+    {
+        Reader {
+            alloc,
+            row,
+            at,
+            status: Status::Going,
+            levels: 0,
+            unary: false,
+            scope,
+            events: Vec::new(alloc),
+        }
+    }
+
+    /// What is written of an item in the end, and the names in scope behind it.
+    pub fn into_item(self) -> WrittenItem
+        ensures { result ≡ item_written_of self.entry }
+    {
+        WrittenItem {
+            found: matches!(self.status, Status::Going),
+            events: self.events,
+            scope: self.scope,
+        }
+    }
+
+    /// What is written in the end.
+    pub fn into_written(self) -> Written
+        ensures { result ≡ written_of self.entry }
+    {
+        Written {
+            found: !matches!(self.status, Status::Nothing),
+            at: self.at,
+            events: self.events,
+        }
+    }
+
     /// The tokens that are left.
     pub fn rest(&self) -> &'a [Terminal<'a>]
         ensures { result.now ≡ rest self.now }

@@ -8,7 +8,6 @@ ghost use Rattle.creader.specs.declared.wanted.Wanted.TheVariants.{Expression};
 
 use crate::grammar::Grammar;
 use crate::reader::Reader;
-use crate::status::Status;
 use crate::wanted::Wanted;
 use crate::written::Written;
 use crate::written_item::WrittenItem;
@@ -86,44 +85,4 @@ pub fn read_item<'a>(
     };
     grammar.item_alone(&mut reader)?;
     Ok(reader.into_item())
-}
-
-impl<'a> Reader<'a> {
-    /// A reader at the token of the row with the number `at`, which has read nothing yet.
-    pub fn new(alloc: Global, row: &'a [Terminal<'a>], at: usize, scope: Scope) -> Reader<'a>
-        ensures { result ≡ start_at row.now at scope }
-    {
-        Reader {
-            alloc,
-            row,
-            at,
-            status: Status::Going,
-            levels: 0,
-            unary: false,
-            scope,
-            events: Vec::new(alloc),
-        }
-    }
-
-    /// What is written of an item in the end, and the names in scope behind it.
-    fn into_item(self) -> WrittenItem
-        ensures { result ≡ item_written_of self.entry }
-    {
-        WrittenItem {
-            found: matches!(self.status, Status::Going),
-            events: self.events,
-            scope: self.scope,
-        }
-    }
-
-    /// What is written in the end.
-    pub fn into_written(self) -> Written
-        ensures { result ≡ written_of self.entry }
-    {
-        Written {
-            found: !matches!(self.status, Status::Nothing),
-            at: self.at,
-            events: self.events,
-        }
-    }
 }

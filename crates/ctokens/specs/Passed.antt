@@ -29,3 +29,9 @@ read_symbols symbols = read_from false 0 symbols
 -- for each token of a text, whether it is passed over
 abbrev pub passed_tokens : Tokens → List Bool
 passed_tokens t = map is_passed_over (read_symbols (symbols t))
+
+-- the tokens that are not passed over, where it is said for each token whether it is
+abbrev pub unpassed : {A : Type 0} → List Bool → List A → List A
+unpassed [] tokens = []
+unpassed (passed ∷ others) [] = []
+unpassed (passed ∷ others) (token ∷ tokens) = if passed then unpassed others tokens else token ∷ unpassed others tokens

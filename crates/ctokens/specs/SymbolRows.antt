@@ -1,8 +1,7 @@
--- The tables of words and marks as the code keeps them.
+-- A table of words and marks as the code keeps it.
 use denote.Ref.{Bor}
 use Rattle.std.specs.Prelude.{ℕ, List}
-use Rattle.ctokens.specs.declared.symbol.Symbol.{Symbol}
 
--- a row of a table, read: its bytes with their symbol
-abbrev pub row_read : Bor (List ℕ) × Symbol → List ℕ × Symbol
+-- a row of a table as the code keeps it: its bytes, and what it says of them
+abbrev pub row_read : {A : Type 0} → Bor (List ℕ) × A → List ℕ × A
 row_read row = (row.0.now, row.1)

@@ -37,11 +37,15 @@ pub record IsOfText (text : List ℕ) (token : Token) : Type 0 where
   pub inside : token.to ≤ length text
   pub spelled : Spells token.kind (take (token.to - token.from) (drop token.from text))
 
+-- each token's place has its number
+abbrev pub AreNumbered : List Token → Type 0
+AreNumbered tokens = (number : ℕ) (other : Token) → number < length tokens → (slice_index_or tokens number other).place.at ≡ number
+
 -- each token is some bytes of the text, and its place has its number
 pub record AreOfText (text : List ℕ) (tokens : List Token) : Type 0 where
   pub parts : All (IsOfText text) tokens
   pub few : length tokens ≤ length text
-  pub numbered : (number : ℕ) (other : Token) → number < length tokens → (slice_index_or tokens number other).place.at ≡ number
+  pub numbered : AreNumbered tokens
 
 -- there is a name, and each token's file has one
 abbrev pub HasNamedFiles : Tokens → Type 0

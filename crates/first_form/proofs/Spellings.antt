@@ -6,7 +6,7 @@ use Rattle.cbase.specs.declared.place.Place.{Place}
 use Rattle.ctokens.specs.declared.token.Token.{Token as Lexeme}
 use Rattle.ctokens.specs.declared.token.Tokens.{Tokens}
 use Rattle.ctokens.specs.declared.item_span.ItemSpan.{ItemSpan}
-use Rattle.ctokens.specs.Passed.{passed_tokens}
+use Rattle.ctokens.specs.Passed.{passed_tokens, unpassed}
 use Rattle.ctokens.specs.InText.{LieInText, most_bytes}
 use Rattle.ctokens.specs.TokenSymbols.{bytes_of}
 use Rattle.first_form.specs.declared.line.Program.{Program}
@@ -14,7 +14,7 @@ use Rattle.first_form.specs.declared.token.PlacedToken.{PlacedToken}
 use Rattle.first_form.specs.declared.token.Token.{Token}
 use Rattle.first_form.specs.FirstForm.{IsFormed, IsProgram, IsSmall, allocations}
 use Rattle.first_form.specs.Scope.{is_scoped}
-use Rattle.first_form.specs.Row.{AreSpelled, item_tokens, kept}
+use Rattle.first_form.specs.Row.{AreSpelled, item_tokens}
 use Rattle.first_form.specs.Spelling.{placed_of, row_of, token_of, with_first}
 use Rattle.first_form.specs.Tokens.{IsSpelling}
 use Rattle.first_form.proofs.Spelled.{spelling_from_token_of, token_of-from_spelling}
@@ -36,7 +36,7 @@ row_stops text before token tokens is = ap (λ o. option_map (λ rest. before ++
 
 -- a token that is passed over is not kept
 pub kept_passed : (passed : List Bool) (tokens : List Lexeme) (at : ℕ) (d : Bool) → at < length passed → at < length tokens → get_or passed at d ≡ true
-    → kept (drop at passed) (drop at tokens) ≡ kept (drop (suc at) passed) (drop (suc at) tokens)
+    → unpassed (drop at passed) (drop at tokens) ≡ unpassed (drop (suc at) passed) (drop (suc at) tokens)
 kept_passed [] tokens at d within inside is = absurd (omega arith)
 kept_passed (flag ∷ passed) [] at d within inside is = absurd (omega arith)
 kept_passed (true ∷ passed) (token ∷ tokens) zero d within inside is = refl
@@ -95,12 +95,12 @@ none_spelled text tokens none row are = let some = row_of-spelled text tokens ro
 
 -- what holds of all tokens of a text holds of those of an item
 
-kept-All : (P : Lexeme → Type 0) (passed : List Bool) (tokens : List Lexeme) → All P tokens → All P (kept passed tokens)
+kept-All : (P : Lexeme → Type 0) (passed : List Bool) (tokens : List Lexeme) → All P tokens → All P (unpassed passed tokens)
 kept-All P [] tokens all = All-nil P
 kept-All P (flag ∷ passed) [] all = All-nil P
 kept-All P (true ∷ passed) (token ∷ tokens) all = kept-All P passed tokens (All-tail P token tokens all)
 kept-All P (false ∷ passed) (token ∷ tokens) all =
-    All-cons P token (kept passed tokens) (all 0 token (omega arith)) (kept-All P passed tokens (All-tail P token tokens all))
+    All-cons P token (unpassed passed tokens) (all 0 token (omega arith)) (kept-All P passed tokens (All-tail P token tokens all))
 
 drop-All : (P : Lexeme → Type 0) (count : ℕ) (tokens : List Lexeme) → All P tokens → All P (drop count tokens)
 drop-All P zero tokens all = all
@@ -119,7 +119,7 @@ item_tokens-All P t span all =
 
 -- an item has no more tokens than the text
 
-kept-few : (passed : List Bool) (tokens : List Lexeme) → length (kept passed tokens) ≤ length tokens
+kept-few : (passed : List Bool) (tokens : List Lexeme) → length (unpassed passed tokens) ≤ length tokens
 kept-few [] tokens = omega arith
 kept-few (flag ∷ passed) [] = omega arith
 kept-few (true ∷ passed) (token ∷ tokens) = let few = kept-few passed tokens in omega (arith, few)

@@ -4,20 +4,13 @@ use Rattle.ctokens.specs.declared.token.Token.{Token as Lexeme}
 use Rattle.ctokens.specs.declared.token.Tokens.{Tokens}
 use Rattle.ctokens.specs.declared.item_span.ItemSpan.{ItemSpan}
 use Rattle.ctokens.specs.TokenSymbols.{bytes_of}
-use Rattle.ctokens.specs.Passed.{passed_tokens}
+use Rattle.ctokens.specs.Passed.{passed_tokens, unpassed}
 use Rattle.first_form.specs.declared.token.PlacedToken.{PlacedToken}
 use Rattle.first_form.specs.Tokens.{IsSpelling}
 
--- the tokens that are not passed over, where it is said for each token whether it is
-abbrev pub kept : List Bool → List Lexeme → List Lexeme
-kept [] tokens = []
-kept (passed ∷ more) [] = []
-kept (true ∷ more) (token ∷ tokens) = kept more tokens
-kept (false ∷ more) (token ∷ tokens) = token ∷ kept more tokens
-
 -- the tokens of an item that are not passed over
 abbrev pub item_tokens : Tokens → ItemSpan → List Lexeme
-item_tokens t span = kept (slice_range (passed_tokens t) span.first span.after) (slice_range t.list span.first span.after)
+item_tokens t span = unpassed (slice_range (passed_tokens t) span.first span.after) (slice_range t.list span.first span.after)
 
 -- the tokens of the first form that the bytes of the tokens spell, one for each, at the same places. The `at` of
 -- a place is the number of its token in the text.

@@ -4,7 +4,8 @@ ghost use Rattle.std.specs.List.{All};
 ghost use Rattle.ctokens.specs.Items.{IsInside};
 ghost use Rattle.ctokens.specs.InText.{LieInText, most_bytes};
 ghost use Rattle.first_form.specs.declared.token.PlacedToken.{PlacedToken};
-ghost use Rattle.first_form.specs.Row.{AreSpelled, item_tokens, kept};
+ghost use Rattle.ctokens.specs.Passed.{unpassed};
+ghost use Rattle.first_form.specs.Row.{AreSpelled, item_tokens};
 ghost use Rattle.first_form.specs.Spelling.{placed_of, row_of};
 
 use crate::spelling::spelled;
@@ -51,7 +52,7 @@ fn item_tokens(alloc: Global, t: &Tokens, span: ItemSpan) -> Result<Vec<Lexeme>,
 /// The tokens that are not passed over, where `passed` says for each whether it is.
 fn kept(alloc: Global, passed: &[bool], tokens: &[Lexeme]) -> Result<Vec<Lexeme>, NoMemory>
     requires { length passed.now ≡ length tokens.now }
-    ensures { IfOk result (λ rest. rest.items ≡ kept passed.now tokens.now) }
+    ensures { IfOk result (λ rest. rest.items ≡ unpassed passed.now tokens.now) }
 {
     let mut rest = Vec::new(alloc);
     for i in 0..tokens.len() {

@@ -4,9 +4,8 @@ ghost use Rattle.ctokens.specs.Items.{IsInside, IsItems};
 ghost use Rattle.ctokens.specs.Need.{IsNeed};
 ghost use Rattle.ctokens.specs.ItemRows.{item_rows};
 ghost use Rattle.ctokens.specs.InText.{LieInText, most_bytes};
-ghost use Rattle.cgrammar.specs.Readings.{AreNumbered};
 ghost use Rattle.cread.specs.Needed.{AreRead, spans_of};
-ghost use Rattle.ctokens.specs.TokenList.{HasNamedFiles};
+ghost use Rattle.ctokens.specs.TokenList.{HasNamedFiles, AreNumbered};
 ghost use Rattle.report.specs.Report.{HasPrintable};
 ghost use Rattle.first_form.specs.FirstForm.{IsSmall};
 ghost use Rattle.predator.specs.Told.{IsTold};
@@ -86,7 +85,7 @@ fn without_token(lexical: Lexical) -> Judged
 /// The answer to a text with these tokens.
 fn with_tokens(alloc: Global, t: Tokens) -> Result<Judged, NoMemory>
     requires text { LieInText t }
-    requires numbered { AreNumbered t }
+    requires numbered { AreNumbered t.list }
     requires named { HasNamedFiles t }
     ensures told { IfOk result (λ judged. IsTold t judged.answer) }
     ensures names { IfOk result (λ judged. judged.names ≡ t.names) }
@@ -105,7 +104,7 @@ fn with_tokens(alloc: Global, t: Tokens) -> Result<Judged, NoMemory>
 #[tactic(auto, using(crate::proofs::Told::deep_told))]
 fn answer_of_tokens(alloc: Global, t: &Tokens) -> Result<Answer, NoMemory>
     requires text { LieInText t.now }
-    requires numbered { AreNumbered t.now }
+    requires numbered { AreNumbered t.now.list }
     requires named { HasNamedFiles t.now }
     ensures { IfOk result (IsTold t.now) }
 {
@@ -121,7 +120,7 @@ fn answer_of_tokens(alloc: Global, t: &Tokens) -> Result<Answer, NoMemory>
 #[tactic(auto, using(crate::proofs::Told::no_main_told))]
 fn answer_of_items(alloc: Global, t: &Tokens, items: &List<ItemSpan>) -> Result<Answer, NoMemory>
     requires text { LieInText t.now }
-    requires numbered { AreNumbered t.now }
+    requires numbered { AreNumbered t.now.list }
     requires named { HasNamedFiles t.now }
     requires spans { IsItems t.now (Ok items.now) }
     requires inside { All (IsInside (length t.now.list)) items.now }
@@ -142,7 +141,7 @@ fn answer_of_needed(
     numbers: &[u32],
 ) -> Result<Answer, NoMemory>
     requires text { LieInText t.now }
-    requires numbered { AreNumbered t.now }
+    requires numbered { AreNumbered t.now.list }
     requires named { HasNamedFiles t.now }
     requires spans { IsItems t.now (Ok items.now) }
     requires inside { All (IsInside (length t.now.list)) items.now }

@@ -1,6 +1,6 @@
 use Rattle.std.proofs.Common.{◌∙◌, ap, map}
 use Rattle.cgrammar.specs.Operators.{row_of}
-use Rattle.cgrammar.specs.CodeTables.{row_read}
+use Rattle.ctokens.specs.SymbolRows.{row_read}
 use Rattle.cgrammar.proofs.operators.assignment_operator.Goals as goal
 
 pub returns : goal.returns

@@ -1,6 +1,6 @@
 use Rattle.std.proofs.Common.{◌≡◌, map, drop}
 use Rattle.cgrammar.specs.Operators.{row_of}
-use Rattle.cgrammar.specs.CodeTables.{row_read}
+use Rattle.ctokens.specs.SymbolRows.{row_read}
 use Rattle.cgrammar.proofs.operators.row_of.Given as goal
 
 abbrev pub invariant-loop-row : goal.invariant-loop-row

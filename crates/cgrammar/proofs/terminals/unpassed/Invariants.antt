@@ -1,5 +1,6 @@
 use Rattle.std.proofs.Common.{◌≡◌, ◌++◌, map, drop}
-use Rattle.cgrammar.specs.Terminals.{terminal_of, unpassed}
+use Rattle.ctokens.specs.Passed.{unpassed}
+use Rattle.cgrammar.specs.Terminals.{terminal_of}
 use Rattle.cgrammar.proofs.terminals.unpassed.Given as goal
 
 abbrev pub invariant-loop-index : goal.invariant-loop-index

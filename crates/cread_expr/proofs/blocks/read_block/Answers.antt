@@ -4,11 +4,10 @@ use Rattle.cbase.specs.declared.tree.stmt.Stmt.{Stmt}
 use Rattle.cevents.specs.Building.{built_all}
 use Rattle.cevents.specs.Workshop.{block_alone, start}
 use Rattle.cgrammar.specs.Readings.{IsBlockAt, most_levels}
-use Rattle.cgrammar.specs.Terminals.{Terminal, last_place}
+use Rattle.cgrammar.specs.Terminals.{Terminal, last_place, comes_before}
 use Rattle.creader.specs.ReadingSteps.{inner_at}
 use Rattle.creader.specs.StatementSteps.{block}
 use Rattle.creader.specs.Writings.{start_at, written_of}
-use Rattle.cread_expr.specs.Exactly.{comes_before}
 use Rattle.cread_expr.proofs.Calls.{block_built, block_is_there, block_is_none}
 use Rattle.cread_expr.proofs.Parts.{if_some, if_none}
 use Rattle.cread_expr.proofs.blocks.read_block.Goals as goal

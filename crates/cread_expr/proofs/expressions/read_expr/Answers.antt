@@ -4,11 +4,10 @@ use Rattle.cbase.specs.declared.tree.expr.Expr.{Expr}
 use Rattle.cevents.specs.Building.{built_all}
 use Rattle.cevents.specs.Workshop.{expr_alone, start}
 use Rattle.cgrammar.specs.Readings.{IsExpressionAt, IsLongestExpressionAt, most_levels}
-use Rattle.cgrammar.specs.Terminals.{Terminal, last_place}
+use Rattle.cgrammar.specs.Terminals.{Terminal, last_place, comes_before}
 use Rattle.creader.specs.ReadingSteps.{reads}
 use Rattle.creader.specs.Writings.{start_at, written_of}
 use Rattle.creader.specs.declared.wanted.Wanted.TheVariants.{Expression}
-use Rattle.cread_expr.specs.Exactly.{comes_before}
 use Rattle.cread_expr.proofs.Calls.{expression_built, expression_is_longest, expression_is_none}
 use Rattle.cread_expr.proofs.Parts.{if_some, if_none}
 use Rattle.cread_expr.proofs.expressions.read_expr.Goals as goal
