@@ -1,11 +1,10 @@
-ghost use Rattle.std.specs.Prelude.{◌≡◌, map};
+ghost use Rattle.std.specs.Prelude.{◌≡◌};
 ghost use Rattle.cgrammar.specs.Operators.{row_of};
-ghost use Rattle.ctokens.specs.SymbolRows.{row_read};
 ghost use Rattle.cconstructs.specs.Constructs.{word_rows};
 ghost use Rattle.cconstructs.specs.Finding.{is_called, is_pointed, mark_number, number_at, number_of, word_number};
 
 use crate::before::Before;
-use cgrammar::Terminal;
+use cgrammar::{Terminal, entry_of};
 use ctokens::TokenKind;
 
 /// Words that show a construct, whatever stands around them.
@@ -25,23 +24,11 @@ const WORDS: [(&'static str, u8); 13] = [
     ("__thread", 9),
 ];
 
-/// What a table says of these bytes.
-fn row_of(rows: &[(&str, u8)], bytes: &[u8]) -> Option<u8>
-    ensures { result ≡ row_of bytes.now (map row_read rows.now) }
-{
-    for row in rows {
-        if row.0.as_bytes() == bytes {
-            return Some(row.1);
-        }
-    }
-    None
-}
-
 /// What the table of words says of these bytes.
 fn row_of_words(bytes: &[u8]) -> Option<u8>
     ensures { result ≡ row_of bytes.now word_rows }
 {
-    row_of(WORDS.as_slice(), bytes)
+    entry_of(WORDS.as_slice(), bytes)
 }
 
 /// The number of a word that shows a construct (C11 6.4.1, 6.7.2, 6.8.4.2, 6.8.6.1).

@@ -2,10 +2,9 @@ ghost use Rattle.std.specs.Prelude.{◌≡◌, ◌≤◌, ◌<◌, ◌+◌, ◌^
 ghost use Rattle.ctokens.specs.InText.{most_bytes};
 ghost use Rattle.std.specs.List.{list_any};
 ghost use Rattle.std.specs.Str.{bytes_eq};
-ghost use Rattle.cgrammar.specs.CodeTables.{text_read};
 ghost use Rattle.cconstructs.specs.Layout.{closes, is_attribute, is_layout_name, layout_names, opens, outside, part_behind, separates, shows_layout, unclosed_behind, with_underscores, within};
 
-use cgrammar::Terminal;
+use cgrammar::{Terminal, is_one_of};
 
 /// What the tokens before a token say of the attribute that it may stand in.
 #[derive(Clone, Copy)]
@@ -37,18 +36,6 @@ const UNDERSCORED: [&'static str; 6] = [
     "__cleanup__",
     "__alias__",
 ];
-
-/// Whether bytes are one of the texts.
-fn is_one_of(texts: &[&str], bytes: &[u8]) -> bool
-    ensures { result ≡ list_any (bytes_eq bytes.now) (map text_read texts.now) }
-{
-    for text in texts {
-        if bytes == text.as_bytes() {
-            return true;
-        }
-    }
-    false
-}
 
 /// Whether bytes are a name of such an attribute without `__`.
 fn is_plain_name(bytes: &[u8]) -> bool

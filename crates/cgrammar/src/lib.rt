@@ -18,6 +18,7 @@ mod reading;
 mod rows;
 mod scope;
 mod stars;
+mod storage;
 mod tables;
 mod terminal;
 mod terminals;
@@ -39,9 +40,11 @@ pub use reading::starts::{
 pub use rows::{rows_of_expressions, rows_of_statements, rows_of_texts};
 pub use scope::Scope;
 pub use stars::stars_length;
+pub use storage::declares_typedef;
 pub use tables::{tables_of_blocks, tables_of_expressions};
 pub use terminal::{Terminal, terminal_of};
 pub use terminals::{row_of, row_of_part};
+pub use texts::{entry_of, is_one_of};
 
 #[cfg(test)]
 mod tests;

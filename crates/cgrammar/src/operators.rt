@@ -1,7 +1,7 @@
-ghost use Rattle.std.specs.Prelude.{◌≡◌, map};
+ghost use Rattle.std.specs.Prelude.{◌≡◌};
 ghost use Rattle.cgrammar.specs.Operators.{row_of, unary_rows, count_rows, member_rows, binary_rows, assignment_rows};
-ghost use Rattle.ctokens.specs.SymbolRows.{row_read};
 
+use crate::texts::entry_of;
 use cbase::{BinaryOp, UnaryOp};
 
 /// The prefix operators.
@@ -57,44 +57,32 @@ const ASSIGNMENT: [(&'static str, Option<BinaryOp>); 11] = [
     ("|=", Some(BinaryOp::Or)),
 ];
 
-/// What a table says of a mark with these bytes.
-fn row_of<T: Copy>(rows: &[(&str, T)], bytes: &[u8]) -> Option<T>
-    ensures { result ≡ row_of bytes.now (map row_read rows.now) }
-{
-    for row in rows {
-        if row.0.as_bytes() == bytes {
-            return Some(row.1);
-        }
-    }
-    None
-}
-
 /// The prefix operator that a mark is (C11 6.5.3.2, 6.5.3.3); `None` where it is none.
 pub fn unary_operator(mark: &[u8]) -> Option<UnaryOp>
     ensures { result ≡ row_of mark.now unary_rows }
 {
-    row_of(UNARY.as_slice(), mark)
+    entry_of(UNARY.as_slice(), mark)
 }
 
 /// Whether a mark counts up, where it is `++` or `--`; `None` where it is neither (C11 6.5.2.4, 6.5.3.1).
 pub fn count_operator(mark: &[u8]) -> Option<bool>
     ensures { result ≡ row_of mark.now count_rows }
 {
-    row_of(COUNT.as_slice(), mark)
+    entry_of(COUNT.as_slice(), mark)
 }
 
 /// Whether a mark goes to a member through a pointer, where it is `->` or `.`; `None` where it is neither (C11 6.5.2.3).
 pub fn member_operator(mark: &[u8]) -> Option<bool>
     ensures { result ≡ row_of mark.now member_rows }
 {
-    row_of(MEMBER.as_slice(), mark)
+    entry_of(MEMBER.as_slice(), mark)
 }
 
 /// The binary operator that a mark is, behind its level, 0 for the loosest (C11 6.5.5 to 6.5.14); `None` where it is none.
 pub fn binary_operator(mark: &[u8]) -> Option<(u8, BinaryOp)>
     ensures { result ≡ row_of mark.now binary_rows }
 {
-    row_of(BINARY.as_slice(), mark)
+    entry_of(BINARY.as_slice(), mark)
 }
 
 /// What the assignment operator that a mark is does before its store: `Some(None)` for `=` (C11 6.5.16). `None` where it is
@@ -102,5 +90,5 @@ pub fn binary_operator(mark: &[u8]) -> Option<(u8, BinaryOp)>
 pub fn assignment_operator(mark: &[u8]) -> Option<Option<BinaryOp>>
     ensures { result ≡ row_of mark.now assignment_rows }
 {
-    row_of(ASSIGNMENT.as_slice(), mark)
+    entry_of(ASSIGNMENT.as_slice(), mark)
 }

@@ -1,7 +1,9 @@
 ghost use Rattle.std.specs.Prelude.{◌≡◌, map};
 ghost use Rattle.std.specs.List.{list_any};
 ghost use Rattle.std.specs.Str.{bytes_eq};
+ghost use Rattle.ctokens.specs.SymbolRows.{row_read};
 ghost use Rattle.cgrammar.specs.CodeTables.{text_read};
+ghost use Rattle.cgrammar.specs.Operators.{row_of};
 
 /// Whether bytes are one of the texts.
 pub fn is_one_of(texts: &[&str], bytes: &[u8]) -> bool
@@ -13,4 +15,16 @@ pub fn is_one_of(texts: &[&str], bytes: &[u8]) -> bool
         }
     }
     false
+}
+
+/// What a table of texts says of bytes, where they are one of its texts.
+pub fn entry_of<T: Copy>(rows: &[(&str, T)], bytes: &[u8]) -> Option<T>
+    ensures { result ≡ row_of bytes.now (map row_read rows.now) }
+{
+    for row in rows {
+        if row.0.as_bytes() == bytes {
+            return Some(row.1);
+        }
+    }
+    None
 }

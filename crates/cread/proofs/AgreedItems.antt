@@ -35,13 +35,13 @@ use Rattle.creader.specs.State.{State, rest, with_scope, skipped}
 use Rattle.creader.specs.StatementSteps.{block_item, block_items}
 use Rattle.creader.specs.Steps.{Inner, write, mark, until_brace}
 use Rattle.creader.specs.declared.status.Status.TheVariants.{Nothing}
-use Rattle.cread_expr.proofs.Agreed.{Pieces, none, shop, Ended, Agreed, Follows, ends, context_of, LevelAgrees}
+use Rattle.cread_expr.proofs.Agreed.{Pieces, none, shop, Ended, Agreed, Follows, ends, context_of, LevelAgrees, statements_piece}
 use Rattle.cread_expr.proofs.AgreedDeclarations.{declaration_piece, declaration_agrees}
 use Rattle.cread_expr.proofs.AgreedDeclarationsParameters.{then_both, then_specifiers, still_parameters, parameters_agree}
 use Rattle.cread_expr.proofs.AgreedLists.{behind_brace, over_brace, until_brace_follows, still_braces}
 use Rattle.cread_expr.proofs.AgreedPlaces.{place_here}
 use Rattle.cread_expr.proofs.AgreedRules.{agreed_at, agreed_outcome, agreed_goes, agreed_test, if_first, then_ends, then_mark}
-use Rattle.cread_expr.proofs.AgreedStatements.{body_piece, as_ends, block_item_agrees}
+use Rattle.cread_expr.proofs.AgreedStatements.{as_ends, block_item_agrees}
 use Rattle.cread_expr.proofs.AgreedSteps.{if_going, Still, still_lost, still_goes, still_mark, still_write, still_leave, ended_at, ended_levels, ended_part, ended_token, ended_write, ended_leave}
 use Rattle.cread_expr.proofs.AgreedTypesSizes.{read_ends, lost_here, ended_stars, if_behind}
 use Rattle.cread.specs.Items.{in_body}
@@ -188,7 +188,7 @@ body_agrees {level} {inner} {s} {u} {levels} {before} {within} type storage name
     let there : drop t.at s.row ≡ others = ap (λ (row : List Terminal). drop t.at row) (sym inside.went.row) ∙ inside.left in
     agreed_outcome (body_closed level sound (length others + 1) t.at (in_body name.bytes (declares_typedef storage) within) s.row others (λ body bodies last place final. outcome.Read (item.Function type storage head body place) (deep bodies) (leaving last) final) there)
     (then_ends (λ pieces. piece.Declarators (head ∷ []) ∷ (piece.Type type ∷ pieces)) (λ context row. over_brace (read_until_brace level.item (length row + 1)) context row) (λ t. until_brace (block_item inner) (write event.NoStatements t)) _ inside
-    (until_brace_follows body_piece level.item (block_item inner) event.NoStatements (λ row count pieces. refl) (λ done. block_item_agrees agrees done)) (still_write _ (still_leave still_lost)) (λ body bodies last final further.
+    (until_brace_follows statements_piece level.item (block_item inner) event.NoStatements (λ row count pieces. refl) (λ done. block_item_agrees agrees done)) (still_write _ (still_leave still_lost)) (λ body bodies last final further.
     let end = ended_leave further in
     let number = left_is end in
     read_ends (ended_levels (total bodies) (ended_write (event.FunctionItem storage _) (λ pieces i. shop last.expressions (piece.Item (item.Function type storage head body (place_at s.row (number i - 1))) ∷ pieces)) end)))))

@@ -124,6 +124,9 @@ init_piece init pieces = piece.Init init ∷ pieces
 abbrev pub statement_piece : Stmt → Pieces
 statement_piece stmt pieces = piece.Statement stmt ∷ pieces
 
+abbrev pub statements_piece : List Stmt → Pieces
+statements_piece body pieces = piece.Statements body ∷ pieces
+
 -- the readers of a level agree
 pub record LevelAgrees (level : Level) (inner : Inner) : Type 0 where
   pub most : inner.most ≡ level.most

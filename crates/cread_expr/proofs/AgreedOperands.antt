@@ -37,15 +37,12 @@ use Rattle.creader.specs.TypeSteps.{type_name}
 use Rattle.creader.specs.declared.status.Status.{Status}
 use Rattle.creader.specs.declared.status.Status.TheVariants.{Going, Stopped, Nothing}
 use Rattle.creader.specs.declared.wanted.Wanted.TheVariants as wanted
-use Rattle.cread_expr.proofs.Agreed.{shop, Pieces, none, Kept, Failed, Ended, Agreed, context_of, Follows, ends, LevelAgrees, operand_piece, operand_fits}
+use Rattle.cread_expr.proofs.Agreed.{shop, Pieces, none, Kept, Failed, Ended, Agreed, context_of, Follows, ends, LevelAgrees, operand_piece, operand_fits, statements_piece}
 use Rattle.cread_expr.proofs.AgreedPaths.{path_piece, agreed_losing, path_agrees, still_matched, over_matched_to, ended_matched}
 use Rattle.cread_expr.proofs.AgreedPostfixes.{Begins, unary_is, agreed_operand, still_operand, still_postfixes_from, postfixes_from_agree}
 use Rattle.cread_expr.proofs.AgreedRules.{agreed_read, agreed_failed, agreed_halted, agreed_at, agreed_goes, agreed_test, same_first, if_first, from_here, ask_follows, then_ends, then_mark}
 use Rattle.cread_expr.proofs.AgreedSteps.{kept_ended, failed_then, went_event, Still, still_lost, still_goes, still_ask, still_make, still_mark, still_wrap, ended_at, ended_levels, ended_then, halted_then, ended_skip, ended_token, ended_write, ended_make}
 use Rattle.cread_expr.proofs.AgreedTypesSizes.{still_type_name}
-
-abbrev pub statements_piece : List Stmt → Pieces
-statements_piece body pieces = piece.Statements body ∷ pieces
 
 abbrev pub type_name_piece : TypeName → Pieces
 type_name_piece name pieces = piece.TypeName name ∷ pieces

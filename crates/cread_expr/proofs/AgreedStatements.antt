@@ -27,7 +27,7 @@ use Rattle.creader.specs.StatementSteps.{block_item, block_items, block, maybe, 
 use Rattle.creader.specs.Steps.{Inner, make, leave, parts_until_brace}
 use Rattle.creader.specs.declared.status.Status.TheVariants.{Going, Stopped}
 use Rattle.creader.specs.declared.wanted.Wanted.TheVariants as wanted
-use Rattle.cread_expr.proofs.Agreed.{Pieces, none, shop, Ended, Agreed, Ready, Reads, Follows, Continues, ends, anyhow, context_of, statement_piece, LevelAgrees}
+use Rattle.cread_expr.proofs.Agreed.{Pieces, none, shop, Ended, Agreed, Ready, Reads, Follows, Continues, ends, anyhow, context_of, statement_piece, statements_piece, LevelAgrees}
 use Rattle.cread_expr.proofs.AgreedDeclarations.{declaration_piece, declaration_agrees}
 use Rattle.cread_expr.proofs.AgreedEntire.{entirely, entirely_asked, agreed_then, agreed_write}
 use Rattle.cread_expr.proofs.AgreedLists.{over_brace, then_brace, still_braces, braced_agree}
@@ -35,9 +35,6 @@ use Rattle.cread_expr.proofs.AgreedPlaces.{first_of_front, last_of_front, place_
 use Rattle.cread_expr.proofs.AgreedRules.{agreed_read, agreed_outcome, agreed_goes, agreed_lost, agreed_test, from_here, then_asked, then_mark, if_first}
 use Rattle.cread_expr.proofs.AgreedSteps.{kept_ended, failed_then, still_lost, still_mark, still_write, still_make, still_leave, still_enter, ended_part, ended_none, ended_then, ended_levels, ended_token, ended_write, ended_make, ended_enter, ended_leave}
 use Rattle.cread_expr.proofs.AgreedTypesSizes.{read_ends}
-
-abbrev pub body_piece : List Stmt → Pieces
-body_piece body pieces = piece.Statements body ∷ pieces
 
 abbrev pub maybe_piece : Option Expr → Pieces
 maybe_piece expr pieces = piece.Maybe expr ∷ pieces
@@ -94,12 +91,12 @@ at_left s = step (goes s)
     step false = refl
 
 pub block_item_agrees : {level : Level} {inner : Inner} → LevelAgrees level inner → (done : List Stmt)
-    → Continues (body_piece done) (λ tree. body_piece (done ++ tree ∷ [])) ends (entirely level.item) (block_item inner)
+    → Continues (statements_piece done) (λ tree. statements_piece (done ++ tree ∷ [])) ends (entirely level.item) (block_item inner)
 unfolding block_item
 block_item_agrees {level} {inner} agrees done s before is =
-    agreed_write event.Statement (λ tree count pieces. refl) (agreed_then (body_piece done) (ended_part s (body_piece done) before is) (entirely_asked level.item inner wanted.Item agrees.item s before is))
+    agreed_write event.Statement (λ tree count pieces. refl) (agreed_then (statements_piece done) (ended_part s (statements_piece done) before is) (entirely_asked level.item inner wanted.Item agrees.item s before is))
 
-pub block_agrees : {level : Level} {inner : Inner} → LevelAgrees level inner → Passes body_piece (read_block level) (block inner)
+pub block_agrees : {level : Level} {inner : Inner} → LevelAgrees level inner → Passes statements_piece (read_block level) (block inner)
 unfolding read_block block block_items
 block_agrees {level} {inner} agrees s before is =
     then_mark (codes "{") (rest s) _ (ended_part s none before is) (still_leave (still_braces _ _ (still_enter (still_write _ still_lost)))) (λ opening others found here far.
@@ -109,20 +106,20 @@ block_agrees {level} {inner} agrees s before is =
     further one middle other left whole first second on = omega (arith, first, second, on)
 
     case : (opening : Terminal) (others : List Terminal) → Ended s s none none s.levels 0 before (context_of s before) (opening ∷ others)
-        → (t u : State) → Ended s t none (body_piece []) s.levels 0 before (inside (context_of s before)) others
-        → (found : Outcome (List Stmt)) → Agreed (body_piece []) body_piece ends t.levels before found t u
-        → Agreed none body_piece (passes s) s.levels before (then_read found (λ body levels within left. outcome.Read body levels (leaving within) left)) s (leave u)
+        → (t u : State) → Ended s t none (statements_piece []) s.levels 0 before (inside (context_of s before)) others
+        → (found : Outcome (List Stmt)) → Agreed (statements_piece []) statements_piece ends t.levels before found t u
+        → Agreed none statements_piece (passes s) s.levels before (then_read found (λ body levels within left. outcome.Read body levels (leaving within) left)) s (leave u)
     case opening others here t u far outcome.Nothing is = agreed_lost (failed_then (kept_ended far) is.is) (still_leave still_lost)
     case opening others here t u far (outcome.Stopped body expressions left) is = let wrong : Stopped ≡ Going = sym is.is.0.status ∙ is.is.1 in cc wrong
     case opening others here t u far (outcome.Read body levels within left) is =
-        let there : Ended s (leave u) none (body_piece body) s.levels levels before (leaving within) left =
+        let there : Ended s (leave u) none (statements_piece body) s.levels levels before (leaving within) left =
         ended_leave (ended_levels (omega arith) (ended_then none far is.is.0)) in
         let strictly : s.at < u.at = further s.at t.at u.at (length others) (length s.row) (at_is here) (at_is far) is.is.0.on in
         agreed_read there (there.status, subst (λ (at : ℕ). s.at < at) (sym (at_left u)) strictly)
 
     inside_braces : (opening : Terminal) (others : List Terminal) → Ended s s none none s.levels 0 before (context_of s before) (opening ∷ others)
-        → (t : State) → Ended s t none (body_piece []) s.levels 0 before (inside (context_of s before)) others
-        → Agreed none body_piece (passes s) s.levels before
+        → (t : State) → Ended s t none (statements_piece []) s.levels 0 before (inside (context_of s before)) others
+        → Agreed none statements_piece (passes s) s.levels before
         (then_read (read_until_brace level.item (length others + 1) (inside (context_of s before)) others) (λ body levels within left. outcome.Read body levels (leaving within) (behind_first left))) s
         (leave (parts_until_brace (block_item inner) (length (rest t) + 1) t))
     inside_braces opening others here t far =
@@ -131,7 +128,7 @@ block_agrees {level} {inner} agrees s before is =
         ∙ then_brace (read_until_brace level.item count (inside (context_of s before)) others) (λ body levels within left. outcome.Read body levels (leaving within) left))
         (case opening others here t _ far _
         (from_here (over_brace (read_until_brace level.item count)) (parts_until_brace (block_item inner) count) far
-        (braced_agree body_piece level.item (block_item inner) (block_item_agrees agrees) count [])))
+        (braced_agree statements_piece level.item (block_item inner) (block_item_agrees agrees) count [])))
 
 -- an expression that may be left out
 pub maybe_agrees : {level : Level} {inner : Inner} → LevelAgrees level inner → (test : Terminal → Bool) → Follows maybe_piece ends (read_maybe level test) (maybe inner test)

@@ -26,12 +26,12 @@ use Rattle.creader.specs.State.{State, rest, skipped}
 use Rattle.creader.specs.StatementSteps.{block, blocked, block_statement, other_statement, statement_with, statement_first, unlabeled_with, unlabeled, labels_length, statement, item}
 use Rattle.creader.specs.Steps.{Inner, make}
 use Rattle.creader.specs.declared.status.Status.TheVariants.{Going, Stopped}
-use Rattle.cread_expr.proofs.Agreed.{none, shop, Ended, Agreed, Ready, Reads, ends, context_of, statement_piece, LevelAgrees}
+use Rattle.cread_expr.proofs.Agreed.{none, shop, Ended, Agreed, Ready, Reads, ends, context_of, statement_piece, LevelAgrees, statements_piece}
 use Rattle.cread_expr.proofs.AgreedEntire.{agreed_then}
 use Rattle.cread_expr.proofs.AgreedLists.{failed_lost}
 use Rattle.cread_expr.proofs.AgreedPlaces.{place_first, last_of_front}
 use Rattle.cread_expr.proofs.AgreedRules.{agreed_failed, agreed_outcome, agreed_goes, agreed_lost, agreed_test, same_first}
-use Rattle.cread_expr.proofs.AgreedStatements.{body_piece, passes, block_agrees, clause_agrees}
+use Rattle.cread_expr.proofs.AgreedStatements.{passes, block_agrees, clause_agrees}
 use Rattle.cread_expr.proofs.AgreedStatementsRules.{if_agrees, while_agrees, do_agrees, for_agrees, break_agrees, continue_agrees, return_agrees}
 use Rattle.cread_expr.proofs.AgreedSteps.{still_lost, still_make, ready, ended_none, ended_token, ended_make, ended_skip}
 use Rattle.cread_expr.proofs.AgreedTypesSizes.{read_ends}
@@ -48,13 +48,13 @@ block_statement_agrees {level} {inner} agrees s before is none_before first row 
     blocks : List Terminal → Outcome (List Stmt) → Outcome Stmt
     blocks row found = then_read found (λ body levels behind others. outcome.Read (statement_of (first_place row) (last_place (front_of row others)) (Block body)) (1 + levels) behind others)
 
-    case : (t : State) (found : Outcome (List Stmt)) → Agreed none body_piece (passes s) s.levels before found s t
+    case : (t : State) (found : Outcome (List Stmt)) → Agreed none statements_piece (passes s) s.levels before found s t
         → Agreed none statement_piece ends 0 before (blocks (rest s) found) s (make (event.Block s.at (t.at - 1)) t)
     case t outcome.Nothing is = agreed_lost is.is (still_make _ still_lost)
     case t (outcome.Stopped body expressions others) is = let wrong : Stopped ≡ Going = sym is.is.0.status ∙ is.is.1.0 in cc wrong
     case t (outcome.Read body levels behind others) is =
-        let far : Ended s t none (body_piece body) 0 levels before behind others =
-        subst (λ (base : ℕ). Ended s t none (body_piece body) base levels before behind others) none_before is.is.0 in
+        let far : Ended s t none (statements_piece body) 0 levels before behind others =
+        subst (λ (base : ℕ). Ended s t none (statements_piece body) base levels before behind others) none_before is.is.0 in
         let within : t.at ≤ length s.row = subst (λ (row : List Terminal). t.at ≤ length row) far.went.row far.inside in
         let left : drop t.at s.row ≡ others = ap (λ (row : List Terminal). drop t.at row) (sym far.went.row) ∙ far.left in
         let one : place_at s.row s.at ≡ first_place (rest s) = place_first s.at s.row in

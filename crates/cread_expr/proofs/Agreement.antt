@@ -23,9 +23,9 @@ use Rattle.creader.specs.declared.status.Status.TheVariants.{Going, Stopped, Not
 use Rattle.creader.specs.declared.wanted.Wanted.TheVariants as wanted
 use Rattle.ctokens.specs.declared.token.Tokens.{Tokens}
 use Rattle.cread_expr.specs.Exactly.{ExpressionsAreExact, BlocksAreExact, at_token}
-use Rattle.cread_expr.proofs.Agreed.{Pieces, none, shop, Agreed, Ready, context_of, expr_piece}
+use Rattle.cread_expr.proofs.Agreed.{Pieces, none, shop, Agreed, Ready, context_of, expr_piece, statements_piece}
 use Rattle.cread_expr.proofs.AgreedLevels.{levels_agree}
-use Rattle.cread_expr.proofs.AgreedStatements.{body_piece, block_agrees}
+use Rattle.cread_expr.proofs.AgreedStatements.{block_agrees}
 
 -- a reader at a token of a text, with these names in scope, that has read nothing yet
 pub record StartsAt (t : Tokens) (scope : List Names) (at : ℕ) (s : State) : Type 0 where
@@ -139,7 +139,7 @@ no_expression_read most t scope at s numbered starts nothing =
 pub record BlockRead (most : ℕ) (t : Tokens) (scope : List Names) (at : ℕ) (u : State) : Type 0 where
   pub body : List Stmt
   pub count : ℕ
-  pub built : built_all (terminals t) u.events (shop 0 []) ≡ shop count (body_piece body [])
+  pub built : built_all (terminals t) u.events (shop 0 []) ≡ shop count (statements_piece body [])
   pub is : IsBlockAt most t scope at ((last_place (take u.at (terminals t))).at + 1) body
 
 block_is : {t : Tokens} {scope : List Names} {at : ℕ} {s : State} (most : ℕ) → AreNumbered t.list → StartsAt t scope at s
@@ -152,7 +152,7 @@ pub block_read : (most : ℕ) (t : Tokens) (scope : List Names) (at : ℕ) (s : 
     → is_nothing (block (inner_at most) s).status ≡ false → BlockRead most t scope at (block (inner_at most) s)
 block_read most t scope at s numbered starts some =
     let u : State = block (inner_at most) s in
-    let made : Made body_piece (read_block (level most) (context_of s 0) (rest s)) s u =
+    let made : Made statements_piece (read_block (level most) (context_of s 0) (rest s)) s u =
     tree_read (read_block (level most) (context_of s 0) (rest s)) (block_agrees (levels_agree most) s 0 (ready_at starts)) starts.events some in
     record {
       body = made.tree;

@@ -1,5 +1,4 @@
 ghost use Rattle.std.specs.Prelude.{◌≡◌, OnOk, ◌≤◌, length};
-ghost use Rattle.cgrammar.specs.TypeWords.{declares_typedef};
 ghost use Rattle.creader.specs.Nests.{Nests};
 ghost use Rattle.creader.specs.ReadingSteps.{inner_at};
 ghost use Rattle.creader.specs.State.{rest};
@@ -10,6 +9,7 @@ use crate::reader::Reader;
 use crate::wanted::Wanted;
 use cbase::{NoMemory, Storage};
 use cevents::Event;
+use cgrammar::declares_typedef;
 
 impl<'a> Reader<'a> {
     /// Reads the `;` of a declaration of no names.
@@ -64,11 +64,4 @@ impl<F: Fn(&mut Reader<'_>, u32, Wanted) -> Result<(), NoMemory>> Grammar<F> {
         let storage = self.specifiers(reader)?;
         self.declaration_behind(reader, storage)
     }
-}
-
-/// Whether a declaration with that storage word declares typedefs.
-pub(crate) fn declares_typedef(storage: Storage) -> bool
-    ensures { result ≡ declares_typedef storage }
-{
-    matches!(storage, Storage::Typedef)
 }

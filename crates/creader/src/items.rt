@@ -4,12 +4,12 @@ ghost use Rattle.creader.specs.ReadingSteps.{inner_at};
 ghost use Rattle.creader.specs.State.{rest};
 ghost use Rattle.creader.specs.ItemSteps.{declare_around, defined, definition_inside, definition_body, definition_with, definition_named, definition_behind, definition, ends_with_brace, external, at_end, item_alone};
 
-use crate::declarations::declares_typedef;
 use crate::grammar::Grammar;
 use crate::reader::Reader;
 use crate::wanted::Wanted;
 use cbase::{NoMemory, Storage};
 use cevents::{Event, bytes_at};
+use cgrammar::declares_typedef;
 
 impl<'a> Reader<'a> {
     /// Declares the name of a function around its parameters, in whose scope its body lies (C11 6.2.1p4, 6.2.1p7).

@@ -16,7 +16,7 @@ use Rattle.first_form.specs.Runs.{RunFaults}
 use Rattle.first_form.specs.Search.{unwritten_from}
 use Rattle.first_form.proofs.Runs.{RunFaults-next, RunFaults-before, RunFaults-waits, RunFaults-ended}
 use Rattle.first_form.proofs.Stands.{IsWord, AreWords, HoldsWord, LocalsStand, Stands, variables_from, state_at, guessed}
-use Rattle.first_form.proofs.StandingLocals.{IsWord-read, Stands-entered, variables_from-entered}
+use Rattle.first_form.proofs.StandingLocals.{length-unwritten_from, IsWord-read, Stands-entered, variables_from-entered}
 use Rattle.first_form.proofs.Sound.{Finds}
 use Rattle.first_form.proofs.Room.{fresh, IsRoomy, is_new_block-fresh, IsRoomy-placed}
 use Rattle.first_form.proofs.Complete.{SomeFaults}
@@ -38,10 +38,6 @@ LocalsStand-guessed guesses first from place number (name ∷ names) (block ∷ 
       subst (λ (b : Bool). HoldsWord block (Plain (if b then number else guesses from))) (sym other) stands.0,
       LocalsStand-guessed guesses first (from + 1) place number names rest (omega arith) stands.1,
     )
-
-length-unwritten : (from : ℕ) (names : List ℕ) → length (unwritten_from from names) ≡ length names
-length-unwritten from [] = refl
-length-unwritten from (name ∷ names) = ap suc (length-unwritten (from + 1) names)
 
 Stands-guessed_later : (guesses : ℕ → ℕ) (number : ℕ) (names : List ℕ) (memory : List Block) →
     Stands guesses (unwritten_from 0 names) [] memory → Stands (guessed guesses (length names) number) (unwritten_from 0 names) [] memory

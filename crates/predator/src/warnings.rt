@@ -6,14 +6,6 @@ use first_form::{Fault, PlacedToken};
 use report::Warning;
 use std::alloc::Global;
 
-/// The place of no token.
-const NO_PLACE: Place = Place {
-    file: 0,
-    line: 0,
-    column: 0,
-    at: 0,
-};
-
 /// The warnings of faults, in their order: each stands at the place of its token.
 pub fn warnings_of(
     alloc: Global,
@@ -49,5 +41,5 @@ fn place_of(row: &[PlacedToken], number: u32) -> Place
     if at < row.len() {
         return row[at].place;
     }
-    NO_PLACE
+    Place::NONE
 }

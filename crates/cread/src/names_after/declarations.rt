@@ -5,18 +5,8 @@ ghost use Rattle.cread.specs.NamesAfter.{decl_names, declared_names, init_names,
 use crate::names_after::expressions::{declare_in_sizes, declare_in_spec};
 use crate::names_after::initializers::declare_in_init;
 use cbase::{Decl, Declared, Init, NoMemory, Storage, TypeSpec};
-use cgrammar::Scope;
+use cgrammar::{Scope, declares_typedef};
 use std::alloc::Global;
-
-/// Whether a declaration with that storage word declares typedefs (C11 6.7.1, 6.7.8).
-fn declares_typedef(storage: Storage) -> bool
-    ensures { result ≡ declares_typedef storage }
-{
-    match storage {
-        Storage::Typedef => true,
-        Storage::Plain | Storage::Extern | Storage::Static => false,
-    }
-}
 
 /// Declares what a declaration leaves.
 #[tactic(auto, using(crate::proofs::WithNames::with_two))]

@@ -4,4 +4,4 @@ use Rattle.ctokens.specs.SymbolRows.{row_read}
 use Rattle.cgrammar.proofs.operators.assignment_operator.Goals as goal
 
 pub returns : goal.returns
-returns c = c.row_of.ensures ∙ ap (λ rows. row_of c.args.mark.now (map row_read rows)) c.as_slice.ensures
+returns c = c.entry_of.ensures ∙ ap (λ rows. row_of c.args.mark.now (map row_read rows)) c.as_slice.ensures
