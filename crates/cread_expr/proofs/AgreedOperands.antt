@@ -8,7 +8,6 @@ use Rattle.cbase.specs.declared.tree.expr.ExprForm.{ExprForm}
 use Rattle.cbase.specs.declared.tree.expr.ExprForm.TheVariants.{Name, Constant, Unary, Count, Cast, SizeOf, SizeOfType, OffsetOf, AssertFail}
 use Rattle.cbase.specs.declared.tree.expr.ExprForm.TheVariants.{Inner as Statements}
 use Rattle.cbase.specs.declared.tree.expr.Part.TheVariants.{Member as NamedPart}
-use Rattle.cbase.specs.declared.tree.stmt.Stmt.{Stmt}
 use Rattle.cevents.specs.Building.{built}
 use Rattle.cevents.specs.declared.event.Event.{Event}
 use Rattle.cevents.specs.declared.event.Event.TheVariants as event
