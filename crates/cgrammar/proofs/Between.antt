@@ -8,7 +8,7 @@ use Rattle.ctokens.specs.declared.token.Token.{Token}
 use Rattle.ctokens.specs.Passed.{unpassed}
 use Rattle.cgrammar.specs.Terminals.{Terminal, terminal_of, last_place, comes_before}
 
-unpassed_of_nothing : (passed : List Bool) → unpassed passed [] ≡ []
+unpassed_of_nothing : (passed : List Bool) → unpassed {A = Terminal} passed [] ≡ []
 unpassed_of_nothing [] = refl
 unpassed_of_nothing (first ∷ passed) = refl
 
