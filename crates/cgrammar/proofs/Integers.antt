@@ -5,7 +5,8 @@ use Rattle.std.specs.List.{list_any, list_all, prefix_len}
 use Rattle.std.specs.Str.{bytes_eq}
 use Rattle.std.proofs.lemmas.List.{take-append-drop}
 use Rattle.std.proofs.Math.Seq.{take-append_seam, drop-append_seam}
-use Rattle.ctokens.specs.Bytes.{is_digit, is_octal_digit, is_hexadecimal_digit}
+use Rattle.cbase.specs.Bytes.{is_digit}
+use Rattle.ctokens.specs.Bytes.{is_octal_digit, is_hexadecimal_digit}
 use Rattle.ctokens.specs.Bytes.{is_empty}
 use Rattle.cgrammar.proofs.Truth.{and-left, and-right, and-both, or-cases, of-any, not-true}
 use Rattle.cgrammar.specs.Constants.{IsInteger, is_hexadecimal, is_unsuffixed, suffixes}

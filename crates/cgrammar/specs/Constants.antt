@@ -2,7 +2,8 @@
 use Rattle.std.specs.Prelude.{◌≡◌, ℕ, Bool, false, ◌&&◌, ◌||◌, not, if◌then◌else◌, IsTrue, List, [], ◌∷◌, ◌++◌, codes, nat_eq}
 use Rattle.std.specs.List.{list_all, list_any}
 use Rattle.std.specs.Str.{bytes_eq}
-use Rattle.ctokens.specs.Bytes.{is_digit, is_octal_digit, is_hexadecimal_digit}
+use Rattle.cbase.specs.Bytes.{is_digit}
+use Rattle.ctokens.specs.Bytes.{is_octal_digit, is_hexadecimal_digit}
 use Rattle.ctokens.specs.Bytes.{is_empty}
 use Rattle.ctokens.specs.declared.token.TokenKind.{TokenKind}
 use Rattle.ctokens.specs.declared.token.TokenKind.TheVariants.{Number, Letter}

@@ -4,7 +4,8 @@
 use Rattle.std.specs.Prelude.{ℕ, ◌+◌, ◌≤◌, true, if◌then◌else◌, List, [], ◌∷◌, map, take, length, nat_eq, Option, None, Some}
 use Rattle.cbase.specs.declared.tree.expr.Expr.{Expr}
 use Rattle.cbase.specs.declared.tree.stmt.Stmt.{Stmt}
-use Rattle.ctokens.specs.Bytes.{begins_word, is_digit}
+use Rattle.cbase.specs.Bytes.{is_digit}
+use Rattle.ctokens.specs.Bytes.{begins_word}
 use Rattle.ctokens.specs.declared.token.TokenKind.{TokenKind}
 use Rattle.ctokens.specs.declared.token.TokenKind.TheVariants.{Word, Number, Letter, Quoted, Mark}
 use Rattle.ctrees.specs.Levels.{expr_levels}

@@ -1,7 +1,8 @@
 ghost use Rattle.std.specs.Prelude.{◌≡◌, ◌≤◌, ◌||◌, nat_eq, length};
 ghost use Rattle.std.specs.List.{list_any, list_all};
 ghost use Rattle.std.specs.Str.{bytes_eq};
-ghost use Rattle.ctokens.specs.Bytes.{is_digit, is_octal_digit, is_hexadecimal_digit};
+ghost use Rattle.cbase.specs.Bytes.{is_digit};
+ghost use Rattle.ctokens.specs.Bytes.{is_octal_digit, is_hexadecimal_digit};
 ghost use Rattle.cgrammar.specs.Constants.{is_hexadecimal, is_unsuffixed, suffixes};
 ghost use Rattle.cgrammar.specs.ConstantParts.{is_before_suffix, digits_length, is_integer};
 

@@ -1,20 +1,11 @@
 -- The numbers that a word may give.
-use Rattle.std.specs.Prelude.{◌+◌, ◌*◌, ◌-◌, ◌&&◌, ℕ, Bool, List, [], ◌∷◌, Option, Some, None}
-use Rattle.std.specs.Prelude.{length, if◌then◌else◌, nat_le}
+use Rattle.std.specs.Prelude.{◌&&◌, ℕ, Bool, List, Option, Some, None, length, if◌then◌else◌, nat_le}
 use Rattle.std.specs.List.{list_all}
-
--- `0` (48) to `9` (57)
-abbrev pub is_digit : ℕ → Bool
-is_digit byte = nat_le 48 byte && nat_le byte 57
-
--- the value of `before`, and then of the digits behind it
-abbrev pub decimal_after : ℕ → List ℕ → ℕ
-decimal_after before [] = before
-decimal_after before (digit ∷ rest) = decimal_after (before * 10 + (digit - 48)) rest
+use Rattle.cbase.specs.Bytes.{is_digit, decimal_value}
 
 -- the value of decimal digits
 abbrev pub decimal : List ℕ → ℕ
-decimal digits = decimal_after 0 digits
+decimal digits = decimal_value 0 digits
 
 -- one to six decimal digits, and nothing else; leading zeros are allowed
 abbrev pub is_numeral : List ℕ → Bool

@@ -1,6 +1,7 @@
 ghost use Rattle.std.specs.Prelude.{◌≡◌, ◌≤◌, length, true, option_copied};
 ghost use Rattle.std.specs.List.{list_all};
-ghost use Rattle.command_line.specs.Numbers.{is_digit, number_in, number_or, decimal};
+ghost use Rattle.cbase.specs.Bytes.{is_digit};
+ghost use Rattle.command_line.specs.Numbers.{number_in, number_or, decimal};
 
 /// Whether each byte is a decimal digit.
 fn are_digits(bytes: &[u8]) -> bool
@@ -22,7 +23,7 @@ fn value_of(digits: &[u8]) -> u32
 {
     let mut value: u32 = 0;
     for digit in digits {
-        value = value * 10 + u32::from(*digit - b'0');
+        value = 10 * value + u32::from(*digit - b'0');
     }
     value
 }

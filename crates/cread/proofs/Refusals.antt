@@ -5,6 +5,7 @@ use Rattle.std.specs.List.{All}
 use Rattle.std.specs.Str.{bytes_eq}
 use Rattle.std.proofs.lemmas.List.Elements.{All-cons, All-drop, All-head, All-map, All-nil, All-tail, All-take}
 use Rattle.std.proofs.lemmas.Option.{get_or_from_slice_get, slice_get_within}
+use Rattle.cbase.specs.Refused.{IsConstruct}
 use Rattle.cbase.specs.declared.place.Place.{Place}
 use Rattle.cbase.specs.declared.tree.item.Item.{Item}
 use Rattle.cconstructs.specs.Constructs.{IsConstructAt, IsFirstConstruct, NamedWord, FloatingWord, FloatingConstant, VariableArguments, StringLiteral, FunctionPointer, word_rows}
@@ -100,21 +101,21 @@ All-at P xs at x all found = subst P (get_or_from_slice_get xs at x x found) (al
 
 abbrev HaveNumbers : List (List ℕ × ℕ) → Type 0
 HaveNumbers [] = Unit {0}
-HaveNumbers (row ∷ rows) = ((1 ≤ row.1) × (row.1 ≤ 21)) × HaveNumbers rows
+HaveNumbers (row ∷ rows) = IsConstruct row.1 × HaveNumbers rows
 
-row_chosen : (same : Bool) (bytes : List ℕ) (rows : List (List ℕ × ℕ)) (first number : ℕ) → (1 ≤ first) × (first ≤ 21)
-    → (row_of bytes rows ≡ Some number → (1 ≤ number) × (number ≤ 21)) → cond same (Some first) (row_of bytes rows) ≡ Some number
-    → (1 ≤ number) × (number ≤ 21)
+row_chosen : (same : Bool) (bytes : List ℕ) (rows : List (List ℕ × ℕ)) (first number : ℕ) → IsConstruct first
+    → (row_of bytes rows ≡ Some number → IsConstruct number) → cond same (Some first) (row_of bytes rows) ≡ Some number
+    → IsConstruct number
 row_chosen true bytes rows first number (low, high) others is = let same : first ≡ number = cc in (omega (arith, same, low), omega (arith, same, high))
 row_chosen false bytes rows first number here others is = others is
 
 row_numbered : (bytes : List ℕ) (rows : List (List ℕ × ℕ)) (number : ℕ) → HaveNumbers rows → row_of bytes rows ≡ Some number
-    → (1 ≤ number) × (number ≤ 21)
+    → IsConstruct number
 row_numbered bytes [] number have is = cc
 row_numbered bytes (row ∷ rows) number (here, others) is =
     row_chosen (bytes_eq row.0 bytes) bytes rows row.1 number here (row_numbered bytes rows number others) is
 
-construct_numbered : {row : List Terminal} {at number : ℕ} → IsConstructAt row at number → (1 ≤ number) × (number ≤ 21)
+construct_numbered : {row : List Terminal} {at number : ℕ} → IsConstructAt row at number → IsConstruct number
 construct_numbered {number} (NamedWord token found word listed) = row_numbered token.bytes word_rows number (search rules) listed
 construct_numbered (FloatingWord token found word floating) = (lit≤ tt, lit≤ tt)
 construct_numbered (FloatingConstant token found number none) = (lit≤ tt, lit≤ tt)

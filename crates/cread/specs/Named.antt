@@ -1,5 +1,6 @@
 -- What can be named of a refusal: the number of its construct, and the file of its place.
-use Rattle.std.specs.Prelude.{ℕ, ◌<◌, ◌≤◌, List, length}
+use Rattle.std.specs.Prelude.{ℕ, ◌<◌, List, length}
+use Rattle.cbase.specs.Refused.{IsConstruct}
 use Rattle.cbase.specs.declared.place.Place.{Place}
 use Rattle.cread.specs.declared.refusal.Refusal.{Refusal}
 use Rattle.cread.specs.declared.refusal.Refusal.TheVariants.{Construct, Syntax}
@@ -13,7 +14,7 @@ place_in (Syntax place) = place
 
 -- the numbers of the constructs that are given up
 abbrev pub HasNumber : Refusal → Type 0
-HasNumber (Construct number place) = (1 ≤ number) × (number ≤ 21)
+HasNumber (Construct number place) = IsConstruct number
 HasNumber (Syntax place) = Unit {0}
 
 -- what is refused can be named: its construct has a number, and the file of its place a name

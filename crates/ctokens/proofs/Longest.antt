@@ -8,7 +8,7 @@ use Rattle.ctokens.proofs.Letters.{letter_length-reaches, letter_length-exact, l
 use Rattle.ctokens.proofs.Quotes.{quoted_length-reaches, quoted_length-exact, quoted_length-inside}
 use Rattle.ctokens.proofs.MarkLengths.{mark_length-reaches, mark_length-most, mark_length-inside}
 use Rattle.ctokens.proofs.TokenKinds.{kind_of_spelled, is_pointed, kind_at-take}
-use Rattle.ctokens.specs.Bytes.{is_digit}
+use Rattle.cbase.specs.Bytes.{is_digit}
 use Rattle.ctokens.specs.Spelled.{is_number_from_digit, Spells}
 use Rattle.ctokens.specs.Lengths.{token_length, kind_at}
 use Rattle.ctokens.specs.Pieces.{IsToken, begins_line_comment, begins_block_comment}

@@ -9,8 +9,10 @@ use Rattle.std.proofs.lemmas.Slice.Eq.{bytes_eq-Decides}
 use Rattle.ctokens.proofs.Choices.{both_true, both_false, false_and, false_or, or_true, either_true, chosen_no, chosen_yes, from_choice}
 use Rattle.ctokens.proofs.FoundParts.{next}
 use Rattle.ctokens.proofs.Rows.{prefix_len-append_row, list_all-take_row}
-use Rattle.ctokens.specs.Bytes.{is_empty, is_blank, is_digit, is_between}
-use Rattle.ctokens.specs.Directive.{unblanked, begins_with_blank, is_pragma, is_pack, is_passed_over, decimal_value, greatest_line, written, IsOpening, AreDigits, is_flag_byte, IsMarker}
+use Rattle.cbase.specs.Bytes.{is_digit, is_between}
+use Rattle.ctokens.specs.Bytes.{is_empty, is_blank}
+use Rattle.cbase.specs.Bytes.{decimal_value}
+use Rattle.ctokens.specs.Directive.{unblanked, begins_with_blank, is_pragma, is_pack, is_passed_over, greatest_line, written, IsOpening, AreDigits, is_flag_byte, IsMarker}
 use Rattle.ctokens.specs.MarkerAt.{line_number, preceded, skipped, role_in_name, name_at, flagged, name_and_flags, numbered, number_and_name, marker_at}
 use Rattle.ctokens.specs.declared.marker.FoundMarker.{FoundMarker}
 use Rattle.ctokens.specs.declared.marker.FoundName.{FoundName}

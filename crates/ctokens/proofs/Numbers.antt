@@ -7,7 +7,8 @@ use Rattle.std.proofs.lemmas.List.Sums.{prefix_len-le-length}
 use Rattle.ctokens.proofs.Choices.{both_true, true_and, chosen_yes, chosen_no, either_true, or_true}
 use Rattle.ctokens.proofs.Rows.{row_covers, list_all-take_row}
 use Rattle.ctokens.proofs.Pointed.{pointed, pointed-some, pointed-small}
-use Rattle.ctokens.specs.Bytes.{begins_word, is_word_byte, is_digit}
+use Rattle.cbase.specs.Bytes.{is_digit}
+use Rattle.ctokens.specs.Bytes.{begins_word, is_word_byte}
 use Rattle.ctokens.specs.Spelled.{continues, are_continued, is_number_from_digit, is_word, is_number}
 use Rattle.ctokens.specs.Lengths.{continued_length, word_length, digits_length, number_length}
 

@@ -4,7 +4,8 @@ use Rattle.std.specs.List.{list_all}
 use Rattle.std.proofs.Common.{refl, sym, ◌∙◌, ap, arith, inl, inr}
 use Rattle.std.proofs.lemmas.Bool.{eqb-true, leb-true, ne_eqb, lt-leb}
 use Rattle.ctokens.proofs.Choices.{both_true, false_and, false_or, chosen_yes, chosen_no, either_true, of_any, of_any_row}
-use Rattle.ctokens.specs.Bytes.{is_blank, is_between, is_nondigit, begins_word, is_word_byte, is_digit}
+use Rattle.cbase.specs.Bytes.{is_between, is_digit}
+use Rattle.ctokens.specs.Bytes.{is_blank, is_nondigit, begins_word, is_word_byte}
 use Rattle.ctokens.specs.Marks.{single_marks, double_marks, triple_marks, is_mark}
 use Rattle.ctokens.specs.Spelled.{are_continued, is_number_from_digit, is_number, Spells}
 use Rattle.ctokens.specs.Lengths.{begins_with_digit, kind_at}

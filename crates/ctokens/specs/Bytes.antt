@@ -1,9 +1,6 @@
 -- Classes of bytes (C11 5.2.1, 6.4).
-use Rattle.std.specs.Prelude.{ℕ, Bool, true, false, ◌&&◌, ◌||◌, not, List, [], ◌∷◌, nat_eq, nat_le}
-
--- whether a byte lies between two, these among them
-abbrev pub is_between : ℕ → ℕ → ℕ → Bool
-is_between low high byte = nat_le low byte && nat_le byte high
+use Rattle.std.specs.Prelude.{ℕ, Bool, true, false, ◌&&◌, ◌||◌, not, List, [], ◌∷◌, nat_eq}
+use Rattle.cbase.specs.Bytes.{is_between, is_digit}
 
 -- a blank: a space, or a tab, newline, vertical tab, form feed or carriage return
 abbrev pub is_blank : ℕ → Bool
@@ -12,10 +9,6 @@ is_blank byte = nat_eq byte 32 || is_between 9 13 byte
 -- anything but a newline
 abbrev pub is_inside_line : ℕ → Bool
 is_inside_line byte = not (nat_eq byte 10)
-
--- `0` to `9`
-abbrev pub is_digit : ℕ → Bool
-is_digit byte = is_between 48 57 byte
 
 -- `0` to `7`
 abbrev pub is_octal_digit : ℕ → Bool

@@ -1,6 +1,7 @@
 -- The classes of bytes of which a text has rows.
 use Rattle.std.specs.Prelude.{ℕ, Bool}
-use Rattle.ctokens.specs.Bytes.{is_blank, is_digit, is_word_byte, is_octal_digit, is_hexadecimal_digit, is_inside_line}
+use Rattle.cbase.specs.Bytes.{is_digit}
+use Rattle.ctokens.specs.Bytes.{is_blank, is_word_byte, is_octal_digit, is_hexadecimal_digit, is_inside_line}
 use Rattle.ctokens.specs.declared.byte.Class.{Class}
 use Rattle.ctokens.specs.declared.byte.Class.TheVariants.{Blank, Digit, Octal, Hexadecimal, Word, Line}
 

@@ -1,9 +1,10 @@
 -- Directive lines (C11 6.10.4 and 6.10.6, and what GCC writes into a preprocessed text). A line is given
 -- without its newline, from its `#` on.
-use Rattle.std.specs.Prelude.{◌≡◌, ℕ, ◌+◌, ◌-◌, ◌*◌, ◌≤◌, Bool, true, false, ◌&&◌, ◌||◌, ◌⊎◌, not, List, [], ◌∷◌, ◌++◌, drop, nat_eq, IsTrue, codes, if◌then◌else◌}
+use Rattle.std.specs.Prelude.{◌≡◌, ℕ, ◌≤◌, Bool, true, false, ◌&&◌, ◌||◌, ◌⊎◌, not, List, [], ◌∷◌, ◌++◌, drop, nat_eq, IsTrue, codes, if◌then◌else◌}
 use Rattle.std.specs.Bool.{IsFalse}
 use Rattle.std.specs.List.{list_all, prefix_len, starts_with}
-use Rattle.ctokens.specs.Bytes.{is_empty, is_blank, is_digit, is_word_byte}
+use Rattle.cbase.specs.Bytes.{is_digit, decimal_value}
+use Rattle.ctokens.specs.Bytes.{is_empty, is_blank, is_word_byte}
 
 -- what stands behind the blanks at the front of a text
 abbrev pub unblanked : List ℕ → List ℕ
@@ -32,11 +33,6 @@ is_pack line =
 -- `#ident` by the letter, or a `#pragma` other than `#pragma pack`
 abbrev pub is_passed_over : List ℕ → Bool
 is_passed_over line = not (is_pack line) && (is_pragma line || starts_with nat_eq line (codes "#ident"))
-
--- the value of decimal digits, behind digits with the value `before`
-abbrev pub decimal_value : ℕ → List ℕ → ℕ
-decimal_value before [] = before
-decimal_value before (digit ∷ others) = decimal_value (10 * before + (digit - 48)) others
 
 -- the greatest number that a marker may give to a line (C11 6.10.4)
 abbrev pub greatest_line : ℕ

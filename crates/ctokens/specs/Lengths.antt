@@ -3,7 +3,8 @@
 use Rattle.std.specs.Prelude.{ℕ, ◌+◌, Bool, true, false, ◌&&◌, not, min, List, [], ◌∷◌, nat_eq, Option, None, Some, option_map, slice_index_or, if◌then◌else◌}
 use Rattle.std.specs.Option.{unwrap_or}
 use Rattle.std.specs.List.{prefix_len}
-use Rattle.ctokens.specs.Bytes.{begins_word, is_word_byte, is_digit, is_octal_digit, is_hexadecimal_digit}
+use Rattle.cbase.specs.Bytes.{is_digit}
+use Rattle.ctokens.specs.Bytes.{begins_word, is_word_byte, is_octal_digit, is_hexadecimal_digit}
 use Rattle.ctokens.specs.Marks.{is_mark}
 use Rattle.ctokens.specs.Spelled.{continues, is_plain, is_simple_escape}
 use Rattle.ctokens.specs.declared.closing.Closing.{Closing}

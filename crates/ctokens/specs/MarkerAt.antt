@@ -1,7 +1,7 @@
 -- What a line marker says, found byte by byte.
 use Rattle.std.specs.Prelude.{ℕ, ◌+◌, ◌-◌, ◌*◌, Bool, true, false, ◌||◌, List, [], ◌∷◌, take, drop, nat_eq, nat_le, Option, None, Some, option_map, codes, if◌then◌else◌}
 use Rattle.std.specs.List.{list_all, prefix_len, starts_with}
-use Rattle.ctokens.specs.Bytes.{is_digit}
+use Rattle.cbase.specs.Bytes.{is_digit}
 use Rattle.ctokens.specs.Directive.{unblanked, begins_with_blank, greatest_line, is_flag_byte}
 use Rattle.ctokens.specs.declared.marker.FoundMarker.{FoundMarker}
 use Rattle.ctokens.specs.declared.marker.FoundName.{FoundName}

@@ -1,7 +1,8 @@
 -- What the bytes of a token are (C11 6.4).
 use Rattle.std.specs.Prelude.{◌≡◌, ℕ, Bool, true, false, ◌&&◌, ◌||◌, not, List, [], ◌∷◌, ◌++◌, length, nat_eq, nat_le, IsTrue, if◌then◌else◌, codes}
 use Rattle.std.specs.List.{list_all, list_any}
-use Rattle.ctokens.specs.Bytes.{is_empty, begins_word, is_word_byte, is_digit, is_octal_digit, is_hexadecimal_digit, is_number_byte, is_sign, is_exponent}
+use Rattle.cbase.specs.Bytes.{is_digit}
+use Rattle.ctokens.specs.Bytes.{is_empty, begins_word, is_word_byte, is_octal_digit, is_hexadecimal_digit, is_number_byte, is_sign, is_exponent}
 use Rattle.ctokens.specs.Marks.{is_mark}
 use Rattle.ctokens.specs.declared.token.TokenKind.{TokenKind}
 use Rattle.ctokens.specs.declared.token.TokenKind.TheVariants.{Word, Number, Letter, Quoted, Mark}

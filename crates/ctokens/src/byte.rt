@@ -2,7 +2,8 @@
 
 ghost use Rattle.std.specs.Prelude.{◌≡◌, ◌≤◌, length};
 ghost use Rattle.std.specs.List.{prefix_len};
-ghost use Rattle.ctokens.specs.Bytes.{is_blank, is_digit, is_octal_digit, is_hexadecimal_digit, is_nondigit, begins_word, is_word_byte, is_number_byte, is_exponent, is_sign};
+ghost use Rattle.cbase.specs.Bytes.{is_digit};
+ghost use Rattle.ctokens.specs.Bytes.{is_blank, is_octal_digit, is_hexadecimal_digit, is_nondigit, begins_word, is_word_byte, is_number_byte, is_exponent, is_sign};
 ghost use Rattle.ctokens.specs.Directive.{is_flag_byte};
 ghost use Rattle.ctokens.specs.Spelled.{continues};
 ghost use Rattle.ctokens.specs.Class.{is_of};

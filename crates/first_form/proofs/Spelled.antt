@@ -6,8 +6,8 @@ use Rattle.std.proofs.Common.{refl, sym, ◌∙◌, ap, subst, arith}
 use Rattle.std.proofs.lemmas.Bool.{le-leb, leb-true, lt-leb, eqb-true}
 use Rattle.std.proofs.lemmas.Slice.Eq.{bytes_eq-Decides}
 use Rattle.ctokens.proofs.Choices.{from_choice, both_true, true_and, chosen_yes, chosen_no, false_and}
-use Rattle.ctokens.specs.Bytes.{is_digit}
-use Rattle.ctokens.specs.Directive.{decimal_value}
+use Rattle.cbase.specs.Bytes.{is_digit}
+use Rattle.cbase.specs.Bytes.{decimal_value}
 use Rattle.ctokens.proofs.Markers.{decimal_value-rises}
 use Rattle.first_form.specs.Tokens.{is_lower, has_no_leading_zero, IsSize, IsSpelling}
 use Rattle.first_form.specs.Spelling.{size_after, size_of, keyword_of, mark_of, single_of, token_of}

@@ -1,7 +1,7 @@
 -- What rows of bytes spell, as a function: one token of the first form or none.
 use Rattle.std.specs.Prelude.{ℕ, ◌+◌, ◌-◌, ◌*◌, ◌&&◌, if◌then◌else◌, List, [], ◌∷◌, Option, None, Some, nat_eq, nat_le, option_map, codes}
 use Rattle.std.specs.Str.{bytes_eq}
-use Rattle.ctokens.specs.Bytes.{is_digit}
+use Rattle.cbase.specs.Bytes.{is_digit}
 use Rattle.first_form.specs.Tokens.{is_lower, has_no_leading_zero}
 use Rattle.ctokens.specs.declared.token.Token.{Token as Lexeme}
 use Rattle.ctokens.specs.TokenSymbols.{bytes_of}

@@ -1,8 +1,8 @@
 -- The tokens of the first form: which bytes spell each (C11 6.4.1, 6.4.2, 6.4.4.1, 6.4.6).
 use Rattle.std.specs.Prelude.{◌≡◌, ℕ, ◌≤◌, Bool, true, false, List, [], ◌∷◌, nat_le, IsTrue, codes}
 use Rattle.std.specs.List.{list_all}
-use Rattle.ctokens.specs.Bytes.{is_between, is_digit}
-use Rattle.ctokens.specs.Directive.{decimal_value}
+use Rattle.cbase.specs.Bytes.{is_between, is_digit}
+use Rattle.cbase.specs.Bytes.{decimal_value}
 use Rattle.first_form.specs.declared.token.Token.{Token}
 use Rattle.first_form.specs.declared.token.Token.TheVariants.{Int, Main, Void, Return, Malloc, Free, Name, Number, LeftParenthesis, RightParenthesis, LeftBrace, RightBrace, Star, Equals, Semicolon}
 

@@ -1,7 +1,7 @@
 //! The classes of bytes that the tokens of the first form are made of.
 
 ghost use Rattle.std.specs.Prelude.{◌≡◌};
-ghost use Rattle.ctokens.specs.Bytes.{is_digit};
+ghost use Rattle.cbase.specs.Bytes.{is_digit};
 ghost use Rattle.first_form.specs.Tokens.{is_lower};
 
 /// `0` to `9`.

@@ -1,9 +1,5 @@
 -- The printed names of the constructs of C that are given up, by their numbers.
-use Rattle.std.specs.Prelude.{ℕ, ◌-◌, ◌≤◌, List, [], ◌∷◌, codes, slice_get, unwrap_or}
-
--- whether a number is that of a construct
-abbrev pub IsConstruct : ℕ → Type 0
-IsConstruct number = (1 ≤ number) × (number ≤ 21)
+use Rattle.std.specs.Prelude.{ℕ, ◌-◌, List, [], ◌∷◌, codes, slice_get, unwrap_or}
 
 -- the names, that of number 1 first
 abbrev pub construct_names : List (List ℕ)

@@ -9,7 +9,8 @@ use Rattle.report.specs.declared.answer.Why.{Why}
 use Rattle.report.specs.declared.answer.Why.TheVariants.{Lexical, Deep, NoMain, Syntax}
 use Rattle.report.specs.declared.answer.Answer.TheVariants.{Safe, Warned, NotRead, Construct, NotYet, TooLong, Usage, ReadFault, OutOfMemory}
 use Rattle.report.specs.declared.answer.Shown.{Shown}
-use Rattle.report.specs.Construct.{IsConstruct, construct_name}
+use Rattle.cbase.specs.Refused.{IsConstruct}
+use Rattle.report.specs.Construct.{construct_name}
 use Rattle.report.specs.Kind.{IsKind, kind_text}
 
 -- `file:line:column`, with the name of the place's file

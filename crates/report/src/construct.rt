@@ -1,5 +1,6 @@
 ghost use Rattle.std.specs.Prelude.{◌≡◌};
-ghost use Rattle.report.specs.Construct.{IsConstruct, construct_name};
+ghost use Rattle.cbase.specs.Refused.{IsConstruct};
+ghost use Rattle.report.specs.Construct.{construct_name};
 
 /// The printed name of a construct of C that is given up, by its number, from 1 to 21.
 pub(crate) fn name_of_construct(number: u8) -> &'static [u8]

@@ -1,6 +1,6 @@
 ghost use Rattle.std.specs.Prelude.{◌≡◌, ◌∷◌, [], ◌++◌, ◌<◌, IfOk, OnOk, length, map, codes};
 ghost use Rattle.std.specs.List.{All};
-ghost use Rattle.report.specs.Construct.{IsConstruct};
+ghost use Rattle.cbase.specs.Refused.{IsConstruct};
 ghost use Rattle.report.specs.Report.{HasPlace, HasPrintable, IsPrintable, construct_line, lines_text, place_text, report_bytes, warning_line, why_line};
 
 use crate::answer::{Answer, Shown, Why};

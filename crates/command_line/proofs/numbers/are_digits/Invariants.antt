@@ -1,6 +1,6 @@
 use Rattle.std.proofs.Common.{◌≡◌, drop}
 use Rattle.std.specs.List.{list_all}
-use Rattle.command_line.specs.Numbers.{is_digit}
+use Rattle.cbase.specs.Bytes.{is_digit}
 use Rattle.command_line.proofs.numbers.are_digits.Given as goal
 
 abbrev pub invariant-loop-byte : goal.invariant-loop-byte
