@@ -1,84 +1,67 @@
 -- The bounds of names are right for the open scopes after each step.
-use Rattle.std.proofs.Common.{◌≡◌, ◌≢◌, ℕ, zero, suc, ◌≤◌, ◌<◌, ◌-◌, ◌⊎◌, inl, inr, Bool, true, false, refl, ap, sym, subst, ◌∙◌, List, [], ◌∷◌, ◌++◌, map, cond, length, take, min, get_or, set, Option, None, Some, Result, Ok, Err, OnOk, OnErr, arith, length-append, length-take}
+use Rattle.std.proofs.Common.{◌≡◌, ◌≢◌, ℕ, zero, suc, ◌≤◌, ◌<◌, ◌-◌, ◌⊎◌, inl, inr, Bool, true, false, refl, ap, sym, subst, ◌∙◌, List, [], ◌∷◌, ◌++◌, map, cond, length, take, drop, min, get_or, slice_get, set, Option, None, Some, Result, Ok, Err, OnOk, OnErr, arith, length-append, length-take}
 use Rattle.std.specs.Prelude.{if◌then◌else◌}
 use Rattle.std.specs.Str.{bytes_eq}
 use Rattle.std.proofs.lemmas.Slice.Eq.{bytes_eq-Decides}
-use Rattle.std.specs.Map.{lookup, set_value}
+use Rattle.std.specs.Map.{set_value}
 use Rattle.std.specs.Option.{unwrap_or}
 use Rattle.std.proofs.lemmas.List.{get_or_past, get_or_default, get_or-take, get_or-set_same, length-set}
-use Rattle.indexmap.specs.IndexMap.{insert_entry}
 use Rattle.std.specs.Result.{is_err}
-use Rattle.cgrammar.specs.Scope.{Names, says_typedef, is_typedef_name, found_in, first_answer, found, declared_in, declared, declared_around, left, entered}
-use Rattle.cgrammar.specs.Bounds.{Numbers, number_in, put_in, or_one, bound_in, IsSilent, IsAbove, AreEarlier, IsBounded, AreBounds, IsRestored, SameButFirst, Rises, Remembers, Grow}
-use Rattle.cgrammar.proofs.Scopes.{in-other, left_take, left_entered, declared-last, declared-around}
+use Rattle.cgrammar.specs.NameTables.{value_in, with_value}
+use Rattle.cgrammar.specs.Scope.{Names, says_typedef, is_typedef_name, first_answer, found, declared, declared_around, left, entered}
+use Rattle.cgrammar.specs.Bounds.{Numbers, or_one, bound_in, restored, IsSilent, IsAbove, AreEarlier, IsBounded, AreBounds, IsRestored, SameButFirst, Rises, Remembers, Grow}
+use Rattle.cgrammar.proofs.NameTables.{shown, value-put, put_same, put_other}
+use Rattle.cgrammar.proofs.Scopes.{left_take, left_entered, declared-last, declared-around}
 
 le-or : (a b : ℕ) → (a ≤ b) ⊎ (b < a)
 le-or zero b = inl (omega arith)
 le-or (suc a) zero = inr (omega arith)
 le-or (suc a) (suc b) = elim (le-or a b) [ inl less ↦ inl (omega (arith, less)) | inr more ↦ inr (omega (arith, more)) ]
 
+-- what a name has after others are restored: what it had, or what they give it
+restored-cases : (other own : Option ℕ) → (restored other own ≡ own) ⊎ ((number : ℕ) × (other ≡ Some number) × (restored other own ≡ Some number))
+restored-cases None own = inl refl
+restored-cases (Some other) None = inl refl
+restored-cases (Some other) (Some own) = inr (other, refl, refl)
+
+pub restored_name : (others old new : Numbers) (name : List ℕ) → IsRestored others old new
+    → (value_in name new ≡ value_in name old) ⊎ ((number : ℕ) × (value_in name others ≡ Some number) × (value_in name new ≡ Some number))
+restored_name others old new name is = elim (restored-cases (value_in name others) (value_in name old)) [
+  | inl kept ↦ inl (is name ∙ kept)
+  | inr given ↦ inr (given.0, given.1, is name ∙ given.2)
+]
+
 module _ {X : Type 0} (bytes : X → List ℕ) where
-  abbrev pub shown : X × ℕ → List ℕ × ℕ
-  shown entry = (bytes entry.0, entry.1)
-
-  pub number-map : (name : List ℕ) (entries : List (X × ℕ)) → lookup (λ x. bytes_eq name (bytes x)) entries ≡ number_in name (map shown entries)
-  number-map name [] = refl
-  number-map name (entry ∷ entries) = ap (λ (o : Option ℕ). cond (bytes_eq name (bytes entry.0)) (Some entry.1) o) (number-map name entries)
-
-  pub put-map : (copy : X) (number : ℕ) (entries : List (X × ℕ)) → map shown (insert_entry (λ x y. bytes_eq (bytes x) (bytes y)) entries copy number) ≡ put_in (bytes copy) number (map shown entries)
-  put-map copy number [] = refl
-  put-map copy number (entry ∷ entries) = step (bytes_eq (bytes copy) (bytes entry.0)) (put-map copy number entries)
+  -- a write to the number of a name that has one
+  pub change-map : (name : List ℕ) (number : ℕ) (entries : List (X × ℕ))
+      → IsRestored ((name, number) ∷ []) (map (shown bytes) entries) (map (shown bytes) (set_value (λ x. bytes_eq name (bytes x)) entries number))
+  change-map name number [] other = step (bytes_eq other name)
     where
-      step : (test : Bool) → map shown (insert_entry (λ x y. bytes_eq (bytes x) (bytes y)) entries copy number) ≡ put_in (bytes copy) number (map shown entries)
-          → map shown (if test then (entry.0, number) ∷ entries else entry ∷ insert_entry (λ x y. bytes_eq (bytes x) (bytes y)) entries copy number)
-          ≡ (if test then (bytes entry.0, number) ∷ map shown entries else (bytes entry.0, entry.1) ∷ put_in (bytes copy) number (map shown entries))
-      step true rest = refl
-      step false rest = ap (λ (numbers : Numbers). (bytes entry.0, entry.1) ∷ numbers) rest
-
-  -- a write to the number of a name changes no other
-  pub change-map : (other name : List ℕ) (number : ℕ) (entries : List (X × ℕ))
-      → (number_in other (map shown (set_value (λ x. bytes_eq name (bytes x)) entries number)) ≡ number_in other (map shown entries))
-      ⊎ ((bytes_eq other name ≡ true) × (number_in other (map shown (set_value (λ x. bytes_eq name (bytes x)) entries number)) ≡ Some number))
-  change-map other name number [] = inl refl
-  change-map other name number (entry ∷ entries) =
-      step (bytes_eq name (bytes entry.0)) refl (bytes_eq other (bytes entry.0)) refl (change-map other name number entries)
+      step : (asked : Bool) → None ≡ restored (if asked then Some number else None) None
+      step true = refl
+      step false = refl
+  change-map name number (entry ∷ entries) other =
+      step (bytes_eq name (bytes entry.0)) refl (bytes_eq other (bytes entry.0)) refl (bytes_eq other name) refl (change-map name number entries other)
     where
-      step : (same : Bool) → bytes_eq name (bytes entry.0) ≡ same → (here : Bool) → bytes_eq other (bytes entry.0) ≡ here
-          → (number_in other (map shown (set_value (λ x. bytes_eq name (bytes x)) entries number)) ≡ number_in other (map shown entries))
-          ⊎ ((bytes_eq other name ≡ true) × (number_in other (map shown (set_value (λ x. bytes_eq name (bytes x)) entries number)) ≡ Some number))
-          → (number_in other (map shown (cond same ((entry.0, number) ∷ entries) (entry ∷ set_value (λ x. bytes_eq name (bytes x)) entries number))) ≡ (if here then Some entry.1 else number_in other (map shown entries)))
-          ⊎ ((bytes_eq other name ≡ true) × (number_in other (map shown (cond same ((entry.0, number) ∷ entries) (entry ∷ set_value (λ x. bytes_eq name (bytes x)) entries number))) ≡ Some number))
-      step true is true at rest =
-          inr ((bytes_eq-Decides other name).1 ((bytes_eq-Decides other (bytes entry.0)).0 at ∙ sym ((bytes_eq-Decides name (bytes entry.0)).0 is)), ap (λ (b : Bool). if b then Some number else number_in other (map shown entries)) at)
-      step true is false at rest = inl (ap (λ (b : Bool). if b then Some number else number_in other (map shown entries)) at)
-      step false is true at rest =
-          inl (ap (λ (b : Bool). if b then Some entry.1 else number_in other (map shown (set_value (λ x. bytes_eq name (bytes x)) entries number))) at)
-      step false is false at rest =
-          let out = ap (λ (b : Bool). if b then Some entry.1 else number_in other (map shown (set_value (λ x. bytes_eq name (bytes x)) entries number))) at in
-          elim rest [ inl kept ↦ inl (out ∙ kept) | inr new ↦ inr (new.0, out ∙ new.1) ]
+      behind : List (X × ℕ)
+      behind = set_value (λ x. bytes_eq name (bytes x)) entries number
 
--- what is put is the number of its name, and other names keep theirs
-pub number-put : (other name : List ℕ) (number : ℕ) (numbers : Numbers) → number_in other (put_in name number numbers) ≡ (if bytes_eq other name then Some number else number_in other numbers)
-number-put other name number [] = refl
-number-put other name number (entry ∷ others) =
-    step (bytes_eq name entry.0) refl (bytes_eq other entry.0) refl (bytes_eq other name) refl (number-put other name number others)
-  where
-    step : (same : Bool) → bytes_eq name entry.0 ≡ same → (here : Bool) → bytes_eq other entry.0 ≡ here → (asked : Bool) → bytes_eq other name ≡ asked
-        → number_in other (put_in name number others) ≡ (if bytes_eq other name then Some number else number_in other others)
-        → number_in other (if same then (entry.0, number) ∷ others else entry ∷ put_in name number others) ≡ (if asked then Some number else (if here then Some entry.1 else number_in other others))
-    step true is true at true asks rest = ap (λ (b : Bool). if b then Some number else number_in other others) at
-    step true is false at false asks rest = ap (λ (b : Bool). if b then Some number else number_in other others) at
-    step true is true at false asks rest =
-        let same = (bytes_eq-Decides other name).1 ((bytes_eq-Decides other entry.0).0 at ∙ sym ((bytes_eq-Decides name entry.0).0 is)) in cc
-    step true is false at true asks rest =
-        let same = (bytes_eq-Decides other entry.0).1 ((bytes_eq-Decides other name).0 asks ∙ (bytes_eq-Decides name entry.0).0 is) in cc
-    step false is true at true asks rest =
-        let same = (bytes_eq-Decides name entry.0).1 (sym ((bytes_eq-Decides other name).0 asks) ∙ (bytes_eq-Decides other entry.0).0 at) in cc
-    step false is true at false asks rest = ap (λ (b : Bool). if b then Some entry.1 else number_in other (put_in name number others)) at
-    step false is false at true asks rest =
-        ap (λ (b : Bool). if b then Some entry.1 else number_in other (put_in name number others)) at ∙ (rest ∙ ap (λ (b : Bool). if b then Some number else number_in other others) asks)
-    step false is false at false asks rest =
-        ap (λ (b : Bool). if b then Some entry.1 else number_in other (put_in name number others)) at ∙ (rest ∙ ap (λ (b : Bool). if b then Some number else number_in other others) asks)
+      step : (same : Bool) → bytes_eq name (bytes entry.0) ≡ same → (here : Bool) → bytes_eq other (bytes entry.0) ≡ here → (asked : Bool) → bytes_eq other name ≡ asked
+          → value_in other (map (shown bytes) behind) ≡ restored (if bytes_eq other name then Some number else None) (value_in other (map (shown bytes) entries))
+          → value_in other (map (shown bytes) (cond same ((entry.0, number) ∷ entries) (entry ∷ behind)))
+          ≡ restored (if asked then Some number else None) (if here then Some entry.1 else value_in other (map (shown bytes) entries))
+      step true is true at true asks rest = ap (λ (b : Bool). if b then Some number else value_in other (map (shown bytes) entries)) at
+      step true is false at false asks rest = ap (λ (b : Bool). if b then Some number else value_in other (map (shown bytes) entries)) at
+      step true is true at false asks rest =
+          let same = (bytes_eq-Decides other name).1 ((bytes_eq-Decides other (bytes entry.0)).0 at ∙ sym ((bytes_eq-Decides name (bytes entry.0)).0 is)) in cc
+      step true is false at true asks rest =
+          let same = (bytes_eq-Decides other (bytes entry.0)).1 ((bytes_eq-Decides other name).0 asks ∙ (bytes_eq-Decides name (bytes entry.0)).0 is) in cc
+      step false is true at true asks rest =
+          let same = (bytes_eq-Decides name (bytes entry.0)).1 (sym ((bytes_eq-Decides other name).0 asks) ∙ (bytes_eq-Decides other (bytes entry.0)).0 at) in cc
+      step false is true at false asks rest = ap (λ (b : Bool). if b then Some entry.1 else value_in other (map (shown bytes) behind)) at
+      step false is false at asked asks rest =
+          ap (λ (b : Bool). if b then Some entry.1 else value_in other (map (shown bytes) behind)) at
+          ∙ (rest ∙ ap (λ (b : Bool). restored (if b then Some number else None) (value_in other (map (shown bytes) entries))) asks)
 
 -- an empty entry at the end of a list is what is read behind the end
 pub get-entered : {X : Type 0} (lists : List (List X)) (at : ℕ) → get_or (lists ++ [] ∷ []) at [] ≡ get_or lists at []
@@ -91,23 +74,23 @@ get-entered (first ∷ others) (suc at) = get-entered others at
 pub bounded_entered : (scopes : List Names) (bounds : Numbers) (earlier : List Numbers) → IsBounded scopes bounds earlier → IsBounded (entered scopes) bounds (earlier ++ [] ∷ [])
 bounded_entered scopes bounds earlier is = record {
   count = omega (arith, is.count, length-append earlier ([] ∷ []), length-append scopes ([] ∷ []));
-  above = λ name at low. ap (found_in name) (get-entered scopes at) ∙ is.above name at low;
+  above = λ name at low. ap (value_in name) (get-entered scopes at) ∙ is.above name at low;
   before = λ scope name bound has at low inside.
-      ap (found_in name) (get-entered scopes at) ∙ is.before scope name bound (ap (number_in name) (sym (get-entered earlier scope)) ∙ has) at low inside;
+      ap (value_in name) (get-entered scopes at) ∙ is.before scope name bound (ap (value_in name) (sym (get-entered earlier scope)) ∙ has) at low inside;
 }
 
 -- a scope that changes what it says of one name
 pub changed-at : (name other : List ℕ) (typedef : Bool) (scopes : List Names) (here at : ℕ) → (bytes_eq other name ≡ false) ⊎ (at ≢ here)
-    → found_in other (get_or (set scopes here (declared_in name typedef (get_or scopes here []))) at []) ≡ found_in other (get_or scopes at [])
+    → value_in other (get_or (set scopes here (with_value name typedef (get_or scopes here []))) at []) ≡ value_in other (get_or scopes at [])
 changed-at name other typedef [] here at apart = refl
-changed-at name other typedef (names ∷ scopes) zero zero apart = elim apart [ inl away ↦ in-other name other typedef names away | inr away ↦ absurd (away refl) ]
+changed-at name other typedef (names ∷ scopes) zero zero apart = elim apart [ inl away ↦ put_other name other typedef names away | inr away ↦ absurd (away refl) ]
 changed-at name other typedef (names ∷ scopes) zero (suc at) apart = refl
 changed-at name other typedef (names ∷ scopes) (suc here) zero apart = refl
 changed-at name other typedef (names ∷ scopes) (suc here) (suc at) apart =
     changed-at name other typedef scopes here at (elim apart [ inl away ↦ inl away | inr away ↦ inr (λ is. away (ap suc is)) ])
 
 -- what has a number is no empty list behind the end
-pub some-within : (name : List ℕ) (number : ℕ) (earlier : List Numbers) (at : ℕ) → number_in name (get_or earlier at []) ≡ Some number → at < length earlier
+pub some-within : (name : List ℕ) (number : ℕ) (earlier : List Numbers) (at : ℕ) → value_in name (get_or earlier at []) ≡ Some number → at < length earlier
 some-within name number [] at is = cc is
 some-within name number (numbers ∷ earlier) zero is = omega arith
 some-within name number (numbers ∷ earlier) (suc at) is = omega (arith, some-within name number earlier at is)
@@ -118,10 +101,10 @@ found-front name [] zero silent = refl
 found-front name [] (suc bound) silent = refl
 found-front name (names ∷ scopes) zero silent =
     let inner : found name (take 0 scopes) ≡ found name scopes = found-front name scopes zero (λ at low. silent (suc at) (omega arith)) in
-    let here : found_in name names ≡ None = silent 0 (omega arith) in
-    ap (λ (o : Option Bool). first_answer None o) (sym here) ∙ ap (λ (o : Option Bool). first_answer o (found_in name names)) inner
+    let here : value_in name names ≡ None = silent 0 (omega arith) in
+    ap (λ (o : Option Bool). first_answer None o) (sym here) ∙ ap (λ (o : Option Bool). first_answer o (value_in name names)) inner
 found-front name (names ∷ scopes) (suc bound) silent =
-    ap (λ (o : Option Bool). first_answer o (found_in name names)) (found-front name scopes bound (λ at low. silent (suc at) (omega arith)))
+    ap (λ (o : Option Bool). first_answer o (value_in name names)) (found-front name scopes bound (λ at low. silent (suc at) (omega arith)))
 
 -- how many scopes are looked at does not matter, where the bound is among them
 pub found_bounded : (name : List ℕ) (scopes : List Names) (bounds : Numbers) (earlier : List Numbers) → IsBounded scopes bounds earlier
@@ -129,7 +112,7 @@ pub found_bounded : (name : List ℕ) (scopes : List Names) (bounds : Numbers) (
 found_bounded name scopes bounds earlier is = found-front name scopes (min (bound_in name bounds) (length scopes)) silent
   where
     far : (at : ℕ) → length scopes ≤ at → IsSilent scopes name at
-    far at out = ap (found_in name) (get_or_past scopes at [] out)
+    far at out = ap (value_in name) (get_or_past scopes at [] out)
 
     silent : (at : ℕ) → min (bound_in name bounds) (length scopes) ≤ at → IsSilent scopes name at
     silent at low = elim (le-or (bound_in name bounds) (length scopes)) [
@@ -169,10 +152,10 @@ bounded_grow scopes bounds old new is count grow = record { count = count ∙ is
 -- a name is declared in a scope below its bounds
 pub bounded-set : (name : List ℕ) (typedef : Bool) (scopes : List Names) (bounds : Numbers) (earlier : List Numbers) (here : ℕ)
     → IsBounded scopes bounds earlier → suc here ≤ bound_in name bounds
-    → ((scope : ℕ) (bound : ℕ) → here < scope → number_in name (get_or earlier scope []) ≡ Some bound → suc here ≤ bound)
-    → IsBounded (set scopes here (declared_in name typedef (get_or scopes here []))) bounds earlier
+    → ((scope : ℕ) (bound : ℕ) → here < scope → value_in name (get_or earlier scope []) ≡ Some bound → suc here ≤ bound)
+    → IsBounded (set scopes here (with_value name typedef (get_or scopes here []))) bounds earlier
 bounded-set name typedef scopes bounds earlier here is high higher = record {
-  count = is.count ∙ sym (length-set scopes here (declared_in name typedef (get_or scopes here [])));
+  count = is.count ∙ sym (length-set scopes here (with_value name typedef (get_or scopes here [])));
   above = λ other at low. changed-at name other typedef scopes here at (apart-above other at low (bytes_eq other name) refl) ∙ is.above other at low;
   before = λ scope other bound has at low inside.
       changed-at name other typedef scopes here at (apart-before scope other bound has at low inside (bytes_eq other name) refl) ∙ is.before scope other bound has at low inside;
@@ -185,12 +168,12 @@ bounded-set name typedef scopes bounds earlier here is high higher = record {
         let under : bound_in name bounds ≤ at = subst P ((bytes_eq-Decides other name).0 is) low in
         inr (λ equal. omega (arith, equal, under, high))
 
-    apart-before : (scope : ℕ) (other : List ℕ) (bound : ℕ) → number_in other (get_or earlier scope []) ≡ Some bound → (at : ℕ) → bound ≤ at → at < scope
+    apart-before : (scope : ℕ) (other : List ℕ) (bound : ℕ) → value_in other (get_or earlier scope []) ≡ Some bound → (at : ℕ) → bound ≤ at → at < scope
         → (same : Bool) → bytes_eq other name ≡ same → (bytes_eq other name ≡ false) ⊎ (at ≢ here)
     apart-before scope other bound has at low inside false is = inl is
     apart-before scope other bound has at low inside true is =
-        let P : List ℕ → Type 0 = λ n. number_in n (get_or earlier scope []) ≡ Some bound in
-        let has_name : number_in name (get_or earlier scope []) ≡ Some bound = subst P ((bytes_eq-Decides other name).0 is) has in
+        let P : List ℕ → Type 0 = λ n. value_in n (get_or earlier scope []) ≡ Some bound in
+        let has_name : value_in name (get_or earlier scope []) ≡ Some bound = subst P ((bytes_eq-Decides other name).0 is) has in
         inr (λ equal. absurd (omega (arith, equal, low, higher scope bound (omega (arith, equal, inside)) has_name)))
 
 -- after a declaration in the innermost scope
@@ -202,7 +185,7 @@ bounded_declared name typedef (first ∷ others) bounds earlier is high =
     let here : ℕ = length others in
     let last : suc here ≡ length scopes = omega arith in
     let many : suc here ≡ length earlier = last ∙ sym is.count in
-    let equal : set scopes here (declared_in name typedef (get_or scopes here [])) ≡ declared name typedef scopes =
+    let equal : set scopes here (with_value name typedef (get_or scopes here [])) ≡ declared name typedef scopes =
     declared-last name typedef scopes here (get_or scopes here []) last (get_or_default scopes here [] (get_or scopes here []) (omega arith)) in
     let P : List Names → Type 0 = λ s. IsBounded s bounds earlier in
     subst P equal (bounded-set name typedef scopes bounds earlier here is (omega (arith, many, high))
@@ -211,7 +194,7 @@ bounded_declared name typedef (first ∷ others) bounds earlier is high =
 -- after a declaration around the innermost scope
 pub bounded_around : (name : List ℕ) (typedef : Bool) (scopes : List Names) (bounds : Numbers) (earlier : List Numbers) → IsBounded scopes bounds earlier
     → length earlier - 1 ≤ bound_in name bounds
-    → ((bound : ℕ) → number_in name (get_or earlier (length earlier - 1) []) ≡ Some bound → length earlier - 1 ≤ bound)
+    → ((bound : ℕ) → value_in name (get_or earlier (length earlier - 1) []) ≡ Some bound → length earlier - 1 ≤ bound)
     → IsBounded (declared_around name typedef scopes) bounds earlier
 bounded_around name typedef [] bounds earlier is high higher = is
 bounded_around name typedef (only ∷ []) bounds earlier is high higher = is
@@ -220,14 +203,14 @@ bounded_around name typedef (first ∷ (second ∷ others)) bounds earlier is hi
     let here : ℕ = length others in
     let last : suc (suc here) ≡ length scopes = omega arith in
     let many : suc (suc here) ≡ length earlier = last ∙ sym is.count in
-    let equal : set scopes here (declared_in name typedef (get_or scopes here [])) ≡ declared_around name typedef scopes =
+    let equal : set scopes here (with_value name typedef (get_or scopes here [])) ≡ declared_around name typedef scopes =
     declared-around name typedef scopes here (get_or scopes here []) last (get_or_default scopes here [] (get_or scopes here []) (omega arith)) in
     let P : List Names → Type 0 = λ s. IsBounded s bounds earlier in
-    let Q : (scope : ℕ) (bound : ℕ) → here < scope → number_in name (get_or earlier scope []) ≡ Some bound → suc here ≤ bound =
+    let Q : (scope : ℕ) (bound : ℕ) → here < scope → value_in name (get_or earlier scope []) ≡ Some bound → suc here ≤ bound =
     λ scope bound inside has.
     let within : scope < length earlier = some-within name bound earlier scope has in
     let inner : scope ≡ length earlier - 1 = omega (arith, many, inside, within) in
-    let R : ℕ → Type 0 = λ n. number_in name (get_or earlier n []) ≡ Some bound in
+    let R : ℕ → Type 0 = λ n. value_in name (get_or earlier n []) ≡ Some bound in
     omega (arith, many, higher bound (subst R inner has)) in
     subst P equal (bounded-set name typedef scopes bounds earlier here is (omega (arith, many, high)) Q)
 
@@ -249,7 +232,7 @@ length-left [] = refl
 length-left (only ∷ []) = omega arith
 length-left (outer ∷ (next ∷ inner)) = omega (arith, length-left (next ∷ inner))
 
-some-taken : (name : List ℕ) (number : ℕ) (earlier : List Numbers) (count at : ℕ) → number_in name (get_or (take count earlier) at []) ≡ Some number → number_in name (get_or earlier at []) ≡ Some number
+some-taken : (name : List ℕ) (number : ℕ) (earlier : List Numbers) (count at : ℕ) → value_in name (get_or (take count earlier) at []) ≡ Some number → value_in name (get_or earlier at []) ≡ Some number
 some-taken name number [] zero at is = cc is
 some-taken name number [] (suc count) at is = is
 some-taken name number (numbers ∷ earlier) zero at is = cc is
@@ -260,13 +243,13 @@ pub bounded_left : (scopes : List Names) (old new : Numbers) (earlier : List Num
     → IsRestored (get_or earlier (length earlier - 1) []) old new → IsBounded (left scopes) new (take (length earlier - 1) earlier)
 bounded_left scopes old new earlier is restored = record {
   count = omega (arith, is.count, length-take (length earlier - 1) earlier, length-left scopes);
-  above = λ name at low. above name at low (restored name);
+  above = λ name at low. above name at low (restored_name (get_or earlier (length earlier - 1) []) old new name restored);
   before = λ scope name bound has at low inside.
       silent-left name scopes at (is.before scope name bound (some-taken name bound earlier (length earlier - 1) scope has) at low inside);
 }
   where
     above : (name : List ℕ) (at : ℕ) → bound_in name new ≤ at
-        → (number_in name new ≡ number_in name old) ⊎ ((number : ℕ) × (number_in name (get_or earlier (length earlier - 1) []) ≡ Some number) × (number_in name new ≡ Some number))
+        → (value_in name new ≡ value_in name old) ⊎ ((number : ℕ) × (value_in name (get_or earlier (length earlier - 1) []) ≡ Some number) × (value_in name new ≡ Some number))
         → IsSilent (left scopes) name at
     above name at low (inl kept) = silent-left name scopes at (is.above name at (omega (arith, ap or_one kept, low)))
     above name at low (inr (number, had, now)) = elim (le-or (length scopes) (suc at)) [
@@ -280,34 +263,33 @@ settled P (Ok value) now new old ok err after before = subst P (sym ok) after
 settled P (Err error) now new old ok err after before = subst P (sym err) before
 
 -- what a name has once it is put
-pub bound_put : (name : List ℕ) (number : ℕ) (numbers : Numbers) → bound_in name (put_in name number numbers) ≡ number
-bound_put name number numbers =
-    ap or_one (number-put name name number numbers ∙ ap (λ (b : Bool). if b then Some number else number_in name numbers) ((bytes_eq-Decides name name).1 refl))
+pub bound_put : (name : List ℕ) (number : ℕ) (numbers : Numbers) → bound_in name (with_value name number numbers) ≡ number
+bound_put name number numbers = ap or_one (put_same name number numbers)
 
-rises-put : (name : List ℕ) (number : ℕ) (numbers : Numbers) → bound_in name numbers ≤ number → Rises numbers (put_in name number numbers)
-rises-put name number numbers less other = step (bytes_eq other name) refl (number-put other name number numbers)
+rises-put : (name : List ℕ) (number : ℕ) (numbers : Numbers) → bound_in name numbers ≤ number → Rises numbers (with_value name number numbers)
+rises-put name number numbers less other = step (bytes_eq other name) refl (value-put other name number numbers)
   where
-    step : (same : Bool) → bytes_eq other name ≡ same → number_in other (put_in name number numbers) ≡ (if same then Some number else number_in other numbers)
-        → bound_in other numbers ≤ bound_in other (put_in name number numbers)
+    step : (same : Bool) → bytes_eq other name ≡ same → value_in other (with_value name number numbers) ≡ (if same then Some number else value_in other numbers)
+        → bound_in other numbers ≤ bound_in other (with_value name number numbers)
     step true is put =
         let P : List ℕ → Type 0 = λ n. bound_in n numbers ≤ number in
         omega (arith, ap or_one put, subst P (sym ((bytes_eq-Decides other name).0 is)) less)
     step false is put = omega (arith, ap or_one put)
 
 pub rises_put : {T E : Type 0} (result : Result T E) (name : List ℕ) (number : ℕ) (now old : Numbers) → bound_in name old ≤ number
-    → OnOk result (now ≡ put_in name number old) → OnErr result (now ≡ old) → Rises old now
+    → OnOk result (now ≡ with_value name number old) → OnErr result (now ≡ old) → Rises old now
 rises_put result name number now old less ok err =
-    settled (Rises old) result now (put_in name number old) old ok err (rises-put name number old less) (λ other. omega arith)
+    settled (Rises old) result now (with_value name number old) old ok err (rises-put name number old less) (λ other. omega arith)
 
 remembers-same : (old : List Numbers) (at : ℕ) (name : List ℕ) (bound : ℕ) → Remembers old at name bound old
 remembers-same old at name bound scope other found has = inl has
 
-remembers-set : (old : List Numbers) (at : ℕ) (name : List ℕ) (bound : ℕ) → Remembers old at name bound (set old at (put_in name bound (get_or old at [])))
+remembers-set : (old : List Numbers) (at : ℕ) (name : List ℕ) (bound : ℕ) → Remembers old at name bound (set old at (with_value name bound (get_or old at [])))
 remembers-set [] at name bound scope other found has = inl has
-remembers-set (numbers ∷ old) zero name bound zero other found has = step (bytes_eq other name) refl (sym (number-put other name bound numbers) ∙ has)
+remembers-set (numbers ∷ old) zero name bound zero other found has = step (bytes_eq other name) refl (sym (value-put other name bound numbers) ∙ has)
   where
-    step : (same : Bool) → bytes_eq other name ≡ same → (if same then Some bound else number_in other numbers) ≡ Some found
-        → (number_in other numbers ≡ Some found) ⊎ ((zero ≡ zero) × (bytes_eq other name ≡ true) × (found ≡ bound))
+    step : (same : Bool) → bytes_eq other name ≡ same → (if same then Some bound else value_in other numbers) ≡ Some found
+        → (value_in other numbers ≡ Some found) ⊎ ((zero ≡ zero) × (bytes_eq other name ≡ true) × (found ≡ bound))
     step true is put = let equal : found ≡ bound = cc in inr (refl, is, equal)
     step false is put = inl put
 remembers-set (numbers ∷ old) zero name bound (suc scope) other found has = inl has
@@ -321,65 +303,86 @@ set-same (first ∷ others) zero = refl
 set-same (first ∷ others) (suc at) = ap (λ (l : List Numbers). first ∷ l) (set-same others at)
 
 pub remembers_put : {T E : Type 0} (result : Result T E) (old : List Numbers) (at : ℕ) (name : List ℕ) (bound : ℕ) (now before : Numbers)
-    → at < length old → before ≡ get_or old at before → OnOk result (now ≡ put_in name bound before) → OnErr result (now ≡ before)
+    → at < length old → before ≡ get_or old at before → OnOk result (now ≡ with_value name bound before) → OnErr result (now ≡ before)
     → Remembers old at name bound (set old at now)
 remembers_put result old at name bound now before inside is ok err =
     let here : get_or old at [] ≡ before = get_or_default old at [] before inside ∙ sym is in
     let P : Numbers → Type 0 = λ numbers. Remembers old at name bound (set old at numbers) in
-    let Q : Numbers → Type 0 = λ numbers. P (put_in name bound numbers) in
+    let Q : Numbers → Type 0 = λ numbers. P (with_value name bound numbers) in
     let R : List Numbers → Type 0 = λ lists. Remembers old at name bound lists in
-    settled P result now (put_in name bound before) before ok err
+    settled P result now (with_value name bound before) before ok err
     (subst Q here (remembers-set old at name bound))
     (subst P here (subst R (sym (set-same old at)) (remembers-same old at name bound)))
 
 pub grow_same : (old : List Numbers) → Grow old old
 grow_same old scope name number has = (number, has, omega arith)
 
-grow-set : (old : List Numbers) (at : ℕ) (name : List ℕ) (least before : ℕ) → number_in name (get_or old at []) ≡ Some before → before ≤ least
-    → Grow old (set old at (put_in name least (get_or old at [])))
+grow-set : (old : List Numbers) (at : ℕ) (name : List ℕ) (least before : ℕ) → value_in name (get_or old at []) ≡ Some before → before ≤ least
+    → Grow old (set old at (with_value name least (get_or old at [])))
 grow-set [] at name least before known less scope other number has = cc
-grow-set (numbers ∷ old) zero name least before known less zero other number has = step (bytes_eq other name) refl (sym (number-put other name least numbers) ∙ has)
+grow-set (numbers ∷ old) zero name least before known less zero other number has = step (bytes_eq other name) refl (sym (value-put other name least numbers) ∙ has)
   where
-    step : (same : Bool) → bytes_eq other name ≡ same → (if same then Some least else number_in other numbers) ≡ Some number
-        → (earlier : ℕ) × (number_in other numbers ≡ Some earlier) × (earlier ≤ number)
+    step : (same : Bool) → bytes_eq other name ≡ same → (if same then Some least else value_in other numbers) ≡ Some number
+        → (earlier : ℕ) × (value_in other numbers ≡ Some earlier) × (earlier ≤ number)
     step true is put =
         let equal : least ≡ number = cc in
-        (before, ap (λ (n : List ℕ). number_in n numbers) ((bytes_eq-Decides other name).0 is) ∙ known, omega (arith, equal, less))
+        (before, ap (λ (n : List ℕ). value_in n numbers) ((bytes_eq-Decides other name).0 is) ∙ known, omega (arith, equal, less))
     step false is put = (number, put, omega arith)
 grow-set (numbers ∷ old) zero name least before known less (suc scope) other number has = (number, has, omega arith)
 grow-set (numbers ∷ old) (suc at) name least before known less zero other number has = (number, has, omega arith)
 grow-set (numbers ∷ old) (suc at) name least before known less (suc scope) other number has = grow-set old at name least before known less scope other number has
 
 pub grow_put : {T E : Type 0} (result : Result T E) (old : List Numbers) (at : ℕ) (name : List ℕ) (least earlier : ℕ) (now before : Numbers)
-    → at < length old → before ≡ get_or old at before → number_in name before ≡ Some earlier → earlier ≤ least
-    → OnOk result (now ≡ put_in name least before) → OnErr result (now ≡ before) → Grow old (set old at now)
+    → at < length old → before ≡ get_or old at before → value_in name before ≡ Some earlier → earlier ≤ least
+    → OnOk result (now ≡ with_value name least before) → OnErr result (now ≡ before) → Grow old (set old at now)
 grow_put result old at name least earlier now before inside is known less ok err =
     let here : get_or old at [] ≡ before = get_or_default old at [] before inside ∙ sym is in
     let P : Numbers → Type 0 = λ numbers. Grow old (set old at numbers) in
-    let Q : Numbers → Type 0 = λ numbers. P (put_in name least numbers) in
+    let Q : Numbers → Type 0 = λ numbers. P (with_value name least numbers) in
     let R : List Numbers → Type 0 = λ lists. Grow old lists in
-    settled P result now (put_in name least before) before ok err
-    (subst Q here (grow-set old at name least earlier (ap (number_in name) here ∙ known) less))
+    settled P result now (with_value name least before) before ok err
+    (subst Q here (grow-set old at name least earlier (ap (value_in name) here ∙ known) less))
     (subst P here (subst R (sym (set-same old at)) (grow_same old)))
 
 -- a name that is put into the numbers of a scope has there what was put
 pub put_at : (old : List Numbers) (at : ℕ) (name : List ℕ) (least : ℕ) (before : Numbers) (number : ℕ) → at < length old
-    → number_in name (get_or (set old at (put_in name least before)) at []) ≡ Some number → least ≤ number
+    → value_in name (get_or (set old at (with_value name least before)) at []) ≡ Some number → least ≤ number
 put_at old at name least before number inside has =
-    let is : get_or (set old at (put_in name least before)) at [] ≡ put_in name least before = get_or-set_same old at (put_in name least before) [] inside in
-    omega (arith, bound_put name least before, ap or_one (sym (ap (number_in name) is) ∙ has))
+    let is : get_or (set old at (with_value name least before)) at [] ≡ with_value name least before = get_or-set_same old at (with_value name least before) [] inside in
+    omega (arith, bound_put name least before, ap or_one (sym (ap (value_in name) is) ∙ has))
 
--- numbers restored by one more step
-pub restored_more : (others old now new : Numbers) (name : List ℕ) (number : ℕ) → number_in name others ≡ Some number → IsRestored others old now
-    → ((other : List ℕ) → (number_in other new ≡ number_in other now) ⊎ ((bytes_eq other name ≡ true) × (number_in other new ≡ Some number)))
-    → IsRestored others old new
-restored_more others old now new name number has restored change other = elim (change other) [
-  | inl kept ↦ elim (restored other) [
-    | inl same ↦ inl (kept ∙ same)
-    | inr known ↦ inr (known.0, known.1, kept ∙ known.2)
-  ]
-  | inr put ↦ inr (number, ap (λ (n : List ℕ). number_in n others) ((bytes_eq-Decides other name).0 put.0) ∙ has, put.1)
-]
+-- numbers restored by one more step, that of the name in front of the others
+pub restored_more : (entry : List ℕ × ℕ) (others old now new : Numbers) → IsRestored others old now → IsRestored (entry ∷ []) now new → IsRestored (entry ∷ others) old new
+restored_more entry others old now new before last name =
+    last name ∙ (ap (restored (if bytes_eq name entry.0 then Some entry.1 else None)) (before name)
+    ∙ step (bytes_eq name entry.0) (value_in name others) (value_in name old))
+  where
+    step : (here : Bool) (other own : Option ℕ) → restored (if here then Some entry.1 else None) (restored other own) ≡ restored (if here then Some entry.1 else other) own
+    step true None None = refl
+    step true None (Some own) = refl
+    step true (Some other) None = refl
+    step true (Some other) (Some own) = refl
+    step false other own = refl
+
+-- one turn of a way from the last of the others to the first
+pub restored_turn : {X : Type 0} (bytes : X → List ℕ) (others : List (X × ℕ)) (entry : X × ℕ) (left : ℕ) (name : List ℕ) (old now new : Numbers)
+    → slice_get others (left - 1) ≡ Some entry → 0 < left → name ≡ bytes entry.0
+    → IsRestored (map (shown bytes) (drop left others)) old now → IsRestored ((name, entry.1) ∷ []) now new
+    → IsRestored (map (shown bytes) (drop (left - 1) others)) old new
+restored_turn {X} bytes others entry left name old now new here some is before last =
+    let at : suc (left - 1) ≡ left = omega (arith, some) in
+    let row : drop (left - 1) others ≡ entry ∷ drop left others = drop_here others (left - 1) entry here ∙ ap (λ (n : ℕ). entry ∷ drop n others) at in
+    let P : List (X × ℕ) → Type 0 = λ row. IsRestored (map (shown bytes) row) old new in
+    let Q : List ℕ → Type 0 = λ n. IsRestored ((n, entry.1) ∷ []) now new in
+    subst P (sym row) (restored_more (shown bytes entry) (map (shown bytes) (drop left others)) old now new before (subst Q is last))
+  where
+    drop_here : {Y : Type 0} (row : List Y) (at : ℕ) (first : Y) → slice_get row at ≡ Some first → drop at row ≡ first ∷ drop (suc at) row
+    drop_here [] at first is = cc is
+    drop_here (one ∷ row) zero first is = ap (λ y. y ∷ row) (same_some one first is)
+    drop_here (one ∷ row) (suc at) first is = drop_here row at first is
+
+    same_some : {Y : Type 0} (one other : Y) → Some one ≡ Some other → one ≡ other
+    same_some one other is = cc
 
 -- the bound of a name is noted for the innermost scope
 pub bounded_noted : (scopes : List Names) (bounds : Numbers) (old new : List Numbers) (at : ℕ) (name : List ℕ) (bound : ℕ) → bound ≡ bound_in name bounds
@@ -389,22 +392,22 @@ bounded_noted scopes bounds old new at name bound equal count remembers is =
 
 -- the bound of a name around the scope inner is noted for a scope around it
 pub bounded_noted_around : (scopes : List Names) (bounds : Numbers) (old new : List Numbers) (at : ℕ) (name : List ℕ) (inner : ℕ) (numbers : Numbers) (answer : Option ℕ) (other bound : ℕ)
-    → at < inner → inner < length old → numbers ≡ get_or old inner numbers → answer ≡ number_in name numbers
+    → at < inner → inner < length old → numbers ≡ get_or old inner numbers → answer ≡ value_in name numbers
     → other ≡ bound_in name bounds → bound ≡ unwrap_or answer other
     → length new ≡ length old → Remembers old at name bound new → IsBounded scopes bounds old → IsBounded scopes bounds new
 bounded_noted_around scopes bounds old new at name inner numbers answer other bound around inside here known plain equal count remembers is =
-    let read : number_in name (get_or old inner []) ≡ answer = ap (number_in name) (get_or_default old inner [] numbers inside ∙ sym here) ∙ sym known in
+    let read : value_in name (get_or old inner []) ≡ answer = ap (value_in name) (get_or_default old inner [] numbers inside ∙ sym here) ∙ sym known in
     bounded_remember scopes bounds old new at name bound is count remembers (silent answer read equal)
   where
-    silent : (answer : Option ℕ) → number_in name (get_or old inner []) ≡ answer → bound ≡ unwrap_or answer other → (place : ℕ) → bound ≤ place → place < at → IsSilent scopes name place
+    silent : (answer : Option ℕ) → value_in name (get_or old inner []) ≡ answer → bound ≡ unwrap_or answer other → (place : ℕ) → bound ≤ place → place < at → IsSilent scopes name place
     silent None read equal place low within = is.above name place (omega (arith, equal, plain, low))
     silent (Some before) read equal place low within = is.before inner name before read place (omega (arith, equal, low)) (omega (arith, around, within))
 
 -- what two reads of one scope say of a name
 pub same_read : (name : List ℕ) (earlier : List Numbers) (at : ℕ) (first second : Numbers) (answer : Option ℕ) → at < length earlier
-    → first ≡ get_or earlier at first → second ≡ get_or earlier at second → answer ≡ number_in name first → number_in name second ≡ answer
+    → first ≡ get_or earlier at first → second ≡ get_or earlier at second → answer ≡ value_in name first → value_in name second ≡ answer
 same_read name earlier at first second answer inside one two is =
-    ap (number_in name) (two ∙ (get_or_default earlier at second first inside ∙ sym one)) ∙ sym is
+    ap (value_in name) (two ∙ (get_or_default earlier at second first inside ∙ sym one)) ∙ sym is
 
 -- what a failed call says, and what a call says that did not fail
 pub on_err_at : {T E P : Type 0} (result : Result T E) → is_err result ≡ true → OnErr result P → P
@@ -447,7 +450,7 @@ bounds_first scopes bounds old new is count same = record { count = count ∙ is
     before : AreEarlier scopes new
     before zero name bound has at low inside = absurd (omega (arith, inside))
     before (suc scope) name bound has at low inside =
-        is.before (suc scope) name bound (ap (number_in name) (sym (same (suc scope) (omega arith))) ∙ has) at low inside
+        is.before (suc scope) name bound (ap (value_in name) (sym (same (suc scope) (omega arith))) ∙ has) at low inside
 
 pub bounds_none : (scopes : List Names) → length scopes ≤ 1 → AreBounds (left scopes) []
 bounds_none scopes few = record {
@@ -493,7 +496,7 @@ bounds_left scopes before rest new last is here taken count restored same = elim
 
 pub raise_put : {T E : Type 0} (result : Result T E) (levels : List Numbers) (name : List ℕ) (least : ℕ) (seen now before : Numbers) → 0 < length levels
     → seen ≡ get_or levels 0 seen → before ≡ get_or levels 0 before → bound_in name seen ≤ least
-    → OnOk result (now ≡ put_in name least before) → OnErr result (now ≡ before) → Rises (get_or levels 0 []) (get_or (set levels 0 now) 0 [])
+    → OnOk result (now ≡ with_value name least before) → OnErr result (now ≡ before) → Rises (get_or levels 0 []) (get_or (set levels 0 now) 0 [])
 raise_put result levels name least seen now before some one two less ok err =
     let same : before ≡ seen = two ∙ (get_or_default levels 0 before seen some ∙ sym one) in
     let rises : Rises before now = rises_put result name least now before (omega (arith, ap (bound_in name) same, less)) ok err in

@@ -143,22 +143,22 @@ counting_starts up token is =
     ∙ ap counting_start is
 
 -- an operand that is not opened by a bracket around an expression
-pub opens_not : (context : Context) (first : Terminal) (row : List Terminal) → is_mark (codes "(") first ≡ false → opens context first row ≡ false
+pub opens_not : (context : Context) (first : Terminal) (row : List Terminal) → is_mark (codes "(") first ≡ false → opens context.scope first row ≡ false
 opens_not context first row is = ap (λ (b : Bool). b && has_first (λ token. not (is_mark (codes "{") token) && not (begins_type context.scope token)) row) is
 
-pub opens_no_block : (context : Context) (first next : Terminal) (row : List Terminal) → is_mark (codes "{") next ≡ true → opens context first (next ∷ row) ≡ false
+pub opens_no_block : (context : Context) (first next : Terminal) (row : List Terminal) → is_mark (codes "{") next ≡ true → opens context.scope first (next ∷ row) ≡ false
 opens_no_block context first next row is =
     false_and (is_mark (codes "(") first) (not (is_mark (codes "{") next) && not (begins_type context.scope next)) (ap (λ (b : Bool). not b && not (begins_type context.scope next)) is)
 
-pub opens_no_type : (context : Context) (first next : Terminal) (row : List Terminal) → begins_type context.scope next ≡ true → opens context first (next ∷ row) ≡ false
+pub opens_no_type : (context : Context) (first next : Terminal) (row : List Terminal) → begins_type context.scope next ≡ true → opens context.scope first (next ∷ row) ≡ false
 opens_no_type context first next row is =
     false_and (is_mark (codes "(") first) (not (is_mark (codes "{") next) && not (begins_type context.scope next)) (false_and (not (is_mark (codes "{") next)) (not (begins_type context.scope next)) (ap not is))
 
-pub read_as_plain : (inner : Level) (context : Context) (first : Terminal) (row : List Terminal) (kind : OperandStart) → opens context first row ≡ false → operand_start first ≡ kind
+pub read_as_plain : (inner : Level) (context : Context) (first : Terminal) (row : List Terminal) (kind : OperandStart) → opens context.scope first row ≡ false → operand_start first ≡ kind
     → read_cast inner context (first ∷ row) ≡ plain_with inner context first row kind
 unfolding read_cast read_plain
 read_as_plain inner context first row kind is starts =
-    chosen_no (opens context first row) _ (read_plain inner context (first ∷ row)) is ∙ ap (plain_with inner context first row) starts
+    chosen_no (opens context.scope first row) _ (read_plain inner context (first ∷ row)) is ∙ ap (plain_with inner context first row) starts
 
 -- an expression in brackets: no block and no type stands there
 pub begins_no_block : (token : Terminal) → IsTrue (begins_operand token) → is_mark (codes "{") token ≡ false
@@ -173,7 +173,7 @@ begins_no_type scopes token plain no_type = step (is_among storage_words token) 
     step false false is = refl
 
 pub opens_expression : (context : Context) (first next : Terminal) (row : List Terminal) → is_mark (codes "(") first ≡ true → IsTrue (begins_operand next) → IsTrue (is_plain next) → is_typedef context.scope next ≡ false
-    → opens context first (next ∷ row) ≡ true
+    → opens context.scope first (next ∷ row) ≡ true
 opens_expression context first next row is begins plain no_type =
     ap (λ (b : Bool). b && (not (is_mark (codes "{") next) && not (begins_type context.scope next))) is
     ∙ ap (λ (b : Bool). not b && not (begins_type context.scope next)) (begins_no_block next begins)

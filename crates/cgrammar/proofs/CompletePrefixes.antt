@@ -91,10 +91,10 @@ complete_count_before before after xs expr up mark is spelled whole (suc m) rest
     (prefix_goes (unary_alone ((level m).cast before (xs ++ rest))) mark.place (Count up false) expr after rest levels (unary_goes m before after xs rest expr spelled (whole m rest (omega (arith, fits, levels)))))
 
 -- `sizeof`
-size_of_read : (inner : Level) (context : Context) (word : Terminal) (row : List Terminal) → begins_type_in_brackets context row ≡ false
+size_of_read : (inner : Level) (context : Context) (word : Terminal) (row : List Terminal) → begins_type_in_brackets context.scope row ≡ false
     → read_size_of inner context word row ≡ prefixed (unary_alone (inner.cast context row)) word.place SizeOf
 unfolding read_size_of
-size_of_read inner context word row is = chosen_no (begins_type_in_brackets context row) _ (prefixed (unary_alone (inner.cast context row)) word.place SizeOf) is
+size_of_read inner context word row is = chosen_no (begins_type_in_brackets context.scope row) _ (prefixed (unary_alone (inner.cast context row)) word.place SizeOf) is
 
 pub complete_size_of_expression : (before after : Context) (xs : List Terminal) (expr : Expr) (word : Terminal) → IsWord (codes "sizeof") word
     → Spells (UnaryExpression expr) before xs after → Completes (UnaryExpression expr) before xs after
@@ -120,7 +120,7 @@ type_read : (inner : Level) (context : Context) (word opening : Terminal) (row :
     → read_size_of inner context word (opening ∷ row) ≡ Read (unary_operand (numbered behind word.place (SizeOfType to))) (1 + levels) (counted behind) rest
 unfolding read_size_of
 type_read inner context word opening row to levels behind closing rest is begins read ends =
-    chosen_yes (begins_type_in_brackets context (opening ∷ row)) _ (prefixed (unary_alone (inner.cast context (opening ∷ row))) word.place SizeOf) (ap (λ (b : Bool). b && has_first (begins_type context.scope) row) is ∙ begins)
+    chosen_yes (begins_type_in_brackets context.scope (opening ∷ row)) _ (prefixed (unary_alone (inner.cast context (opening ∷ row))) word.place SizeOf) (ap (λ (b : Bool). b && has_first (begins_type context.scope) row) is ∙ begins)
     ∙ ap (λ o. then_read o (λ to levels behind rest.
     after_mark (codes ")") rest Nothing (λ closing others.
     Read (unary_operand (numbered behind word.place (SizeOfType to))) (1 + levels) (counted behind) others))) read
@@ -151,7 +151,7 @@ type_is_word scopes token is = step (or-cases (is_among type_words token) (is_ty
 type_no_brace : (scopes : List Names) (token : Terminal) → begins_type scopes token ≡ true → is_mark (codes "{") token ≡ false
 type_no_brace scopes token is = ap (λ (b : Bool). b && bytes_eq token.bytes (codes "{")) (word_kind_no_mark token.kind (type_is_word scopes token is))
 
-cast_opens : (context : Context) (first : Terminal) (xs more : List Terminal) → Begins (begins_type context.scope) xs → opens context first (xs ++ more) ≡ false
+cast_opens : (context : Context) (first : Terminal) (xs more : List Terminal) → Begins (begins_type context.scope) xs → opens context.scope first (xs ++ more) ≡ false
 cast_opens context first [] more begins = absurd begins
 cast_opens context first (next ∷ xs) more begins = opens_no_type context first next (xs ++ more) begins
 

@@ -55,14 +55,14 @@ complete_one_constant before token is m rest fits =
 
 -- an expression in brackets
 opens_spelled : (context : Context) (first : Terminal) (xs more : List Terminal) → is_mark (codes "(") first ≡ true → Begins begins_operand xs → Begins is_plain xs → IsNoType context.scope xs
-    → opens context first (xs ++ more) ≡ true
+    → opens context.scope first (xs ++ more) ≡ true
 opens_spelled context first [] more is begins plain no_type = absurd begins
 opens_spelled context first (next ∷ xs) more is begins plain no_type = opens_expression context first next (xs ++ more) is begins plain (not-true _ no_type)
 
 bracketed_read : (inner : Level) (context : Context) (opening : Terminal) (row : List Terminal) (e : Expr) (levels : ℕ) (behind : Context) (closing : Terminal) (rest : List Terminal)
-    → opens context opening row ≡ true → read_cast inner context (opening ∷ row) ≡ closed inner (opening ∷ row) (read_cast inner context row)
+    → opens context.scope opening row ≡ true → read_cast inner context (opening ∷ row) ≡ closed inner (opening ∷ row) (read_cast inner context row)
 unfolding read_cast
-bracketed_read inner context opening row e levels behind closing rest is = chosen_yes (opens context opening row) (closed inner (opening ∷ row) (read_cast inner context row)) (read_plain inner context (opening ∷ row)) is
+bracketed_read inner context opening row e levels behind closing rest is = chosen_yes (opens context.scope opening row) (closed inner (opening ∷ row) (read_cast inner context row)) (read_plain inner context (opening ∷ row)) is
 
 closed_read : (inner : Level) (start : List Terminal) (outcome : Outcome Operand) (e : Expr) (levels : ℕ) (behind : Context) (closing : Terminal) (rest : List Terminal)
     → continued outcome expr_of (expression_from inner) ≡ Read e levels behind (closing ∷ rest) → is_mark (codes ")") closing ≡ true
@@ -99,7 +99,7 @@ block_read inner context opening row body levels behind closing rest is read end
     postfixes_from inner (opening ∷ row) (numbered behind opening.place (Inner body)) (1 + levels) (counted behind) others))) read
     ∙ chosen_yes (is_mark (codes ")") closing) (postfixes_from inner (opening ∷ row) (numbered behind opening.place (Inner body)) (1 + levels) (counted behind) rest) Nothing ends
 
-opens_no_expression : (context : Context) (first : Terminal) (xs more : List Terminal) → Begins (is_mark (codes "{")) xs → opens context first (xs ++ more) ≡ false
+opens_no_expression : (context : Context) (first : Terminal) (xs more : List Terminal) → Begins (is_mark (codes "{")) xs → opens context.scope first (xs ++ more) ≡ false
 opens_no_expression context first [] more begins = absurd begins
 opens_no_expression context first (next ∷ xs) more begins = opens_no_block context first next (xs ++ more) begins
 

@@ -36,7 +36,7 @@ is_cast_row context [] = false
 is_cast_row context (first ∷ []) = is_mark (codes "(") first
 is_cast_row context (first ∷ (second ∷ row)) = is_mark (codes "(") first && begins_type context.scope second
 
-pub no_type_in_brackets : (context : Context) (row : List Terminal) → is_cast_row context row ≡ false → begins_type_in_brackets context row ≡ false
+pub no_type_in_brackets : (context : Context) (row : List Terminal) → is_cast_row context row ≡ false → begins_type_in_brackets context.scope row ≡ false
 no_type_in_brackets context [] is = is
 no_type_in_brackets context (first ∷ []) is = false_and (is_mark (codes "(") first) false refl
 no_type_in_brackets context (first ∷ (second ∷ row)) is = is
@@ -131,7 +131,7 @@ block_unary inner context opening row =
 size_unary : (inner : Level) (context : Context) (word : Terminal) (row : List Terminal) → AllUnary (read_size_of inner context word row)
 unfolding read_size_of
 size_unary inner context word row =
-    chosen_unary (begins_type_in_brackets context row) _ _
+    chosen_unary (begins_type_in_brackets context.scope row) _ _
     (then_unary (read_type_name inner context (behind_first row)) _ (λ to levels behind rest.
     first_unary (is_mark (codes ")")) rest Nothing (λ closing others. Read (unary_operand (numbered behind word.place (SizeOfType to))) (1 + levels) (counted behind) others) tt (λ closing others. refl)))
     (prefixed_unary (unary_alone (inner.cast context row)) word.place SizeOf)
@@ -215,7 +215,7 @@ only_block false false type opens no_type is = cc is
 only_block true false true opens no_type is = cc no_type
 only_block true false false opens no_type is = cc opens
 
-bracket_unary : (inner : Level) (context : Context) (first : Terminal) (row : List Terminal) → opens context first row ≡ false → is_cast_row context (first ∷ row) ≡ false → is_mark (codes "(") first ≡ true
+bracket_unary : (inner : Level) (context : Context) (first : Terminal) (row : List Terminal) → opens context.scope first row ≡ false → is_cast_row context (first ∷ row) ≡ false → is_mark (codes "(") first ≡ true
     → AllUnary (read_bracket inner context first row)
 unfolding read_bracket
 bracket_unary inner context first [] opens no_cast is = absurd (clash (is_mark (codes "(") first) is no_cast)
@@ -229,13 +229,13 @@ bracket_unary inner context first (second ∷ row) opens no_cast is =
 cast_unary : (inner : Level) (context : Context) (row : List Terminal) → is_cast_row context row ≡ false → AllUnary (read_cast inner context row)
 unfolding read_cast read_plain
 cast_unary inner context [] no_cast = tt
-cast_unary inner context (first ∷ row) no_cast = step (opens context first row) refl
+cast_unary inner context (first ∷ row) no_cast = step (opens context.scope first row) refl
   where
-    bracket : opens context first row ≡ false → (b : Bool) → is_mark (codes "(") first ≡ b → IsTrue (is_bracket_start (operand_start first)) → AllUnary (read_bracket inner context first row)
+    bracket : opens context.scope first row ≡ false → (b : Bool) → is_mark (codes "(") first ≡ b → IsTrue (is_bracket_start (operand_start first)) → AllUnary (read_bracket inner context first row)
     bracket not_open true is starts = bracket_unary inner context first row not_open no_cast is
     bracket not_open false is starts = absurd (clash (is_bracket_start (operand_start first)) starts (no_bracket_start first is))
 
-    step : (test : Bool) → opens context first row ≡ test → AllUnary (if test then closed inner (first ∷ row) (read_cast inner context row) else plain_with inner context first row (operand_start first))
+    step : (test : Bool) → opens context.scope first row ≡ test → AllUnary (if test then closed inner (first ∷ row) (read_cast inner context row) else plain_with inner context first row (operand_start first))
     step true is = closed_unary inner (first ∷ row) (read_cast inner context row)
     step false is = plain_unary inner context first row (operand_start first) (bracket is (is_mark (codes "(") first) refl)
 

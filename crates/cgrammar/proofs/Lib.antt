@@ -27,6 +27,7 @@ pub mod Worked
 pub mod Reached
 pub mod Between
 pub mod ReadAt
+pub mod NameTables
 pub mod OneTree
 pub mod WithinSteps
 pub mod Within

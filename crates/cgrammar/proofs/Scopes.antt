@@ -1,54 +1,35 @@
 -- Looking up and declaring names.
-use Rattle.std.proofs.Common.{◌≡◌, ℕ, zero, suc, ◌≤◌, is_some, ◌-◌, ◌<◌, Bool, true, false, refl, ap, sym, ◌∙◌, List, [], ◌∷◌, ◌++◌, map, cond, length, take, Option, None, Some, Result, Ok, Err, OnErr}
+use Rattle.std.proofs.Common.{◌≡◌, ℕ, zero, suc, ◌≤◌, is_some, ◌-◌, ◌<◌, Bool, true, false, refl, ap, sym, ◌∙◌, List, [], ◌∷◌, ◌++◌, length, take, Option, None, Some, Result, Ok, Err, OnErr}
 use Rattle.std.specs.Prelude.{if◌then◌else◌}
 use Rattle.std.specs.Str.{bytes_eq}
-use Rattle.std.proofs.lemmas.Slice.Eq.{bytes_eq-Decides}
-use Rattle.std.specs.Map.{lookup}
 use Rattle.std.proofs.Math.Seq.{take-suc}
 use Rattle.std.proofs.Common.{get_or, set, arith}
-use Rattle.indexmap.specs.IndexMap.{insert_entry}
-use Rattle.cgrammar.specs.Scope.{Names, found_in, first_answer, found, declared_in, declared, declared_around, left, entered}
-
-module _ {X : Type 0} (bytes : X → List ℕ) where
-  abbrev pub shown : X × Bool → List ℕ × Bool
-  shown entry = (bytes entry.0, entry.1)
-
-  pub found-map : (name : List ℕ) (entries : List (X × Bool)) → lookup (λ x. bytes_eq name (bytes x)) entries ≡ found_in name (map shown entries)
-  found-map name [] = refl
-  found-map name (entry ∷ entries) = ap (λ (o : Option Bool). cond (bytes_eq name (bytes entry.0)) (Some entry.1) o) (found-map name entries)
-
-  pub declared-map : (copy : X) (typedef : Bool) (entries : List (X × Bool)) → map shown (insert_entry (λ x y. bytes_eq (bytes x) (bytes y)) entries copy typedef) ≡ declared_in (bytes copy) typedef (map shown entries)
-  declared-map copy typedef [] = refl
-  declared-map copy typedef (entry ∷ entries) = step (bytes_eq (bytes copy) (bytes entry.0)) (declared-map copy typedef entries)
-    where
-      step : (test : Bool) → map shown (insert_entry (λ x y. bytes_eq (bytes x) (bytes y)) entries copy typedef) ≡ declared_in (bytes copy) typedef (map shown entries)
-          → map shown (if test then (entry.0, typedef) ∷ entries else entry ∷ insert_entry (λ x y. bytes_eq (bytes x) (bytes y)) entries copy typedef)
-          ≡ (if test then (bytes entry.0, typedef) ∷ map shown entries else (bytes entry.0, entry.1) ∷ declared_in (bytes copy) typedef (map shown entries))
-      step true rest = refl
-      step false rest = ap (λ (names : Names). (bytes entry.0, entry.1) ∷ names) rest
+use Rattle.cgrammar.specs.NameTables.{value_in, with_value}
+use Rattle.cgrammar.specs.Scope.{Names, first_answer, found, declared, declared_around, left, entered}
+use Rattle.cgrammar.proofs.NameTables.{put_same, put_other}
 
 -- one more scope inside the others
-pub found-push : (name : List ℕ) (scopes : List Names) (names : Names) → found name (scopes ++ names ∷ []) ≡ first_answer (found_in name names) (found name scopes)
-found-push name [] names = step (found_in name names)
+pub found-push : (name : List ℕ) (scopes : List Names) (names : Names) → found name (scopes ++ names ∷ []) ≡ first_answer (value_in name names) (found name scopes)
+found-push name [] names = step (value_in name names)
   where
     step : (answer : Option Bool) → first_answer None answer ≡ first_answer answer None
     step None = refl
     step (Some answer) = refl
-found-push name (outer ∷ scopes) names = ap (λ (o : Option Bool). first_answer o (found_in name outer)) (found-push name scopes names) ∙ step (found_in name names)
+found-push name (outer ∷ scopes) names = ap (λ (o : Option Bool). first_answer o (value_in name outer)) (found-push name scopes names) ∙ step (value_in name names)
   where
-    step : (answer : Option Bool) → first_answer (first_answer answer (found name scopes)) (found_in name outer) ≡ first_answer answer (first_answer (found name scopes) (found_in name outer))
+    step : (answer : Option Bool) → first_answer (first_answer answer (found name scopes)) (value_in name outer) ≡ first_answer answer (first_answer (found name scopes) (value_in name outer))
     step None = refl
     step (Some answer) = refl
 
 -- what the last scope says, where those inside it say nothing
-pub found-take : (name : List ℕ) (scopes : List Names) (left : ℕ) (names : Names) → left < length scopes → names ≡ get_or scopes left names → found name (take (suc left) scopes) ≡ first_answer (found_in name names) (found name (take left scopes))
+pub found-take : (name : List ℕ) (scopes : List Names) (left : ℕ) (names : Names) → left < length scopes → names ≡ get_or scopes left names → found name (take (suc left) scopes) ≡ first_answer (value_in name names) (found name (take left scopes))
 found-take name scopes left names inside is =
-    ap (found name) (take-suc scopes left names inside) ∙ (found-push name (take left scopes) (get_or scopes left names) ∙ ap (λ (n : Names). first_answer (found_in name n) (found name (take left scopes))) (sym is))
+    ap (found name) (take-suc scopes left names inside) ∙ (found-push name (take left scopes) (get_or scopes left names) ∙ ap (λ (n : Names). first_answer (value_in name n) (found name (take left scopes))) (sym is))
 
 -- declaring in the last scope is declaring
-pub declared-last : (name : List ℕ) (typedef : Bool) (scopes : List Names) (last : ℕ) (names : Names) → suc last ≡ length scopes → names ≡ get_or scopes last names → set scopes last (declared_in name typedef names) ≡ declared name typedef scopes
+pub declared-last : (name : List ℕ) (typedef : Bool) (scopes : List Names) (last : ℕ) (names : Names) → suc last ≡ length scopes → names ≡ get_or scopes last names → set scopes last (with_value name typedef names) ≡ declared name typedef scopes
 declared-last name typedef [] last names few is = absurd (omega (arith, few))
-declared-last name typedef (only ∷ []) zero names few is = ap (λ (n : Names). declared_in name typedef n ∷ []) is
+declared-last name typedef (only ∷ []) zero names few is = ap (λ (n : Names). with_value name typedef n ∷ []) is
 declared-last name typedef (only ∷ []) (suc last) names few is = absurd (omega (arith, few))
 declared-last name typedef (outer ∷ (next ∷ scopes)) zero names few is = absurd (omega (arith, few))
 declared-last name typedef (outer ∷ (next ∷ scopes)) (suc last) names few is =
@@ -56,10 +37,10 @@ declared-last name typedef (outer ∷ (next ∷ scopes)) (suc last) names few is
     ap (λ (n : List Names). outer ∷ n) (declared-last name typedef (next ∷ scopes) last names rest is)
 
 -- declaring in the last scope but one is declaring around the innermost
-pub declared-around : (name : List ℕ) (typedef : Bool) (scopes : List Names) (around : ℕ) (names : Names) → suc (suc around) ≡ length scopes → names ≡ get_or scopes around names → set scopes around (declared_in name typedef names) ≡ declared_around name typedef scopes
+pub declared-around : (name : List ℕ) (typedef : Bool) (scopes : List Names) (around : ℕ) (names : Names) → suc (suc around) ≡ length scopes → names ≡ get_or scopes around names → set scopes around (with_value name typedef names) ≡ declared_around name typedef scopes
 declared-around name typedef [] around names few is = absurd (omega (arith, few))
 declared-around name typedef (only ∷ []) around names few is = absurd (omega (arith, few))
-declared-around name typedef (outer ∷ (inner ∷ [])) zero names few is = ap (λ (n : Names). declared_in name typedef n ∷ (inner ∷ [])) is
+declared-around name typedef (outer ∷ (inner ∷ [])) zero names few is = ap (λ (n : Names). with_value name typedef n ∷ (inner ∷ [])) is
 declared-around name typedef (outer ∷ (inner ∷ [])) (suc around) names few is = absurd (omega (arith, few))
 declared-around name typedef (outer ∷ (next ∷ (inner ∷ scopes))) zero names few is = absurd (omega (arith, few))
 declared-around name typedef (outer ∷ (next ∷ (inner ∷ scopes))) (suc around) names few is =
@@ -73,12 +54,12 @@ declared-around_few name typedef (only ∷ []) few = refl
 declared-around_few name typedef (outer ∷ (next ∷ scopes)) few = absurd (omega (arith, few))
 
 -- one turn of a search from the innermost scope outwards
-pub found-step : (name : List ℕ) (scopes : List Names) (left : ℕ) (names : Names) → 0 < left → left ≤ length scopes → names ≡ get_or scopes (left - 1) names → found name scopes ≡ found name (take left scopes) → found name scopes ≡ first_answer (found_in name names) (found name (take (left - 1) scopes))
+pub found-step : (name : List ℕ) (scopes : List Names) (left : ℕ) (names : Names) → 0 < left → left ≤ length scopes → names ≡ get_or scopes (left - 1) names → found name scopes ≡ found name (take left scopes) → found name scopes ≡ first_answer (value_in name names) (found name (take (left - 1) scopes))
 found-step name scopes zero names some few is front = absurd (omega (arith, some))
 found-step name scopes (suc left) names some few is front =
     let less : suc left - 1 ≡ left = omega arith in
     let here : names ≡ get_or scopes left names = is ∙ ap (λ (n : ℕ). get_or scopes n names) less in
-    front ∙ (found-take name scopes left names (omega (arith, few)) here ∙ ap (λ (n : ℕ). first_answer (found_in name names) (found name (take n scopes))) (sym less))
+    front ∙ (found-take name scopes left names (omega (arith, few)) here ∙ ap (λ (n : ℕ). first_answer (value_in name names) (found name (take n scopes))) (sym less))
 
 pub answer-none : (answer other : Option Bool) → is_some answer ≡ false → first_answer answer other ≡ other
 answer-none None other is = refl
@@ -100,39 +81,19 @@ left_take (outer ∷ (next ∷ inner)) =
     ap (λ (n : ℕ). take n (outer ∷ (next ∷ inner))) less ∙ ap (λ (n : List Names). outer ∷ n) (left_take (next ∷ inner))
 
 -- what is declared is found, and other names are found as before
-in-same : (name : List ℕ) (typedef : Bool) (names : Names) → found_in name (declared_in name typedef names) ≡ Some typedef
-in-same name typedef [] = ap (λ (b : Bool). if b then Some typedef else None) ((bytes_eq-Decides name name).1 refl)
-in-same name typedef (entry ∷ others) = step (bytes_eq name entry.0) refl (in-same name typedef others)
-  where
-    step : (same : Bool) → bytes_eq name entry.0 ≡ same → found_in name (declared_in name typedef others) ≡ Some typedef
-        → found_in name (if same then (entry.0, typedef) ∷ others else entry ∷ declared_in name typedef others) ≡ Some typedef
-    step true is rest = ap (λ (b : Bool). if b then Some typedef else found_in name others) is
-    step false is rest = ap (λ (b : Bool). if b then Some entry.1 else found_in name (declared_in name typedef others)) is ∙ rest
-
-pub in-other : (name other : List ℕ) (typedef : Bool) (names : Names) → bytes_eq other name ≡ false → found_in other (declared_in name typedef names) ≡ found_in other names
-in-other name other typedef [] apart = ap (λ (b : Bool). if b then Some typedef else None) apart
-in-other name other typedef (entry ∷ others) apart = step (bytes_eq name entry.0) refl (in-other name other typedef others apart)
-  where
-    step : (same : Bool) → bytes_eq name entry.0 ≡ same → found_in other (declared_in name typedef others) ≡ found_in other others
-        → found_in other (if same then (entry.0, typedef) ∷ others else entry ∷ declared_in name typedef others) ≡ found_in other (entry ∷ others)
-    step true is rest =
-        let away : bytes_eq other entry.0 ≡ false = ap (bytes_eq other) (sym ((bytes_eq-Decides name entry.0).0 is)) ∙ apart in
-        ap (λ (b : Bool). if b then Some typedef else found_in other others) away ∙ sym (ap (λ (b : Bool). if b then Some entry.1 else found_in other others) away)
-    step false is rest = ap (λ (o : Option Bool). if bytes_eq other entry.0 then Some entry.1 else o) rest
-
 first-none : (answer : Option Bool) → first_answer answer None ≡ answer
 first-none None = refl
 first-none (Some answer) = refl
 
 pub found_same : (name : List ℕ) (typedef : Bool) (scopes : List Names) → 0 < length scopes → found name (declared name typedef scopes) ≡ Some typedef
 found_same name typedef [] some = absurd (omega (arith, some))
-found_same name typedef (names ∷ []) some = in-same name typedef names
-found_same name typedef (outer ∷ (next ∷ inner)) some = ap (λ (o : Option Bool). first_answer o (found_in name outer)) (found_same name typedef (next ∷ inner) (omega arith))
+found_same name typedef (names ∷ []) some = put_same name typedef names
+found_same name typedef (outer ∷ (next ∷ inner)) some = ap (λ (o : Option Bool). first_answer o (value_in name outer)) (found_same name typedef (next ∷ inner) (omega arith))
 
 pub found_other : (name other : List ℕ) (typedef : Bool) (scopes : List Names) → bytes_eq other name ≡ false → found other (declared name typedef scopes) ≡ found other scopes
 found_other name other typedef [] apart = refl
-found_other name other typedef (names ∷ []) apart = in-other name other typedef names apart
-found_other name other typedef (outer ∷ (next ∷ inner)) apart = ap (λ (o : Option Bool). first_answer o (found_in other outer)) (found_other name other typedef (next ∷ inner) apart)
+found_other name other typedef (names ∷ []) apart = put_other name other typedef names apart
+found_other name other typedef (outer ∷ (next ∷ inner)) apart = ap (λ (o : Option Bool). first_answer o (value_in other outer)) (found_other name other typedef (next ∷ inner) apart)
 
 pub found_entered : (name : List ℕ) (scopes : List Names) → found name (entered scopes) ≡ found name scopes
 found_entered name scopes = found-push name scopes []

@@ -260,7 +260,7 @@ sound_size_of : (inner : Level) (context : Context) (word : Terminal) (row : Lis
     → OperandSound (inner.most + 1) context (word ∷ row) (read_size_of inner context word row)
 unfolding read_size_of
 sound_size_of inner context word row is worded =
-    sound_if (begins_type_in_brackets context row) _ _
+    sound_if (begins_type_in_brackets context.scope row) _ _
     (λ typed.
     let opening = first_of (is_mark (codes "(")) row (and-left (has_mark (codes "(") row) (has_first (begins_type context.scope) (behind_first row)) typed) in
     sound_then (read_type_name inner context (behind_first row)) _ (sound_type_name inner is context (behind_first row)) (λ to levels behind rest read.
@@ -383,7 +383,7 @@ no_type_opened scopes (first ∷ others) is =
     denied true is = sym is
     denied false is = refl
 
-sound_closed : (inner : Level) (context : Context) (first : Terminal) (row : List Terminal) (outcome : Outcome Operand) → SoundLevel inner → opens context first row ≡ true
+sound_closed : (inner : Level) (context : Context) (first : Terminal) (row : List Terminal) (outcome : Outcome Operand) → SoundLevel inner → opens context.scope first row ≡ true
     → OperandSound (inner.most + 1) context row outcome
     → OperandSound (inner.most + 1) context (first ∷ row) (closed inner (first ∷ row) outcome)
 sound_closed inner context first row outcome is opened known =
@@ -405,6 +405,6 @@ pub sound_cast : (inner : Level) → SoundLevel inner → Reads says_operand ope
 unfolding read_cast
 sound_cast inner is context [] = sound_nothing
 sound_cast inner is context (first ∷ row) =
-    sound_if (opens context first row) _ _
+    sound_if (opens context.scope first row) _ _
     (λ opened. sound_closed inner context first row (read_cast inner context row) is opened (sound_cast inner is context row))
     (λ plain. sound_plain inner is context (first ∷ row))

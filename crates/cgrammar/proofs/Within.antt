@@ -170,7 +170,7 @@ keep_bracket inner most context opening row is inside =
 keep_size_of : (inner : Level) (most : ℕ) (context : Context) (word : Terminal) (row : List Terminal) → KeepsLevel inner → length row ≤ most → Leaves (read_size_of inner context word row) most
 unfolding read_size_of
 keep_size_of inner most context word row is inside =
-    keep_if most (begins_type_in_brackets context row) _ _
+    keep_if most (begins_type_in_brackets context.scope row) _ _
     (keep_then most (read_type_name inner context (behind_first row)) _ (keep_type_name inner is most context (behind_first row) (fewer_behind most row inside)) (λ to levels behind rest within.
     keep_first most _ rest _ _ within tt (λ closing others fewer. fewer)))
     (keep_prefixed most (unary_alone (inner.cast context row)) _ _ (keep_alone most (inner.cast context row) (is.cast most context row inside)))
@@ -248,7 +248,7 @@ pub keep_cast : (inner : Level) → KeepsLevel inner → Keeps (read_cast inner)
 unfolding read_cast
 keep_cast inner is most context [] inside = tt
 keep_cast inner is most context (first ∷ row) inside =
-    keep_if most (opens context first row) _ _
+    keep_if most (opens context.scope first row) _ _
     (keep_closed inner most (first ∷ row) (read_cast inner context row) is (keep_cast inner is most context row (fewer_others most first row inside)))
     (keep_plain inner is most context (first ∷ row) inside)
 

@@ -1,30 +1,34 @@
 -- With which tokens the parts of the grammar begin: a declaration and a type with a word that no expression and no
 -- statement begins with (C11 6.7, 6.8.2).
-use Rattle.std.specs.Prelude.{ℕ, Bool, ◌&&◌, ◌||◌, not, IsTrue, List, [], ◌∷◌, codes}
+use Rattle.std.specs.Prelude.{ℕ, Bool, ◌&&◌, ◌||◌, not, IsTrue, List, [], ◌∷◌, ◌++◌, codes}
 use Rattle.std.specs.List.{list_any}
 use Rattle.std.specs.Str.{bytes_eq}
 use Rattle.cbase.specs.declared.tree.decl.Decl.{Decl}
 use Rattle.cbase.specs.declared.tree.decl.TypeName.{TypeName}
 use Rattle.cbase.specs.declared.tree.expr.Expr.{Expr}
 use Rattle.cbase.specs.declared.tree.stmt.Stmt.{Stmt}
+use Rattle.ctokens.specs.declared.token.TokenKind.{TokenKind}
 use Rattle.cgrammar.specs.Phrases.{Phrase, Context, Expression, Assignment, Conditional, Operation, CastExpression, UnaryExpression, PostfixExpression, PrimaryExpression, TypeSpecifier, NameOfType, Specifiers, Declaration, CompoundStatement, Statement}
 use Rattle.cgrammar.specs.Grammar.{Spells}
 use Rattle.cgrammar.specs.Scope.{Names}
 use Rattle.cgrammar.specs.Terminals.{Terminal, is_word_kind, is_typedef, IsNoType}
+use Rattle.cgrammar.specs.TypeWords.{basic_words}
 
 -- the keywords that a type begins with
 abbrev pub type_words : List (List ℕ)
-type_words =
-    codes "void" ∷ codes "_Bool" ∷ codes "char" ∷ codes "signed" ∷ codes "unsigned" ∷ codes "short" ∷ codes "int" ∷ codes "long"
-    ∷ codes "struct" ∷ codes "enum" ∷ codes "typeof" ∷ []
+type_words = basic_words ++ codes "struct" ∷ codes "enum" ∷ codes "typeof" ∷ []
 
 -- the keywords of storage classes that are read (C11 6.7.1)
 abbrev pub storage_words : List (List ℕ)
 storage_words = codes "typedef" ∷ codes "extern" ∷ codes "static" ∷ []
 
+-- the token is of such a kind, and has one of these texts
+abbrev pub is_one_among : (TokenKind → Bool) → List (List ℕ) → Terminal → Bool
+is_one_among is_kind texts token = is_kind token.kind && list_any (bytes_eq token.bytes) texts
+
 -- the token is one of these words
 abbrev pub is_among : List (List ℕ) → Terminal → Bool
-is_among words token = is_word_kind token.kind && list_any (bytes_eq token.bytes) words
+is_among words token = is_one_among is_word_kind words token
 
 -- a token that a type begins with, where these names are in scope
 abbrev pub begins_type : List Names → Terminal → Bool

@@ -10,6 +10,7 @@ pub mod Grammar
 pub mod Closers
 pub mod CodeTables
 pub mod Labels
+pub mod NameTables
 pub mod OneTree
 pub mod Operators
 pub mod Phrases

@@ -17,6 +17,7 @@ use Rattle.cgrammar.specs.ReadOperators.{expression_of, expression_from}
 use Rattle.cgrammar.specs.ReadStarts.{operand_start, postfix_start}
 use Rattle.cgrammar.specs.ReadStatements.{read_block}
 use Rattle.cgrammar.specs.ReadTypes.{read_type_name, never}
+use Rattle.cgrammar.specs.Scope.{Names}
 use Rattle.cgrammar.specs.Terminals.{Terminal, is_mark, is_name, begins_with_typedef, first_word_place}
 use Rattle.cgrammar.specs.declared.reading.operand.Operand.{Operand}
 use Rattle.cgrammar.specs.declared.reading.starts.OperandStart.{OperandStart}
@@ -144,12 +145,12 @@ read_bracket inner context opening row =
     if has_mark (codes "{") row then statement_expression inner context opening row else read_cast_to inner context opening row
 
 -- `sizeof` of a type or of a unary expression (C11 6.5.3.4)
-abbrev pub begins_type_in_brackets : Context → List Terminal → Bool
-begins_type_in_brackets context row = has_mark (codes "(") row && has_first (begins_type context.scope) (behind_first row)
+abbrev pub begins_type_in_brackets : List Names → List Terminal → Bool
+begins_type_in_brackets scope row = has_mark (codes "(") row && has_first (begins_type scope) (behind_first row)
 
 unfoldable pub read_size_of : Level → Context → Terminal → List Terminal → Outcome Operand
 read_size_of inner context word row =
-    if begins_type_in_brackets context row
+    if begins_type_in_brackets context.scope row
     then then_read (read_type_name inner context (behind_first row)) (λ to levels behind rest.
     after_mark (codes ")") rest Nothing (λ closing others.
     Read (unary_operand (numbered behind word.place (SizeOfType to))) (1 + levels) (counted behind) others))
@@ -192,8 +193,11 @@ read_plain inner context [] = Nothing
 read_plain inner context (first ∷ row) = plain_with inner context first row (operand_start first)
 
 -- a `(` around an expression: neither a type nor a block stands behind it
-abbrev pub opens : Context → Terminal → List Terminal → Bool
-opens context first row = is_mark (codes "(") first && has_first (λ token. not (is_mark (codes "{") token) && not (begins_type context.scope token)) row
+abbrev pub begins_expression : List Names → Terminal → Bool
+begins_expression scope token = not (is_mark (codes "{") token) && not (begins_type scope token)
+
+abbrev pub opens : List Names → Terminal → List Terminal → Bool
+opens scope first row = is_mark (codes "(") first && has_first (begins_expression scope) row
 
 -- the expression in brackets, from its first operand on, and the operators behind the brackets
 abbrev pub closed : Level → List Terminal → Outcome Operand → Outcome Operand
@@ -206,4 +210,4 @@ closed inner start outcome =
 unfoldable pub read_cast : Level → Reader Operand
 read_cast inner context [] = Nothing
 read_cast inner context (first ∷ row) =
-    if opens context first row then closed inner (first ∷ row) (read_cast inner context row) else read_plain inner context (first ∷ row)
+    if opens context.scope first row then closed inner (first ∷ row) (read_cast inner context row) else read_plain inner context (first ∷ row)

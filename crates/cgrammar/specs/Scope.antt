@@ -1,16 +1,11 @@
 -- Which names are declared, as far as the grammar asks (C11 6.2.1, 6.7.8): for each scope that a place lies in, the
 -- outermost first, the names that it declares before that place, each once, and of each whether it is a typedef's.
-use Rattle.std.specs.Prelude.{ℕ, Bool, false, if◌then◌else◌, List, [], ◌∷◌, ◌++◌, Option, None, Some}
-use Rattle.std.specs.Str.{bytes_eq}
+use Rattle.std.specs.Prelude.{ℕ, Bool, false, List, [], ◌∷◌, ◌++◌, Option, None, Some}
+use Rattle.cgrammar.specs.NameTables.{value_in, with_value}
 
 -- the names of one scope, each with whether it is a typedef's
 abbrev pub Names : Type 0
 Names = List (List ℕ × Bool)
-
--- what a scope says of a name
-abbrev pub found_in : List ℕ → Names → Option Bool
-found_in name [] = None
-found_in name (entry ∷ others) = if bytes_eq name entry.0 then Some entry.1 else found_in name others
 
 -- the first of two answers, or the second where the first is none
 abbrev pub first_answer : Option Bool → Option Bool → Option Bool
@@ -20,7 +15,7 @@ first_answer (Some answer) other = Some answer
 -- what the innermost scope that has a name says of it
 abbrev pub found : List ℕ → List Names → Option Bool
 found name [] = None
-found name (outer ∷ inner) = first_answer (found name inner) (found_in name outer)
+found name (outer ∷ inner) = first_answer (found name inner) (value_in name outer)
 
 -- whether an answer is that the name is a typedef's
 abbrev pub says_typedef : Option Bool → Bool
@@ -31,23 +26,17 @@ says_typedef (Some typedef) = typedef
 abbrev pub is_typedef_name : List Names → List ℕ → Bool
 is_typedef_name scopes name = says_typedef (found name scopes)
 
--- the names of a scope with one more; a name that it had already is now what it was declared as last
-abbrev pub declared_in : List ℕ → Bool → Names → Names
-declared_in name typedef [] = (name, typedef) ∷ []
-declared_in name typedef (entry ∷ others) =
-    if bytes_eq name entry.0 then (entry.0, typedef) ∷ others else entry ∷ declared_in name typedef others
-
--- a name is declared in the innermost scope
+-- a name is declared in the innermost scope; one that it had already is now what it was declared as last
 abbrev pub declared : List ℕ → Bool → List Names → List Names
 declared name typedef [] = []
-declared name typedef (names ∷ []) = declared_in name typedef names ∷ []
+declared name typedef (names ∷ []) = with_value name typedef names ∷ []
 declared name typedef (outer ∷ (next ∷ inner)) = outer ∷ declared name typedef (next ∷ inner)
 
 -- a name is declared in the scope around the innermost one
 abbrev pub declared_around : List ℕ → Bool → List Names → List Names
 declared_around name typedef [] = []
 declared_around name typedef (innermost ∷ []) = innermost ∷ []
-declared_around name typedef (around ∷ (innermost ∷ [])) = declared_in name typedef around ∷ (innermost ∷ [])
+declared_around name typedef (around ∷ (innermost ∷ [])) = with_value name typedef around ∷ (innermost ∷ [])
 declared_around name typedef (outer ∷ (next ∷ (inner ∷ others))) = outer ∷ declared_around name typedef (next ∷ (inner ∷ others))
 
 -- the file's scope, before its first declaration

@@ -1,17 +1,15 @@
 -- With which tokens operands and statements begin, and which parts of the grammar have a first token (C11 6.5.1 to
 -- 6.5.3, 6.8).
 use Rattle.std.specs.Prelude.{ℕ, Bool, true, false, ◌&&◌, ◌||◌, not, List, [], ◌∷◌, codes}
-use Rattle.std.specs.List.{list_any}
-use Rattle.std.specs.Str.{bytes_eq}
 use Rattle.ctokens.specs.declared.token.TokenKind.{TokenKind}
 use Rattle.ctokens.specs.declared.token.TokenKind.TheVariants.{Number, Letter}
-use Rattle.cgrammar.specs.Firsts.{is_among, Begins}
+use Rattle.cgrammar.specs.Firsts.{is_one_among, is_among, Begins}
 use Rattle.cgrammar.specs.Phrases.{Phrase, Expression, Assignment, Conditional, Operation, CastExpression, UnaryExpression, PostfixExpression, PrimaryExpression, Arguments, TypeSpecifier, NameOfType, FieldDeclaration, FieldDeclarators, FieldDeclarator, Enumerators, OneEnumerator, Specifiers, Declaration, Declarators, Declarator, FunctionDeclarator, Parameters, Parameter, Initializer, Initializers, DesignatedInitializer, CompoundStatement, Statement}
 use Rattle.cgrammar.specs.Terminals.{Terminal, is_mark_kind, is_mark, is_name}
 
 -- the token is one of these marks
 abbrev pub is_mark_among : List (List ℕ) → Terminal → Bool
-is_mark_among marks token = is_mark_kind token.kind && list_any (bytes_eq token.bytes) marks
+is_mark_among marks token = is_one_among is_mark_kind marks token
 
 -- the kinds of constants: numbers and characters
 abbrev pub is_constant_kind : TokenKind → Bool

@@ -1,6 +1,7 @@
 ghost use Rattle.std.specs.Prelude.{◌≡◌, ◌++◌, ◌∷◌, ◌≤◌, ◌<◌, ℕ, Bool, List, [], Some, length, slice_index_or, IfOk, OnOk, OnErr};
 ghost use Rattle.cgrammar.specs.Scope.{Names, declared, declared_around, file_scope, left};
-ghost use Rattle.cgrammar.specs.Bounds.{number_in, bound_in, AreBounds, IsRestored, SameButFirst, Rises, Remembers, Grow};
+ghost use Rattle.cgrammar.specs.NameTables.{value_in};
+ghost use Rattle.cgrammar.specs.Bounds.{bound_in, AreBounds, IsRestored, SameButFirst, Rises, Remembers, Grow};
 
 use crate::numbers::Numbers;
 use cbase::NoMemory;
@@ -145,7 +146,7 @@ fn raise_earlier(
     ensures count { length earlier.new.items ≡ length earlier.old.items }
     ensures first { slice_index_or earlier.new.items 0 [] ≡ slice_index_or earlier.old.items 0 [] }
     ensures kept { Grow earlier.old.items earlier.new.items }
-    ensures ok { OnOk result ((number : ℕ) → number_in name.now (slice_index_or earlier.new.items at []) ≡ Some number → least ≤ number) }
+    ensures ok { OnOk result ((number : ℕ) → value_in name.now (slice_index_or earlier.new.items at []) ≡ Some number → least ≤ number) }
 {
     let known = earlier[at].get(name);
     let Some(bound) = known else {

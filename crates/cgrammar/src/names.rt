@@ -1,5 +1,5 @@
 ghost use Rattle.std.specs.Prelude.{◌≡◌, ℕ, Bool, List, [], map, IfOk, OnOk, OnErr};
-ghost use Rattle.cgrammar.specs.Scope.{found_in, declared_in};
+ghost use Rattle.cgrammar.specs.NameTables.{value_in, with_value};
 
 use cbase::NoMemory;
 use indexmap::IndexMap;
@@ -32,14 +32,14 @@ impl Names {
 
     /// What the scope says of a name: whether it is a typedef's, or nothing.
     pub fn found(&self, name: &[u8]) -> Option<bool>
-        ensures { result ≡ found_in name.now self.now }
+        ensures { result ≡ value_in name.now self.now }
     {
         found_in(&self.table, name)
     }
 
     /// Declares a name. Where memory is wanting the scope stays as it was.
     pub fn declare(&mut self, alloc: Global, name: &[u8], typedef: bool) -> Result<(), NoMemory>
-        ensures ok { OnOk result (self.new ≡ declared_in name.now typedef self.old) }
+        ensures ok { OnOk result (self.new ≡ with_value name.now typedef self.old) }
         ensures err { OnErr result (self.new ≡ self.old) }
     {
         declare_in(alloc, &mut self.table, name, typedef)
@@ -57,7 +57,7 @@ impl Names {
 
 /// What a map says of a name.
 fn found_in(table: &IndexMap<Vec<u8>, bool>, name: &[u8]) -> Option<bool>
-    ensures { result ≡ found_in name.now (map (λ entry. (entry.0.items, entry.1)) table.now.entries) }
+    ensures { result ≡ value_in name.now (map (λ entry. (entry.0.items, entry.1)) table.now.entries) }
 {
     table.get(name).copied()
 }
@@ -69,7 +69,7 @@ fn declare_in(
     name: &[u8],
     typedef: bool,
 ) -> Result<(), NoMemory>
-    ensures ok { OnOk result (map (λ entry. (entry.0.items, entry.1)) table.new.entries ≡ declared_in name.now typedef (map (λ entry. (entry.0.items, entry.1)) table.old.entries)) }
+    ensures ok { OnOk result (map (λ entry. (entry.0.items, entry.1)) table.new.entries ≡ with_value name.now typedef (map (λ entry. (entry.0.items, entry.1)) table.old.entries)) }
     ensures err { OnErr result (table.new.entries ≡ table.old.entries) }
 {
     let copy = Vec::from_slice(alloc, name)?;

@@ -1,6 +1,6 @@
-ghost use Rattle.std.specs.Prelude.{◌≡◌, ◌⊎◌, ℕ, true, List, [], map, Some, IfOk, OnOk, OnErr};
-ghost use Rattle.std.specs.Str.{bytes_eq};
-ghost use Rattle.cgrammar.specs.Bounds.{number_in, bound_in, put_in, IsRestored};
+ghost use Rattle.std.specs.Prelude.{◌≡◌, ℕ, List, [], ◌∷◌, map, IfOk, OnOk, OnErr};
+ghost use Rattle.cgrammar.specs.Bounds.{bound_in, IsRestored};
+ghost use Rattle.cgrammar.specs.NameTables.{value_in, with_value};
 
 use cbase::NoMemory;
 use indexmap::IndexMap;
@@ -33,7 +33,7 @@ impl Numbers {
 
     /// The number of a name.
     pub fn get(&self, name: &[u8]) -> Option<usize>
-        ensures { result ≡ number_in name.now self.now }
+        ensures { result ≡ value_in name.now self.now }
     {
         number_in(&self.table, name)
     }
@@ -47,13 +47,14 @@ impl Numbers {
 
     /// Gives a name a number. Where memory is wanting all stays as it was.
     pub fn put(&mut self, alloc: Global, name: &[u8], number: usize) -> Result<(), NoMemory>
-        ensures ok { OnOk result (self.new ≡ put_in name.now number self.old) }
+        ensures ok { OnOk result (self.new ≡ with_value name.now number self.old) }
         ensures err { OnErr result (self.new ≡ self.old) }
     {
         put_in(alloc, &mut self.table, name, number)
     }
 
-    /// Gives each name that has a number here the one that `others` gives it, where it gives one.
+    /// Gives each name that has a number here the one that `others` gives it, where it gives one. Each other name keeps what
+    /// it has.
     pub fn restore(&mut self, others: &Numbers)
         ensures { IsRestored others.now self.old self.new }
     {
@@ -72,7 +73,7 @@ impl Numbers {
 
 /// The number that a map has for a name.
 fn number_in(table: &IndexMap<Vec<u8>, usize>, name: &[u8]) -> Option<usize>
-    ensures { result ≡ number_in name.now (map (λ entry. (entry.0.items, entry.1)) table.now.entries) }
+    ensures { result ≡ value_in name.now (map (λ entry. (entry.0.items, entry.1)) table.now.entries) }
 {
     table.get(name).copied()
 }
@@ -84,7 +85,7 @@ fn put_in(
     name: &[u8],
     number: usize,
 ) -> Result<(), NoMemory>
-    ensures ok { OnOk result (map (λ entry. (entry.0.items, entry.1)) table.new.entries ≡ put_in name.now number (map (λ entry. (entry.0.items, entry.1)) table.old.entries)) }
+    ensures ok { OnOk result (map (λ entry. (entry.0.items, entry.1)) table.new.entries ≡ with_value name.now number (map (λ entry. (entry.0.items, entry.1)) table.old.entries)) }
     ensures err { OnErr result (table.new.entries ≡ table.old.entries) }
 {
     let copy = Vec::from_slice(alloc, name)?;
@@ -92,21 +93,23 @@ fn put_in(
     Ok(())
 }
 
-/// Changes the number of a name that has one.
+/// Changes the number of a name, where it has one.
 fn change(table: &mut IndexMap<Vec<u8>, usize>, name: &[u8], number: usize)
-    ensures { (other : List ℕ) → (number_in other (map (λ entry. (entry.0.items, entry.1)) table.new.entries) ≡ number_in other (map (λ entry. (entry.0.items, entry.1)) table.old.entries)) ⊎ ((bytes_eq other name.now ≡ true) × (number_in other (map (λ entry. (entry.0.items, entry.1)) table.new.entries) ≡ Some number)) }
+    ensures { IsRestored ((name.now, number) ∷ []) (map (λ entry. (entry.0.items, entry.1)) table.old.entries) (map (λ entry. (entry.0.items, entry.1)) table.new.entries) }
 {
     if let Some(place) = table.get_mut(name) {
         *place = number;
     }
 }
 
-/// Changes the number of each name that has one in both maps.
+/// Changes the number of each name that has one in both maps, to the number of the others.
 fn restore(table: &mut IndexMap<Vec<u8>, usize>, others: &IndexMap<Vec<u8>, usize>)
     ensures { IsRestored (map (λ entry. (entry.0.items, entry.1)) others.now.entries) (map (λ entry. (entry.0.items, entry.1)) table.old.entries) (map (λ entry. (entry.0.items, entry.1)) table.new.entries) }
 {
-    for at in 0..others.len() {
-        if let Some((name, number)) = others.get_index(at) {
+    let mut left = others.len();
+    while left > 0 {
+        left -= 1;
+        if let Some((name, number)) = others.get_index(left) {
             change(table, name.as_slice(), *number);
         }
     }

@@ -1,7 +1,7 @@
 -- Items that are read one behind the other.
-use Rattle.std.proofs.Common.{◌≡◌, ℕ, ◌+◌, ◌<◌, Option, None, Some, Ok, List, [], ◌∷◌, ◌++◌, length, take, drop, slice_get, get_or, drop-cons, add-one, append_assoc, refl, ap, sym, ◌∙◌, subst, arith}
+use Rattle.std.proofs.Common.{◌≡◌, ℕ, ◌+◌, ◌<◌, Option, None, Some, Ok, List, [], ◌∷◌, ◌++◌, length, take, drop, slice_get, get_or, drop-cons, add-one, append_assoc, refl, ap, sym, ◌∙◌, subst}
 use Rattle.std.specs.List.{All}
-use Rattle.std.proofs.lemmas.List.{length-drop, length-map, take-append-drop, take_more}
+use Rattle.std.proofs.lemmas.List.{take-append-drop, take_more}
 use Rattle.std.proofs.lemmas.List.Elements.{All-nil, All-cons}
 use Rattle.std.proofs.lemmas.Option.{get_or_from_slice_get, slice_get_within}
 use Rattle.cbase.specs.declared.tree.item.Item.{Item}
@@ -9,15 +9,12 @@ use Rattle.cgrammar.specs.Phrases.{Context}
 use Rattle.cgrammar.specs.Scope.{Names, file_scope}
 use Rattle.ctokens.specs.declared.item_span.ItemSpan.{ItemSpan}
 use Rattle.ctokens.specs.declared.token.Tokens.{Tokens}
-use Rattle.ctokens.specs.Items.{AreItems, NoToken, LeftOver, Ending, IsItems}
-use Rattle.ctokens.specs.Passed.{read_symbols}
-use Rattle.ctokens.specs.Symbol.{is_passed_over}
-use Rattle.ctokens.specs.TokenSymbols.{symbols}
 use Rattle.ctokens.specs.TokenList.{HasNamedFiles}
-use Rattle.ctokens.proofs.ItemsInside.{length_passed}
+use Rattle.ctokens.proofs.ItemsInside.{items_among}
 use Rattle.cread.specs.Refusals.{IsRefusal}
 use Rattle.cread.specs.ItemsRead.{IsItemRead}
-use Rattle.cread.specs.Needed.{AreAnswered, AtOnce, HaveOneAnswer, IsRefused, IsSpanAmong, Later, NoItem, OneItem, ReadsAll, at_file, spans_of, with_span}
+use Rattle.ctokens.specs.Items.{IsItems, IsSpanAmong}
+use Rattle.cread.specs.Needed.{AreAnswered, AtOnce, HaveOneAnswer, IsRefused, Later, NoItem, OneItem, ReadsAll, at_file, spans_of, with_span}
 use Rattle.cread.specs.Named.{HasNumber, IsNamed, place_in}
 use Rattle.cread.specs.declared.needed_items.ReadNeeded.{ReadNeeded}
 use Rattle.cread.specs.declared.needed_items.ReadNeeded.TheVariants.{Read, Refused}
@@ -94,24 +91,6 @@ one_answer t spans (Read program) (Refused refusal) (after, reads) also = absurd
 one_answer t spans (Refused refusal) (Read other) refused (behind, also) = absurd (reads_or_refused t spans at_file behind other refusal also refused)
 one_answer t spans (Refused refusal) (Refused other) refused also = ap Refused (refused_same t spans at_file refusal other refused also)
 
--- each item of a row has a token
-items_some : (first : ℕ) (row : List _) (spans : List ItemSpan) → AreItems first row spans → All (IsSpanAmong (first + length row)) spans
-items_some _ _ _ (NoToken first) = All-nil (IsSpanAmong (first + 0))
-items_some _ _ _ (LeftOver first row some none) =
-    All-cons (IsSpanAmong (first + length row)) (record { first = first; after = first + length row }) [] (omega arith, omega arith) (All-nil (IsSpanAmong (first + length row)))
-items_some _ _ _ (Ending first at row spans less ends earlier more) =
-    let rest = length-drop (at + 1) row in
-    let count : first + at + 1 + length (drop (at + 1) row) ≡ first + length row = omega arith in
-    All-cons (IsSpanAmong (first + length row)) (record { first = first; after = first + at + 1 }) spans (omega arith, omega arith)
-    (subst (λ (n : ℕ). All (IsSpanAmong n) spans) count (items_some (first + at + 1) (drop (at + 1) row) spans more))
-
-spans_have_tokens : (t : Tokens) (items : List ItemSpan) → IsItems t (Ok items) → All (IsSpanAmong (length t.list)) items
-spans_have_tokens t items is =
-    let passed = length_passed t in
-    let mapped = length-map (read_symbols (symbols t)) is_passed_over in
-    let count : 0 + length (read_symbols (symbols t)) ≡ length t.list = omega (arith, passed, mapped) in
-    subst (λ (n : ℕ). All (IsSpanAmong n) items) count (items_some 0 (read_symbols (symbols t)) items is.items)
-
 with_found : (P : ItemSpan → Type 0) (items : List ItemSpan) (number : ℕ) (found : Option ItemSpan) (rest : List ItemSpan) → slice_get items number ≡ found
     → All P items → All P rest → All P (with_span found rest)
 with_found P items number None rest is all others = others
@@ -125,7 +104,7 @@ chosen_some P items (number ∷ numbers) all =
 
 -- the items with these numbers have tokens
 pub spans_some : (t : Tokens) (items : List ItemSpan) (numbers : List ℕ) → IsItems t (Ok items) → All (IsSpanAmong (length t.list)) (spans_of items numbers)
-spans_some t items numbers is = chosen_some (IsSpanAmong (length t.list)) items numbers (spans_have_tokens t items is)
+spans_some t items numbers is = chosen_some (IsSpanAmong (length t.list)) items numbers (items_among t items is)
 
 refused_numbered : {t : Tokens} {spans : List ItemSpan} {before : Context} {refusal : Refusal} → IsRefused t spans before refusal → HasNumber refusal
 refused_numbered {t} {before} {refusal} (AtOnce {span} refused) = refusal_numbered t span.first span.after before refusal refused

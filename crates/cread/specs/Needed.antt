@@ -1,6 +1,6 @@
 -- Items of a text that are read in its order: each where the names that those before it declare are in scope, and as
 -- many expressions end before it as they have. The first that is not read is refused.
-use Rattle.std.specs.Prelude.{◌≡◌, ℕ, ◌<◌, ◌≤◌, List, [], ◌∷◌, Option, None, Some, slice_get}
+use Rattle.std.specs.Prelude.{◌≡◌, ℕ, List, [], ◌∷◌, Option, None, Some, slice_get}
 use Rattle.cbase.specs.declared.tree.item.Item.{Item}
 use Rattle.cgrammar.specs.Phrases.{Context}
 use Rattle.cgrammar.specs.Readings.{at_first}
@@ -54,7 +54,3 @@ AreRead t spans = (program : List Item) × (after : Context) × ReadsAll t spans
 -- of one list of spans at most one answer is true
 abbrev pub HaveOneAnswer : Type 0
 HaveOneAnswer = (t : Tokens) (spans : List ItemSpan) (one other : ReadNeeded) → AreAnswered t spans one → AreAnswered t spans other → one ≡ other
-
--- the span has a token, and lies among so many
-abbrev pub IsSpanAmong : ℕ → ItemSpan → Type 0
-IsSpanAmong count span = (span.first < span.after) × (span.after ≤ count)

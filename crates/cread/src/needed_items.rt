@@ -1,9 +1,9 @@
 ghost use Rattle.std.specs.Prelude.{◌≡◌, ◌++◌, [], Ok, IfOk, OnOk, length, slice_get};
 ghost use Rattle.std.specs.List.{All};
-ghost use Rattle.ctokens.specs.Items.{IsItems};
 ghost use Rattle.ctokens.specs.InText.{LieInText};
 ghost use Rattle.ctokens.specs.TokenList.{HasNamedFiles, AreNumbered};
-ghost use Rattle.cread.specs.Needed.{AreAnswered, IsSpanAmong, spans_of, with_span};
+ghost use Rattle.ctokens.specs.Items.{IsItems, IsSpanAmong};
+ghost use Rattle.cread.specs.Needed.{AreAnswered, spans_of, with_span};
 ghost use Rattle.cread.specs.Named.{IsNamed};
 
 use crate::reading_item::{ItemBehind, ReadIn, read_item_in};

@@ -5,14 +5,14 @@ use Rattle.cgrammar.specs.Outcomes.{Outcome, then_read, continued}
 use Rattle.cgrammar.specs.Outcomes as outcome
 use Rattle.cgrammar.specs.Phrases.{Context}
 use Rattle.cgrammar.specs.ReadLevels.{Level}
-use Rattle.cgrammar.specs.ReadOperands.{plain_with, read_plain, read_cast}
+use Rattle.cgrammar.specs.ReadOperands.{opens, plain_with, read_plain, read_cast}
 use Rattle.cgrammar.specs.ReadOperands as reader
 use Rattle.cgrammar.specs.ReadOperators as reading
 use Rattle.cgrammar.specs.ReadOperators.{expr_of}
 use Rattle.cgrammar.specs.ReadStarts.{operand_start}
 use Rattle.cgrammar.specs.Terminals.{Terminal}
 use Rattle.cgrammar.specs.declared.reading.operand.Operand.{Operand}
-use Rattle.creader.specs.OperandSteps.{operand_first, plain, opens, opened, closed, all_closed, cast_behind, cast}
+use Rattle.creader.specs.OperandSteps.{operand_first, plain, opened, closed, all_closed, cast_behind, cast}
 use Rattle.creader.specs.OperandSteps as steps
 use Rattle.creader.specs.OperatorSteps.{all_operations, conditional_from, assignment_from, expression_from}
 use Rattle.creader.specs.State.{State, rest, is_going, goes, skipped, lost}

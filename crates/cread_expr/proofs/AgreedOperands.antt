@@ -186,14 +186,14 @@ size_of_agrees : {level : Level} {inner : Inner} {s : State} {before : ℕ} {con
     → Agreed none operand_piece operand_fits 0 before (read_size_of level context first row) s (size_of inner at s)
 unfolding read_size_of size_of
 size_of_agrees {level} {inner} {s} {before} {context} at first row agrees begins far =
-    agreed_test (begins_type_in_brackets context row) _ _ _
+    agreed_test (begins_type_in_brackets context.scope row) _ _ _
     (λ i. has_mark (codes "(") (far.left i) && has_first (begins_type (far.scope i)) (behind_first (far.left i)))
     (λ is. typed row far is)
     (λ is. prefix_agrees (λ context row. unary_alone (level.cast context row)) (λ s. steps.unary_alone (ask inner wanted.Cast s)) (event.SizeOf at) first.place SizeOf
     (alone_follows level.cast (ask inner wanted.Cast) (asked_cast agrees.deeper))
     (λ arg count pieces i. shop (count + 1) (piece.Expr (expression_of count (begins.found i).place (SizeOf arg)) ∷ pieces)) far)
   where
-    typed : (row : List Terminal) → Ended s s none none 0 0 before context row → begins_type_in_brackets context row ≡ true
+    typed : (row : List Terminal) → Ended s s none none 0 0 before context row → begins_type_in_brackets context.scope row ≡ true
         → Agreed none operand_piece operand_fits 0 before
         (then_read (read_type_name level context (behind_first row)) (λ to levels behind others.
         after_mark (codes ")") others outcome.Nothing (λ closing end. outcome.Read (unary_operand (numbered behind first.place (SizeOfType to))) (1 + levels) (counted behind) end)))

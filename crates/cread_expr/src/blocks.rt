@@ -7,10 +7,11 @@ ghost use Rattle.cgrammar.specs.Readings.{IsBlockAt, most_levels};
 ghost use Rattle.cgrammar.specs.Terminals.{last_place};
 ghost use Rattle.ctokens.specs.InText.{LieInText};
 
-use crate::ends::{number_behind, tokens_before};
+use crate::ends::number_behind;
+use crate::front::front_at;
 use cbase::{List, NoMemory, Stmt};
 use cbuild::{Unbuilt, build_block};
-use cgrammar::{Scope, Terminal, row_of};
+use cgrammar::{Scope, Terminal};
 use creader::{Written, read_statements};
 use ctokens::Tokens;
 use std::alloc::Global;
@@ -39,10 +40,10 @@ pub fn read_block(
     ensures block { IfOk result (λ found. IfSome found (λ read. IsBlockAt most_levels t.now scope.now at read.after read.body)) }
     ensures none { IfOk result (λ found. IfNone found ((body : List Stmt) (after : ℕ) → IsBlockAt most_levels t.now scope.now at after body → ⊥)) }
 {
-    let row = row_of(alloc, t)?;
-    let start = tokens_before(row.as_slice(), at);
-    let written = read_statements(alloc, row.as_slice(), start, scope)?;
-    block_of(alloc, row.as_slice(), &written)
+    let front = front_at(alloc, t, at)?;
+    let row = front.row.as_slice();
+    let written = read_statements(alloc, row, front.start, scope)?;
+    block_of(alloc, row, &written)
 }
 
 /// The block that is written, where one is found, with the number behind its last token.

@@ -1,18 +1,8 @@
 ghost use Rattle.std.specs.Prelude.{◌≡◌, ◌+◌, take, IfOk};
-ghost use Rattle.std.specs.List.{prefix_len};
-ghost use Rattle.cgrammar.specs.Terminals.{last_place, comes_before};
+ghost use Rattle.cgrammar.specs.Terminals.{last_place};
 
 use cbase::{NoMemory, Place};
 use cgrammar::Terminal;
-
-/// How many tokens of a row come before the token of that number.
-pub(crate) fn tokens_before(row: &[Terminal<'_>], number: u32) -> usize
-    ensures { result ≡ prefix_len (comes_before number) row.now }
-{
-    row.iter()
-        .take_while(|token| token.place().at < number)
-        .count()
-}
 
 /// The number behind that of the last of the first tokens of a row. The error also stands for a number that is too great:
 /// it needs more tokens than memory holds.

@@ -7,10 +7,11 @@ ghost use Rattle.cgrammar.specs.Readings.{IsExpressionAt, IsLongestExpressionAt,
 ghost use Rattle.cgrammar.specs.Terminals.{last_place};
 ghost use Rattle.ctokens.specs.InText.{LieInText};
 
-use crate::ends::{number_behind, tokens_before};
+use crate::ends::number_behind;
+use crate::front::front_at;
 use cbase::{Expr, NoMemory};
 use cbuild::{Unbuilt, build_expr};
-use cgrammar::{Scope, Terminal, row_of};
+use cgrammar::{Scope, Terminal};
 use creader::{Written, read_expression};
 use ctokens::Tokens;
 use std::alloc::Global;
@@ -39,10 +40,10 @@ pub fn read_expr(
     ensures longest { IfOk result (λ found. IfSome found (λ read. IsLongestExpressionAt most_levels t.now scope.now at read.after read.expr)) }
     ensures none { IfOk result (λ found. IfNone found ((expr : Expr) (after : ℕ) → IsExpressionAt most_levels t.now scope.now at after expr → ⊥)) }
 {
-    let row = row_of(alloc, t)?;
-    let start = tokens_before(row.as_slice(), at);
-    let written = read_expression(alloc, row.as_slice(), start, scope)?;
-    expression_of(alloc, row.as_slice(), &written)
+    let front = front_at(alloc, t, at)?;
+    let row = front.row.as_slice();
+    let written = read_expression(alloc, row, front.start, scope)?;
+    expression_of(alloc, row, &written)
 }
 
 /// The expression that is written, where one is found, with the number behind its last token.

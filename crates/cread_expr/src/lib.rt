@@ -6,6 +6,7 @@
 mod blocks;
 mod ends;
 mod expressions;
+mod front;
 mod laws;
 
 pub use blocks::{ReadBlock, read_block};

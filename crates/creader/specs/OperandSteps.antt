@@ -4,13 +4,12 @@ use Rattle.std.specs.List.{prefix_len}
 use Rattle.cbase.specs.declared.tree.operators.UnaryOp.{UnaryOp}
 use Rattle.cevents.specs.declared.event.Event.{Event}
 use Rattle.cevents.specs.declared.event.Event.TheVariants as event
-use Rattle.cgrammar.specs.Firsts.{begins_type}
-use Rattle.cgrammar.specs.Outcomes.{has_mark, has_first, behind_first}
-use Rattle.cgrammar.specs.ReadOperands.{behind_matched, goes_on}
+use Rattle.cgrammar.specs.Outcomes.{has_mark, has_first}
+use Rattle.cgrammar.specs.ReadOperands.{begins_type_in_brackets, behind_matched, goes_on, opens}
 use Rattle.cgrammar.specs.ReadStarts.{operand_start, postfix_start}
 use Rattle.cgrammar.specs.ReadTypes.{never}
 use Rattle.cgrammar.specs.Scope.{Names}
-use Rattle.cgrammar.specs.Terminals.{Terminal, is_mark, is_name, is_any_word, begins_with_typedef}
+use Rattle.cgrammar.specs.Terminals.{Terminal, is_name, is_any_word, begins_with_typedef}
 use Rattle.cgrammar.specs.declared.reading.starts.OperandStart.{OperandStart}
 use Rattle.cgrammar.specs.declared.reading.starts.OperandStart.TheVariants as start
 use Rattle.cgrammar.specs.declared.reading.starts.PostfixStart.{PostfixStart}
@@ -146,9 +145,6 @@ unfoldable pub bracket : Inner → ℕ → State → State
 bracket inner at s = if has_mark (codes "{") (rest s) then statement_expression inner at s else cast_to inner at s
 
 -- `sizeof` of a type or of a unary expression (C11 6.5.3.4)
-abbrev pub begins_type_in_brackets : List Names → List Terminal → Bool
-begins_type_in_brackets scope row = has_mark (codes "(") row && has_first (begins_type scope) (behind_first row)
-
 abbrev pub size_of_type : Inner → ℕ → State → State
 size_of_type inner at s = as_operand true (make (event.SizeOfType at) (mark (codes ")") (type_name inner s)))
 
@@ -197,13 +193,7 @@ plain_with inner s first = prefixed inner s.at (skipped 1 s) first
 unfoldable pub plain : Inner → State → State
 plain inner s = if goes s then plain_with inner s (operand_first (rest s)) else s
 
--- a `(` around an expression: neither a type nor a block stands behind it
-abbrev pub begins_expression : List Names → Terminal → Bool
-begins_expression scope token = not (is_mark (codes "{") token) && not (begins_type scope token)
-
-abbrev pub opens : List Names → Terminal → List Terminal → Bool
-opens scope first row = is_mark (codes "(") first && has_first (begins_expression scope) row
-
+-- whether the row begins with a `(` around an expression
 abbrev pub opens_row : List Names → List Terminal → Bool
 opens_row scope [] = false
 opens_row scope (first ∷ row) = opens scope first row

@@ -2,7 +2,8 @@ ghost use Rattle.std.specs.Prelude.{◌≡◌, ◌≤◌, IsTrue, OnOk, length};
 ghost use Rattle.creader.specs.Nests.{Nests};
 ghost use Rattle.creader.specs.ReadingSteps.{inner_at};
 ghost use Rattle.creader.specs.State.{rest};
-ghost use Rattle.creader.specs.OperandSteps.{unary_alone, statement_expression, cast_to, bracket, begins, begins_type_in_brackets, size_of, size_of_type, assert_fail, counted, unary, primary, prefixed, plain_with, plain};
+ghost use Rattle.cgrammar.specs.ReadOperands.{begins_type_in_brackets};
+ghost use Rattle.creader.specs.OperandSteps.{unary_alone, statement_expression, cast_to, bracket, begins, size_of, size_of_type, assert_fail, counted, unary, primary, prefixed, plain_with, plain};
 
 use crate::grammar::Grammar;
 use crate::reader::Reader;

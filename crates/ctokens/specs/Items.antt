@@ -85,6 +85,10 @@ abbrev pub IsItems : Tokens → Result (List ItemSpan) Deep → Type 0
 IsItems t (Ok spans) = AreSpans t spans
 IsItems t (Err deep) = IsFirstDeep t deep
 
+-- the span has a token, and lies among so many
+abbrev pub IsSpanAmong : ℕ → ItemSpan → Type 0
+IsSpanAmong count span = (span.first < span.after) × (span.after ≤ count)
+
 -- the span is a row of tokens among so many
 abbrev pub IsInside : ℕ → ItemSpan → Type 0
 IsInside count span = (span.first ≤ span.after) × (span.after ≤ count)

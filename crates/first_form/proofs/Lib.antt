@@ -1,5 +1,4 @@
 pub mod Ascending
-pub mod Rising
 pub mod Spelled
 pub mod FrontLine
 pub mod ReadLines

@@ -1,6 +1,7 @@
 use Rattle.std.proofs.Common.{◌∙◌, ap, map, ℕ, List}
-use Rattle.cgrammar.specs.Scope.{declared_in}
-use Rattle.cgrammar.proofs.Scopes.{declared-map, shown, err-holds}
+use Rattle.cgrammar.specs.NameTables.{with_value}
+use Rattle.cgrammar.proofs.NameTables.{put-map, shown}
+use Rattle.cgrammar.proofs.Scopes.{err-holds}
 use Rattle.cgrammar.proofs.names.declare_in.Goals as goal
 
 pub returns-in_err-insert-clause-err : goal.returns-in_err-insert-clause-err
@@ -9,5 +10,5 @@ returns-in_err-insert-clause-err c = err-holds c.from_residual-in_err-insert.res
 pub returns-clause-ok : goal.returns-clause-ok
 returns-clause-ok c =
     ap (map (shown (λ v. v.items))) c.in_ok-insert.ensures.entries
-    ∙ (declared-map (λ v. v.items) c.in_ok-copy.copy c.args.typedef c.args.table.now.entries
-    ∙ ap (λ (n : List ℕ). declared_in n c.args.typedef (map (shown (λ v. v.items)) c.args.table.now.entries)) c.in_ok-copy.ensures.items)
+    ∙ (put-map (λ v. v.items) c.in_ok-copy.copy c.args.typedef c.args.table.now.entries
+    ∙ ap (λ (n : List ℕ). with_value n c.args.typedef (map (shown (λ v. v.items)) c.args.table.now.entries)) c.in_ok-copy.ensures.items)

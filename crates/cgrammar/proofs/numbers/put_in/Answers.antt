@@ -1,6 +1,6 @@
 use Rattle.std.proofs.Common.{◌∙◌, ap, map, ℕ, List}
-use Rattle.cgrammar.specs.Bounds.{put_in}
-use Rattle.cgrammar.proofs.Bounded.{put-map, shown}
+use Rattle.cgrammar.specs.NameTables.{with_value}
+use Rattle.cgrammar.proofs.NameTables.{put-map, shown}
 use Rattle.cgrammar.proofs.Scopes.{err-holds}
 use Rattle.cgrammar.proofs.numbers.put_in.Goals as goal
 
@@ -11,4 +11,4 @@ pub returns-clause-ok : goal.returns-clause-ok
 returns-clause-ok c =
     ap (map (shown (λ v. v.items))) c.in_ok-insert.ensures.entries
     ∙ (put-map (λ v. v.items) c.in_ok-copy.copy c.args.number c.args.table.now.entries
-    ∙ ap (λ (n : List ℕ). put_in n c.args.number (map (shown (λ v. v.items)) c.args.table.now.entries)) c.in_ok-copy.ensures.items)
+    ∙ ap (λ (n : List ℕ). with_value n c.args.number (map (shown (λ v. v.items)) c.args.table.now.entries)) c.in_ok-copy.ensures.items)

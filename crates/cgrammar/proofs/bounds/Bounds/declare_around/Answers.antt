@@ -1,7 +1,8 @@
 use Rattle.std.proofs.Common.{◌≡◌, ◌-◌, ◌≤◌, ℕ, List, [], Some, get_or, length, subst, sym, arith}
 use Rattle.std.proofs.lemmas.Result.{on_ok_weaker}
 use Rattle.cgrammar.specs.Scope.{Names}
-use Rattle.cgrammar.specs.Bounds.{Numbers, AreBounds, number_in}
+use Rattle.cgrammar.specs.Bounds.{Numbers, AreBounds}
+use Rattle.cgrammar.specs.NameTables.{value_in}
 use Rattle.cgrammar.proofs.Scopes.{declared-around_few}
 use Rattle.cgrammar.proofs.Bounded.{bounded_noted_around, bounded_grow, bounds_stay, bounds_rise, bounded_around}
 use Rattle.cgrammar.proofs.bounds.Bounds.declare_around.Goals as goal
@@ -55,8 +56,8 @@ returns-clause-ok c = on_ok_weaker c.raise.result
     let now : List Numbers = c.raise.new.levels.items in
     let last : ℕ = c.len-count.result - 1 in
     let count : last ≡ length now - 1 = omega (arith, c.len-count.ensures, c.remember.ensures.count, c.raise_earlier.ensures.count, c.raise.ensures.count) in
-    let P : ℕ → Type 0 = λ at. (bound : ℕ) → number_in c.args.name.now (get_or now at []) ≡ Some bound → at ≤ bound in
-    let Q : Numbers → Type 0 = λ numbers. (bound : ℕ) → number_in c.args.name.now numbers ≡ Some bound → last ≤ bound in
+    let P : ℕ → Type 0 = λ at. (bound : ℕ) → value_in c.args.name.now (get_or now at []) ≡ Some bound → at ≤ bound in
+    let Q : Numbers → Type 0 = λ numbers. (bound : ℕ) → value_in c.args.name.now numbers ≡ Some bound → last ≤ bound in
     let same : get_or now last [] ≡ get_or marked last [] = c.raise.ensures.others last (omega (arith, c.if-count-lt2.false)) in
     bounded_around c.args.name.now typedef scopes (get_or now 0 []) now (returns-clause-kept c scopes is) (omega (arith, count, high))
     (subst P count (subst Q (sym same) c.in_ok-raise_earlier.ensures.ok))) c.raise.ensures.ok
