@@ -1,7 +1,7 @@
 -- What events make, event by event.
 use Rattle.std.proofs.Common.{◌≡◌, ℕ, ◌+◌, ◌<◌, ◌≤◌, Bool, true, false, List, [], ◌∷◌, length, drop, get_or, Option, None, Some, refl, ap, sym, ◌∙◌}
 use Rattle.std.proofs.lemmas.List.{drop_more, drop_all}
-use Rattle.cevents.specs.Building.{built, built_all, built_next}
+use Rattle.cevents.specs.Building.{built, built_all}
 use Rattle.cevents.specs.Workshop.{Workshop, left_by}
 use Rattle.cevents.specs.declared.event.Event.{Event}
 use Rattle.cgrammar.specs.Terminals.{Terminal}
@@ -15,10 +15,6 @@ made_of_nothing row (event ∷ events) = made_of_nothing row events
 pub made_of_none : (row : List Terminal) (workshop : Option Workshop) → built_all row [] workshop ≡ workshop
 unfolding built_all
 made_of_none row workshop = refl
-
-pub made_of_more : (row : List Terminal) (event : Event) (events : List Event) (workshop : Workshop) → built_all row (event ∷ events) (Some workshop) ≡ built_all row events (built_next row event (Some workshop))
-unfolding built_all
-made_of_more row event events workshop = refl
 
 -- one event more, which makes something or nothing
 made_on : (row : List Terminal) (events : List Event) (index : ℕ) (event : Event) (workshop next : Workshop) (made : Bool)

@@ -50,11 +50,6 @@ unpassed_rises base (true ∷ passed) (token ∷ tokens) counts =
 unpassed_rises base (false ∷ passed) (token ∷ tokens) counts =
     (omega (arith, counts.0), rw counts.0 (unpassed_rises (base + 1) passed tokens counts.1))
 
-pub rises_behind : (base : ℕ) (xs ys : List Terminal) → Rises base (xs ++ ys) → Rises base ys
-rises_behind base [] ys rises = rises
-rises_behind base (x ∷ xs) ys rises =
-    rises_from base (x.place.at + 1) ys (omega (arith, rises.0)) (rises_behind (x.place.at + 1) xs ys rises.1)
-
 -- the last of some tokens comes no earlier than the first
 pub last_from : (base : ℕ) (first : Terminal) (row : List Terminal) → Rises base (first ∷ row) → base ≤ (last_place (first ∷ row)).at
 last_from base first [] rises = rises.0

@@ -19,9 +19,6 @@ reaches_more Nothing row longer more is = is
 reaches_more (Stopped tree expressions rest) row longer more is = omega (arith, is, more)
 reaches_more (Read tree levels behind rest) row longer more is = omega (arith, is, more)
 
-pub reaches_behind : {A : Type 0} (outcome : Outcome A) (first : Terminal) (row : List Terminal) → Reaches outcome row → Reaches outcome (first ∷ row)
-reaches_behind outcome first row is = reaches_more outcome row (first ∷ row) (omega arith) is
-
 -- combinators
 pub continued_reaches : {A B : Type 0} (outcome : Outcome A) (whole : A → B) (go : A → ℕ → Context → List Terminal → Outcome B) (row : List Terminal)
     → Reaches outcome row → ((tree : A) (levels : ℕ) (behind : Context) (rest : List Terminal) → Reaches (go tree levels behind rest) rest) → Reaches (continued outcome whole go) row

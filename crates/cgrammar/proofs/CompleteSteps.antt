@@ -37,9 +37,6 @@ continued_twice (Stopped tree expressions rest) whole one other go = refl
 continued_twice (Read tree levels behind rest) whole one other go = refl
 
 -- where the outcome is known, or reaches
-pub GoesTo : {A : Type 0} → (Terminal → Bool) → Outcome A → List Terminal → Outcome A → Type 0
-GoesTo test wanted rest outcome = (outcome ≡ wanted) ⊎ (IsTrue (has_first test rest) × Reaches outcome rest)
-
 pub with_right_step : {A B : Type 0} (test : Terminal → Bool) (tree : A) (levels : ℕ) (after : Context) (rest : List Terminal) (outcome : Outcome A)
     (without : Outcome B) (whole : A → ℕ → B) (go : A → ℕ → Context → List Terminal → Outcome B)
     → ((tree : A) (levels : ℕ) (behind : Context) (rest : List Terminal) → Reaches (go tree levels behind rest) rest)

@@ -1,5 +1,5 @@
 -- What a reader gives where the outcome of what it calls, or the test that it makes, is known.
-use Rattle.std.proofs.Common.{◌≡◌, ℕ, zero, suc, ◌<◌, Bool, true, false, ◌&&◌, ◌||◌, not, refl, ap, ◌∙◌, List, [], ◌∷◌, ◌++◌, length, codes, cond, IsTrue, inl, inr, arith, append_assoc}
+use Rattle.std.proofs.Common.{◌≡◌, ℕ, zero, suc, ◌<◌, Bool, true, false, ◌&&◌, not, refl, ap, ◌∙◌, List, [], ◌∷◌, ◌++◌, length, codes, cond, IsTrue, inl, inr, arith, append_assoc}
 use Rattle.std.specs.Prelude.{max}
 use Rattle.std.proofs.lemmas.List.{length-append}
 use Rattle.cgrammar.proofs.Reached.{Goes, Ends}
@@ -31,14 +31,6 @@ go_prepended tree levels is more = ap (λ o. prepended tree levels o) is ∙ mor
 -- truth values
 pub not_is : (b : Bool) → b ≡ false → IsTrue (not b)
 not_is b is = ap not is
-
-pub neither_left : (a b : Bool) → IsTrue (not (a || b)) → IsTrue (not a)
-neither_left true b is = is
-neither_left false b is = refl
-
-pub neither_right : (a b : Bool) → IsTrue (not (a || b)) → IsTrue (not b)
-neither_right true b is = absurd (let wrong : false ≡ true = is in cc wrong)
-neither_right false b is = is
 
 -- a row that ends what was read
 pub ends_first : (test : Terminal → Bool) (rest : List Terminal) → Ends test rest → has_first test rest ≡ false

@@ -29,9 +29,6 @@ read_levels tree after rest is = ap (λ (n : ℕ). Read tree n after rest) is
 pub ends_known : (test : Terminal → Bool) (bytes : List ℕ) (token : Terminal) (rest : List Terminal) → IsMark bytes token → test (record { kind = Mark; bytes = bytes; place = token.place }) ≡ false → Ends test (token ∷ rest)
 ends_known test bytes token rest is off = not_is (test token) (ap test (mark_is bytes token is) ∙ off)
 
-pub ends_token : (test : Terminal → Bool) (token : Terminal) (rest : List Terminal) → test token ≡ false → Ends test (token ∷ rest)
-ends_token test token rest off = not_is (test token) off
-
 -- expressions, where what follows does not go on
 pub expression_read : (n : ℕ) (before : Context) (xs : List Terminal) (expr : Expr) (after : Context) (rest : List Terminal) → Completes (Expression expr) before xs after → expr_levels expr ≤ n → Ends goes_on_expression rest
     → (level n).expression before (xs ++ rest) ≡ Read expr (expr_levels expr) after rest

@@ -67,10 +67,6 @@ pub begins_apart : (test other : Terminal → Bool) (xs rest : List Terminal) �
 begins_apart test other [] rest each begins = absurd begins
 begins_apart test other (first ∷ xs) rest each begins = each first begins
 
-pub begins_as : (test other : Terminal → Bool) (xs rest : List Terminal) → ((token : Terminal) → test token ≡ true → other token ≡ true) → Begins test xs → has_first other (xs ++ rest) ≡ true
-begins_as test other [] rest each begins = absurd begins
-begins_as test other (first ∷ xs) rest each begins = each first begins
-
 pub operand_no_mark : (bytes : List ℕ) → list_any (bytes_eq bytes) operand_marks ≡ false → (token : Terminal) → begins_operand token ≡ true → is_mark bytes token ≡ false
 operand_no_mark bytes none token is = false-of (is_mark bytes token) (λ mark. operand_not_mark bytes token none is mark)
 

@@ -1,15 +1,12 @@
 -- The fronts of rows: what stands before the rest, its first and its last place, and its stars.
-use Rattle.std.proofs.Common.{◌≡◌, ℕ, zero, suc, ◌+◌, ◌-◌, ◌≤◌, Bool, true, false, List, [], ◌∷◌, ◌++◌, take, drop, length, refl, ap, sym, ◌∙◌, arith, codes, cond}
+use Rattle.std.proofs.Common.{◌≡◌, ℕ, zero, suc, ◌+◌, ◌-◌, ◌≤◌, Bool, true, false, List, [], ◌∷◌, ◌++◌, take, drop, length, refl, ap, ◌∙◌, arith, codes, cond}
 use Rattle.std.proofs.Math.Seq.{take-append_seam, drop-append_seam}
 use Rattle.std.proofs.lemmas.List.{length-append}
 use Rattle.std.specs.List.{prefix_len}
 use Rattle.cgrammar.proofs.StarRows.{stars_spelled}
 use Rattle.cgrammar.proofs.Truth.{and-left, and-right}
 use Rattle.cgrammar.specs.FrontOf.{front_of}
-use Rattle.cgrammar.specs.Terminals.{Terminal, is_mark, are_stars, AreStars, first_place, last_place}
-
-pub length_of_both : (xs ys : List Terminal) → length (xs ++ ys) ≡ length xs + length ys
-length_of_both xs ys = length-append xs ys
+use Rattle.cgrammar.specs.Terminals.{Terminal, is_mark, are_stars, AreStars, last_place}
 
 pub take_front : (xs ys : List Terminal) → take (length xs) (xs ++ ys) ≡ xs
 take_front xs ys = take-append_seam xs ys
@@ -28,41 +25,11 @@ front_of_both xs rest =
     let front : length (xs ++ rest) - length rest ≡ length xs = omega (arith, whole) in
     ap (λ (n : ℕ). take n (xs ++ rest)) front ∙ take-append_seam xs rest
 
-pub front_of_whole : (xs : List Terminal) → front_of (xs ++ []) [] ≡ xs
-front_of_whole xs = front_of_both xs []
-
--- a front behind another one
-pub front_of_more : (xs ys rest : List Terminal) → front_of (xs ++ (ys ++ rest)) rest ≡ xs ++ ys
-front_of_more xs ys rest =
-    let all = length-append xs (ys ++ rest) in
-    let others = length-append ys rest in
-    let front : length (xs ++ (ys ++ rest)) - length rest ≡ length xs + length ys = omega (arith, all, others) in
-    ap (λ (n : ℕ). take n (xs ++ (ys ++ rest))) front ∙ both xs
-  where
-    both : (ws : List Terminal) → take (length ws + length ys) (ws ++ (ys ++ rest)) ≡ ws ++ ys
-    both [] = let none : 0 + length ys ≡ length ys = omega arith in ap (λ (n : ℕ). take n (ys ++ rest)) none ∙ take-append_seam ys rest
-    both (w ∷ ws) =
-        let more : length (w ∷ ws) + length ys ≡ suc (length ws + length ys) = omega arith in
-        ap (λ (n : ℕ). take n (w ∷ (ws ++ (ys ++ rest)))) more ∙ ap (λ (zs : List Terminal). w ∷ zs) (both ws)
-
 -- places
-pub first_place_of_both : (first : Terminal) (xs ys : List Terminal) → first_place ((first ∷ xs) ++ ys) ≡ first_place (first ∷ xs)
-first_place_of_both first xs ys = refl
-
-pub first_place_of_nonempty : (xs ys : List Terminal) → 1 ≤ length xs → first_place (xs ++ ys) ≡ first_place xs
-first_place_of_nonempty [] ys some = absurd (omega (arith, some))
-first_place_of_nonempty (first ∷ xs) ys some = refl
-
-pub last_place_of_more : (first next : Terminal) (ys : List Terminal) → last_place (first ∷ (next ∷ ys)) ≡ last_place (next ∷ ys)
-last_place_of_more first next ys = refl
-
 pub last_place_of_both : (xs : List Terminal) (last : Terminal) (ys : List Terminal) → last_place (xs ++ (last ∷ ys)) ≡ last_place (last ∷ ys)
 last_place_of_both [] last ys = refl
 last_place_of_both (first ∷ []) last ys = refl
 last_place_of_both (first ∷ (next ∷ xs)) last ys = last_place_of_both (next ∷ xs) last ys
-
-pub last_place_of_last : (xs : List Terminal) (last : Terminal) → last_place (xs ++ (last ∷ [])) ≡ last.place
-last_place_of_last xs last = last_place_of_both xs last []
 
 pub last_place_of_nonempty : (xs ys : List Terminal) → 1 ≤ length ys → last_place (xs ++ ys) ≡ last_place ys
 last_place_of_nonempty xs [] some = absurd (omega (arith, some))
@@ -111,18 +78,3 @@ first_or other (token ∷ tokens) = token
 
 same_first : (a b : Terminal) (xs ys : List Terminal) → a ∷ xs ≡ b ∷ ys → a ≡ b
 same_first a b xs ys is = ap (first_or a) is
-
--- behind the longest row of stars no star follows
-pub stars_stop : (row : List Terminal) (next : Terminal) (rest : List Terminal) → drop (prefix_len (is_mark (codes "*")) row) row ≡ next ∷ rest → is_mark (codes "*") next ≡ false
-stars_stop [] next rest is = cc is
-stars_stop (first ∷ others) next rest is = step (is_mark (codes "*") first) refl (stars_stop others next rest) is
-  where
-    step : (star : Bool) → is_mark (codes "*") first ≡ star
-        → (drop (prefix_len (is_mark (codes "*")) others) others ≡ next ∷ rest → is_mark (codes "*") next ≡ false)
-        → drop (cond star (1 + prefix_len (is_mark (codes "*")) others) 0) (first ∷ others) ≡ next ∷ rest → is_mark (codes "*") next ≡ false
-    step true star further i =
-        let one : 1 + prefix_len (is_mark (codes "*")) others ≡ suc (prefix_len (is_mark (codes "*")) others) = omega arith in
-        further (sym (ap (λ (n : ℕ). drop n (first ∷ others)) one) ∙ i)
-    step false star further i =
-        let same : first ≡ next = same_first first next others rest i in
-        ap (is_mark (codes "*")) (sym same) ∙ star

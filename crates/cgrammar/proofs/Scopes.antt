@@ -1,6 +1,5 @@
 -- Looking up and declaring names.
 use Rattle.std.proofs.Common.{◌≡◌, ℕ, zero, suc, ◌≤◌, is_some, ◌-◌, ◌<◌, Bool, true, false, refl, ap, sym, ◌∙◌, List, [], ◌∷◌, ◌++◌, length, take, Option, None, Some, Result, Ok, Err, OnErr}
-use Rattle.std.specs.Prelude.{if◌then◌else◌}
 use Rattle.std.specs.Str.{bytes_eq}
 use Rattle.std.proofs.Math.Seq.{take-suc}
 use Rattle.std.proofs.Common.{get_or, set, arith}
@@ -81,10 +80,6 @@ left_take (outer ∷ (next ∷ inner)) =
     ap (λ (n : ℕ). take n (outer ∷ (next ∷ inner))) less ∙ ap (λ (n : List Names). outer ∷ n) (left_take (next ∷ inner))
 
 -- what is declared is found, and other names are found as before
-first-none : (answer : Option Bool) → first_answer answer None ≡ answer
-first-none None = refl
-first-none (Some answer) = refl
-
 pub found_same : (name : List ℕ) (typedef : Bool) (scopes : List Names) → 0 < length scopes → found name (declared name typedef scopes) ≡ Some typedef
 found_same name typedef [] some = absurd (omega (arith, some))
 found_same name typedef (names ∷ []) some = put_same name typedef names

@@ -4,9 +4,6 @@ use Rattle.std.specs.Prelude.{if◌then◌else◌}
 use Rattle.std.specs.List.{list_any, list_all}
 use Rattle.std.specs.Str.{bytes_eq}
 use Rattle.std.proofs.lemmas.Slice.Eq.{bytes_eq-Decides}
-use Rattle.cbase.specs.declared.tree.decl.Decl.{Decl}
-use Rattle.cbase.specs.declared.tree.expr.Expr.{Expr}
-use Rattle.cbase.specs.declared.tree.stmt.Stmt.{Stmt}
 use Rattle.ctokens.specs.declared.token.TokenKind.{TokenKind}
 use Rattle.ctokens.specs.declared.token.TokenKind.TheVariants.{Word, Number, Letter, Quoted, Mark}
 use Rattle.ctokens.proofs.Choices.{false_or}
@@ -14,11 +11,10 @@ use Rattle.cgrammar.proofs.Firsts.{begins-append, first}
 use Rattle.cgrammar.proofs.TokenKinds.{mark_bytes, word_bytes, mark_is_mark_kind, word_is_word_kind, row_is_mark_kind, mark_is_no_name, word_is_no_name, mark_kind_no_word, word_kind_no_mark, named_words, other_mark}
 use Rattle.cgrammar.proofs.Truth.{and-left, and-right, and-both, or-left, or-right, clash, false-of, and-false}
 use Rattle.cgrammar.specs.Constants.{IsConstant, IsOfKind}
-use Rattle.cgrammar.specs.Firsts.{is_among, Begins, begins_type, begins_declaration, type_words, storage_words}
+use Rattle.cgrammar.specs.Firsts.{is_among, Begins, begins_type}
 use Rattle.cgrammar.specs.Grammar.{Spells, OneAssignment, CommaOperator, OneConditional, AssignmentOperator, OneOperation, ConditionalOperator, OneCast, BinaryOperator, OneUnary, CastOperator, OnePostfix, CountBefore, UnaryOperator, SizeOfExpression, SizeOfTypeName, OnePrimary, IndexOperator, CallOfNothing, CallOperator, MemberOperator, CountBehind, OneArgument, MoreArguments, OneName, OneConstant, Bracketed, StatementExpression, OffsetOfMember, NoMoreMembers, PathToMember, PathToItem, FailedAssertion, BasicWords, TypedefName, TypeOfExpression, TypeOfType, StructWithFields, StructByTag, NoMoreFields, MoreFields, OneFieldDeclaration, OneField, MoreFieldNames, NamedField, NamedBits, UnnamedBits, EnumWithValues, EnumByTag, LastEnumerator, MoreEnumerators, PlainEnumerator, ValuedEnumerator, OneTypeName, NoMoreSizes, SizeLeftOut, SizeGiven, TypeAlone, StorageBefore, StorageBehind, NoDeclarator, WithDeclarators, OneDeclarator, MoreDeclarators, ObjectDeclarator, InitializedDeclarator, DeclaratorOfFunction, NoParameters, VoidParameters, WithParameters, OneParameter, MoreParameters, NamedParameter, UnnamedParameter, InitializedTo, EmptyBraces, InBraces, OneInitializer, MoreInitializers, NextPart, MemberPart, OneBlock, NoMoreItems, NextDeclaration, NextStatement, BlockStatement, EmptyStatement, ExpressionStatement, IfStatement, IfElseStatement, WhileStatement, DoStatement, ForStatement, FirstDeclaration, FirstLeftOut, FirstExpression, NoExpression, SomeExpression, BreakStatement, ContinueStatement, ReturnStatement, LabeledStatement}
 use Rattle.cgrammar.specs.Operators.{row_of, mark_row, unary_rows, count_rows}
-use Rattle.cgrammar.specs.Phrases.{Phrase, Context, Expression, Statement, Declaration}
-use Rattle.cgrammar.specs.Scope.{Names, is_typedef_name}
+use Rattle.cgrammar.specs.Phrases.{Phrase, Context}
 use Rattle.cgrammar.specs.Starts.{is_mark_among, is_constant_kind, operand_marks, operand_words, begins_operand, statement_marks, statement_words, begins_statement, HasFirst, StartsAs}
 use Rattle.cgrammar.specs.Terminals.{Terminal, is_word_kind, is_mark_kind, IsWord, is_mark, IsMark, is_name, IsName}
 
@@ -256,35 +252,3 @@ starts (BreakStatement word _ p1 _) = word-statement (codes "break") word p1 ref
 starts (ContinueStatement word _ p1 _) = word-statement (codes "continue") word p1 refl
 starts (ReturnStatement word _ p1 _ _) = word-statement (codes "return") word p1 refl
 starts (LabeledStatement label _ p1 p2 _ _) = operand-statement (label ∷ []) (name-operand label p1)
-
--- what does not begin a declaration
-pub declaration_not_mark : (scopes : List Names) (bytes : List ℕ) (token : Terminal) → IsTrue (begins_declaration scopes token) → IsMark bytes token → ⊥
-declaration_not_mark scopes bytes token is mark =
-    let word = mark_kind_no_word token.kind (mark_is_mark_kind bytes token mark) in
-    clash (begins_declaration scopes token) is
-    (false_or (is_among storage_words token) _ (and-false (is_word_kind token.kind) (list_any (bytes_eq token.bytes) storage_words) word)
-    (false_or (is_among type_words token) _ (and-false (is_word_kind token.kind) (list_any (bytes_eq token.bytes) type_words) word)
-    (and-false (is_name token) (is_typedef_name scopes token.bytes) (mark_is_no_name bytes token mark))))
-
-pub declaration_not_else : (scopes : List Names) (token : Terminal) → IsTrue (begins_declaration scopes token) → IsWord (codes "else") token → ⊥
-declaration_not_else scopes token is word =
-    clash (begins_declaration scopes token) is
-    (false_or (is_among storage_words token) _ (not-among (is_word_kind token.kind) token.bytes (codes "else") storage_words (word_bytes (codes "else") token word) refl)
-    (false_or (is_among type_words token) _ (not-among (is_word_kind token.kind) token.bytes (codes "else") type_words (word_bytes (codes "else") token word) refl)
-    (and-false (is_name token) (is_typedef_name scopes token.bytes) (word_is_no_name (codes "else") token refl word))))
-
--- rows
-pub statement_row_not_else : (dangling : Bool) (stmt : Stmt) (before after : Context) (token : Terminal) (row : List Terminal) → Spells (Statement dangling stmt) before (token ∷ row) after → IsWord (codes "else") token → ⊥
-statement_row_not_else dangling stmt before after token row d word = statement_not_else token (starts d) word
-
-pub statement_row_not_mark : (bytes : List ℕ) (dangling : Bool) (stmt : Stmt) (before after : Context) (token : Terminal) (row : List Terminal) → list_any (bytes_eq bytes) operand_marks ≡ false → list_any (bytes_eq bytes) statement_marks ≡ false → Spells (Statement dangling stmt) before (token ∷ row) after → IsMark bytes token → ⊥
-statement_row_not_mark bytes dangling stmt before after token row none other d mark = statement_not_mark bytes token none other (starts d) mark
-
-pub expression_row_not_mark : (bytes : List ℕ) (expr : Expr) (before after : Context) (token : Terminal) (row : List Terminal) → list_any (bytes_eq bytes) operand_marks ≡ false → Spells (Expression expr) before (token ∷ row) after → IsMark bytes token → ⊥
-expression_row_not_mark bytes expr before after token row none d mark = operand_not_mark bytes token none (starts d) mark
-
-pub declaration_row_not_else : (decl : Decl) (before after : Context) (token : Terminal) (row : List Terminal) → Spells (Declaration decl) before (token ∷ row) after → IsWord (codes "else") token → ⊥
-declaration_row_not_else decl before after token row d word = declaration_not_else before.scope token (first d) word
-
-pub declaration_row_not_mark : (bytes : List ℕ) (decl : Decl) (before after : Context) (token : Terminal) (row : List Terminal) → Spells (Declaration decl) before (token ∷ row) after → IsMark bytes token → ⊥
-declaration_row_not_mark bytes decl before after token row d mark = declaration_not_mark before.scope bytes token (first d) mark

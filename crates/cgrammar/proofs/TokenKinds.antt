@@ -9,7 +9,7 @@ use Rattle.ctokens.specs.declared.token.TokenKind.TheVariants.{Word, Number, Let
 use Rattle.ctokens.specs.Symbol.{is_identifier}
 use Rattle.ctokens.specs.SymbolTables.{keyword_symbol, name_symbol, passed_symbol, word_symbol}
 use Rattle.ctokens.proofs.Choices.{false_and}
-use Rattle.cgrammar.proofs.Truth.{and-left, and-right, of-any, clash, and-false, false-of}
+use Rattle.cgrammar.proofs.Truth.{and-left, and-right, of-any, and-false, false-of}
 use Rattle.cgrammar.specs.Constants.{IsConstant, IsOfKind}
 use Rattle.cgrammar.specs.Operators.{row_of, mark_row}
 use Rattle.cgrammar.specs.Terminals.{Terminal, is_word_kind, is_mark_kind, is_word, IsWord, is_mark, IsMark, is_name, IsName, is_left_out}
@@ -89,17 +89,8 @@ word_bytes bytes token is = (bytes_eq-Decides token.bytes bytes).0 (and-right (i
 pub bytes_same : (bytes : List ℕ) → bytes_eq bytes bytes ≡ true
 bytes_same bytes = (bytes_eq-Decides bytes bytes).1 refl
 
-pub one_mark : (a b : List ℕ) (token : Terminal) → IsMark a token → IsMark b token → a ≡ b
-one_mark a b token one other = sym (mark_bytes a token one) ∙ mark_bytes b token other
-
 pub one_word : (a b : List ℕ) (token : Terminal) → IsWord a token → IsWord b token → a ≡ b
 one_word a b token one other = sym (word_bytes a token one) ∙ word_bytes b token other
-
-pub not_two_marks : (a b : List ℕ) (token : Terminal) → bytes_eq a b ≡ false → IsMark a token → IsMark b token → ⊥
-not_two_marks a b token differ one other = clash (bytes_eq a b) ((bytes_eq-Decides a b).1 (one_mark a b token one other)) differ
-
-pub not_two_words : (a b : List ℕ) (token : Terminal) → bytes_eq a b ≡ false → IsWord a token → IsWord b token → ⊥
-not_two_words a b token differ one other = clash (bytes_eq a b) ((bytes_eq-Decides a b).1 (one_word a b token one other)) differ
 
 pub other_mark : (a b : List ℕ) (token : Terminal) → bytes_eq a b ≡ false → is_mark a token ≡ true → is_mark b token ≡ false
 other_mark a b token differ is =
@@ -128,39 +119,11 @@ word_is_no_mark a b token is = and-false (is_mark_kind token.kind) (bytes_eq tok
 pub name_is_no_mark : (bytes : List ℕ) (token : Terminal) → is_name token ≡ true → is_mark bytes token ≡ false
 name_is_no_mark bytes token is = and-false (is_mark_kind token.kind) (bytes_eq token.bytes bytes) (word_kind_no_mark token.kind (name_is_word_kind token is))
 
-pub mark_not_word : (a b : List ℕ) (token : Terminal) → IsMark a token → IsWord b token → ⊥
-mark_not_word a b token mark word = clash (is_word b token) word (mark_is_no_word a b token mark)
-
-pub name_not_mark : (bytes : List ℕ) (token : Terminal) → IsName token → IsMark bytes token → ⊥
-name_not_mark bytes token name mark = clash (is_mark bytes token) mark (name_is_no_mark bytes token name)
-
-pub constant_is_no_word : (bytes : List ℕ) (token : Terminal) → IsConstant token → is_word bytes token ≡ false
-constant_is_no_word bytes token is = and-false (is_word_kind token.kind) (bytes_eq token.bytes bytes) (constant_is_no_word_kind token is)
-
 pub constant_is_no_mark : (bytes : List ℕ) (token : Terminal) → IsConstant token → is_mark bytes token ≡ false
 constant_is_no_mark bytes token is = and-false (is_mark_kind token.kind) (bytes_eq token.bytes bytes) (constant_is_no_mark_kind token is)
 
 pub constant_is_no_name : (token : Terminal) → IsConstant token → is_name token ≡ false
 constant_is_no_name token is = and-false (is_word_kind token.kind) (is_identifier (word_symbol token.bytes) && not (is_left_out token.bytes)) (constant_is_no_word_kind token is)
-
-pub constant_not_word : (bytes : List ℕ) (token : Terminal) → IsConstant token → IsWord bytes token → ⊥
-constant_not_word bytes token constant word = clash (is_word bytes token) word (constant_is_no_word bytes token constant)
-
-pub constant_not_mark : (bytes : List ℕ) (token : Terminal) → IsConstant token → IsMark bytes token → ⊥
-constant_not_mark bytes token constant mark = clash (is_mark bytes token) mark (constant_is_no_mark bytes token constant)
-
-pub constant_not_name : (token : Terminal) → IsConstant token → IsName token → ⊥
-constant_not_name token constant name = clash (is_name token) name (constant_is_no_name token constant)
-
--- a mark of a table of operators
-pub row_not_word : {A : Type 0} (answer : A) (rows : List (List ℕ × A)) (bytes : List ℕ) (token : Terminal) → mark_row rows token ≡ Some answer → IsWord bytes token → ⊥
-row_not_word answer rows bytes token is word = clash (is_word bytes token) word (mark_kind_is_no_word token bytes (row_is_mark_kind answer rows token is))
-
-pub row_not_name : {A : Type 0} (answer : A) (rows : List (List ℕ × A)) (token : Terminal) → mark_row rows token ≡ Some answer → IsName token → ⊥
-row_not_name answer rows token is name = clash (is_name token) name (mark_kind_is_no_name token (row_is_mark_kind answer rows token is))
-
-pub row_not_constant : {A : Type 0} (answer : A) (rows : List (List ℕ × A)) (token : Terminal) → mark_row rows token ≡ Some answer → IsConstant token → ⊥
-row_not_constant answer rows token is constant = clash (is_mark_kind token.kind) (row_is_mark_kind answer rows token is) (constant_is_no_mark_kind token constant)
 
 -- the words that the rules of the grammar name
 abbrev pub named_words : List (List ℕ)
@@ -195,9 +158,3 @@ name_is_no_word bytes token named name = false-of (is_word bytes token) (name_no
 
 pub word_is_no_name : (bytes : List ℕ) (token : Terminal) → list_any (bytes_eq bytes) named_words ≡ true → is_word bytes token ≡ true → is_name token ≡ false
 word_is_no_name bytes token named word = false-of (is_name token) (λ name. name_not_word bytes token named name word)
-
-pub name_not_else : (token : Terminal) → IsName token → IsWord (codes "else") token → ⊥
-name_not_else token name word = name_not_word (codes "else") token refl name word
-
-pub name_not_sizeof : (token : Terminal) → IsName token → IsWord (codes "sizeof") token → ⊥
-name_not_sizeof token name word = name_not_word (codes "sizeof") token refl name word

@@ -1,5 +1,5 @@
 -- How deep each tree of the grammar is, from the depths of its parts.
-use Rattle.std.proofs.Common.{◌≡◌, ℕ, Bool, ◌+◌, ◌≤◌, ◌∙◌, ◌++◌, arith, refl, ap, sym, map, List, [], ◌∷◌, Option, Some, None}
+use Rattle.std.proofs.Common.{◌≡◌, ℕ, Bool, ◌+◌, ◌≤◌, ◌∙◌, arith, refl, ap, sym, map, List, [], ◌∷◌, Option, Some, None}
 use Rattle.std.specs.Prelude.{max}
 use Rattle.cbase.specs.declared.place.Place.{Place}
 use Rattle.cbase.specs.declared.tree.decl.Decl.{Decl}
@@ -41,34 +41,13 @@ nothing_max : (n : ℕ) → max 0 n ≡ n
 nothing_max n = omega arith
 
 -- what is joined
-pub joined_nothing : joined depth [] ≡ 0
-joined_nothing = refl
-
-pub joined_more : (n : ℕ) (ns : List ℕ) → joined depth (n ∷ ns) ≡ max n (joined depth ns)
-joined_more n ns = refl
-
 pub joined_one : (n : ℕ) → joined depth (n ∷ []) ≡ n
 joined_one n = max_nothing n
-
-pub joined_first : (n : ℕ) (ns : List ℕ) → n ≤ joined depth (n ∷ ns)
-joined_first n ns = omega arith
 
 pub joined_others : (n : ℕ) (ns : List ℕ) → joined depth ns ≤ joined depth (n ∷ ns)
 joined_others n ns = omega arith
 
-pub joined_item : {A : Type 0} (levels : A → ℕ) (xs ys : List A) (item : A) → levels item ≤ joined depth (map levels (xs ++ (item ∷ ys)))
-joined_item levels [] ys item = joined_first (levels item) (map levels ys)
-joined_item levels (x ∷ xs) ys item =
-    let inside : levels item ≤ joined depth (map levels (xs ++ (item ∷ ys))) = joined_item levels xs ys item in
-    omega (arith, inside, joined_others (levels x) (map levels (xs ++ (item ∷ ys))))
-
 -- an expression and a statement, from what they are
-pub levels_maybe_none : maybe_levels None ≡ 0
-levels_maybe_none = refl
-
-pub levels_maybe_some : (expr : Expr) → maybe_levels (Some expr) ≡ expr_levels expr
-levels_maybe_some expr = refl
-
 pub levels_expr : (expr : Expr) → expr_levels expr ≡ 1 + form_levels expr.form
 levels_expr expr = fold_out-Expr ℕ ℕ ℕ ℕ ℕ ℕ ℕ ℕ ℕ ℕ ℕ ℕ ℕ ℕ ℕ (in_form depth) (in_part depth) (in_init depth) (in_spec depth) (in_statement_form depth) (in_decl depth) (in_declared depth) (in_param depth) (in_type_name depth) (in_expr depth) (in_init_part depth) (in_enumerator depth) (in_field_decl depth) (in_field_name depth) (in_stmt depth) expr
 

@@ -104,9 +104,6 @@ finished_is h = rows_stay file_rule _ refl ∙ rows_stay int_limit_rule _ refl �
 with_file : (rs : List Row) → is_given (codes "file") rs ≡ true → check_fault shape rs false ≡ []
 with_file rs given = rw given refl
 
-without_file : (rs : List Row) → is_given (codes "file") rs ≡ false → IsRefused (check_fault shape rs false)
-without_file rs missing = rw missing tt
-
 -- what the parser answers is its verdict, and then whether FILE was given
 fault_is : (words : List Word) → fault_of predator_app words ≡ or_else (verdict first_walk words) (check_fault shape (rows_of_end first_walk words) false)
 fault_is words =

@@ -128,6 +128,3 @@ first_int_limit file budget int_limit rows h = value_in (codes "int-limit") int_
 
 pub file_is_given : (word : Word) (budget int_limit : Option Word) (rows : List Row) → Holds (Some word) budget int_limit rows → is_given (codes "file") rows ≡ true
 file_is_given word budget int_limit rows h = rw h.file_row refl
-
-pub file_is_missing : (budget int_limit : Option Word) (rows : List Row) → Holds None budget int_limit rows → is_given (codes "file") rows ≡ false
-file_is_missing budget int_limit rows h = rw h.file_row refl

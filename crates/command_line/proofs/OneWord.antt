@@ -16,24 +16,12 @@ use Rattle.command_line.proofs.Steps.{Settles, Stands, Step, doomed_files, doome
 file_passes : (word : Word) (rows : List Row) → has_row (codes "file") rows ≡ false → use_fault false file_rule (word ∷ []) rows ≡ []
 file_passes word rows none = rw none refl
 
-file_again : (word : Word) (rows : List Row) → has_row (codes "file") rows ≡ true → IsRefused (use_fault false file_rule (word ∷ []) rows)
-file_again word rows there = rw there tt
-
 file_settles : (budget int_limit : Option Word) (word : Word) (rows : List Row) → Holds None budget int_limit rows
     → Settles (Some word) budget int_limit rows (Some (codes "file", word ∷ []))
 file_settles budget int_limit word rows h =
     let none : has_row (codes "file") rows ≡ false = no_row (codes "file") rows h.file_row in
     record {
       passes = file_passes word rows none;
-      holds = subst (Holds (Some word) budget int_limit) (sym (new_row (codes "file") word rows none)) (holds_file budget int_limit word rows h);
-    }
-
-file_used : (budget int_limit : Option Word) (word : Word) (rows : List Row) → Holds None budget int_limit rows
-    → Settles (Some word) budget int_limit (used file_rule (word ∷ []) rows) None
-file_used budget int_limit word rows h =
-    let none : has_row (codes "file") rows ≡ false = no_row (codes "file") rows h.file_row in
-    record {
-      passes = refl;
       holds = subst (Holds (Some word) budget int_limit) (sym (new_row (codes "file") word rows none)) (holds_file budget int_limit word rows h);
     }
 

@@ -23,7 +23,6 @@ use Rattle.creader.specs.TypeSteps.{all_sizes}
 use Rattle.creader.specs.declared.status.Status.TheVariants.{Going, Nothing}
 use Rattle.creader.specs.declared.wanted.Wanted.TheVariants as wanted
 use Rattle.cread_expr.proofs.Agreed.{shop, Pieces, none, Ended, Agreed, Ready, Continues, ends, context_of, LevelAgrees}
-use Rattle.cread_expr.proofs.AgreedLists.{still_parts}
 use Rattle.cread_expr.proofs.AgreedRules.{agreed_read, agreed_at, agreed_goes, if_first, then_asked, then_ends, then_mark}
 use Rattle.cread_expr.proofs.AgreedSteps.{Still, still_lost, still_goes, still_mark, still_write, still_declare, still_leave, ended_levels, ended_part, ended_skip, ended_token, ended_write, ended_leave, ended_declare}
 use Rattle.cread_expr.proofs.AgreedTypesFields.{all_parts_agree}
@@ -50,10 +49,6 @@ object_agrees {level} {inner} {s} {t} done typedef name at stars row agrees name
     read_ends (ended_levels (omega arith)
     (ended_write (event.InitializedObject at stars) (λ pieces i. shop last.expressions (piece.Declarators (done ++ tree.object (named i) stars sizes (Some init) ∷ []) ∷ pieces)) beyond))))))
 
-pub still_declarator : {u v : State} (inner : Inner) (typedef : Bool) → Still Nothing u v → Still Nothing u (declarator inner typedef v)
-unfolding declarator
-still_declarator inner typedef still = still_goes _ still
-
 pub declarator_agrees : {level : Level} {inner : Inner} (typedef : Bool) (done : List Declared) → LevelAgrees level inner
     → Continues (declarators_piece done) (λ name. declarators_piece (done ++ name ∷ [])) ends (read_declarator level typedef) (declarator inner typedef)
 unfolding read_declarator declarator declarator_behind
@@ -69,10 +64,6 @@ declarator_agrees {level} {inner} typedef done agrees s before is =
     then_ends (declarators_piece done) (read_parameters level) (parameters inner) _ behind_opening (parameters_agree agrees) (still_declare _ _ (still_write _ (still_leave still_lost))) (λ params levels within end further.
     read_ends (ended_levels (omega arith) (ended_declare _ name.bytes typedef (λ i. (ended_token at_name i).bytes)
     (ended_write (event.Function _ (star_count (rest s))) (λ pieces i. shop within.expressions (piece.Declarators (done ++ tree.function (ended_token at_name i) (star_count (rest s)) params ∷ []) ∷ pieces)) (ended_leave further))))))))
-
-pub still_declarators : {u v : State} (inner : Inner) (typedef : Bool) → Still Nothing u v → Still Nothing u (declarators inner typedef v)
-unfolding declarators
-still_declarators inner typedef still = still_parts never (declarator inner typedef) _ (λ u v still. still_declarator inner typedef still) still
 
 -- Declarations.
 abbrev pub declaration_piece : Decl → Pieces

@@ -93,10 +93,6 @@ specifiers_with_agree {level} {inner} {under = under} {context = context} row (S
     agreed_outcome (then_both (level.specifier context (outcome.behind_first row)) _ go)
     (then_asked under level.specifier inner wanted.Specifier _ (skips refl) agrees.specifier still (λ type more behind others further. next type storage more behind others refl further))
 
-pub still_specifiers : {u v : State} (inner : Inner) → Still Nothing u v → Still Nothing u (specifiers inner v)
-unfolding specifiers
-still_specifiers inner still = still_goes _ still
-
 -- a type and its storage class
 pub then_specifiers : {level : Level} {inner : Inner} {B : Type 0} {s t v : State} {below under : Pieces} {above : B → Pieces} {fits : B → State → Type 0} {base levels before : ℕ} {context : Context}
     (row : List Terminal) (go : Specifiers → ℕ → Context → List Terminal → Outcome B)
@@ -126,10 +122,6 @@ then_specifiers {level} {inner} {B} {s} {t} {v} {below} {under} {above} {fits} {
 -- A parameter.
 abbrev pub params_piece : List Param → Pieces
 params_piece params pieces = piece.Parameters params ∷ pieces
-
-pub still_parameter : {u v : State} (inner : Inner) → Still Nothing u v → Still Nothing u (parameter inner v)
-unfolding parameter parameter_behind
-still_parameter inner still = still_goes _ (still_specifiers inner still)
 
 parameter_named_agrees : {level : Level} {inner : Inner} {s t : State} {base more before : ℕ} {context : Context} (done : List Param) (type : TypeSpec) (stars : ℕ) (row : List Terminal) → LevelAgrees level inner
     → Ended s t (params_piece done) (λ pieces. piece.Type type ∷ (piece.Parameters done ∷ pieces)) base more before context row

@@ -47,12 +47,6 @@ pub agreed_lost : {A : Type 0} {s u v : State} {below : Pieces} {above : A → P
 agreed_lost failed still = agreed_at (still.same failed.status) (agreed_failed failed)
 
 -- tests
-pub agreed_if : {A : Type 0} {s t : State} {below : Pieces} {above : A → Pieces} {fits : A → State → Type 0} {base before : ℕ} (test : Bool) (one other : Outcome A)
-    → (test ≡ true → Agreed below above fits base before one s t) → (test ≡ false → Agreed below above fits base before other s t)
-    → Agreed below above fits base before (if test then one else other) s t
-agreed_if true one other holds fails = holds refl
-agreed_if false one other holds fails = fails refl
-
 pub agreed_test : {A : Type 0} {s u v : State} {below : Pieces} {above : A → Pieces} {fits : A → State → Type 0} {base before : ℕ} (test same : Bool) (one other : Outcome A)
     → same ≡ test
     → (test ≡ true → Agreed below above fits base before one s u) → (test ≡ false → Agreed below above fits base before other s v)

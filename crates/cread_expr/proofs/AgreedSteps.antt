@@ -1,22 +1,20 @@
 -- Steps of a reader, and what they leave of what is known of it.
-use Rattle.std.proofs.Common.{◌≡◌, ℕ, zero, suc, ◌+◌, ◌≤◌, max, Bool, true, false, List, [], ◌∷◌, ◌++◌, drop, length, Option, refl, ap, sym, ◌∙◌, subst, arith, append_assoc, append-nil}
+use Rattle.std.proofs.Common.{◌≡◌, ℕ, zero, suc, ◌+◌, ◌≤◌, max, Bool, false, List, [], ◌∷◌, ◌++◌, drop, length, Option, refl, ap, sym, ◌∙◌, subst, arith, append_assoc, append-nil}
 use Rattle.std.proofs.lemmas.List.{length-drop, drop-drop}
 use Rattle.std.specs.Prelude.{if◌then◌else◌, slice_index_or}
 use Rattle.cevents.specs.Building.{built, built_next, built_all}
 use Rattle.cevents.specs.Workshop.{Workshop, token_at, bytes_at, no_token}
 use Rattle.cevents.specs.declared.event.Event.{Event}
 use Rattle.cevents.specs.declared.piece.Piece.{Piece}
-use Rattle.cgrammar.specs.Outcomes.{has_first}
 use Rattle.cgrammar.specs.Phrases.{Context, scoped}
 use Rattle.cgrammar.specs.Scope.{Names, entered, left, declared}
-use Rattle.cgrammar.specs.Terminals.{Terminal, is_mark, is_word, is_name}
+use Rattle.cgrammar.specs.Terminals.{Terminal}
 use Rattle.creader.specs.State.{State, rest, is_going, goes, with_levels, with_scope, with_event, skipped, lost}
 use Rattle.creader.specs.Steps.{Inner, over, mark, word, name, mark_or_back, whole, write, make, wrap, wrapped, declare, enter, leave, ask, ask_whole, ask_right}
 use Rattle.creader.specs.declared.point.Point.{Point}
 use Rattle.creader.specs.declared.status.Status.{Status}
 use Rattle.creader.specs.declared.status.Status.TheVariants.{Going, Stopped, Nothing}
 use Rattle.creader.specs.declared.wanted.Wanted.{Wanted}
-use Rattle.ctokens.proofs.Choices.{chosen_yes}
 use Rattle.cread_expr.proofs.Agreed.{shop, Pieces, none, Kept, Went, Failed, Halted, Ended, Ready, context_of}
 
 -- Rows.
@@ -45,9 +43,6 @@ unfolding built_all
 built_one row event count pieces = refl
 
 -- What still stands.
-pub kept_same : (s : State) → Kept s s
-kept_same s = record { row = refl; added = []; events = sym (append-nil s.events) }
-
 pub kept_then : {s t u : State} → Kept s t → Kept t u → Kept s u
 kept_then {s} one other = record {
   row = other.row ∙ one.row;
@@ -143,10 +138,6 @@ still_mark bytes still = still_goes _ still
 pub still_word : {status : Status} {u v : State} (bytes : List ℕ) → Still status u v → Still status u (word bytes v)
 unfolding word
 still_word bytes still = still_goes _ still
-
-pub still_name : {status : Status} {u v : State} → Still status u v → Still status u (name v)
-unfolding name
-still_name still = still_goes _ still
 
 pub still_mark_or_back : {status : Status} {u v : State} (bytes : List ℕ) (point : Point) → Still status u v → Still status u (mark_or_back bytes point v)
 unfolding mark_or_back
@@ -292,30 +283,6 @@ pub ended_token : {s t : State} {below above : Pieces} {base levels before : ℕ
     → Ended s t below above base levels before behind (first ∷ others) → token_at s.row t.at ≡ first
 ended_token {s} {t} {first} {others} far =
     ap (λ (row : List Terminal). token_at row t.at) (sym far.went.row) ∙ row_at t.at t.row others first no_token far.left
-
-over_going : (test : Terminal → Bool) (t : State) (first : Terminal) (others : List Terminal) → t.status ≡ Going → rest t ≡ first ∷ others → test first ≡ true → over test t ≡ skipped 1 t
-over_going test t first others going left is =
-    if_going _ t t going
-    ∙ (ap (λ (row : List Terminal). if has_first test row then skipped 1 t else lost t) left
-    ∙ chosen_yes (test first) (skipped 1 t) (lost t) is)
-
-pub ended_mark : {s t : State} {below above : Pieces} {base levels before : ℕ} {behind : Context} {first : Terminal} {others : List Terminal} (bytes : List ℕ)
-    → is_mark bytes first ≡ true
-    → Ended s t below above base levels before behind (first ∷ others) → Ended s (mark bytes t) below above base levels before behind others
-unfolding mark
-ended_mark {t} {first} {others} bytes is far = ended_at (over_going (is_mark bytes) t first others far.status far.left is) (ended_skip far)
-
-pub ended_word : {s t : State} {below above : Pieces} {base levels before : ℕ} {behind : Context} {first : Terminal} {others : List Terminal} (bytes : List ℕ)
-    → is_word bytes first ≡ true
-    → Ended s t below above base levels before behind (first ∷ others) → Ended s (word bytes t) below above base levels before behind others
-unfolding word
-ended_word {t} {first} {others} bytes is far = ended_at (over_going (is_word bytes) t first others far.status far.left is) (ended_skip far)
-
-pub ended_name : {s t : State} {below above : Pieces} {base levels before : ℕ} {behind : Context} {first : Terminal} {others : List Terminal}
-    → is_name first ≡ true
-    → Ended s t below above base levels before behind (first ∷ others) → Ended s (name t) below above base levels before behind others
-unfolding name
-ended_name {t} {first} {others} is far = ended_at (over_going is_name t first others far.status far.left is) (ended_skip far)
 
 -- a part is written: what it makes is known by computation, mostly
 pub ended_write : {s t : State} {below middle above : Pieces} {base levels before after : ℕ} {behind : Context} {others : List Terminal} (event : Event)

@@ -11,13 +11,13 @@ use Rattle.cgrammar.specs.Outcomes.{Reader, then_read}
 use Rattle.cgrammar.specs.Outcomes as outcome
 use Rattle.cgrammar.specs.Phrases.{Context}
 use Rattle.cgrammar.specs.ReadLevels.{Level, read_list, read_until_brace}
-use Rattle.cgrammar.specs.ReadTypes.{star_count, behind_stars, never, closes_braces, read_field, read_fields, read_enumerator}
+use Rattle.cgrammar.specs.ReadTypes.{star_count, behind_stars, never, read_field, read_fields, read_enumerator}
 use Rattle.cgrammar.specs.ReadTypes as reader
 use Rattle.cgrammar.specs.Terminals.{Terminal, is_mark, is_name}
 use Rattle.cgrammar.specs.Trees as tree
 use Rattle.creader.specs.State.{State, rest}
 use Rattle.creader.specs.Steps.{Inner, all_parts, until_brace}
-use Rattle.creader.specs.TypeSteps.{field_name, field_names, fields, enumerator, enumerator_behind, all_enumerators}
+use Rattle.creader.specs.TypeSteps.{field_name, field_names, fields, enumerator, enumerator_behind}
 use Rattle.creader.specs.TypeSteps as steps
 use Rattle.creader.specs.declared.status.Status.TheVariants.{Nothing}
 use Rattle.creader.specs.declared.wanted.Wanted.TheVariants as wanted
@@ -104,10 +104,6 @@ fields_agree {level} {inner} done agrees s before is =
 abbrev pub enumerators_piece : List Enumerator → Pieces
 enumerators_piece values pieces = piece.Enumerators values ∷ pieces
 
-pub still_enumerator : {u v : State} (inner : Inner) → Still Nothing u v → Still Nothing u (enumerator inner v)
-unfolding enumerator
-still_enumerator inner still = still_goes _ still
-
 pub enumerator_agrees : {level : Level} {inner : Inner} (done : List Enumerator) → LevelAgrees level inner
     → Continues (enumerators_piece done) (λ value. enumerators_piece (done ++ value ∷ [])) ends (read_enumerator level) (enumerator inner)
 unfolding read_enumerator enumerator enumerator_behind
@@ -124,7 +120,3 @@ enumerator_agrees {level} {inner} done agrees s before is =
     then_asked (enumerators_piece done) level.conditional inner wanted.Conditional _ behind_equals agrees.conditional (still_declare _ _ (still_write _ still_lost)) (λ value levels behind end further.
     read_ends (ended_levels (omega arith) (ended_declare s.at name.bytes false (λ i. (ended_token at_name i).bytes)
     (ended_write (event.EnumeratorValue s.at) (λ pieces i. shop behind.expressions (piece.Enumerators (done ++ tree.enumerator (ended_token at_name i) (Some value) ∷ []) ∷ pieces)) further)))))))
-
-pub still_enumerators : {u v : State} (inner : Inner) → Still Nothing u v → Still Nothing u (all_enumerators inner v)
-unfolding all_enumerators
-still_enumerators inner still = still_parts closes_braces (enumerator inner) _ (λ u v still. still_enumerator inner still) (still_write _ still)

@@ -142,10 +142,6 @@ unfolding sizes
 still_sizes inner optional zero still = still_losing still
 still_sizes inner optional (suc count) still = still_goes _ still
 
-pub still_all_sizes : {u v : State} (inner : Inner) (optional : Bool) → Still Nothing u v → Still Nothing u (all_sizes inner optional v)
-unfolding all_sizes
-still_all_sizes inner optional still = still_sizes inner optional _ (still_write _ still)
-
 -- a size, and those behind it
 size_agrees : {level : Level} {inner : Inner} {s t : State} {below : Pieces} {base before : ℕ} {context : Context} (optional : Bool) (done : List (Option Expr)) (read : Reader (List (Option Expr))) (go : State → State) (row : List Terminal)
     → LevelAgrees level inner

@@ -35,10 +35,6 @@ either_left : (a b : Bool) → a ≡ true → (a || b) ≡ true
 either_left true b h = refl
 either_left false b h = absurd (false≢true h)
 
-two_cases : (b : Bool) → (b ≡ true) ⊎ (b ≡ false)
-two_cases true = inl refl
-two_cases false = inr refl
-
 -- ---- symbols
 
 passed_depth : (symbol : Symbol) (depth : ℕ) → is_passed_over symbol ≡ true → depth_after depth symbol ≡ depth

@@ -4,7 +4,7 @@ use Rattle.std.proofs.lemmas.Bool.{cases_lt, false≢true}
 use denote.Ref.{Bor}
 use Rattle.std.specs.List.{All, IsDistinct, slice_get, list_any}
 use Rattle.std.specs.Cmp.Lexicographic.{pointwise, bytes_decides}
-use Rattle.std.proofs.lemmas.List.Elements.{All-head, All-tail, All-weaker, All-push, All-nil}
+use Rattle.std.proofs.lemmas.List.Elements.{All-head, All-tail, All-weaker, All-push}
 use Rattle.std.proofs.lemmas.List.{map-append, length-map, get_or_append_left, get_or-map, length-append}
 use Rattle.std.proofs.lemmas.Option.{get_or_from_slice_get}
 use Rattle.std.proofs.lemmas.Map.Keys.{apart_from_distinct}
@@ -113,10 +113,3 @@ pub same_numbered : (keys : List (Bor (List ℕ))) (words others : List (List �
     → words ≡ others → more ≡ numbers → Numbered keys others more
 same_numbered keys words others numbers more known same now =
     subst (λ ns. Numbered keys others ns) (sym now) (subst (λ ws. Numbered keys ws numbers) same known)
-
-first_numbered : Numbered [] [] []
-unfolding IsDistinct
-first_numbered = record { below = All-nil (λ n. n < 0); named = refl; distinct = tt; few = omega arith }
-
-pub numbered_none : (keys : List (Bor (List ℕ))) → keys ≡ [] → Numbered keys [] []
-numbered_none keys is_none = subst (λ ks. Numbered ks [] []) (sym is_none) first_numbered

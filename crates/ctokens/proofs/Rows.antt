@@ -13,14 +13,6 @@ prefix_len-append_row test (first ∷ others) rest passes =
     let tail = prefix_len-append_row test others rest are_others in
     ap (λ (b : Bool). cond b (1 + prefix_len test (others ++ rest)) 0) is_first ∙ omega (arith, tail)
 
--- a list of elements that all pass is one row
-pub prefix_len-row : {A : Type 0} (test : A → Bool) (row : List A) → list_all test row ≡ true → prefix_len test row ≡ length row
-prefix_len-row test [] passes = refl
-prefix_len-row test (first ∷ others) passes =
-    let (is_first, are_others) = both_true (test first) (list_all test others) passes in
-    let tail = prefix_len-row test others are_others in
-    ap (λ (b : Bool). cond b (1 + prefix_len test others) 0) is_first ∙ omega (arith, tail)
-
 -- the elements of the row pass
 pub list_all-take_row : {A : Type 0} (test : A → Bool) (elements : List A) → list_all test (take (prefix_len test elements) elements) ≡ true
 list_all-take_row test [] = refl

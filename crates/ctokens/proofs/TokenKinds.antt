@@ -155,11 +155,3 @@ spelled_is_clear Number first others h = above_is_clear first (number_clear firs
 spelled_is_clear Letter first others (character, is, is_one) = let same : first ≡ 39 = cc in rw same refl
 spelled_is_clear Quoted first others (string, is, is_one) = let same : first ≡ 34 = cc in rw same refl
 spelled_is_clear Mark first others h = false_from_not _ (mark_clear first others h)
-
--- no token has no bytes
-pub nothing_is_spelled : (kind : TokenKind) → Spells kind [] → ⊥
-nothing_is_spelled Word h = absurd cc
-nothing_is_spelled Number h = absurd cc
-nothing_is_spelled Letter (character, is, is_one) = absurd cc
-nothing_is_spelled Quoted (string, is, is_one) = absurd cc
-nothing_is_spelled Mark h = absurd cc

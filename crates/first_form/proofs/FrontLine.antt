@@ -1,5 +1,5 @@
 -- What stands at the front of tokens, against what a program spells.
-use Rattle.std.proofs.Common.{◌≡◌, ℕ, ◌+◌, ◌<◌, Bool, true, false, List, [], ◌∷◌, ◌++◌, length, nat_eq, refl, ◌∙◌, ap, subst, arith, Option, None, Some, option_map, if◌then◌else◌, eqb-true, length-append}
+use Rattle.std.proofs.Common.{◌≡◌, ℕ, ◌+◌, Bool, true, false, List, [], ◌∷◌, ◌++◌, length, nat_eq, refl, ◌∙◌, ap, subst, arith, Option, None, Some, option_map, if◌then◌else◌, eqb-true, length-append}
 use Rattle.ctokens.proofs.ItemsExact.{some_same}
 use Rattle.first_form.specs.declared.token.Token.{Token}
 use Rattle.first_form.specs.declared.token.Token.TheVariants as token
@@ -96,21 +96,12 @@ front_line-read first (token.Free ∷ (LeftParenthesis ∷ (Name name ∷ (Right
     (refl, (refl, omega arith))
 front_line-read first _ read h = cc
 
--- a line has a token
-pub some_tokens : (line : Line) → 0 < length (line_tokens line)
-some_tokens (Declare name source end) = omega arith
-some_tokens (Assign name source end) = omega arith
-some_tokens (Free name at end) = omega arith
-
 -- behind a line there are fewer tokens, by as many as it has
 pub front_line-length : (first : ℕ) (tokens : List Token) (read : Line × List Token) → front_line first tokens ≡ Some read
     → length tokens ≡ length (line_tokens read.0) + length read.1
 front_line-length first tokens read h =
     let (spelled, numbered) = front_line-read first tokens read h in
     ap length spelled ∙ length-append (line_tokens read.0) read.1
-
-pub front_line-shorter : (first : ℕ) (tokens : List Token) (read : Line × List Token) → front_line first tokens ≡ Some read → length read.1 < length tokens
-front_line-shorter first tokens read h = omega (arith, some_tokens read.0, front_line-length first tokens read h)
 
 -- the program's end
 pub is_end-read : (tokens : List Token) → is_end tokens ≡ true → tokens ≡ body_tokens []

@@ -37,12 +37,6 @@ pub reached_within-root : (links : ℕ) (memory : List Block) (roots : List ℕ)
 reached_within-root zero memory roots target root = reached_within-zero memory roots target ∙ root
 reached_within-root (suc links) memory roots target root = rw (reached_within-suc links memory roots target, root)
 
--- a number below the first local's is the block of no local
-pub list_any-places_below : (target number : ℕ) (locals : List Local) → target < number → list_any (nat_eq target) (places number locals) ≡ false
-list_any-places_below target number [] below = refl
-list_any-places_below target number (local ∷ locals) below =
-    rw (ne_eqb target number (λ is. omega arith), list_any-places_below target (number + 1) locals (omega arith))
-
 -- a number past the last local's is the block of no local
 pub list_any-places_past : (target number : ℕ) (locals : List Local) → number + length locals ≤ target → list_any (nat_eq target) (places number locals) ≡ false
 list_any-places_past target number [] past = refl

@@ -16,17 +16,6 @@ RunFaults-next first next before after fault goes (suc steps, faults) = (steps, 
 pub RunFaults-before : (first next : State) (before after : List Choice) (fault : Fault) → step first before ≡ Went next after → RunFaults next after fault → RunFaults first before fault
 RunFaults-before first next before after fault goes (steps, faults) = (suc steps, subst (λ (o : Outcome). go_on (run steps) o ≡ Faulted fault) (sym goes) faults)
 
--- a run goes on behind some steps exactly as from where they lead
-pub RunFaults-along : (first last : State) (before after : List Choice) (fault : Fault) → Steps first before last after → RunFaults first before fault → RunFaults last after fault
-RunFaults-along first last before after fault (Stay state choices) run_faults = run_faults
-RunFaults-along first last before after fault (Go _ next _ _ between _ goes rest) run_faults =
-    RunFaults-along next last between after fault rest (RunFaults-next first next before between fault goes run_faults)
-
-pub RunFaults-back : (first last : State) (before after : List Choice) (fault : Fault) → Steps first before last after → RunFaults last after fault → RunFaults first before fault
-RunFaults-back first last before after fault (Stay state choices) run_faults = run_faults
-RunFaults-back first last before after fault (Go _ next _ _ between _ goes rest) run_faults =
-    RunFaults-before first next before between fault goes (RunFaults-back next last between after fault rest run_faults)
-
 -- a step that faults: its fault is the run's
 pub RunFaults-fault : (state : State) (choices : List Choice) (fault met : Fault) → step state choices ≡ Faulted met → RunFaults state choices fault → fault ≡ met
 RunFaults-fault state choices fault met faults (zero, run_faults) = absurd cc

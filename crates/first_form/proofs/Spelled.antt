@@ -5,7 +5,7 @@ use Rattle.std.specs.Str.{bytes_eq}
 use Rattle.std.proofs.Common.{refl, sym, ◌∙◌, ap, subst, arith}
 use Rattle.std.proofs.lemmas.Bool.{le-leb, leb-true, lt-leb, eqb-true}
 use Rattle.std.proofs.lemmas.Slice.Eq.{bytes_eq-Decides}
-use Rattle.ctokens.proofs.Choices.{from_choice, both_true, true_and, chosen_yes, chosen_no, false_and}
+use Rattle.ctokens.proofs.Choices.{from_choice, both_true, true_and, chosen_yes, chosen_no}
 use Rattle.cbase.specs.Bytes.{is_digit}
 use Rattle.cbase.specs.Bytes.{decimal_value}
 use Rattle.ctokens.proofs.Markers.{decimal_value-rises}
@@ -65,12 +65,6 @@ digit_is_no_letter byte h =
     let (low, high) = both_true (nat_le 48 byte) (nat_le byte 57) h in
     let below : byte < 97 = omega (arith, leb-true byte 57 high) in
     ap (λ (b : Bool). b && nat_le byte 122) (lt-leb 97 byte below)
-
-pub letter_is_no_digit : (byte : ℕ) → is_lower byte ≡ true → is_digit byte ≡ false
-letter_is_no_digit byte h =
-    let (low, high) = both_true (nat_le 97 byte) (nat_le byte 122) h in
-    let above : 57 < byte = omega (arith, leb-true 97 byte low) in
-    false_and (nat_le 48 byte) (nat_le byte 57) (lt-leb byte 57 above)
 
 single_of-lower : (byte : ℕ) → is_lower byte ≡ true → single_of byte ≡ Some (Name byte)
 unfolding single_of
