@@ -351,6 +351,16 @@ put_at old at name least before number inside has =
     let is : get_or (set old at (with_value name least before)) at [] ≡ with_value name least before = get_or-set_same old at (with_value name least before) [] inside in
     omega (arith, bound_put name least before, ap or_one (sym (ap (value_in name) is) ∙ has))
 
+-- a name that has no number gets none
+pub change_none : (name : List ℕ) (number : ℕ) (numbers : Numbers) → value_in name numbers ≡ None → IsRestored ((name, number) ∷ []) numbers numbers
+change_none name number numbers none other = step (bytes_eq other name) refl
+  where
+    step : (asked : Bool) → bytes_eq other name ≡ asked → value_in other numbers ≡ restored (if asked then Some number else None) (value_in other numbers)
+    step true is =
+        let here : value_in other numbers ≡ None = ap (λ (n : List ℕ). value_in n numbers) ((bytes_eq-Decides other name).0 is) ∙ none in
+        here ∙ ap (restored (Some number)) (sym here)
+    step false is = refl
+
 -- numbers restored by one more step, that of the name in front of the others
 pub restored_more : (entry : List ℕ × ℕ) (others old now new : Numbers) → IsRestored others old now → IsRestored (entry ∷ []) now new → IsRestored (entry ∷ others) old new
 restored_more entry others old now new before last name =
@@ -365,24 +375,24 @@ restored_more entry others old now new before last name =
     step false other own = refl
 
 -- one turn of a way from the last of the others to the first
-pub restored_turn : {X : Type 0} (bytes : X → List ℕ) (others : List (X × ℕ)) (entry : X × ℕ) (left : ℕ) (name : List ℕ) (old now new : Numbers)
-    → slice_get others (left - 1) ≡ Some entry → 0 < left → name ≡ bytes entry.0
-    → IsRestored (map (shown bytes) (drop left others)) old now → IsRestored ((name, entry.1) ∷ []) now new
-    → IsRestored (map (shown bytes) (drop (left - 1) others)) old new
-restored_turn {X} bytes others entry left name old now new here some is before last =
-    let at : suc (left - 1) ≡ left = omega (arith, some) in
-    let row : drop (left - 1) others ≡ entry ∷ drop left others = drop_here others (left - 1) entry here ∙ ap (λ (n : ℕ). entry ∷ drop n others) at in
+pub restored_turn : {X : Type 0} (bytes : X → List ℕ) (others : List (X × ℕ)) (entry : X × ℕ) (count : ℕ) (name : List ℕ) (old now new : Numbers)
+    → slice_get others (count - 1) ≡ Some entry → 0 < count → name ≡ bytes entry.0
+    → IsRestored (map (shown bytes) (drop count others)) old now → IsRestored ((name, entry.1) ∷ []) now new
+    → IsRestored (map (shown bytes) (drop (count - 1) others)) old new
+restored_turn {X} bytes others entry count name old now new here some is before last =
+    let at : suc (count - 1) ≡ count = omega (arith, some) in
+    let row : drop (count - 1) others ≡ entry ∷ drop count others = drop_here others (count - 1) entry here ∙ ap (λ (n : ℕ). entry ∷ drop n others) at in
     let P : List (X × ℕ) → Type 0 = λ row. IsRestored (map (shown bytes) row) old new in
     let Q : List ℕ → Type 0 = λ n. IsRestored ((n, entry.1) ∷ []) now new in
-    subst P (sym row) (restored_more (shown bytes entry) (map (shown bytes) (drop left others)) old now new before (subst Q is last))
+    subst P (sym row) (restored_more (shown bytes entry) (map (shown bytes) (drop count others)) old now new before (subst Q is last))
   where
+    same_some : {Y : Type 0} (one other : Y) → Some one ≡ Some other → one ≡ other
+    same_some one other is = cc
+
     drop_here : {Y : Type 0} (row : List Y) (at : ℕ) (first : Y) → slice_get row at ≡ Some first → drop at row ≡ first ∷ drop (suc at) row
     drop_here [] at first is = cc is
     drop_here (one ∷ row) zero first is = ap (λ y. y ∷ row) (same_some one first is)
     drop_here (one ∷ row) (suc at) first is = drop_here row at first is
-
-    same_some : {Y : Type 0} (one other : Y) → Some one ≡ Some other → one ≡ other
-    same_some one other is = cc
 
 -- the bound of a name is noted for the innermost scope
 pub bounded_noted : (scopes : List Names) (bounds : Numbers) (old new : List Numbers) (at : ℕ) (name : List ℕ) (bound : ℕ) → bound ≡ bound_in name bounds

@@ -1,9 +1,11 @@
 -- What stands in a table of names after a write, and in the table that a map of the code shows.
-use Rattle.std.proofs.Common.{◌≡◌, ℕ, Bool, true, false, refl, ap, sym, ◌∙◌, List, [], ◌∷◌, map, cond, Option, None, Some}
+use Rattle.std.proofs.Common.{◌≡◌, ℕ, Bool, true, false, refl, ap, sym, ◌∙◌, List, [], ◌∷◌, map, cond, Option, Some, Vec, Global}
 use Rattle.std.specs.Prelude.{if◌then◌else◌}
 use Rattle.std.specs.Str.{bytes_eq}
 use Rattle.std.proofs.lemmas.Slice.Eq.{bytes_eq-Decides}
+use Rattle.std.specs.List.{AllZip, each_same}
 use Rattle.std.specs.Map.{lookup}
+use Rattle.std.specs.Vec.{vec_len}
 use Rattle.indexmap.specs.IndexMap.{insert_entry}
 use Rattle.cgrammar.specs.NameTables.{value_in, with_value}
 
@@ -55,3 +57,21 @@ put_same name value table = value-put name name value table ∙ ap (λ (b : Bool
 pub put_other : {A : Type 0} (name other : List ℕ) (value : A) (table : List (List ℕ × A)) → bytes_eq other name ≡ false
     → value_in other (with_value name value table) ≡ value_in other table
 put_other name other value table apart = value-put other name value table ∙ ap (λ (b : Bool). if b then Some value else value_in other table) apart
+
+-- two entries of a map have the same name and the same value
+abbrev pub AreCopies : {A : Type 0} → Vec ℕ Global × A → Vec ℕ Global × A → Type 0
+AreCopies one other = (AllZip (λ x y. y ≡ x) one.0.items other.0.items × (vec_len other.0 ≡ vec_len one.0)) × (other.1 ≡ one.1)
+
+-- copies of entries show the same
+pub copies_same : {A : Type 0} (xs ys : List (Vec ℕ Global × A)) → AllZip AreCopies xs ys
+    → map (shown (λ (v : Vec ℕ Global). v.items)) ys ≡ map (shown (λ (v : Vec ℕ Global). v.items)) xs
+copies_same [] [] same = refl
+copies_same [] (y ∷ ys) same = absurd same
+copies_same (x ∷ xs) [] same = absurd same
+copies_same {A} (x ∷ xs) (y ∷ ys) same =
+    let Entry : Type 0 = List ℕ × A in
+    let see : Vec ℕ Global × A → Entry = shown (λ (v : Vec ℕ Global). v.items) in
+    let first : see y ≡ see x =
+    ap (λ (bytes : List ℕ). let entry : Entry = (bytes, y.1) in entry) (each_same x.0.items y.0.items same.0.0.0)
+    ∙ ap (λ (value : A). let entry : Entry = (x.0.items, value) in entry) same.0.1 in
+    ap (λ (entry : Entry). entry ∷ map see ys) first ∙ ap (λ (entries : List Entry). see x ∷ entries) (copies_same xs ys same.1)

@@ -1,5 +1,5 @@
 -- What stands at the front of a row, where no expression is wanted to tell.
-use Rattle.std.specs.Prelude.{◌≡◌, ℕ, Bool, false, ◌&&◌, not, List, [], ◌∷◌, codes, take}
+use Rattle.std.specs.Prelude.{◌≡◌, Bool, false, ◌&&◌, not, List, [], ◌∷◌, codes, take}
 use Rattle.cgrammar.specs.Firsts.{is_among}
 use Rattle.cgrammar.specs.Scope.{Names}
 use Rattle.cgrammar.specs.TypeWords.{basic_words}

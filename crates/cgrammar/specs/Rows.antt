@@ -18,7 +18,7 @@ use Rattle.ctokens.specs.declared.token.Tokens.{Tokens}
 use Rattle.cgrammar.specs.Grammar.{Spells}
 use Rattle.cgrammar.specs.Readings.{IsReadAt}
 use Rattle.cgrammar.specs.Phrases.{Expression, CompoundStatement, context_at}
-use Rattle.cgrammar.specs.Scope.{Names, file_scope}
+use Rattle.cgrammar.specs.Scope.{file_scope}
 use Rattle.cgrammar.specs.Terminals.{Terminal}
 use Rattle.cgrammar.specs.Trees.{object, function, field, fields, enumerator, parameter, type_name, declaration, initializer, statement}
 use Rattle.ctokens.specs.declared.token.TokenKind.TheVariants.{Word, Number, Quoted, Mark}

@@ -1,6 +1,6 @@
 -- With which tokens operands and statements begin, and which parts of the grammar have a first token (C11 6.5.1 to
 -- 6.5.3, 6.8).
-use Rattle.std.specs.Prelude.{ℕ, Bool, true, false, ◌&&◌, ◌||◌, not, List, [], ◌∷◌, codes}
+use Rattle.std.specs.Prelude.{ℕ, Bool, true, false, ◌||◌, not, List, [], ◌∷◌, codes}
 use Rattle.ctokens.specs.declared.token.TokenKind.{TokenKind}
 use Rattle.ctokens.specs.declared.token.TokenKind.TheVariants.{Number, Letter}
 use Rattle.cgrammar.specs.Firsts.{is_one_among, is_among, Begins}

@@ -1,6 +1,6 @@
 -- The tokens of a text as the grammar sees them: those that are not passed over, each with its kind, its bytes as it
 -- is read, and its place.
-use Rattle.std.specs.Prelude.{ℕ, Bool, true, false, ◌&&◌, ◌||◌, not, if◌then◌else◌, IsTrue, List, [], ◌∷◌, ◌++◌, map, codes, nat_eq, nat_lt}
+use Rattle.std.specs.Prelude.{ℕ, Bool, true, false, ◌&&◌, ◌||◌, not, IsTrue, List, [], ◌∷◌, ◌++◌, map, codes, nat_eq, nat_lt}
 use Rattle.std.specs.List.{list_any, filter, starts_with}
 use Rattle.std.specs.Str.{bytes_eq}
 use Rattle.cbase.specs.declared.place.Place.{Place}
