@@ -10,4 +10,3 @@ pub mod Numbers
 pub mod Options
 pub mod Pointers
 pub mod Steps
-pub mod WholeText

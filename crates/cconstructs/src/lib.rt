@@ -16,6 +16,3 @@ pub use constructs::first_construct;
 pub use found::Found;
 pub use laws::attributes_are_those_passed_over;
 pub use layout::first_layout;
-
-#[cfg(test)]
-mod tests;

@@ -45,6 +45,3 @@ pub use tables::{tables_of_blocks, tables_of_expressions};
 pub use terminal::{Terminal, terminal_of};
 pub use terminals::{row_of, row_of_part};
 pub use texts::{entry_of, is_one_of};
-
-#[cfg(test)]
-mod tests;

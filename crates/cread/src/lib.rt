@@ -21,6 +21,3 @@ pub use needed_items::{ReadNeeded, read_needed};
 pub use reading_item::{ItemBehind, ReadIn, read_item_in};
 pub use refusal::Refusal;
 pub use tables::table_of_items;
-
-#[cfg(test)]
-mod tests;

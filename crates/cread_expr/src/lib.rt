@@ -13,6 +13,3 @@ pub use blocks::{ReadBlock, read_block};
 pub use cgrammar::Scope;
 pub use expressions::{ReadExpr, read_expr};
 pub use laws::{blocks_are_written_exactly, expressions_are_written_exactly};
-
-#[cfg(test)]
-mod tests;

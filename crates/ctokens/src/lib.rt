@@ -40,8 +40,3 @@ pub use passed::passed_over;
 pub use symbol_of::{is_identifier, read_as};
 pub use token::{Lexical, Token, TokenKind, Tokens};
 pub use token_list::{tokens, tokens_of_bytes};
-
-#[cfg(test)]
-mod item_tests;
-#[cfg(test)]
-mod tests;

@@ -28,6 +28,3 @@ pub use fault::Fault;
 pub use line::{Line, Program, Source};
 pub use reading::{ReadFirstForm, read_first_form};
 pub use token::{PlacedToken, Token};
-
-#[cfg(test)]
-mod tests;

@@ -1,30 +1,11 @@
-ghost use Rattle.std.specs.Prelude.{IfOk, IfSome};
-ghost use Rattle.ctokens.specs.InText.{LieInText};
-ghost use Rattle.ctokens.specs.TokenList.{AreNumbered};
-
-use crate::{Scope, read_block, read_expr};
+use crate::cut::cut;
 use cbase::{BinaryOp, Expr, ExprForm, NoMemory};
-use ctokens::{Tokens, tokens};
+use cread_expr::{Scope, read_block, read_expr};
 use std::alloc::Global;
 use std::test::Fail;
 
 mod deep;
 mod missed;
-mod trees;
-
-/// The tokens of a text, where it has any and is not too long.
-fn cut(alloc: Global, text: &[u8]) -> Result<Option<Tokens>, NoMemory>
-    ensures text { IfOk result (λ answer. IfSome answer LieInText) }
-    ensures numbered { IfOk result (λ answer. IfSome answer (λ t. AreNumbered t.list)) }
-{
-    if text.len() > 4_194_304 {
-        return Ok(None);
-    }
-    match tokens(alloc, text, "t.c")? {
-        Err(_) => Ok(None),
-        Ok(tokens) => Ok(Some(tokens)),
-    }
-}
 
 /// A file's scope, in which `T` is a typedef.
 fn file_scope(alloc: Global) -> Result<Scope, NoMemory> {

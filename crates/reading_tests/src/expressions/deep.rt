@@ -1,6 +1,7 @@
-use super::{cut, file_scope};
-use crate::{read_block, read_expr};
+use super::file_scope;
+use crate::cut::cut;
 use cbase::Text;
+use cread_expr::{read_block, read_expr};
 use ctrees::{levels_of_expression, levels_of_statements};
 use std::alloc::Global;
 use std::test::Fail;

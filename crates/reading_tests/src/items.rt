@@ -1,56 +1,8 @@
-ghost use Rattle.std.specs.Prelude.{◌≤◌, length, IfOk};
-ghost use Rattle.ctokens.specs.InText.{LieInText};
-
-use crate::{ItemSpan, Token, TokenKind, Tokens, items, needed, passed_over};
-use cbase::{List, NoMemory, Place, Text};
+use crate::cut::cut;
+use cbase::{List, NoMemory};
+use ctokens::{ItemSpan, items, needed, passed_over};
 use std::alloc::Global;
 use std::test::Fail;
-
-/// The kind of a token, by its first byte.
-fn kind_of(first: u8) -> TokenKind {
-    match first {
-        b'a'..=b'z' | b'A'..=b'Z' | b'_' | b'$' => TokenKind::Word,
-        b'0'..=b'9' => TokenKind::Number,
-        b'"' => TokenKind::Quoted,
-        b'\'' => TokenKind::Letter,
-        _ => TokenKind::Mark,
-    }
-}
-
-/// The tokens of a line in which a space stands between two tokens.
-fn cut(alloc: Global, line: &[u8]) -> Result<Tokens, NoMemory>
-    requires { length line.now ≤ 4000000 }
-    ensures { IfOk result (λ t. LieInText t) }
-{
-    let mut list = Vec::new(alloc);
-    let mut from: usize = 0;
-    for to in 0..line.len() + 1 {
-        if to < line.len() && line[to] != b' ' {
-            continue;
-        }
-        if from < to {
-            let place = Place {
-                file: 0,
-                line: 1,
-                column: from as u32 + 1,
-                at: list.len() as u32,
-            };
-            list.push(Token {
-                kind: kind_of(line[from]),
-                from: from as u32,
-                to: to as u32,
-                place,
-            })?;
-        }
-        from = to + 1;
-    }
-    Ok(Tokens {
-        text: Text::from_slice(alloc, line)?,
-        list: List::from_vec(list),
-        names: List::new(alloc),
-        packs: List::new(alloc),
-    })
-}
 
 /// Lines with `1` for each token that is passed over and `0` for each other.
 static PASSED: [(&str, &str); 11] = [
@@ -83,8 +35,7 @@ static PASSED: [(&str, &str); 11] = [
 fn tokens_that_are_passed_over(rt: HostRuntime) -> Result<(), Fail> {
     let alloc = rt.alloc();
     for (line, want) in &PASSED {
-        assert!(rt; line.len() < 1000);
-        let t = cut(alloc, line.as_bytes())?;
+        let t = cut(alloc, line.as_bytes())?.expect(&rt, "no tokens");
         let mut shown = String::new(alloc);
         for passed in passed_over(alloc, &t)?.as_slice() {
             shown.push_str(if *passed { "1" } else { "0" })?;
@@ -128,8 +79,7 @@ fn shown_spans(alloc: Global, spans: &[ItemSpan]) -> Result<String, NoMemory> {
 fn items_of_lines(rt: HostRuntime) -> Result<(), Fail> {
     let alloc = rt.alloc();
     for (line, want) in &ITEMS {
-        assert!(rt; line.len() < 1000);
-        let t = cut(alloc, line.as_bytes())?;
+        let t = cut(alloc, line.as_bytes())?.expect(&rt, "no tokens");
         let spans = items(alloc, &t)?.ok().expect(&rt, "too deep");
         let shown = shown_spans(alloc, spans.as_slice())?;
         assert_eq!(rt; shown.as_str(), *want, "at {line}");
@@ -154,8 +104,7 @@ fn brackets_that_open_too_deep(rt: HostRuntime) -> Result<(), Fail> {
         for i in 0..*count {
             line.extend_from_slice(if i % 2 == 0 { b"( " } else { b"[ " })?;
         }
-        assert!(rt; line.len() < 1000);
-        let t = cut(alloc, line.as_slice())?;
+        let t = cut(alloc, line.as_slice())?.expect(&rt, "no tokens");
         let found = items(alloc, &t)?.err().map(|deep| deep.place.at);
         assert_eq!(rt; found, *want, "at {front} {count}");
     }
@@ -288,8 +237,7 @@ fn shown_numbers(alloc: Global, numbers: Option<&List<u32>>) -> Result<String, N
 fn items_that_main_needs(rt: HostRuntime) -> Result<(), Fail> {
     let alloc = rt.alloc();
     for (line, want) in &NEEDED {
-        assert!(rt; line.len() < 1000);
-        let t = cut(alloc, line.as_bytes())?;
+        let t = cut(alloc, line.as_bytes())?.expect(&rt, "no tokens");
         let Ok(spans) = items(alloc, &t)? else {
             assert!(rt; false, "too deep: {line}");
             return Ok(());

@@ -1,31 +1,18 @@
-ghost use Rattle.std.specs.Prelude.{◌≡◌, IfOk, IfSome};
+ghost use Rattle.std.specs.Prelude.{◌≡◌};
 ghost use Rattle.ctokens.specs.Passed.{passed_tokens};
 ghost use Rattle.ctokens.specs.InText.{LieInText};
 ghost use Rattle.ctokens.specs.TokenList.{AreNumbered};
 
-use crate::{ItemAnswer, ReadIn, read_item, read_item_in, scope_after};
+use crate::cut::cut;
 use cbase::NoMemory;
 use cgrammar::Scope;
-use ctokens::{ItemSpan, Tokens, items as items_of, passed_over, tokens};
-use items::{HIDDEN, LAYOUTS, NO_POINTERS, PASSED, PLACES, READ, SHOWN, UNSPELLED};
+use cread::{ItemAnswer, ReadIn, read_item, read_item_in, scope_after};
+use ctokens::{ItemSpan, Tokens, items, passed_over};
 use std::alloc::Global;
 use std::test::Fail;
+use texts::{HIDDEN, LAYOUTS, NO_POINTERS, PASSED, PLACES, READ, SHOWN, UNSPELLED};
 
-mod items;
-
-/// The tokens of a text, where it has any and is not too long.
-fn cut(alloc: Global, text: &[u8]) -> Result<Option<Tokens>, NoMemory>
-    ensures text { IfOk result (λ answer. IfSome answer LieInText) }
-    ensures numbered { IfOk result (λ answer. IfSome answer (λ t. AreNumbered t.list)) }
-{
-    if text.len() > 4_194_304 {
-        return Ok(None);
-    }
-    match tokens(alloc, text, "t.c")? {
-        Err(_) => Ok(None),
-        Ok(tokens) => Ok(Some(tokens)),
-    }
-}
+mod texts;
 
 /// The names in scope behind an item, where it is read.
 fn behind_item(
@@ -115,7 +102,7 @@ fn shown_text(alloc: Global, text: &[u8]) -> Result<String, NoMemory> {
     let Some(t) = cut(alloc, text)? else {
         return Ok(String::from_str(alloc, "no tokens")?);
     };
-    match items_of(alloc, &t)? {
+    match items(alloc, &t)? {
         Err(_) => Ok(String::from_str(alloc, "too deep")?),
         Ok(spans) => shown_last(alloc, &t, spans.as_slice()),
     }
@@ -221,7 +208,7 @@ fn keeps_typedef(alloc: Global, text: &[u8], before: bool) -> Result<bool, NoMem
     let Some(t) = cut(alloc, text)? else {
         return Ok(false);
     };
-    match items_of(alloc, &t)? {
+    match items(alloc, &t)? {
         Err(_) => Ok(false),
         Ok(spans) => match spans.as_slice() {
             [] => Ok(false),

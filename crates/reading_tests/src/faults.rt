@@ -1,10 +1,10 @@
 //! Texts of one item, read from their bytes on, and the faults that are found in those of the first form.
-ghost use Rattle.std.specs.Prelude.{IfOk, IfSome};
 ghost use Rattle.ctokens.specs.InText.{LieInText};
 
-use crate::{Fault, PlacedToken, ReadFirstForm, decide, read_first_form};
+use crate::cut::cut;
 use cbase::NoMemory;
-use ctokens::{ItemSpan, Tokens, items, tokens};
+use ctokens::{ItemSpan, Tokens, items};
+use first_form::{Fault, PlacedToken, ReadFirstForm, decide, read_first_form};
 use std::alloc::Global;
 use std::test::Fail;
 
@@ -46,19 +46,6 @@ static TEXTS: [(&str, &str); 13] = [
     ("int g(void) { return 0; }", "not of the form"),
     ("int main(void);", "not of the form"),
 ];
-
-/// The tokens of a text, where it has any and is not too long.
-fn cut(alloc: Global, text: &[u8]) -> Result<Option<Tokens>, NoMemory>
-    ensures { IfOk result (λ answer. IfSome answer LieInText) }
-{
-    if text.len() > 4_194_304 {
-        return Ok(None);
-    }
-    match tokens(alloc, text, "t.c")? {
-        Err(_) => Ok(None),
-        Ok(tokens) => Ok(Some(tokens)),
-    }
-}
 
 /// The faults as they stand in the table, each at the place of its token in the row.
 fn shown_faults(alloc: Global, row: &[PlacedToken], faults: &[Fault]) -> Result<String, NoMemory> {

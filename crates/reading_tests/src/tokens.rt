@@ -1,5 +1,5 @@
-use super::*;
 use cbase::{List, Place, Text};
+use ctokens::{TokenKind, one_token_list, tokens};
 use std::alloc::Global;
 use std::test::Fail;
 
