@@ -1,5 +1,5 @@
 -- Classes of bytes (C11 5.2.1, 6.4).
-use Rattle.std.specs.Prelude.{ℕ, Bool, true, false, ◌&&◌, ◌||◌, not, List, [], ◌∷◌, nat_eq}
+use Rattle.std.specs.Prelude.{ℕ, Bool, true, false, ◌||◌, not, List, [], ◌∷◌, nat_eq}
 use Rattle.cbase.specs.Bytes.{is_between, is_digit}
 
 -- a blank: a space, or a tab, newline, vertical tab, form feed or carriage return
