@@ -9,7 +9,7 @@ use Rattle.std.proofs.lemmas.List.{get_or_past, get_or_default, get_or-take, get
 use Rattle.std.specs.Result.{is_err}
 use Rattle.cgrammar.specs.NameTables.{value_in, with_value}
 use Rattle.cgrammar.specs.Scope.{Names, says_typedef, is_typedef_name, first_answer, found, declared, declared_around, left, entered}
-use Rattle.cgrammar.specs.Bounds.{Numbers, or_one, bound_in, restored, IsSilent, IsAbove, AreEarlier, IsBounded, AreBounds, IsRestored, SameButFirst, Rises, Remembers, Grow}
+use Rattle.cgrammar.specs.Bounds.{Numbers, or_one, bound_in, restored, IsSilent, IsAbove, AreEarlier, IsBounded, AreBounds, AreEarlierAgain, IsRestored, SameButFirst, Rises, Remembers, Grow}
 use Rattle.cgrammar.proofs.NameTables.{shown, value-put, put_same, put_other}
 use Rattle.cgrammar.proofs.Scopes.{left_take, left_entered, declared-last, declared-around}
 
@@ -483,6 +483,18 @@ pub bounds_rise : (scopes : List Names) (old new : List Numbers) → AreBounds s
 bounds_rise scopes old new is count rises same =
     bounds_first scopes (get_or new 0 []) old new (bounded_rise scopes (get_or old 0 []) (get_or new 0 []) old is rises) count same
 
+-- the first of the bounds that are left are those of the scopes before
+pub first_taken : (before rest : List Numbers) → 1 < length before → rest ≡ take (length before - 1) before → get_or rest 0 [] ≡ get_or before 0 []
+first_taken before rest many taken =
+    ap (λ (l : List Numbers). get_or l 0 []) taken ∙ get_or-take (length before - 1) before 0 [] (omega (arith, many))
+
+pub restored_left : (before rest new : List Numbers) (last : Numbers) → last ≡ get_or before (length before - 1) []
+    → rest ≡ take (length before - 1) before → IsRestored last (get_or rest 0 []) (get_or new 0 []) → AreEarlierAgain before new
+restored_left before rest new last here taken restored many =
+    let P : Numbers → Type 0 = λ numbers. IsRestored last numbers (get_or new 0 []) in
+    let Q : Numbers → Type 0 = λ numbers. IsRestored numbers (get_or before 0 []) (get_or new 0 []) in
+    subst Q here (subst P (first_taken before rest many taken) restored)
+
 pub bounds_left : (scopes : List Names) (before rest new : List Numbers) (last : Numbers) → AreBounds scopes before → last ≡ get_or before (length before - 1) []
     → rest ≡ take (length before - 1) before → length new ≡ length rest → IsRestored last (get_or rest 0 []) (get_or new 0 []) → SameButFirst rest new
     → AreBounds (left scopes) new
@@ -497,12 +509,9 @@ bounds_left scopes before rest new last is here taken count restored same = elim
 
     some : 1 < length before → AreBounds (left scopes) new
     some many =
-        let first : get_or rest 0 [] ≡ get_or before 0 [] = ap (λ (l : List Numbers). get_or l 0 []) taken ∙ get_or-take (length before - 1) before 0 [] (omega (arith, many)) in
-        let P : Numbers → Type 0 = λ numbers. IsRestored last numbers (get_or new 0 []) in
-        let Q : Numbers → Type 0 = λ numbers. IsRestored numbers (get_or before 0 []) (get_or new 0 []) in
         let R : List Numbers → Type 0 = λ l. IsBounded (left scopes) (get_or new 0 []) l in
         bounds_first (left scopes) (get_or new 0 []) rest new
-        (subst R (sym taken) (bounded_left scopes (get_or before 0 []) (get_or new 0 []) before is (subst Q here (subst P first restored)))) count same
+        (subst R (sym taken) (bounded_left scopes (get_or before 0 []) (get_or new 0 []) before is (restored_left before rest new last here taken restored many))) count same
 
 pub raise_put : {T E : Type 0} (result : Result T E) (levels : List Numbers) (name : List ℕ) (least : ℕ) (seen now before : Numbers) → 0 < length levels
     → seen ≡ get_or levels 0 seen → before ≡ get_or levels 0 before → bound_in name seen ≤ least

@@ -1,7 +1,7 @@
 -- From which open scope on no name is declared: for each name a bound above the number of each scope that declares it, where
 -- the outermost scope has the number 0, and for each scope the bounds that names had before they were declared in it. A bound
 -- may be too high, and is never too low.
-use Rattle.std.specs.Prelude.{◌≡◌, ℕ, ◌<◌, ◌≤◌, ◌⊎◌, true, List, [], length, slice_index_or, Option, None, Some}
+use Rattle.std.specs.Prelude.{◌≡◌, ℕ, ◌-◌, ◌<◌, ◌≤◌, ◌⊎◌, true, List, [], length, slice_index_or, Option, None, Some}
 use Rattle.std.specs.Str.{bytes_eq}
 use Rattle.cgrammar.specs.NameTables.{value_in}
 use Rattle.cgrammar.specs.Scope.{Names}
@@ -56,6 +56,11 @@ restored (Some other) (Some own) = Some other
 -- each name that has a number in both has that of the others now, and each other name what it had
 abbrev pub IsRestored : Numbers → Numbers → Numbers → Type 0
 IsRestored others old new = (name : List ℕ) → value_in name new ≡ restored (value_in name others) (value_in name old)
+
+-- outside the innermost scope the names that it declared have their earlier bounds again, where there is a scope around it
+abbrev pub AreEarlierAgain : List Numbers → List Numbers → Type 0
+AreEarlierAgain old new =
+    1 < length old → IsRestored (slice_index_or old (length old - 1) []) (slice_index_or old 0 []) (slice_index_or new 0 [])
 
 -- no bound got lower
 abbrev pub Rises : Numbers → Numbers → Type 0

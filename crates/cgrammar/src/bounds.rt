@@ -1,7 +1,7 @@
 ghost use Rattle.std.specs.Prelude.{◌≡◌, ◌++◌, ◌∷◌, ◌≤◌, ◌<◌, ℕ, Bool, List, [], Some, length, slice_index_or, IfOk, OnOk, OnErr};
 ghost use Rattle.cgrammar.specs.Scope.{Names, declared, declared_around, file_scope, left};
 ghost use Rattle.cgrammar.specs.NameTables.{value_in};
-ghost use Rattle.cgrammar.specs.Bounds.{bound_in, AreBounds, IsRestored, SameButFirst, Rises, Remembers, Grow};
+ghost use Rattle.cgrammar.specs.Bounds.{bound_in, AreBounds, AreEarlierAgain, IsRestored, SameButFirst, Rises, Remembers, Grow};
 
 use crate::numbers::Numbers;
 use cbase::NoMemory;
@@ -48,7 +48,8 @@ impl Bounds {
 
     /// Leaves the innermost scope: the names that it declared have their earlier bounds again.
     pub fn leave(&mut self)
-        ensures { (scopes : List Names) → AreBounds scopes self.old.levels.items → AreBounds (left scopes) self.new.levels.items }
+        ensures bounds { (scopes : List Names) → AreBounds scopes self.old.levels.items → AreBounds (left scopes) self.new.levels.items }
+        ensures earlier { AreEarlierAgain self.old.levels.items self.new.levels.items }
     {
         let last = self.levels.pop();
         if let Some(earlier) = last {
