@@ -20,4 +20,3 @@ mod items_read;
 #[cfg(test)]
 mod tokens;
 #[cfg(test)]
-mod trees;
