@@ -1,0 +1,120 @@
+#!/usr/bin/env python3
+"""Runs the gate from nothing in a clone of what is committed, and writes what it cost into docs/gate.md, crate by crate.
+
+Usage, at the project's root, on a machine with nothing else to do: bench/gate.py
+The processor time of a crate's proof, of its tests, of the proof that its edits begin with and of its edits is read from /proc
+while their processes run, four times a second; that of the whole gate is what the kernel counts for it. The part of
+docs/gate.md between the lines 'gate.py: begin' and 'gate.py: end' is written anew. It ends with the gate's status.
+"""
+import os
+import re
+import resource
+import subprocess
+import sys
+import tempfile
+import threading
+import time
+from collections import defaultdict
+from pathlib import Path
+
+HOME = Path(__file__).resolve().parent.parent
+PAGE = HOME / "docs" / "gate.md"
+BEGIN, END = "<!-- gate.py: begin -->\n", "<!-- gate.py: end -->\n"
+KINDS = ("proof", "tests", "seed", "edits")
+TICK = os.sysconf("SC_CLK_TCK")
+
+
+def kind_of(words, folder):
+    """Which part of a crate's work a process of the prover does: its words and the folder that it runs in tell."""
+    if "--test" in words:
+        return "tests"
+    if Path(folder).name.startswith("rt-edit-"):
+        kept = words[words.index("--incremental") + 1] if "--incremental" in words else ""
+        return "seed" if kept.endswith("/seed") else "edits"
+    return "proof"
+
+
+def sampled(group):
+    """The processes of the prover in a process group: each with its crate, its kind and its seconds so far, with those of its ended parts."""
+    for entry in os.listdir("/proc"):
+        if not entry.isdigit():
+            continue
+        try:
+            text = Path("/proc", entry, "stat").read_text()
+            fields = text[text.rindex(")") + 2:].split()
+            if int(fields[3]) != group:
+                continue
+            words = Path("/proc", entry, "cmdline").read_text().split("\0")
+            if not words[0].endswith("/rattle") or "--crate-name" not in words:
+                continue
+            crate = words[words.index("--crate-name") + 1]
+            key = entry, fields[19]
+            yield key, (crate, kind_of(words, os.readlink(f"/proc/{entry}/cwd"))), sum(map(int, fields[11:13])) / TICK
+        except (OSError, ValueError, IndexError):
+            continue
+
+
+def watched(group, seen, is_over):
+    while not is_over.wait(0.25):
+        for key, what, seconds in sampled(group):
+            seen[key] = what, seconds
+
+
+def counts(crate):
+    """How many tests of a crate and how many of its edits the gate tries."""
+    folder = HOME / "crates" / crate
+    tests = sum(len(re.findall(r"#\[test\]", file.read_text())) for file in folder.glob("src/**/*.rt"))
+    return tests, len(list(folder.glob("must-fail/*.edit")))
+
+
+def table(seen, crates):
+    """The table of minutes, and how many minutes it tells of."""
+    minutes = defaultdict(float)
+    for what, seconds in seen.values():
+        minutes[what] += seconds / 60
+    lines = ["| crate | its proof | its tests | once more for its edits | its edits | all |\n|---|---|---|---|---|---|\n"]
+    for crate in crates:
+        tests, edits = counts(crate)
+        parts = [minutes[crate, kind] for kind in KINDS]
+        shown = [f"{part:.1f}" if part else "none" for part in parts]
+        shown[1] += f" ({tests} tests)" if tests else ""
+        shown[3] += f" ({edits} edits)" if edits else ""
+        lines.append(f"| `{crate}` | {' | '.join(shown)} | {sum(parts):.1f} |\n")
+    sums = [sum(minutes[crate, kind] for crate in crates) for kind in KINDS]
+    lines.append(f"| together | {' | '.join(f'{part:.1f}' for part in sums)} | {sum(sums):.1f} |\n")
+    return "".join(lines), sum(sums)
+
+
+def gate(folder, log):
+    """Runs the gate in a folder; what was seen of it, its status, its minutes on the clock and of processor time."""
+    seen, is_over, began = {}, threading.Event(), time.monotonic()
+    with open(log, "wb") as out:
+        run = subprocess.Popen(["rt", "ci", "--anew"], cwd=folder, stdin=subprocess.DEVNULL, stdout=out, stderr=out,
+                               start_new_session=True)
+        watcher = threading.Thread(target=watched, args=(run.pid, seen, is_over))
+        watcher.start()
+        status = run.wait()
+        is_over.set()
+        watcher.join()
+    used = resource.getrusage(resource.RUSAGE_CHILDREN)
+    return seen, status, (time.monotonic() - began) / 60, (used.ru_utime + used.ru_stime) / 60
+
+
+def main():
+    lines = (HOME / "crates.txt").read_text().splitlines()
+    crates = [line.partition(":")[0].split()[0] for line in lines if ":" in line and not line.startswith("#")]
+    with tempfile.TemporaryDirectory() as room:
+        copy, log = Path(room, "copy"), Path(room, "log")
+        subprocess.run(["git", "clone", "--quiet", "--no-hardlinks", HOME, copy], check=True)
+        seen, status, wall, used = gate(copy, log)
+        last = log.read_text(errors="replace").rstrip().splitlines()[-1:]
+        print(log.read_text(errors="replace"))
+    rows, told = table(seen, crates)
+    rest = f"The whole run used {used:.0f} minutes of processor time, {used - told:.0f} of them for compiling and running programs and all else, and took {wall:.0f} minutes on {os.cpu_count()} processors. Its last line: `{''.join(last)}`.\n"
+    text = PAGE.read_text()
+    before, after = text[:text.index(BEGIN) + len(BEGIN)], text[text.index(END):]
+    PAGE.write_text(f"{before}\n{rows}\n{rest}\n{after}")
+    return status
+
+
+sys.exit(main())
