@@ -17,7 +17,8 @@ PROGRAM = str(Path(__file__).resolve().parent.parent / "predator")
 SAFE = b"int main(void) {\n  void *p = malloc(8);\n  free(p);\n  return 0;\n}\n"
 USAGE = b"usage: predator [--budget N] [--int-limit K] FILE\n"
 MOST = 4_194_304
-SECONDS = 60
+# An answer that is not from the proved program takes a minute or two by itself.
+SECONDS = 300
 
 
 def ran(words, folder, stdout=subprocess.PIPE, **more):
