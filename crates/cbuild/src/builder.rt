@@ -1,8 +1,9 @@
 ghost use Rattle.std.specs.Prelude.{◌≡◌, [], IfOk};
-ghost use Rattle.cevents.specs.Workshop.{expressed, left_by, only, pushed, start, stated};
+ghost use Rattle.cbuild.specs.ItemsMade.{item_in};
+ghost use Rattle.cevents.specs.Workshop.{expr_of, expressed, kind_in, left_by, only, pushed, start, stated, statements_of};
 
 use crate::stack::Stack;
-use cbase::{Boxed, Expr, ExprForm, NoMemory, Place, Stmt, StmtForm};
+use cbase::{Boxed, Expr, ExprForm, Item, List, NoMemory, Place, Stmt, StmtForm};
 use cevents::Piece;
 use std::alloc::Global;
 use std::marker::Model;
@@ -113,10 +114,42 @@ impl Builder {
         Ok(true)
     }
 
-    /// Takes the piece on top, and gives it where it is the only one.
-    pub(crate) fn pop_only(&mut self) -> Option<Piece>
-        ensures { result ≡ only self.old.pieces }
+    /// Takes the piece on top, and gives it where it is the only one and an expression.
+    pub(crate) fn only_expr(&mut self) -> Option<Expr>
+        ensures { result ≡ kind_in expr_of (only self.old.pieces) }
     {
-        self.pieces.pop_only()
+        match self.pieces.pop_only() {
+            Some(Piece::Expr(tree)) => Some(tree.into_inner()),
+            other => {
+                drop(other);
+                None
+            }
+        }
+    }
+
+    /// Takes the piece on top, and gives it where it is the only one and statements.
+    pub(crate) fn only_statements(&mut self) -> Option<List<Stmt>>
+        ensures { result ≡ kind_in statements_of (only self.old.pieces) }
+    {
+        match self.pieces.pop_only() {
+            Some(Piece::Statements(tree)) => Some(tree),
+            other => {
+                drop(other);
+                None
+            }
+        }
+    }
+
+    /// Takes the piece on top, and gives it where it is the only one and an item.
+    pub(crate) fn only_item(&mut self) -> Option<Item>
+        ensures { result ≡ item_in (only self.old.pieces) }
+    {
+        match self.pieces.pop_only() {
+            Some(Piece::Item(tree)) => Some(tree),
+            other => {
+                drop(other);
+                None
+            }
+        }
     }
 }

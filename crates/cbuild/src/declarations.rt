@@ -34,6 +34,7 @@ impl Builder {
             return Ok(false);
         };
         let Some(params) = self.pop_parameters() else {
+            drop(spec);
             return Ok(false);
         };
         let longer = appended(
@@ -101,9 +102,11 @@ impl Builder {
             return Ok(false);
         };
         let Some(sizes) = self.pop_sizes() else {
+            drop(init);
             return Ok(false);
         };
         let Some(names) = self.pop_declarators() else {
+            drop(init);
             return Ok(false);
         };
         let declared = Declared {

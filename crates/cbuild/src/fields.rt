@@ -117,6 +117,7 @@ impl Builder {
             return Ok(false);
         };
         let Some(fields) = self.pop_fields() else {
+            drop(spec);
             return Ok(false);
         };
         let longer = appended(fields, FieldDecl { spec, names })?;

@@ -1,12 +1,12 @@
 ghost use Rattle.std.specs.Prelude.{◌≡◌, ℕ, Err, Some, None, IfOk, IfSome, IfNone};
 ghost use Rattle.cbase.specs.declared.tree.item.Item.{Item};
-ghost use Rattle.cbuild.specs.ItemsMade.{item_alone, item_made, item_of, item_in, counted_item, nothing_made};
+ghost use Rattle.cbuild.specs.ItemsMade.{item_alone, item_made, counted_item, nothing_made};
 ghost use Rattle.cevents.specs.Building.{built_all};
 
 use crate::builder::Builder;
 use crate::unbuilt::Unbuilt;
 use cbase::{Item, NoMemory};
-use cevents::{Event, Piece};
+use cevents::Event;
 use cgrammar::Terminal;
 use std::alloc::Global;
 
@@ -54,8 +54,7 @@ fn item_alone(
         return Ok(None);
     }
     let count = builder.count;
-    let piece = builder.pop_only();
-    Ok(counted(item_in(piece), count))
+    Ok(counted(builder.only_item(), count))
 }
 
 /// An item with how many expressions end up to its end.
@@ -66,25 +65,5 @@ fn counted(item: Option<Item>, count: u32) -> Option<BuiltItem>
     match item {
         None => None,
         Some(item) => Some(BuiltItem { item, count }),
-    }
-}
-
-/// The item that a piece is, where there is one of that kind.
-fn item_in(piece: Option<Piece>) -> Option<Item>
-    ensures { result ≡ item_in piece }
-{
-    into_item(piece?)
-}
-
-/// The item that a piece is, where it is of that kind.
-fn into_item(piece: Piece) -> Option<Item>
-    ensures { result ≡ item_of piece }
-{
-    match piece {
-        Piece::Item(item) => Some(item),
-        other => {
-            drop(other);
-            None
-        }
     }
 }

@@ -42,6 +42,7 @@ impl Builder {
             return Ok(false);
         };
         let Some(spec) = self.pop_type() else {
+            drop(head);
             return Ok(false);
         };
         self.put(Piece::Item(Item::Function {

@@ -10,7 +10,6 @@ mod expressions;
 mod fields;
 mod item_trees;
 mod items;
-mod kinds;
 mod operands;
 mod pops;
 mod stack;

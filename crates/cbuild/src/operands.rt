@@ -99,6 +99,7 @@ impl Builder {
             return Ok(false);
         };
         let Some(parts) = self.pop_parts() else {
+            drop(init);
             return Ok(false);
         };
         let longer = appended(parts, InitPart { member, init })?;

@@ -1,16 +1,12 @@
 ghost use Rattle.std.specs.Prelude.{◌≡◌};
-ghost use Rattle.cevents.specs.Workshop.{below, top_of, declarator_of, expr_of, arguments_of, path_of, type_of, sizes_of, type_name_of, field_names_of, fields_of, enumerators_of, parameters_of, declarators_of, declaration_of, init_of, parts_of, maybe_of, statement_of, statements_of};
+ghost use Rattle.cevents.specs.Workshop.{below, top_of, single, declarator_of, expr_of, arguments_of, path_of, type_of, sizes_of, type_name_of, field_names_of, fields_of, enumerators_of, parameters_of, declarators_of, declaration_of, init_of, parts_of, maybe_of, statement_of, statements_of};
 
 use crate::builder::Builder;
-use crate::kinds::{
-    into_arguments, into_declaration, into_declarator, into_declarators, into_enumerators,
-    into_expr, into_field_names, into_fields, into_init, into_maybe, into_parameters, into_parts,
-    into_path, into_sizes, into_statement, into_statements, into_type, into_type_name,
-};
 use cbase::{
     Boxed, Decl, Declared, Enumerator, Expr, FieldDecl, FieldName, Init, InitPart, List, Param,
     Part, Stmt, TypeName, TypeSpec,
 };
+use cevents::Piece;
 
 impl Builder {
     /// Takes the expression on top. Whatever stands there is gone.
@@ -18,7 +14,13 @@ impl Builder {
         ensures tree { result ≡ top_of expr_of self.old.pieces }
         ensures rest { self.new ≡ record { count = self.old.count; pieces = below self.old.pieces } }
     {
-        into_expr(self.pieces.pop()?)
+        match self.pieces.pop() {
+            Some(Piece::Expr(tree)) => Some(tree),
+            other => {
+                drop(other);
+                None
+            }
+        }
     }
 
     /// Takes the arguments on top. Whatever stands there is gone.
@@ -26,7 +28,13 @@ impl Builder {
         ensures tree { result ≡ top_of arguments_of self.old.pieces }
         ensures rest { self.new ≡ record { count = self.old.count; pieces = below self.old.pieces } }
     {
-        into_arguments(self.pieces.pop()?)
+        match self.pieces.pop() {
+            Some(Piece::Arguments(tree)) => Some(tree),
+            other => {
+                drop(other);
+                None
+            }
+        }
     }
 
     /// Takes the path on top. Whatever stands there is gone.
@@ -34,7 +42,13 @@ impl Builder {
         ensures tree { result ≡ top_of path_of self.old.pieces }
         ensures rest { self.new ≡ record { count = self.old.count; pieces = below self.old.pieces } }
     {
-        into_path(self.pieces.pop()?)
+        match self.pieces.pop() {
+            Some(Piece::Path(tree)) => Some(tree),
+            other => {
+                drop(other);
+                None
+            }
+        }
     }
 
     /// Takes the type on top. Whatever stands there is gone.
@@ -42,7 +56,13 @@ impl Builder {
         ensures tree { result ≡ top_of type_of self.old.pieces }
         ensures rest { self.new ≡ record { count = self.old.count; pieces = below self.old.pieces } }
     {
-        into_type(self.pieces.pop()?)
+        match self.pieces.pop() {
+            Some(Piece::Type(tree)) => Some(tree),
+            other => {
+                drop(other);
+                None
+            }
+        }
     }
 
     /// Takes the sizes on top. Whatever stands there is gone.
@@ -50,7 +70,13 @@ impl Builder {
         ensures tree { result ≡ top_of sizes_of self.old.pieces }
         ensures rest { self.new ≡ record { count = self.old.count; pieces = below self.old.pieces } }
     {
-        into_sizes(self.pieces.pop()?)
+        match self.pieces.pop() {
+            Some(Piece::Sizes(tree)) => Some(tree),
+            other => {
+                drop(other);
+                None
+            }
+        }
     }
 
     /// Takes the name of a type on top. Whatever stands there is gone.
@@ -58,7 +84,13 @@ impl Builder {
         ensures tree { result ≡ top_of type_name_of self.old.pieces }
         ensures rest { self.new ≡ record { count = self.old.count; pieces = below self.old.pieces } }
     {
-        into_type_name(self.pieces.pop()?)
+        match self.pieces.pop() {
+            Some(Piece::TypeName(tree)) => Some(tree),
+            other => {
+                drop(other);
+                None
+            }
+        }
     }
 
     /// Takes the declarators of fields on top. Whatever stands there is gone.
@@ -66,7 +98,13 @@ impl Builder {
         ensures tree { result ≡ top_of field_names_of self.old.pieces }
         ensures rest { self.new ≡ record { count = self.old.count; pieces = below self.old.pieces } }
     {
-        into_field_names(self.pieces.pop()?)
+        match self.pieces.pop() {
+            Some(Piece::FieldNames(tree)) => Some(tree),
+            other => {
+                drop(other);
+                None
+            }
+        }
     }
 
     /// Takes the declarations of fields on top. Whatever stands there is gone.
@@ -74,7 +112,13 @@ impl Builder {
         ensures tree { result ≡ top_of fields_of self.old.pieces }
         ensures rest { self.new ≡ record { count = self.old.count; pieces = below self.old.pieces } }
     {
-        into_fields(self.pieces.pop()?)
+        match self.pieces.pop() {
+            Some(Piece::Fields(tree)) => Some(tree),
+            other => {
+                drop(other);
+                None
+            }
+        }
     }
 
     /// Takes the enumerators on top. Whatever stands there is gone.
@@ -82,7 +126,13 @@ impl Builder {
         ensures tree { result ≡ top_of enumerators_of self.old.pieces }
         ensures rest { self.new ≡ record { count = self.old.count; pieces = below self.old.pieces } }
     {
-        into_enumerators(self.pieces.pop()?)
+        match self.pieces.pop() {
+            Some(Piece::Enumerators(tree)) => Some(tree),
+            other => {
+                drop(other);
+                None
+            }
+        }
     }
 
     /// Takes the parameters on top. Whatever stands there is gone.
@@ -90,7 +140,13 @@ impl Builder {
         ensures tree { result ≡ top_of parameters_of self.old.pieces }
         ensures rest { self.new ≡ record { count = self.old.count; pieces = below self.old.pieces } }
     {
-        into_parameters(self.pieces.pop()?)
+        match self.pieces.pop() {
+            Some(Piece::Parameters(tree)) => Some(tree),
+            other => {
+                drop(other);
+                None
+            }
+        }
     }
 
     /// Takes the declarators on top. Whatever stands there is gone.
@@ -98,7 +154,13 @@ impl Builder {
         ensures tree { result ≡ top_of declarators_of self.old.pieces }
         ensures rest { self.new ≡ record { count = self.old.count; pieces = below self.old.pieces } }
     {
-        into_declarators(self.pieces.pop()?)
+        match self.pieces.pop() {
+            Some(Piece::Declarators(tree)) => Some(tree),
+            other => {
+                drop(other);
+                None
+            }
+        }
     }
 
     /// Takes the declaration on top. Whatever stands there is gone.
@@ -106,7 +168,13 @@ impl Builder {
         ensures tree { result ≡ top_of declaration_of self.old.pieces }
         ensures rest { self.new ≡ record { count = self.old.count; pieces = below self.old.pieces } }
     {
-        into_declaration(self.pieces.pop()?)
+        match self.pieces.pop() {
+            Some(Piece::Declaration(tree)) => Some(tree),
+            other => {
+                drop(other);
+                None
+            }
+        }
     }
 
     /// Takes the initialiser on top. Whatever stands there is gone.
@@ -114,7 +182,13 @@ impl Builder {
         ensures tree { result ≡ top_of init_of self.old.pieces }
         ensures rest { self.new ≡ record { count = self.old.count; pieces = below self.old.pieces } }
     {
-        into_init(self.pieces.pop()?)
+        match self.pieces.pop() {
+            Some(Piece::Init(tree)) => Some(tree),
+            other => {
+                drop(other);
+                None
+            }
+        }
     }
 
     /// Takes the parts of an initialiser on top. Whatever stands there is gone.
@@ -122,7 +196,13 @@ impl Builder {
         ensures tree { result ≡ top_of parts_of self.old.pieces }
         ensures rest { self.new ≡ record { count = self.old.count; pieces = below self.old.pieces } }
     {
-        into_parts(self.pieces.pop()?)
+        match self.pieces.pop() {
+            Some(Piece::Parts(tree)) => Some(tree),
+            other => {
+                drop(other);
+                None
+            }
+        }
     }
 
     /// Takes the expression that may be left out on top. Whatever stands there is gone.
@@ -130,7 +210,13 @@ impl Builder {
         ensures tree { result ≡ top_of maybe_of self.old.pieces }
         ensures rest { self.new ≡ record { count = self.old.count; pieces = below self.old.pieces } }
     {
-        into_maybe(self.pieces.pop()?)
+        match self.pieces.pop() {
+            Some(Piece::Maybe(tree)) => Some(tree),
+            other => {
+                drop(other);
+                None
+            }
+        }
     }
 
     /// Takes the statement on top. Whatever stands there is gone.
@@ -138,7 +224,13 @@ impl Builder {
         ensures tree { result ≡ top_of statement_of self.old.pieces }
         ensures rest { self.new ≡ record { count = self.old.count; pieces = below self.old.pieces } }
     {
-        into_statement(self.pieces.pop()?)
+        match self.pieces.pop() {
+            Some(Piece::Statement(tree)) => Some(tree),
+            other => {
+                drop(other);
+                None
+            }
+        }
     }
 
     /// Takes the statements on top. Whatever stands there is gone.
@@ -146,7 +238,13 @@ impl Builder {
         ensures tree { result ≡ top_of statements_of self.old.pieces }
         ensures rest { self.new ≡ record { count = self.old.count; pieces = below self.old.pieces } }
     {
-        into_statements(self.pieces.pop()?)
+        match self.pieces.pop() {
+            Some(Piece::Statements(tree)) => Some(tree),
+            other => {
+                drop(other);
+                None
+            }
+        }
     }
 
     /// Takes the declarators on top, which have to be one declarator. Whatever stands there is gone.
@@ -154,6 +252,15 @@ impl Builder {
         ensures tree { result ≡ top_of declarator_of self.old.pieces }
         ensures rest { self.new ≡ record { count = self.old.count; pieces = below self.old.pieces } }
     {
-        into_declarator(self.pieces.pop()?)
+        single(self.pop_declarators()?)
     }
+}
+
+/// The only item of a list, where it has one item.
+fn single<T: Drop>(list: List<T>) -> Option<T>
+    ensures { result ≡ single list }
+{
+    let mut items = list.into_vec();
+    let item = items.pop()?;
+    if items.is_empty() { Some(item) } else { None }
 }

@@ -189,9 +189,12 @@ impl Builder {
             return Ok(false);
         };
         let Some(test) = self.pop_maybe() else {
+            drop(next);
             return Ok(false);
         };
         let Some(clause) = self.pop_statement() else {
+            drop(next);
+            drop(test);
             return Ok(false);
         };
         let after = body.get().after;

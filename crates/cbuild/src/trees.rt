@@ -1,12 +1,11 @@
 ghost use Rattle.std.specs.Prelude.{◌≡◌, IfOk, Some, None};
 ghost use Rattle.cevents.specs.Building.{built_all};
-ghost use Rattle.cevents.specs.Workshop.{alone, block_alone, expr_alone, expr_of, kind_in, start, statements_of};
+ghost use Rattle.cevents.specs.Workshop.{block_alone, expr_alone, start};
 
 use crate::builder::Builder;
-use crate::kinds::{into_expr, into_statements};
 use crate::unbuilt::Unbuilt;
 use cbase::{Expr, List, NoMemory, Stmt};
-use cevents::{Event, Piece};
+use cevents::Event;
 use cgrammar::Terminal;
 use std::alloc::Global;
 
@@ -50,8 +49,11 @@ fn expr_alone(
 ) -> Result<Option<Expr>, NoMemory>
     ensures { IfOk result (λ expr. expr ≡ expr_alone (built_all row.now events.now (Some start))) }
 {
-    let piece = built_alone(alloc, row, events)?;
-    Ok(expr_of(piece))
+    let mut builder = Builder::new(alloc);
+    if !builder.build_all(row, events)? {
+        return Ok(None);
+    }
+    Ok(builder.only_expr())
 }
 
 /// The statements, or nothing where the events make no statements that stand alone.
@@ -62,35 +64,9 @@ fn block_alone(
 ) -> Result<Option<List<Stmt>>, NoMemory>
     ensures { IfOk result (λ body. body ≡ block_alone (built_all row.now events.now (Some start))) }
 {
-    let piece = built_alone(alloc, row, events)?;
-    Ok(block_of(piece))
-}
-
-/// The piece that the events make, where it is the only one.
-fn built_alone(
-    alloc: Global,
-    row: &[Terminal<'_>],
-    events: &[Event],
-) -> Result<Option<Piece>, NoMemory>
-    ensures { IfOk result (λ piece. piece ≡ alone (built_all row.now events.now (Some start))) }
-{
     let mut builder = Builder::new(alloc);
     if !builder.build_all(row, events)? {
         return Ok(None);
     }
-    Ok(builder.pop_only())
-}
-
-/// An expression that may be there.
-fn expr_of(piece: Option<Piece>) -> Option<Expr>
-    ensures { result ≡ kind_in expr_of piece }
-{
-    Some(into_expr(piece?)?.into_inner())
-}
-
-/// Statements that may be there.
-fn block_of(piece: Option<Piece>) -> Option<List<Stmt>>
-    ensures { result ≡ kind_in statements_of piece }
-{
-    into_statements(piece?)
+    Ok(builder.only_statements())
 }
