@@ -1,0 +1,5 @@
+pub mod Size
+pub mod Value
+pub mod Conversion
+pub mod Computing
+pub mod Comparing
