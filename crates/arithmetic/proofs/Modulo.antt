@@ -19,7 +19,7 @@ divides Two = dvd_of_mod-eq-zero 65536 refl
 divides Four = dvd_of_mod-eq-zero 4294967296 refl
 divides Eight = dvd_of_mod-eq-zero 18446744073709551616 refl
 
-positive : (size : Size) → 0 < modulus (bytes size)
+pub positive : (size : Size) → 0 < modulus (bytes size)
 positive One = omega arith
 positive Two = omega arith
 positive Four = omega arith

@@ -38,10 +38,16 @@ residue-same count a b j k some e =
     let m = up a + (j + t) * count - down a in
     residue-is count a (j + t) m some (omega (arith, ints)) ∙ sym (residue-is count b (k + t) m some (omega (arith, ints)))
 
--- a product's residue is that of the product of what has the same residue
-pub residue-product : (count : ℕ) (a b c : ℤ) (j k : ℕ) → 0 < count → a +ℤ pos (j * count) ≡ b +ℤ pos (k * count) → residue count (a *ℤ c) ≡ residue count (b *ℤ c)
-residue-product count a b c j k some e =
+-- two whole numbers that multiples of the count make one, times a third one
+pub multiples-product : (count : ℕ) (a b c : ℤ) (j k : ℕ) → a +ℤ pos (j * count) ≡ b +ℤ pos (k * count) →
+    a *ℤ c +ℤ pos ((j * up c + k * down c) * count) ≡ b *ℤ c +ℤ pos ((k * up c + j * down c) * count)
+multiples-product count a b c j k e =
     let sum : up a + j * count + down b ≡ up b + k * count + down a = omega (arith, ints) in
     let above = ap (λ x. x * up c) sum in
     let below = ap (λ x. x * down c) sum in
-    residue-same count (a *ℤ c) (b *ℤ c) (j * up c + k * down c) (k * up c + j * down c) some (omega (arith, ints))
+    omega (arith, ints)
+
+-- a product's residue is that of the product of what has the same residue
+pub residue-product : (count : ℕ) (a b c : ℤ) (j k : ℕ) → 0 < count → a +ℤ pos (j * count) ≡ b +ℤ pos (k * count) → residue count (a *ℤ c) ≡ residue count (b *ℤ c)
+residue-product count a b c j k some e =
+    residue-same count (a *ℤ c) (b *ℤ c) (j * up c + k * down c) (k * up c + j * down c) some (multiples-product count a b c j k e)

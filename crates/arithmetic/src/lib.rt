@@ -10,6 +10,7 @@ mod bits;
 mod comparisons;
 mod conversions;
 mod divide;
+pub mod laws;
 mod op;
 mod operators;
 mod shift;
