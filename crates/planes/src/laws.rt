@@ -18,6 +18,7 @@ pub fn fill_gives_its_class()
 {}
 
 /// The greater class at each byte is above neither plane's, and below every plane that is above both.
+#[tactic(auto, using(crate::proofs::Pairs::left_at_most, crate::proofs::Pairs::right_at_most, crate::proofs::Pairs::highest_at_most))]
 pub fn highest_is_the_least_above_both()
     ensures left { (classes others : List ℕ) → length classes ≡ length others →
         AllZip (λ class greater. class ≤ greater) classes (highest classes others) }

@@ -29,6 +29,7 @@ pub(crate) fn run_at(runs: &[Run], number: usize) -> Run
 }
 
 /// The byte that is `count` bytes behind another, these in one run.
+#[tactic(auto, using(crate::proofs::Pairs::rest_within, crate::proofs::Pairs::rest_over))]
 pub(crate) fn moved(runs: &[Run], at: Place, count: u32) -> Place
     requires kept { AreRuns runs.now }
     requires run { at.run < length runs.now }
@@ -36,8 +37,9 @@ pub(crate) fn moved(runs: &[Run], at: Place, count: u32) -> Place
     ensures rest { rest runs.now at ≡ replicate count (run_at runs.now at.run).class ++ rest runs.now result }
     ensures place { IsPlace runs.now result }
 {
+    let run = run_at(runs, at.run);
     let before = at.before + count;
-    if before < run_at(runs, at.run).length {
+    if before < run.length {
         Place {
             run: at.run,
             before,
