@@ -1,6 +1,6 @@
 -- The first byte whose class is above a class.
-use Rattle.std.proofs.Common.{◌≡◌, ℕ, zero, suc, ◌+◌, ◌-◌, ◌<◌, ◌≤◌, min, max, Bool, true, false, ◌⊎◌, inl, inr, List, [], ◌∷◌, ◌++◌, length, get_or, take, drop, replicate, refl, ap, sym, ◌∙◌, subst, arith, Option, Some, None, cond, ltb, length-drop, ⊎_elim}
-use Rattle.std.specs.Prelude.{All, nat_lt, nat_le, IsTrue, IfSome, ◌↔◌, slice_index}
+use Rattle.std.proofs.Common.{◌≡◌, ℕ, zero, suc, ◌+◌, ◌-◌, ◌<◌, ◌≤◌, min, max, Bool, true, false, ◌⊎◌, inl, inr, List, [], ◌∷◌, ◌++◌, length, get_or, take, drop, replicate, refl, ap, sym, ◌∙◌, subst, arith, Option, Some, None, cond, length-drop, ⊎_elim}
+use Rattle.std.specs.Prelude.{All, nat_lt, nat_le, IsTrue, IfSome, ◌↔◌}
 use Rattle.std.specs.List.{position_from}
 use Rattle.std.proofs.lemmas.Bool.{cases_lt, le-ltb, lt-ltb, ltb-true, ltb-false, leb-true, le-leb}
 use Rattle.std.proofs.lemmas.List.{get_or-drop, get_or-take, length-take}
@@ -8,7 +8,7 @@ use Rattle.std.proofs.lemmas.List.Elements.{All-cons, All-nil, All-head, All-tai
 use Rattle.planes.specs.declared.run.Run.{Run}
 use Rattle.planes.specs.Classes.{IsFirstAbove}
 use Rattle.planes.specs.Runs.{expanded}
-use Rattle.planes.proofs.Parts.{drop_run, from_run, from_end}
+use Rattle.planes.proofs.Parts.{drop_run, from_run}
 
 abbrev pub above : ℕ → ℕ → Bool
 above class other = nat_lt class other
@@ -29,43 +29,43 @@ position_here (suc n) class other at others some high =
     let test : nat_lt class other ≡ true = lt-ltb class other high in rw test refl
 
 -- the run in which the first byte that is above stands
-pub above_found : (runs : List Run) (number begin from class : ℕ) (run : Run) → number < length runs → run ≡ get_or runs number run → 0 < run.length → from < begin + run.length → class < run.class → position_from (above class) (max begin from) (drop (from - begin) (expanded (drop number runs))) ≡ Some (max begin from)
-above_found runs number begin from class run inside is full reaches high =
+pub above_found : (runs : List Run) (number begin from class : ℕ) (run none : Run) → number < length runs → run ≡ get_or runs number none → 0 < run.length → from < begin + run.length → class < run.class → position_from (above class) (max begin from) (drop (from - begin) (expanded (drop number runs))) ≡ Some (max begin from)
+above_found runs number begin from class run none inside is full reaches high =
     let passed : from - begin ≡ min run.length (from - begin) = omega arith in
     let some : 0 < run.length - (from - begin) = omega arith in
-    ap (λ (t : List ℕ). position_from (above class) (max begin from) (drop (from - begin) t)) (from_run runs number run inside is)
+    ap (λ (t : List ℕ). position_from (above class) (max begin from) (drop (from - begin) t)) (from_run runs number run none inside is)
     ∙ ap (position_from (above class) (max begin from)) (drop_run run.length (from - begin) (from - begin) run.class (expanded (drop (number + 1) runs)) passed)
     ∙ position_here (run.length - (from - begin)) class run.class (max begin from) _ some high
 
 -- a run that reaches beyond the place, and is not above
-above_low : (runs : List Run) (number begin from class : ℕ) (run : Run) → number < length runs → run ≡ get_or runs number run → run.class ≤ class → from < begin + run.length → position_from (above class) (max begin from) (drop (from - begin) (expanded (drop number runs))) ≡ position_from (above class) (max (begin + run.length) from) (drop (from - (begin + run.length)) (expanded (drop (number + 1) runs)))
-above_low runs number begin from class run inside is low reaches =
+above_low : (runs : List Run) (number begin from class : ℕ) (run none : Run) → number < length runs → run ≡ get_or runs number none → run.class ≤ class → from < begin + run.length → position_from (above class) (max begin from) (drop (from - begin) (expanded (drop number runs))) ≡ position_from (above class) (max (begin + run.length) from) (drop (from - (begin + run.length)) (expanded (drop (number + 1) runs)))
+above_low runs number begin from class run none inside is low reaches =
     let passed : from - begin ≡ min run.length (from - begin) = omega arith in
-    let none : from - begin - (from - begin) ≡ 0 = omega arith in
+    let all : from - begin - (from - begin) ≡ 0 = omega arith in
     let less : from - (begin + run.length) ≡ 0 = omega arith in
     let end : max begin from + (run.length - (from - begin)) ≡ max (begin + run.length) from = omega arith in
-    ap (λ (t : List ℕ). position_from (above class) (max begin from) (drop (from - begin) t)) (from_run runs number run inside is)
+    ap (λ (t : List ℕ). position_from (above class) (max begin from) (drop (from - begin) t)) (from_run runs number run none inside is)
     ∙ ap (position_from (above class) (max begin from)) (drop_run run.length (from - begin) (from - begin) run.class (expanded (drop (number + 1) runs)) passed)
     ∙ position_passed (run.length - (from - begin)) class run.class (max begin from) _ low
-    ∙ rw (none, less, end) refl
+    ∙ rw (all, less, end) refl
 
 -- a run that ends before the place
-above_short : (runs : List Run) (number begin from class : ℕ) (run : Run) → number < length runs → run ≡ get_or runs number run → begin + run.length ≤ from → position_from (above class) (max begin from) (drop (from - begin) (expanded (drop number runs))) ≡ position_from (above class) (max (begin + run.length) from) (drop (from - (begin + run.length)) (expanded (drop (number + 1) runs)))
-above_short runs number begin from class run inside is short =
+above_short : (runs : List Run) (number begin from class : ℕ) (run none : Run) → number < length runs → run ≡ get_or runs number none → begin + run.length ≤ from → position_from (above class) (max begin from) (drop (from - begin) (expanded (drop number runs))) ≡ position_from (above class) (max (begin + run.length) from) (drop (from - (begin + run.length)) (expanded (drop (number + 1) runs)))
+above_short runs number begin from class run none inside is short =
     let passed : run.length ≡ min run.length (from - begin) = omega arith in
-    let none : run.length - run.length ≡ 0 = omega arith in
+    let all : run.length - run.length ≡ 0 = omega arith in
     let less : from - begin - run.length ≡ from - (begin + run.length) = omega arith in
     let same : max begin from ≡ max (begin + run.length) from = omega arith in
-    ap (λ (t : List ℕ). position_from (above class) (max begin from) (drop (from - begin) t)) (from_run runs number run inside is)
+    ap (λ (t : List ℕ). position_from (above class) (max begin from) (drop (from - begin) t)) (from_run runs number run none inside is)
     ∙ ap (position_from (above class) (max begin from)) (drop_run run.length (from - begin) run.length run.class (expanded (drop (number + 1) runs)) passed)
-    ∙ rw (none, less, same) refl
+    ∙ rw (all, less, same) refl
 
 -- a run in which no byte from the place on is above
-pub above_more : (runs : List Run) (number begin from class : ℕ) (run : Run) → number < length runs → run ≡ get_or runs number run → (begin + run.length ≤ from) ⊎ (run.class ≤ class) → position_from (above class) (max begin from) (drop (from - begin) (expanded (drop number runs))) ≡ position_from (above class) (max (begin + run.length) from) (drop (from - (begin + run.length)) (expanded (drop (number + 1) runs)))
-above_more runs number begin from class run inside is (inl short) = above_short runs number begin from class run inside is short
-above_more runs number begin from class run inside is (inr low) =
-    ⊎_elim (λ reaches. above_low runs number begin from class run inside is low reaches)
-    (λ short. above_short runs number begin from class run inside is short)
+pub above_more : (runs : List Run) (number begin from class : ℕ) (run none : Run) → number < length runs → run ≡ get_or runs number none → (begin + run.length ≤ from) ⊎ (run.class ≤ class) → position_from (above class) (max begin from) (drop (from - begin) (expanded (drop number runs))) ≡ position_from (above class) (max (begin + run.length) from) (drop (from - (begin + run.length)) (expanded (drop (number + 1) runs)))
+above_more runs number begin from class run none inside is (inl short) = above_short runs number begin from class run none inside is short
+above_more runs number begin from class run none inside is (inr low) =
+    ⊎_elim (λ reaches. above_low runs number begin from class run none inside is low reaches)
+    (λ short. above_short runs number begin from class run none inside is short)
     (cases_lt from (begin + run.length))
 
 -- no byte of a list is above
@@ -166,3 +166,7 @@ behind_low classes from count class found range first low =
 
 pub first_behind : (classes : List ℕ) (from count class found : ℕ) → from + count ≤ length classes → IsFirstAbove classes from class found → IsTrue (nat_le (from + count) found) ↔ All (λ o. o ≤ class) (take count (drop from classes))
 first_behind classes from count class found range first = (low_before classes from count class found range first, behind_low classes from count class found range first)
+
+pub first_if_some : (classes : List ℕ) (from class : ℕ) (found : Option ℕ) → found ≡ position_from (above class) from (drop from classes) → IfSome found (λ at. IsFirstAbove classes from class at)
+first_if_some classes from class None is = tt
+first_if_some classes from class (Some at) is = first_above classes from class at (sym is)

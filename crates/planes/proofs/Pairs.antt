@@ -1,17 +1,16 @@
 -- Two lists of runs that are gone through side by side.
-use Rattle.std.proofs.Common.{◌≡◌, ℕ, zero, suc, ◌+◌, ◌-◌, ◌<◌, ◌≤◌, min, max, Bool, true, false, List, [], ◌∷◌, ◌++◌, length, get_or, take, drop, replicate, refl, ap, sym, ◌∙◌, subst, arith, length-append, append_assoc, ◌⊎◌, inl, inr, ⊎_elim}
-use Rattle.std.specs.Prelude.{All, nat_le, IsTrue, ◌↔◌, ◌&&◌}
+use Rattle.std.proofs.Common.{◌≡◌, ℕ, zero, suc, ◌+◌, ◌-◌, ◌<◌, ◌≤◌, min, max, Bool, true, false, List, [], ◌∷◌, ◌++◌, length, drop, replicate, refl, ap, sym, ◌∙◌, arith, length-append, append_assoc, ⊎_elim}
+use Rattle.std.specs.Prelude.{nat_le, IsTrue, ◌↔◌, ◌&&◌}
 use Rattle.std.specs.List.{AllZip}
 use Rattle.std.proofs.Math.Seq.{drop-nil}
-use Rattle.std.proofs.lemmas.Bool.{cases_lt, leb-true, leb-false, le-leb, lt-leb}
-use Rattle.std.proofs.lemmas.List.{append-nil, length-replicate, drop-append-le, drop-replicate, replicate-append-replicate, drop_more, nil_from_length}
-use Rattle.std.proofs.lemmas.List.Elements.{All-get_or}
+use Rattle.std.proofs.lemmas.Bool.{cases_lt, leb-true, le-leb, lt-leb}
+use Rattle.std.proofs.lemmas.List.{length-replicate, replicate-append-replicate, drop_more}
 use Rattle.planes.specs.declared.run.Run.{Run}
 use Rattle.planes.specs.declared.place.Place.{Place}
 use Rattle.planes.specs.Classes.{highest}
 use Rattle.planes.specs.Runs.{expanded, IsRun, AreRuns}
 use Rattle.planes.specs.Walk.{run_at, rest, IsPlace, are_at_most}
-use Rattle.planes.proofs.Parts.{drop_run, from_run, from_end}
+use Rattle.planes.proofs.Parts.{drop_run, from_end}
 
 -- the same bytes of two lists, where they have one class in each
 pub at_most_passed : (n class other : ℕ) (classes others : List ℕ) → class ≤ other → are_at_most (replicate n class ++ classes) (replicate n other ++ others) ≡ are_at_most classes others
@@ -75,6 +74,34 @@ rest_other left right left_at right_at same inside place =
     ⊎_elim (λ within. within)
     (λ end. let none : length (rest right right_at) ≡ 0 = ap length (rest_end right right_at end) in absurd (omega arith))
     (cases_lt right_at.run (length right))
+
+-- each run of a list is one
+pub run_is : (runs : List Run) (number : ℕ) → AreRuns runs → number < length runs → IsRun (run_at runs number)
+run_is runs number all inside = all number (record { length = 0; class = 0 }) inside
+
+pub length_step : (n class : ℕ) (classes more : List ℕ) → classes ≡ replicate n class ++ more → length classes ≡ n + length more
+length_step n class classes more is = ap length is ∙ length-append (replicate n class) more ∙ ap (λ (k : ℕ). k + length more) (length-replicate n class)
+
+-- steps of the loops
+pub at_most_step : (n class other : ℕ) (classes others more more_others : List ℕ) → classes ≡ replicate n class ++ more → others ≡ replicate n other ++ more_others → class ≤ other → are_at_most more more_others ≡ are_at_most classes others
+at_most_step n class other classes others more more_others is other_is low =
+    sym (ap (λ (t : List ℕ). are_at_most t others) is ∙ ap (λ (t : List ℕ). are_at_most (replicate n class ++ more) t) other_is ∙ at_most_passed n class other more more_others low)
+
+pub at_most_stop : (n class other : ℕ) (classes others more more_others : List ℕ) → classes ≡ replicate n class ++ more → others ≡ replicate n other ++ more_others → 0 < n → other < class → are_at_most classes others ≡ false
+at_most_stop n class other classes others more more_others is other_is some high =
+    ap (λ (t : List ℕ). are_at_most t others) is ∙ ap (λ (t : List ℕ). are_at_most (replicate n class ++ more) t) other_is ∙ at_most_refused n class other more more_others some high
+
+pub highest_step : (n class other most : ℕ) (classes others more more_others done : List ℕ) → classes ≡ replicate n class ++ more → others ≡ replicate n other ++ more_others → most ≡ max class other → (done ++ replicate n most) ++ highest more more_others ≡ done ++ highest classes others
+highest_step n class other most classes others more more_others done is other_is top =
+    append_assoc done (replicate n most) (highest more more_others)
+    ∙ ap (λ (t : List ℕ). done ++ t)
+    (ap (λ (k : ℕ). replicate n k ++ highest more more_others) top
+    ∙ sym (ap (λ (t : List ℕ). highest t others) is ∙ ap (λ (t : List ℕ). highest (replicate n class ++ more) t) other_is ∙ highest_part n class other more more_others))
+
+pub length_highest : (classes others : List ℕ) → length classes ≡ length others → length (highest classes others) ≡ length classes
+length_highest [] others same = refl
+length_highest (class ∷ classes) [] same = absurd (omega arith)
+length_highest (class ∷ classes) (other ∷ others) same = ap suc (length_highest classes others (omega arith))
 
 -- the tests of the pairs, as a relation
 both : (class other : ℕ) (classes others : List ℕ) (b : Bool) → nat_le class other ≡ b → (IsTrue (are_at_most classes others) → AllZip (λ class greater. class ≤ greater) classes others) → (b && are_at_most classes others) ≡ true → (class ≤ other) × AllZip (λ class greater. class ≤ greater) classes others

@@ -1,6 +1,5 @@
 -- Parts of lists of runs, cut inside a run.
-use Rattle.std.proofs.Common.{◌≡◌, ℕ, zero, suc, ◌+◌, ◌-◌, ◌<◌, ◌≤◌, min, List, [], ◌∷◌, ◌++◌, length, get_or, take, drop, replicate, refl, ap, sym, ◌∙◌, subst, arith, append_assoc, length-append}
-use Rattle.std.specs.Prelude.{All}
+use Rattle.std.proofs.Common.{◌≡◌, ℕ, zero, suc, ◌+◌, ◌-◌, ◌<◌, ◌≤◌, min, List, [], ◌∷◌, ◌++◌, length, get_or, take, drop, replicate, refl, ap, sym, ◌∙◌, arith, append_assoc}
 use Rattle.std.proofs.Math.Seq.{drop-nil}
 use Rattle.std.proofs.lemmas.List.{append-nil, drop_more, drop_all}
 use Rattle.planes.specs.declared.run.Run.{Run}
@@ -36,22 +35,22 @@ take_run (suc n) (suc count) taken class others p =
     rw (one, more) (ap (λ (t : List ℕ). class ∷ t) (take_run n count (min n count) class others refl))
 
 -- the runs from one on are that one and those behind it
-pub from_run : (runs : List Run) (number : ℕ) (run : Run) → number < length runs → run ≡ get_or runs number run → expanded (drop number runs) ≡ replicate run.length run.class ++ expanded (drop (number + 1) runs)
-from_run runs number run inside is =
-    ap expanded (drop_more runs number run inside ∙ ap (λ (r : Run). r ∷ drop (number + 1) runs) (sym is))
+pub from_run : (runs : List Run) (number : ℕ) (run none : Run) → number < length runs → run ≡ get_or runs number none → expanded (drop number runs) ≡ replicate run.length run.class ++ expanded (drop (number + 1) runs)
+from_run runs number run none inside is =
+    ap expanded (drop_more runs number none inside ∙ ap (λ (r : Run). r ∷ drop (number + 1) runs) (sym is))
 
 -- behind the last run is nothing
 pub from_end : (runs : List Run) (number : ℕ) → length runs ≤ number → expanded (drop number runs) ≡ []
 from_end runs number end = ap expanded (drop_all number runs end)
 
 -- a loop's step: what is taken of one run, and what is to be taken of those behind it
-pub range_more : (runs : List Run) (number before left passed taken : ℕ) (run : Run) (done : List ℕ) → number < length runs → run ≡ get_or runs number run → passed ≡ min run.length before → taken ≡ min (run.length - passed) left → (done ++ replicate taken run.class) ++ take (left - taken) (drop (before - passed) (expanded (drop (number + 1) runs))) ≡ done ++ take left (drop before (expanded (drop number runs)))
-range_more runs number before left passed taken run done inside is p t =
+pub range_more : (runs : List Run) (number before left passed taken : ℕ) (run none : Run) (done : List ℕ) → number < length runs → run ≡ get_or runs number none → passed ≡ min run.length before → taken ≡ min (run.length - passed) left → (done ++ replicate taken run.class) ++ take (left - taken) (drop (before - passed) (expanded (drop (number + 1) runs))) ≡ done ++ take left (drop before (expanded (drop number runs)))
+range_more runs number before left passed taken run none done inside is p t =
     append_assoc done (replicate taken run.class) _
     ∙ ap (λ (t : List ℕ). done ++ t)
     (sym (take_run (run.length - passed) left taken run.class (drop (before - passed) (expanded (drop (number + 1) runs))) t)
     ∙ ap (take left) (sym (drop_run run.length before passed run.class (expanded (drop (number + 1) runs)) p))
-    ∙ ap (λ (t : List ℕ). take left (drop before t)) (sym (from_run runs number run inside is)))
+    ∙ ap (λ (t : List ℕ). take left (drop before t)) (sym (from_run runs number run none inside is)))
 
 take_nil : (n : ℕ) → take {A = ℕ} n [] ≡ []
 take_nil zero = refl

@@ -1,8 +1,8 @@
 -- Lists of runs, and the classes that they stand for.
-use Rattle.std.proofs.Common.{◌≡◌, ℕ, zero, suc, ◌+◌, ◌-◌, ◌<◌, ◌≤◌, min, List, [], ◌∷◌, ◌++◌, length, take, drop, replicate, refl, ap, sym, ◌∙◌, arith, append_assoc, length-append, add-one}
+use Rattle.std.proofs.Common.{◌≡◌, ℕ, ◌+◌, ◌<◌, ◌≤◌, List, [], ◌∷◌, ◌++◌, length, replicate, refl, ap, sym, ◌∙◌, arith, append_assoc, length-append}
 use Rattle.std.specs.Prelude.{All}
 use Rattle.std.proofs.lemmas.List.{append-nil, length-replicate, replicate-append-replicate}
-use Rattle.std.proofs.lemmas.List.Elements.{All-head, All-tail, All-push}
+use Rattle.std.proofs.lemmas.List.Elements.{All-head, All-tail, All-nil, All-append, All-replicate}
 use Rattle.planes.specs.Classes.{IsClass}
 use Rattle.planes.specs.declared.run.Run.{Run}
 use Rattle.planes.specs.Runs.{expanded, IsRun, AreRuns}
@@ -37,3 +37,12 @@ expanded_joined xs n m class =
 -- how many bytes stand before the last run
 pub length_push_run : (xs : List Run) (run : Run) → length (expanded (xs ++ run ∷ [])) ≡ length (expanded xs) + run.length
 length_push_run xs run = ap length (expanded_push xs run) ∙ length-append (expanded xs) (replicate run.length run.class) ∙ ap (λ (n : ℕ). length (expanded xs) + n) (length-replicate run.length run.class)
+
+-- each byte has a class
+pub classes_of_runs : (runs : List Run) → AreRuns runs → All IsClass (expanded runs)
+classes_of_runs [] all = All-nil IsClass
+classes_of_runs (run ∷ runs) all =
+    let head : IsRun run = All-head IsRun run runs all in
+    All-append IsClass (replicate run.length run.class) (expanded runs)
+    (All-replicate IsClass run.length run.class head.class)
+    (classes_of_runs runs (All-tail IsRun run runs all))

@@ -1,5 +1,5 @@
 -- Classes of bytes, byte by byte: 0 is the number 0, 1 is a number, 2 is anything.
-use Rattle.std.specs.Prelude.{◌≡◌, ℕ, ◌+◌, ◌<◌, ◌≤◌, max, List, [], ◌∷◌, ◌++◌, length, take, drop, replicate, slice_get, slice_index, Some, All}
+use Rattle.std.specs.Prelude.{ℕ, ◌+◌, ◌<◌, ◌≤◌, max, List, [], ◌∷◌, ◌++◌, length, take, drop, replicate, slice_index}
 
 -- the numbers that are classes
 abbrev pub IsClass : ℕ → Type 0

@@ -1,5 +1,5 @@
 -- What holds of each plane as it is kept.
-use Rattle.std.specs.Prelude.{◌≡◌, ℕ, ◌≤◌, length, vec_capacity}
+use Rattle.std.specs.Prelude.{◌≡◌, ◌≤◌, length, vec_capacity}
 use Rattle.planes.specs.declared.plane.Plane.TheInside.{Inside}
 use Rattle.planes.specs.Runs.{expanded, AreRuns}
 

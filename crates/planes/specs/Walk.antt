@@ -1,5 +1,5 @@
 -- How two lists of runs are gone through side by side.
-use Rattle.std.specs.Prelude.{◌≡◌, ℕ, ◌<◌, Bool, true, false, ◌&&◌, nat_le, List, [], ◌∷◌, ◌++◌, length, drop, replicate, slice_index_or}
+use Rattle.std.specs.Prelude.{ℕ, ◌<◌, Bool, true, false, ◌&&◌, nat_le, List, [], ◌∷◌, length, drop, slice_index_or}
 use Rattle.planes.specs.declared.run.Run.{Run}
 use Rattle.planes.specs.declared.place.Place.{Place}
 use Rattle.planes.specs.Runs.{expanded}

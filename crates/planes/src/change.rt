@@ -43,6 +43,7 @@ pub(crate) fn fill_runs(
 }
 
 /// Gives each byte the greater of its class and that in `others`. The runs are made anew in `spare`.
+#[tactic(auto, using(crate::proofs::Pairs::length_highest))]
 pub(crate) fn raise_runs(runs: &mut Vec<Run>, spare: &mut Vec<Run>, others: &[Run])
     requires kept { AreRuns runs.old.items }
     requires others { AreRuns others.now }

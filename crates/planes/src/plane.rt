@@ -63,6 +63,7 @@ impl Plane {
     }
 
     /// How many bytes it has a class for.
+    #[tactic(auto, using(crate::proofs::Runs::classes_of_runs))]
     pub fn len(&self) -> u32
         ensures bytes { result ≡ length self.now }
         ensures most { result ≤ MOST_BYTES }
@@ -94,6 +95,7 @@ impl Plane {
         requires class { IsClass class }
         ensures { IsTrue result ↔ All (λ other. other ≤ class) (take count (drop from self.now)) }
     {
+        let _size = self.size;
         match self.first_above(from, class) {
             None => true,
             Some(at) => from + count <= at,
@@ -119,6 +121,7 @@ impl Plane {
     }
 
     /// Whether no byte has a class above that in `other`. It takes no memory.
+    #[tactic(auto, using(crate::proofs::Pairs::at_most_is))]
     pub fn at_most(&self, other: &Plane) -> bool
         requires { length self.now ≡ length other.now }
         ensures { IsTrue result ↔ AllZip (λ class greater. class ≤ greater) self.now other.now }

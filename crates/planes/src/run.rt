@@ -77,7 +77,7 @@ pub(crate) fn push_run(runs: &mut Vec<Run>, run: Run)
 }
 
 /// Puts `count` bytes of other runs, from their byte `from` on, behind the last byte.
-#[tactic(auto, using(crate::proofs::Parts::range_more, crate::proofs::Parts::range_end))]
+#[tactic(auto, using(crate::proofs::Parts::range_end))]
 pub(crate) fn push_range(runs: &mut Vec<Run>, others: &[Run], from: u32, count: u32)
     requires kept { AreRuns runs.old.items }
     requires others { AreRuns others.now }
@@ -105,7 +105,7 @@ pub(crate) fn push_range(runs: &mut Vec<Run>, others: &[Run], from: u32, count: 
 }
 
 /// The first byte from `from` on whose class is above `class`.
-#[tactic(auto, using(crate::proofs::Above::above_more, crate::proofs::Above::above_found, crate::proofs::Parts::from_run))]
+#[tactic(auto, using(crate::proofs::Parts::from_end))]
 pub(crate) fn first_above(runs: &[Run], from: u32, class: u8) -> Option<u32>
     requires kept { AreRuns runs.now }
     requires most { length (expanded runs.now) ≤ MOST_BYTES }

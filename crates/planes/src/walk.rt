@@ -1,5 +1,5 @@
 ghost use Rattle.std.specs.Prelude.{◌≡◌, ◌+◌, ◌<◌, ◌≤◌, ◌++◌, length, replicate, vec_capacity};
-ghost use Rattle.planes.specs.Classes.{highest};
+ghost use Rattle.planes.specs.Classes.{IsClass, highest};
 ghost use Rattle.planes.specs.Runs.{expanded, AreRuns};
 ghost use Rattle.planes.specs.Walk.{run_at, rest, IsPlace, are_at_most};
 
@@ -23,6 +23,7 @@ struct Part {
 }
 
 /// The bytes from a place in each of two lists on, as far as each has one class there.
+#[tactic(auto, using(crate::proofs::Pairs::run_is))]
 fn part_at(left: &[Run], right: &[Run], left_at: Place, right_at: Place) -> Part
     requires left_kept { AreRuns left.now }
     requires right_kept { AreRuns right.now }
@@ -31,6 +32,8 @@ fn part_at(left: &[Run], right: &[Run], left_at: Place, right_at: Place) -> Part
     requires left_place { IsPlace left.now left_at }
     requires right_place { IsPlace right.now right_at }
     ensures some { 0 < result.length }
+    ensures left_class { IsClass result.left }
+    ensures right_class { IsClass result.right }
     ensures left { rest left.now left_at ≡ replicate result.length result.left ++ rest left.now result.left_end }
     ensures right { rest right.now right_at ≡ replicate result.length result.right ++ rest right.now result.right_end }
     ensures left_place { IsPlace left.now result.left_end }
