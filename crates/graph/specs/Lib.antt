@@ -1,0 +1,5 @@
+pub mod Maps
+pub mod Sizes
+pub mod WellFormed
+pub mod Renaming
+pub mod Slots
