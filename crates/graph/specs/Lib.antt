@@ -3,3 +3,4 @@ pub mod Sizes
 pub mod WellFormed
 pub mod Renaming
 pub mod Slots
+pub mod Whole

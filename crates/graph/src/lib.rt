@@ -5,14 +5,22 @@
 //! words and blocks, and nothing of C: no statement, no step and no fault.
 #![tactic(auto)]
 
+mod build;
 mod edges;
+mod graph;
+mod keyed;
 mod object;
 mod parts;
+mod post;
 mod stop;
 mod value;
 
+pub use build::{built, graph_of};
 pub use edges::{Edges, HasValue};
+pub use graph::{Graph, Objects, Values};
+pub use keyed::Keyed;
 pub use object::{Object, Shape};
 pub use parts::{Held, KeyedObject, KeyedValue, Named, Pair, Parts};
+pub use post::Post;
 pub use stop::Stop;
 pub use value::{Target, Value};
