@@ -4,3 +4,6 @@ pub mod WellFormed
 pub mod Renaming
 pub mod Slots
 pub mod Whole
+pub mod State
+pub mod Meaning
+pub mod Laws
