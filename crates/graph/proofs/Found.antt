@@ -3,8 +3,10 @@ use Rattle.std.proofs.Common.{◌≡◌, ℕ, Bool, true, false, List, [], ◌�
 use Rattle.std.specs.Prelude.{IsSome, option_map, if◌then◌else◌}
 use Rattle.std.proofs.lemmas.Bool.{false≢true}
 use Rattle.std.proofs.lemmas.Option.{same_Some, none-some}
+use Rattle.std.specs.List.{list_all}
 use Rattle.graph.specs.Maps.{found_at}
 use Rattle.graph.specs.Laws.{IsOneToOne}
+use Rattle.graph.proofs.Tests.{and_left, and_right}
 
 -- an option that holds something
 pub record Holds {Item : Type 0} (option : Option Item) : Type 0 where
@@ -35,6 +37,30 @@ module _ {Entry Item : Type 0} (key : Entry → ℕ) (item : Entry → Item) whe
     same = λ one other one_there other_there equal.
         one_to_one.same one other (IsSome-later first rest one one_there) (IsSome-later first rest other other_there) equal;
   }
+
+  -- what all items are, the one that is found is
+  pub found-all : (test : Item → Bool) (entries : List Entry) (at : ℕ) (found : Item) → list_all (λ entry. test (item entry)) entries ≡ true →
+      found_at key item entries at ≡ Some found → test found ≡ true
+  found-all test [] at found all stands = absurd (none-some found stands)
+  found-all test (first ∷ rest) at found all stands =
+      by_cases (nat_eq (key first) at) refl (λ in_rest. found-all test rest at found (and_right (test (item first)) (list_all (λ entry. test (item entry)) rest) all) in_rest)
+    where
+      by_cases : (hit : Bool) → nat_eq (key first) at ≡ hit → (found_at key item rest at ≡ Some found → test found ≡ true) → test found ≡ true
+      by_cases true is rest_does =
+          let same : item first ≡ found = same_Some _ _ (sym (found-here first rest at is) ∙ stands) in
+          subst (λ (i : Item). test i ≡ true) same (and_left (test (item first)) (list_all (λ entry. test (item entry)) rest) all)
+      by_cases false is rest_does = rest_does (sym (found-later first rest at is) ∙ stands)
+
+  -- the old key that becomes a new one
+  abbrev pub back_in : (ℕ → ℕ) → List Entry → ℕ → ℕ
+  back_in rename [] at = 0
+  back_in rename (first ∷ rest) at = if nat_eq (rename (key first)) at then key first else back_in rename rest at
+
+  pub back_in-here : (rename : ℕ → ℕ) (first : Entry) (rest : List Entry) (at : ℕ) → nat_eq (rename (key first)) at ≡ true → back_in rename (first ∷ rest) at ≡ key first
+  back_in-here rename first rest at same = rw same refl
+
+  pub back_in-later : (rename : ℕ → ℕ) (first : Entry) (rest : List Entry) (at : ℕ) → nat_eq (rename (key first)) at ≡ false → back_in rename (first ∷ rest) at ≡ back_in rename rest at
+  back_in-later rename first rest at other = rw other refl
 
 -- entries whose keys and items are changed by functions
 module _ {Entry Item Entry' Item' : Type 0} (key : Entry → ℕ) (item : Entry → Item) (key' : Entry' → ℕ) (item' : Entry' → Item')
@@ -106,6 +132,34 @@ module _ {Entry Item Entry' Item' : Type 0} (key : Entry → ℕ) (item : Entry 
         new = sym (items first) ∙ same_Some _ _ (sym (found-here key' item' (change first) (map change rest) at is) ∙ stands);
       }
       by_cases false is rest_does = later (rest_does (sym (found-later key' item' (change first) (map change rest) at is) ∙ stands)) is
+
+  -- a key that is there is the new one of some old key that is there
+  pub back_in-there : (entries : List Entry) (at : ℕ) → IsSome (found_at key' item' (map change entries) at) →
+      IsSome (found_at key item entries (back_in key item rename entries at)) × (rename (back_in key item rename entries at) ≡ at)
+  back_in-there [] at some = absurd (false≢true some)
+  back_in-there (first ∷ rest) at some = by_cases (nat_eq (rename (key first)) at) refl (λ in_rest. back_in-there rest at in_rest)
+    where
+      here : IsSome (found_at key item (first ∷ rest) (key first))
+      here = IsSome-holds _ _ (found-here key item first rest (key first) (eq-eqb (key first) (key first) refl))
+      by_cases : (hit : Bool) → nat_eq (rename (key first)) at ≡ hit →
+          (IsSome (found_at key' item' (map change rest) at) → IsSome (found_at key item rest (back_in key item rename rest at)) × (rename (back_in key item rename rest at) ≡ at)) →
+          IsSome (found_at key item (first ∷ rest) (back_in key item rename (first ∷ rest) at)) × (rename (back_in key item rename (first ∷ rest) at) ≡ at)
+      by_cases true is rest_does =
+          let old = back_in-here key item rename first rest at is in
+          (subst (λ (k : ℕ). IsSome (found_at key item (first ∷ rest) k)) (sym old) here, ap rename old ∙ eqb-true _ _ is)
+      by_cases false is rest_does =
+          let old = back_in-later key item rename first rest at is in
+          let miss : nat_eq (key' (change first)) at ≡ false = ap (λ (k : ℕ). nat_eq k at) (keys first) ∙ is in
+          let before = rest_does (subst (λ (o : Option Item'). IsSome o) (found-later key' item' (change first) (map change rest) at miss) some) in
+          (subst (λ (k : ℕ). IsSome (found_at key item (first ∷ rest) k)) (sym old) (IsSome-later key item first rest (back_in key item rename rest at) before.0), ap rename old ∙ before.1)
+
+  -- there and back
+  pub back_in-same : (entries : List Entry) (at : ℕ) → IsOneToOne rename (found_at key item entries) → IsSome (found_at key item entries at) →
+      back_in key item rename entries (rename at) ≡ at
+  back_in-same entries at one_to_one some =
+      let held = Holds-some (found_at key item entries at) some in
+      let there = back_in-there entries (rename at) (IsSome-holds _ _ (found-renamed entries at held.item one_to_one held.is)) in
+      one_to_one.same _ at there.0 some there.1
 
 -- entries whose items alone are changed: variables and registers
 module _ {Entry Item Entry' Item' : Type 0} (key : Entry → ℕ) (item : Entry → Item) (key' : Entry' → ℕ) (item' : Entry' → Item')

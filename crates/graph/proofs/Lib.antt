@@ -1,3 +1,5 @@
 pub mod Tests
 pub mod Found
 pub mod Pulled
+pub mod Renamed
+pub mod Reformed
