@@ -3,3 +3,4 @@ pub mod Found
 pub mod Pulled
 pub mod Renamed
 pub mod Reformed
+pub mod Numbered
