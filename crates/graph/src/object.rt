@@ -1,6 +1,6 @@
 use crate::edges::Edges;
 use bytes_core::BlockKind;
-use cbase::List;
+use planes::Plane;
 
 /// What an object stands for.
 #[derive(Clone, Copy, Debug, PartialEq, Eq)]
@@ -23,5 +23,5 @@ pub struct Object {
     /// What ranges of its bytes hold.
     pub edges: Edges,
     /// The class of each byte: 0 where it is the number 0, 1 where it is a number, 2 always.
-    pub plane: List<u8>,
+    pub plane: Plane,
 }
