@@ -1,0 +1,6 @@
+pub mod Tests
+pub mod Found
+pub mod Pulled
+pub mod Renamed
+pub mod Reformed
+pub mod Numbered

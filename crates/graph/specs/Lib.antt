@@ -1,0 +1,9 @@
+pub mod Maps
+pub mod Sizes
+pub mod WellFormed
+pub mod Renaming
+pub mod Slots
+pub mod Whole
+pub mod State
+pub mod Meaning
+pub mod Laws

@@ -1,0 +1,78 @@
+ghost use Rattle.std.specs.Prelude.{◌≡◌, IfOk, IfErr};
+ghost use Rattle.std.specs.Option.{option_copied};
+ghost use Rattle.graph.specs.Maps.{object_at, value_at};
+ghost use Rattle.graph.specs.WellFormed.{HasAscendingKeys};
+ghost use Rattle.graph.specs.Whole.{IsGraph};
+
+use crate::keyed::Keyed;
+use crate::object::Object;
+use crate::parts::{Held, Named, Pair, Parts};
+use crate::stop::Stop;
+use crate::value::Value;
+use cbase::{List, NoMemory};
+use std::alloc::Global;
+use std::marker::Model;
+
+/// The objects of a graph.
+pub type Objects = Keyed<Object>;
+
+/// The values of a graph.
+pub type Values = Keyed<Value>;
+
+/// A graph: objects and values that stand for the blocks and words of many memories.
+///
+/// Contracts see its parts. They are well formed and within the limits, and the keys of its objects and of its
+/// values are 0, 1 and so on.
+#[derive(Drop)]
+pub struct Graph {
+    objects: Objects,
+    values: Values,
+    variables: List<Named>,
+    registers: List<Held>,
+    ports: List<u32>,
+    unequal: List<Pair>,
+}
+
+impl Model for Graph {
+    ghost use Rattle.graph.specs.declared.parts.Parts.{Parts};
+    ghost use Rattle.graph.specs.Whole.{parts_of, IsGraph};
+
+    ghost Value = { Parts };
+
+    ghost view = { parts_of };
+
+    ghost invariant = { λ g. IsGraph (parts_of g) };
+}
+
+impl Graph {
+    /// The object with a key. None exactly where no object has it. It takes no memory.
+    pub fn object(&self, key: u32) -> Option<&Object>
+        ensures { option_copied result ≡ object_at self.now.objects key }
+    {
+        self.objects.get(key)
+    }
+
+    /// The value with a key. None exactly where no value has it. It takes no memory.
+    pub fn value(&self, key: u32) -> Option<&Value>
+        ensures { option_copied result ≡ value_at self.now.values key }
+    {
+        self.values.get(key)
+    }
+
+    /// The contents of the graph, with its own keys, which ascend in both lists.
+    pub fn parts(&self, alloc: Global) -> Result<Parts, NoMemory>
+        ensures ok { IfOk result (λ parts. parts ≡ self.now) }
+        ensures graph { IsGraph self.now }
+        ensures ascending { HasAscendingKeys self.now }
+    {
+        unreachable!()
+    }
+
+    /// An equal graph with the same keys. It is never too large.
+    pub fn copied(&self, alloc: Global) -> Result<Graph, Stop>
+        ensures ok { IfOk result (λ copy. copy ≡ self.now) }
+        ensures small { IfErr result (λ stop. stop ≡ Stop.NoMemory) }
+    {
+        unreachable!()
+    }
+}

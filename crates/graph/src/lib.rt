@@ -1,0 +1,26 @@
+//! What the analyser knows of a memory: a graph of objects and values that stands for many memories.
+//!
+//! An object stands for a block, a value for a word. The crate says which graphs are well formed, which
+//! memories a graph stands for, and how a graph is built from plain data and taken apart again. It knows bytes,
+//! words and blocks, and nothing of C: no statement, no step and no fault.
+#![tactic(auto)]
+
+mod build;
+mod edges;
+mod graph;
+mod keyed;
+mod object;
+mod parts;
+mod post;
+mod stop;
+mod value;
+
+pub use build::{built, graph_of};
+pub use edges::{Edges, HasValue};
+pub use graph::{Graph, Objects, Values};
+pub use keyed::Keyed;
+pub use object::{Object, Shape};
+pub use parts::{Held, KeyedObject, KeyedValue, Named, Pair, Parts};
+pub use post::Post;
+pub use stop::Stop;
+pub use value::{Target, Value};

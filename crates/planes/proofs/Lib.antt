@@ -1,0 +1,4 @@
+pub mod Above
+pub mod Pairs
+pub mod Parts
+pub mod Runs
