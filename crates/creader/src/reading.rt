@@ -46,8 +46,13 @@ pub fn read_expression<'a>(
     ensures { IfOk result (λ written. written ≡ written_of (reads most_levels Expression (start_at row.now at scope.now))) }
 {
     let mut reader = Reader::new(alloc, row, at, scope.copied(alloc)?);
-    read(&mut reader, MOST_LEVELS, Wanted::Expression)?;
-    Ok(reader.into_written())
+    match read(&mut reader, MOST_LEVELS, Wanted::Expression) {
+        Ok(()) => Ok(reader.into_written()),
+        Err(error) => {
+            drop(reader);
+            Err(error)
+        }
+    }
 }
 
 /// Reads a block, of statements of at most 1,024 levels, that begins at the token of the row with the number `at`, where these
@@ -65,8 +70,13 @@ pub fn read_statements<'a>(
         depth: MOST_LEVELS,
         inner: read,
     };
-    grammar.block(&mut reader)?;
-    Ok(reader.into_written())
+    match grammar.block(&mut reader) {
+        Ok(()) => Ok(reader.into_written()),
+        Err(error) => {
+            drop(reader);
+            Err(error)
+        }
+    }
 }
 
 /// Reads the whole row as an item of a file, of at most 1,024 levels, where these names are in scope before it (C11 6.9). The
@@ -83,6 +93,11 @@ pub fn read_item<'a>(
         depth: MOST_LEVELS,
         inner: read,
     };
-    grammar.item_alone(&mut reader)?;
-    Ok(reader.into_item())
+    match grammar.item_alone(&mut reader) {
+        Ok(()) => Ok(reader.into_item()),
+        Err(error) => {
+            drop(reader);
+            Err(error)
+        }
+    }
 }
