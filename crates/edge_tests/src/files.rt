@@ -1,6 +1,11 @@
-use super::*;
-use crate::faults::faults_after;
+ghost use Rattle.std.specs.Prelude.{◌≡◌, if◌then◌else◌};
+ghost use Rattle.outside.specs.Faults.{counted};
+
 use cbase::{List, NoMemory, Text};
+use outside::{
+    Began, Files, Given, MemoryFiles, MemorySink, NamedFile, OsFiles, OsSink, Reading, Sink,
+    SteadyFiles, SteadySink, Taken, read_file, send,
+};
 use std::test::Fail;
 use std::{fs, io};
 
@@ -182,6 +187,17 @@ fn the_system_takes_what_is_sent(rt: HostRuntime) -> Result<(), Fail> {
     let mut standard = OsSink::new(io::writer(&rt));
     assert!(rt; send(&mut standard, b"sent to the standard output\n"));
     Ok(())
+}
+
+// The count of faults after a call, which `failed` or not.
+fn faults_after(faults: u64, failed: bool) -> u64
+    ensures { result ≡ (if failed then counted faults else faults) }
+{
+    if failed {
+        faults.saturating_add(1)
+    } else {
+        faults
+    }
 }
 
 // A file of which the second read fails.

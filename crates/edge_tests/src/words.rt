@@ -1,5 +1,5 @@
-use super::*;
 use cbase::NoMemory;
+use command_line::{Command, command_of};
 use std::alloc::Global;
 use std::test::Fail;
 

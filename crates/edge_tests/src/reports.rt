@@ -1,8 +1,9 @@
-ghost use Rattle.std.specs.Prelude.{[]};
+ghost use Rattle.std.specs.Prelude.{◌≡◌, ◌<◌, [], IfOk, length};
+ghost use Rattle.report.specs.Kind.{IsKind};
 ghost use Rattle.report.specs.Report.{HasPrintable};
 
-use super::*;
 use cbase::{List, NoMemory, Place, Text};
+use report::{Answer, Limits, Shown, Warning, Why, report_text, status};
 use std::alloc::Global;
 use std::test::Fail;
 
@@ -64,106 +65,114 @@ fn each_answer_has_its_text_and_status(rt: HostRuntime) -> Result<(), Fail> {
     Ok(())
 }
 
+/// A place in the file of the number.
+fn place_in(file: u32, line: u32, column: u32) -> Place
+    ensures { result.file ≡ file }
+{
+    Place {
+        file,
+        line,
+        column,
+        at: 20,
+    }
+}
+
+/// The names `t.c` and `a.h`.
+fn two_names(alloc: Global) -> Result<List<Text>, NoMemory>
+    ensures { IfOk result (λ names. length names ≡ 2) }
+{
+    let mut names = List::new(alloc);
+    names.push(Text::from_slice(alloc, b"t.c")?)?;
+    names.push(Text::from_slice(alloc, b"a.h")?)?;
+    Ok(names)
+}
+
+/// The report of an answer about `t.c`, where the files of the text are `t.c` and `a.h`.
+fn printed_with(alloc: Global, names: List<Text>, answer: Answer) -> Result<Text, NoMemory>
+    requires { HasPrintable names answer }
+{
+    let file = Text::from_slice(alloc, b"t.c")?;
+    let shown = Shown {
+        file,
+        names,
+        limits: Limits::DEFAULT,
+        answer,
+    };
+    report_text(alloc, &shown)
+}
+
 #[test]
 fn a_text_that_is_not_read_has_its_place(rt: HostRuntime) -> Result<(), Fail> {
     let alloc = rt.alloc();
-    let mut names = Vec::new(alloc);
-    names.push(Text::from_slice(alloc, b"t.c")?)?;
-    names.push(Text::from_slice(alloc, b"a.h")?)?;
-    let place = Place {
-        file: 1,
-        line: 7,
-        column: 280,
-        at: 20,
-    };
-    let file = Text::from_slice(alloc, b"t.c")?;
+    let place = place_in(1, 7, 280);
+    let why = Why::Lexical { place };
     assert_eq!(rt;
-        text::why_text(alloc, &file, names.as_slice(), Why::Lexical { place })?.as_slice(),
+        printed_with(alloc, two_names(alloc)?, Answer::NotRead { why })?.as_slice(),
         b"t.c: not read: no token at a.h:7:280\n".as_slice()
     );
+    let why = Why::Deep { place };
     assert_eq!(rt;
-        text::why_text(alloc, &file, names.as_slice(), Why::Deep { place })?.as_slice(),
+        printed_with(alloc, two_names(alloc)?, Answer::NotRead { why })?.as_slice(),
         b"t.c: not read: too deep at a.h:7:280\n".as_slice()
     );
+    let why = Why::Syntax { place };
     assert_eq!(rt;
-        text::why_text(alloc, &file, names.as_slice(), Why::Syntax { place })?.as_slice(),
+        printed_with(alloc, two_names(alloc)?, Answer::NotRead { why })?.as_slice(),
         b"t.c: not read: syntax at a.h:7:280\n".as_slice()
     );
+    assert_eq!(rt; status(&Answer::NotRead { why }), 3);
     Ok(())
 }
 
 #[test]
 fn a_construct_has_its_name_and_place(rt: HostRuntime) -> Result<(), Fail> {
     let alloc = rt.alloc();
-    let mut names = Vec::new(alloc);
-    names.push(Text::from_slice(alloc, b"t.c")?)?;
-    let place = Place {
-        file: 0,
-        line: 11,
-        column: 3,
-        at: 20,
-    };
-    let file = Text::from_slice(alloc, b"t.c")?;
-    let names = names.as_slice();
+    let place = place_in(0, 11, 3);
+    let answer = Answer::Construct { number: 1, place };
+    assert_eq!(rt; status(&answer), 2);
     assert_eq!(rt;
-        text::construct_text(alloc, &file, names, 1, place)?.as_slice(),
+        printed_with(alloc, two_names(alloc)?, answer)?.as_slice(),
         b"t.c: gave up: goto at t.c:11:3\n".as_slice()
     );
+    let answer = Answer::Construct { number: 20, place };
     assert_eq!(rt;
-        text::construct_text(alloc, &file, names, 20, place)?.as_slice(),
+        printed_with(alloc, two_names(alloc)?, answer)?.as_slice(),
         b"t.c: gave up: function pointer at t.c:11:3\n".as_slice()
     );
-    assert_eq!(rt; status(&Answer::Construct { number: 1, place }), 2);
-    assert_eq!(rt;
-        status(&Answer::NotRead {
-            why: Why::Syntax { place }
-        }),
-        3
-    );
     Ok(())
+}
+
+/// The report of a warning alone.
+fn printed_warning(alloc: Global, warning: Warning) -> Result<Text, NoMemory>
+    requires named { warning.place.file < 2 }
+    requires kind { IsKind warning.kind }
+{
+    let mut warnings = List::new(alloc);
+    warnings.push(warning)?;
+    printed_with(alloc, two_names(alloc)?, Answer::Warned { warnings })
 }
 
 #[test]
 fn a_warning_has_its_place_and_kind(rt: HostRuntime) -> Result<(), Fail> {
     let alloc = rt.alloc();
-    let mut names = Vec::new(alloc);
-    names.push(Text::from_slice(alloc, b"t.c")?)?;
-    names.push(Text::from_slice(alloc, b"a")?)?;
-    let place = Place {
-        file: 1,
-        line: 2_147_483_649,
-        column: 3,
-        at: 20,
+    let place = place_in(1, 2_147_483_649, 3);
+    let lost = Warning {
+        place,
+        kind: 7,
+        error: true,
     };
-    let mut line = Text::new(alloc);
-    lines::push_warning(
-        alloc,
-        &mut line,
-        names.as_slice(),
-        &Warning {
-            place,
-            kind: 7,
-            error: true,
-        },
-    )?;
     assert_eq!(rt;
-        line.as_slice(),
-        b"a:2147483649:3: error: memory lost [7]".as_slice()
+        printed_warning(alloc, lost)?.as_slice(),
+        b"a.h:2147483649:3: error: memory lost [7]\nt.c: warned\n".as_slice()
     );
-    let mut line = Text::new(alloc);
-    lines::push_warning(
-        alloc,
-        &mut line,
-        names.as_slice(),
-        &Warning {
-            place,
-            kind: 3,
-            error: false,
-        },
-    )?;
+    let dead = Warning {
+        place,
+        kind: 3,
+        error: false,
+    };
     assert_eq!(rt;
-        line.as_slice(),
-        b"a:2147483649:3: warning: access to dead object [3]".as_slice()
+        printed_warning(alloc, dead)?.as_slice(),
+        b"a.h:2147483649:3: warning: access to dead object [3]\nt.c: warned\n".as_slice()
     );
     Ok(())
 }
