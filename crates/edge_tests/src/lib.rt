@@ -6,6 +6,8 @@
 #[cfg(test)]
 mod files;
 #[cfg(test)]
+mod program;
+#[cfg(test)]
 mod reports;
 #[cfg(test)]
 mod words;

@@ -20,7 +20,7 @@ fn at(alloc: Global, place: Place) -> Result<String, NoMemory> {
 }
 
 /// Puts bytes behind what is shown, those that are no printable letter of ASCII as `\x` and two digits.
-fn push_bytes(alloc: Global, shown: &mut String, bytes: &[u8]) -> Result<(), NoMemory> {
+pub fn push_bytes(alloc: Global, shown: &mut String, bytes: &[u8]) -> Result<(), NoMemory> {
     for byte in bytes {
         if (b' '..=b'~').contains(byte) {
             shown.push(*byte as char)?;

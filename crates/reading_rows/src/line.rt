@@ -9,6 +9,7 @@ use crate::expressions::{block, expression, left, statements};
 use crate::faults::{faults, program};
 use crate::items::{items, needed, passed};
 use crate::lexical::tokens;
+use crate::reports::report;
 use crate::row::{row_of_line, unescaped};
 use crate::scopes::scope;
 use crate::terminals::{constant, mark, terminal_of_text};
@@ -45,6 +46,7 @@ pub fn answer_of_line(
 fn answer(alloc: Global, kind: &str, number: u32, text: &[u8]) -> Result<String, NoMemory> {
     match kind {
         "tokens" => tokens(alloc, text),
+        "report" => report(alloc, number, text),
         "scope" => scope(alloc, text),
         "constant" => constant(alloc, text),
         "binary" | "unary" | "assignment" | "counting" | "member" => mark(alloc, kind, text),

@@ -13,6 +13,7 @@ mod faults;
 mod items;
 mod lexical;
 mod line;
+mod reports;
 mod row;
 mod scopes;
 mod terminals;

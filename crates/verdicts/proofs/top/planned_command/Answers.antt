@@ -1,5 +1,5 @@
-use Rattle.predator.proofs.Exactness.{plan_answered}
-use Rattle.predator.proofs.top.planned_command.Goals as goal
+use Rattle.verdicts.proofs.Exactness.{plan_answered}
+use Rattle.verdicts.proofs.top.planned_command.Goals as goal
 
 -- what is said of the answer is said of the plan
 pub returns-clause-judged : goal.returns-clause-judged

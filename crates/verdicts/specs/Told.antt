@@ -5,8 +5,8 @@ use Rattle.ctokens.specs.declared.token.Tokens.{Tokens}
 use Rattle.ctokens.specs.TokenList.{AreTokens}
 use Rattle.report.specs.declared.answer.Answer.{Answer}
 use Rattle.report.specs.Report.{HasPrintable}
-use Rattle.predator.specs.Verdict.{IsVerdict, Judges}
-use Rattle.predator.specs.Shown.{AreNames}
+use Rattle.verdicts.specs.Verdict.{IsVerdict, Judges}
+use Rattle.verdicts.specs.Shown.{AreNames}
 
 -- the answer is true of each file with these tokens, and their names are those that are shown with it
 pub record IsTold (t : Tokens) (answer : Answer) : Type 0 where

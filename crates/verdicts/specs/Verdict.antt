@@ -21,7 +21,7 @@ use Rattle.first_form.specs.declared.line.Program.{Program}
 use Rattle.first_form.specs.declared.token.PlacedToken.{PlacedToken}
 use Rattle.first_form.specs.FirstForm.{IsFormed}
 use Rattle.first_form.specs.Runs.{Reaches}
-use Rattle.predator.specs.Warnings.{AreWarnings}
+use Rattle.verdicts.specs.Warnings.{AreWarnings}
 
 -- no run of the program, with any choices and however long, meets a fault
 abbrev pub IsSound : Program → Type 0

@@ -1,7 +1,7 @@
 use Rattle.std.proofs.Common.{subst}
 use Rattle.outside.specs.Reading.{Reads}
-use Rattle.predator.proofs.Exactness.{answered_result}
-use Rattle.predator.proofs.top.answer_of_file.Goals as goal
+use Rattle.verdicts.proofs.Exactness.{answered_result}
+use Rattle.verdicts.proofs.top.answer_of_file.Goals as goal
 
 -- what is true of the bytes that were read is said of the file
 pub returns-in-Whole-clause-judged : goal.returns-in-Whole-clause-judged

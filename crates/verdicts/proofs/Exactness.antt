@@ -6,11 +6,11 @@ use Rattle.command_line.specs.declared.command.Command.{Command}
 use Rattle.report.specs.declared.answer.Answer.{Answer}
 use Rattle.report.specs.declared.answer.Answer.TheVariants.{Safe, Warned, NotRead, Construct, NotYet, TooLong, Usage, ReadFault, OutOfMemory}
 use Rattle.report.specs.declared.answer.Shown.{Shown}
-use Rattle.predator.specs.declared.top.Plan.{Plan}
-use Rattle.predator.specs.declared.judge.Judged.{Judged}
-use Rattle.predator.specs.Verdict.{IsVerdict, Judges}
-use Rattle.predator.specs.Answered.{IsAnswered, IsWhole}
-use Rattle.predator.specs.Shown.{AreNames}
+use Rattle.verdicts.specs.declared.top.Plan.{Plan}
+use Rattle.verdicts.specs.declared.judge.Judged.{Judged}
+use Rattle.verdicts.specs.Verdict.{IsVerdict, Judges}
+use Rattle.verdicts.specs.Answered.{IsAnswered, IsWhole}
+use Rattle.verdicts.specs.Shown.{AreNames}
 
 answered_whole : (tells : Bool) (content : Option (List ℕ)) (left file bytes : List ℕ) (names : List (List ℕ)) (answer : Answer)
     → (IsTrue tells → IsWhole content left bytes) → length bytes ≤ most_bytes → IsVerdict answer → Judges file bytes answer → AreNames file bytes answer names

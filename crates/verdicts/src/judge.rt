@@ -8,10 +8,10 @@ ghost use Rattle.cread.specs.Needed.{AreRead, spans_of};
 ghost use Rattle.ctokens.specs.TokenList.{HasNamedFiles, AreNumbered};
 ghost use Rattle.report.specs.Report.{HasPrintable};
 ghost use Rattle.first_form.specs.FirstForm.{IsSmall};
-ghost use Rattle.predator.specs.Told.{IsTold};
-ghost use Rattle.predator.specs.Verdict.{IsExact, IsVerdict, Judges, answer_of, only_item, verdict_of};
-ghost use Rattle.predator.specs.Shown.{AreNames};
-ghost use Rattle.predator.specs.Warnings.{AreWarnings};
+ghost use Rattle.verdicts.specs.Told.{IsTold};
+ghost use Rattle.verdicts.specs.Verdict.{IsExact, IsVerdict, Judges, answer_of, only_item, verdict_of};
+ghost use Rattle.verdicts.specs.Shown.{AreNames};
+ghost use Rattle.verdicts.specs.Warnings.{AreWarnings};
 
 use crate::warnings::warnings_of;
 use cbase::{List, NoMemory, Text};

@@ -25,11 +25,11 @@ use Rattle.first_form.specs.declared.token.PlacedToken.{PlacedToken}
 use Rattle.first_form.specs.FirstForm.{IsFormed}
 use Rattle.first_form.specs.Faults.{AreFaults}
 use Rattle.first_form.specs.Row.{item_tokens}
-use Rattle.predator.specs.Told.{IsTold}
-use Rattle.predator.specs.Verdict.{IsFirstForm, IsSound, answer_of, only_item, verdict_of}
-use Rattle.predator.specs.Warnings.{AreWarnings, warning_of}
+use Rattle.verdicts.specs.Told.{IsTold}
+use Rattle.verdicts.specs.Verdict.{IsFirstForm, IsSound, answer_of, only_item, verdict_of}
+use Rattle.verdicts.specs.Warnings.{AreWarnings, warning_of}
 use Rattle.first_form.proofs.Ascending.{no_member}
-use Rattle.predator.proofs.FaultPlaces.{warnings_printable}
+use Rattle.verdicts.proofs.FaultPlaces.{warnings_printable}
 use Rattle.first_form.proofs.Spellings.{item_tokens-All, row_places}
 
 -- a token of a text has a name for its file

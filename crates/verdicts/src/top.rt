@@ -7,9 +7,9 @@ ghost use Rattle.ctokens.specs.InText.{most_bytes};
 ghost use Rattle.command_line.specs.CommandLine.{command_of, file_of};
 ghost use Rattle.report.specs.Report.{HasPrintable, report_bytes, status_of};
 ghost use Rattle.report.specs.declared.answer.Answer.{Answer};
-ghost use Rattle.predator.specs.Verdict.{IsExact, IsVerdict, Judges};
-ghost use Rattle.predator.specs.Answered.{IsAnswered};
-ghost use Rattle.predator.specs.Shown.{file_in, file_shown, limits_in, limits_shown};
+ghost use Rattle.verdicts.specs.Verdict.{IsExact, IsVerdict, Judges};
+ghost use Rattle.verdicts.specs.Answered.{IsAnswered};
+ghost use Rattle.verdicts.specs.Shown.{file_in, file_shown, limits_in, limits_shown};
 
 use crate::judge::{Judged, judge};
 use cbase::{List, NoMemory, Text};

@@ -13,7 +13,7 @@ use Rattle.first_form.specs.declared.token.PlacedToken.{PlacedToken}
 use Rattle.first_form.specs.declared.token.Token.TheVariants.{Int}
 use Rattle.first_form.specs.declared.line.Program.{Program}
 use Rattle.cgrammar.specs.Terminals.{no_place}
-use Rattle.predator.specs.Warnings.{AreWarnings, place_of, warning_of}
+use Rattle.verdicts.specs.Warnings.{AreWarnings, place_of, warning_of}
 
 abbrev place_in : Option PlacedToken → Place
 place_in found = unwrap_or (option_map (λ placed. placed.place) found) no_place

@@ -1,5 +1,5 @@
 //! Laws of the numbers that crates hand to each other. Each is the contract of a function that does nothing.
-ghost use Rattle.predator.specs.Printed.{ConstructsArePrinted, KindsArePrinted};
+ghost use Rattle.verdicts.specs.Printed.{ConstructsArePrinted, KindsArePrinted};
 
 /// The number of each kind of fault in memory is printed as the text of that kind.
 #[tactic(auto, using(crate::proofs::Printed::kinds_printed))]

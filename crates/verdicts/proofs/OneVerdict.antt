@@ -22,8 +22,8 @@ use Rattle.report.specs.declared.warning.Warning.{Warning}
 use Rattle.first_form.specs.declared.line.Program.{Program}
 use Rattle.first_form.specs.declared.token.PlacedToken.{PlacedToken}
 use Rattle.first_form.specs.FirstForm.{IsFormed, IsProgram}
-use Rattle.predator.specs.Verdict.{HasNoMain, HasNoToken, IsExact, IsFirstForm, IsRead, IsSound, IsTooDeep, IsVerdict, Judges, answer_of, verdict_of}
-use Rattle.predator.specs.Warnings.{AreWarnings, warning_of}
+use Rattle.verdicts.specs.Verdict.{HasNoMain, HasNoToken, IsExact, IsFirstForm, IsRead, IsSound, IsTooDeep, IsVerdict, Judges, answer_of, verdict_of}
+use Rattle.verdicts.specs.Warnings.{AreWarnings, warning_of}
 use Rattle.first_form.proofs.Ascending.{same_faults, same_numbers, no_member}
 use Rattle.first_form.proofs.ReadLines.{one_program}
 use Rattle.first_form.proofs.Spellings.{same_spelled}

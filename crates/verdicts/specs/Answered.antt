@@ -3,8 +3,8 @@ use Rattle.std.specs.Prelude.{◌≡◌, ℕ, ◌+◌, Bool, IsTrue, Option, Som
 use Rattle.ctokens.specs.InText.{most_bytes}
 use Rattle.report.specs.declared.answer.Answer.{Answer}
 use Rattle.report.specs.declared.answer.Answer.TheVariants.{Safe, Warned, NotRead, Construct, NotYet, TooLong, Usage, ReadFault, OutOfMemory}
-use Rattle.predator.specs.Shown.{AreNames}
-use Rattle.predator.specs.Verdict.{Judges}
+use Rattle.verdicts.specs.Shown.{AreNames}
+use Rattle.verdicts.specs.Verdict.{Judges}
 
 -- the bytes are a whole file: its content, read to its end, where `left` is left of it
 abbrev pub IsWhole : Option (List ℕ) → List ℕ → List ℕ → Type 0

@@ -1,4 +1,4 @@
-use Rattle.predator.proofs.top.predator.Goals as goal
+use Rattle.verdicts.proofs.top.predator.Goals as goal
 
 -- what is exactly true of the answer is so with its report
 pub returns-in-Ok-clause-exactly : goal.returns-in-Ok-clause-exactly

@@ -1,7 +1,7 @@
 -- What is exactly true of the file of the command is so of the file that the words name.
 use Rattle.std.proofs.Common.{map, string_bytes, sym, ◌∙◌}
-use Rattle.predator.proofs.Exactness.{file_named}
-use Rattle.predator.proofs.top.planned.Goals as goal
+use Rattle.verdicts.proofs.Exactness.{file_named}
+use Rattle.verdicts.proofs.top.planned.Goals as goal
 
 pub returns-in-Some-clause-exact : goal.returns-in-Some-clause-exact
 returns-in-Some-clause-exact g c = λ file whole told tells content.

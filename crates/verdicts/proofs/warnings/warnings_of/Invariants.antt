@@ -1,6 +1,6 @@
 use Rattle.std.proofs.Common.{◌≡◌, ◌++◌, map, drop}
-use Rattle.predator.specs.Warnings.{warning_of}
-use Rattle.predator.proofs.warnings.warnings_of.Given as goal
+use Rattle.verdicts.specs.Warnings.{warning_of}
+use Rattle.verdicts.proofs.warnings.warnings_of.Given as goal
 
 -- the warnings so far and those of the faults that are left make up the whole
 abbrev pub invariant-loop-fault : goal.invariant-loop-fault

@@ -1,6 +1,6 @@
 -- The numbers of faults and constructs are printed as what they stand for.
 use Rattle.std.proofs.Common.{refl}
-use Rattle.predator.specs.Printed.{KindsArePrinted, ConstructsArePrinted}
+use Rattle.verdicts.specs.Printed.{KindsArePrinted, ConstructsArePrinted}
 
 pub kinds_printed : KindsArePrinted
 kinds_printed = record {

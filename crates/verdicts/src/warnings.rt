@@ -1,5 +1,5 @@
 ghost use Rattle.std.specs.Prelude.{◌≡◌, IfOk, map};
-ghost use Rattle.predator.specs.Warnings.{place_of, warning_of};
+ghost use Rattle.verdicts.specs.Warnings.{place_of, warning_of};
 
 use cbase::{List, NoMemory, Place};
 use first_form::{Fault, PlacedToken};
