@@ -8,6 +8,3 @@ mod numbers;
 mod parser;
 
 pub use command::{Command, command_of};
-
-#[cfg(test)]
-mod tests;

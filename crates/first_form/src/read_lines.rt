@@ -77,6 +77,3 @@ pub fn read_lines(alloc: Global, tokens: &[Token]) -> Result<Option<Program>, No
     }
     Ok(Some(program))
 }
-
-#[cfg(test)]
-mod tests;

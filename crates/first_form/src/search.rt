@@ -363,6 +363,3 @@ fn ended(found: &mut BTreeSet<Fault>, at: u32, kind: u8) -> Result<bool, NoMemor
     add(found, at, kind)?;
     Ok(false)
 }
-
-#[cfg(test)]
-mod tests;

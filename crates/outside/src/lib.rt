@@ -30,6 +30,3 @@ pub use reading::{Reading, read_file};
 pub use sending::send;
 pub use sink::{Given, Sink};
 pub use steady::{SteadyFiles, SteadySink};
-
-#[cfg(test)]
-mod tests;

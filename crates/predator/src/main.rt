@@ -3,19 +3,12 @@
 
 ghost use Rattle.std.specs.Prelude.{◌≡◌, drop};
 
-mod judge;
-mod laws;
-#[cfg(test)]
-mod tests;
-mod top;
-mod warnings;
-
-use crate::top::predator;
 use outside::{OsFiles, OsSink};
 use report::{Answer, status};
 use std::io::ErrorKind;
 use std::process::ExitCode;
 use std::{env, io};
+use verdicts::predator;
 
 fn main(rt: HostRuntime) -> ExitCode {
     ExitCode::from(run(&rt))

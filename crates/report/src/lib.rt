@@ -17,6 +17,3 @@ pub use exit_status::status;
 pub use limits::Limits;
 pub use text::report_text;
 pub use warning::Warning;
-
-#[cfg(test)]
-mod tests;

@@ -1,0 +1,176 @@
+//! What is answered of items, and the names behind them.
+ghost use Rattle.std.specs.Prelude.{◌≡◌};
+ghost use Rattle.ctokens.specs.Passed.{passed_tokens};
+ghost use Rattle.ctokens.specs.InText.{LieInText};
+ghost use Rattle.ctokens.specs.TokenList.{AreNumbered};
+
+use cbase::NoMemory;
+use cgrammar::Scope;
+use cread::{ItemAnswer, ItemBehind, ReadIn, read_item, read_item_in, scope_after};
+use ctokens::{ItemSpan, Tokens, items, passed_over};
+use std::alloc::Global;
+
+/// The names in scope behind what was read, where it was.
+fn scope_behind(read: ReadIn) -> Option<Scope> {
+    match read {
+        ReadIn::Read(behind) => {
+            let ItemBehind {
+                item,
+                scope,
+                expressions: _,
+            } = behind;
+            drop(item);
+            Some(scope)
+        }
+        ReadIn::Refused(_) => None,
+    }
+}
+
+/// The names in scope behind an item, where it is read.
+fn behind_item(
+    alloc: Global,
+    t: &Tokens,
+    passed: &[bool],
+    span: &ItemSpan,
+    scope: Scope,
+) -> Result<Option<Scope>, NoMemory>
+    requires text { LieInText t.now }
+    requires numbered { AreNumbered t.now.list }
+    requires passed { passed.now ≡ passed_tokens t.now }
+{
+    if span.first >= span.after {
+        return Ok(None);
+    }
+    if span.after as usize > t.list.len() {
+        return Ok(None);
+    }
+    Ok(scope_behind(read_item_in(alloc, t, passed, *span, scope, 0)?))
+}
+
+/// The names in scope behind items of a text, one behind the other from its beginning, where each is read.
+fn behind_items(alloc: Global, t: &Tokens, spans: &[ItemSpan]) -> Result<Option<Scope>, NoMemory>
+    requires text { LieInText t.now }
+    requires numbered { AreNumbered t.now.list }
+{
+    let passed = passed_over(alloc, t)?;
+    let mut scope = Scope::new(alloc)?;
+    for span in spans {
+        match behind_item(alloc, t, passed.as_slice(), span, scope)? {
+            None => return Ok(None),
+            Some(within) => scope = within,
+        }
+    }
+    Ok(Some(scope))
+}
+
+/// An answer in words.
+fn shown(alloc: Global, answer: &ItemAnswer) -> Result<String, NoMemory> {
+    match answer {
+        ItemAnswer::Read(_) => Ok(String::from_str(alloc, "read")?),
+        ItemAnswer::Construct { number, place } => {
+            Ok(format!(in alloc; "construct {} at {}:{}", number, place.line, place.column)?)
+        }
+        ItemAnswer::Syntax { place } => {
+            Ok(format!(in alloc; "syntax at {}:{}", place.line, place.column)?)
+        }
+    }
+}
+
+/// What is answered of an item, where these names are in scope.
+fn shown_item(alloc: Global, t: &Tokens, span: &ItemSpan, scope: &Scope) -> Result<String, NoMemory>
+    requires text { LieInText t.now }
+    requires numbered { AreNumbered t.now.list }
+{
+    if span.first >= span.after {
+        return Ok(String::from_str(alloc, "no token")?);
+    }
+    if span.after as usize > t.list.len() {
+        return Ok(String::from_str(alloc, "outside")?);
+    }
+    let answer = read_item(alloc, t, span, scope)?;
+    let shown = shown(alloc, &answer);
+    drop(answer);
+    shown
+}
+
+/// What is answered of the last of these items, where each before it is read.
+fn shown_last(alloc: Global, t: &Tokens, spans: &[ItemSpan]) -> Result<String, NoMemory>
+    requires text { LieInText t.now }
+    requires numbered { AreNumbered t.now.list }
+{
+    let count = spans.len();
+    if count == 0 {
+        return Ok(String::from_str(alloc, "no item")?);
+    }
+    match behind_items(alloc, t, &spans[..count - 1])? {
+        None => Ok(String::from_str(alloc, "not read before")?),
+        Some(scope) => shown_item(alloc, t, &spans[count - 1], &scope),
+    }
+}
+
+/// What is answered of the last item of a text, where the names that the items before it declare are in scope: that it is read,
+/// or the number of the construct that is given up and its place, or the place at which nothing is spelled.
+pub fn last(alloc: Global, t: &Tokens) -> Result<String, NoMemory>
+    requires text { LieInText t.now }
+    requires numbered { AreNumbered t.now.list }
+{
+    match items(alloc, t)? {
+        Err(_) => Ok(String::from_str(alloc, "too deep")?),
+        Ok(spans) => shown_last(alloc, t, spans.as_slice()),
+    }
+}
+
+/// The names in scope behind an item that was read, where it was.
+fn scope_behind_answer(
+    alloc: Global,
+    answer: &ItemAnswer,
+    scope: &Scope,
+) -> Result<Option<Scope>, NoMemory> {
+    match answer {
+        ItemAnswer::Read(item) => Ok(Some(scope_after(alloc, scope, item)?)),
+        ItemAnswer::Construct { .. } | ItemAnswer::Syntax { .. } => Ok(None),
+    }
+}
+
+/// Whether `t` is a typedef's name behind an item, where these names are in scope before it; also where it is not read.
+fn is_typedef_behind(
+    alloc: Global,
+    t: &Tokens,
+    span: &ItemSpan,
+    scope: &Scope,
+) -> Result<String, NoMemory>
+    requires text { LieInText t.now }
+    requires numbered { AreNumbered t.now.list }
+{
+    if span.first >= span.after {
+        return Ok(String::from_str(alloc, "no token")?);
+    }
+    if span.after as usize > t.list.len() {
+        return Ok(String::from_str(alloc, "outside")?);
+    }
+    let answer = read_item(alloc, t, span, scope)?;
+    let behind = scope_behind_answer(alloc, &answer, scope);
+    drop(answer);
+    match behind? {
+        None => Ok(String::from_str(alloc, "not read")?),
+        Some(behind) => Ok(format!(in alloc; "{}", behind.is_typedef(b"t"))?),
+    }
+}
+
+/// Whether `t` is a typedef's name behind the first item of a text, where it is one before it, if `before` says so.
+pub fn typedef(alloc: Global, t: &Tokens, before: bool) -> Result<String, NoMemory>
+    requires text { LieInText t.now }
+    requires numbered { AreNumbered t.now.list }
+{
+    let mut scope = Scope::new(alloc)?;
+    if before {
+        scope.declare(alloc, b"t", true)?;
+    }
+    match items(alloc, t)? {
+        Err(_) => Ok(String::from_str(alloc, "too deep")?),
+        Ok(spans) => match spans.as_slice() {
+            [] => Ok(String::from_str(alloc, "no item")?),
+            [span, ..] => is_typedef_behind(alloc, t, span, &scope),
+        },
+    }
+}

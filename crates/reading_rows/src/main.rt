@@ -1,0 +1,37 @@
+//! Reads rows from its standard input, and prints a line for each with what the crates that read C answer of it.
+//!
+//! A row is `KIND NUMBER TEXT`. What a kind prints is said at the function of that name; the number is 0 where the kind asks for
+//! none. A row `repeat` prints nothing: it puts its text as often as its number says in front of the text of the row that
+//! follows. A line that begins with `# ` is a heading, and is printed as it stands.
+#![tactic(auto)]
+
+mod answers;
+mod constructs;
+mod cut;
+mod expressions;
+mod faults;
+mod items;
+mod lexical;
+mod line;
+mod reports;
+mod row;
+mod scopes;
+mod terminals;
+
+use cbase::{NoMemory, Text};
+use line::answer_of_line;
+use std::io::{self, BufRead, BufReader, ErrorKind};
+
+fn main(rt: HostRuntime) -> io::Result<()> {
+    let alloc = rt.alloc();
+    let mut front = Text::new(alloc);
+    for line in BufReader::new(alloc, rt.reader())?.lines(alloc) {
+        let line = line?;
+        match answer_of_line(alloc, &mut front, line.as_str()) {
+            Ok(None) => {}
+            Ok(Some(answer)) => println!(rt; "{answer}")?,
+            Err(NoMemory) => return Err(io::Error::from(ErrorKind::OutOfMemory)),
+        }
+    }
+    Ok(())
+}

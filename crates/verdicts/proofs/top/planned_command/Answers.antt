@@ -1,0 +1,7 @@
+use Rattle.verdicts.proofs.Exactness.{plan_answered}
+use Rattle.verdicts.proofs.top.planned_command.Goals as goal
+
+-- what is said of the answer is said of the plan
+pub returns-clause-judged : goal.returns-clause-judged
+returns-clause-judged g c =
+    plan_answered _ _ _ _ c.reported.result _ (rw c.as_slice.ensures at c.in_ok-answer.ensures.judged) c.reported.ensures.shown

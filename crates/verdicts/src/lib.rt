@@ -1,0 +1,13 @@
+//! Reads a C program from a file and says whether a run of it can misuse memory: the verdict about the file's bytes, and the
+//! report of it.
+//!
+//! It knows how the parts hang together, and no operating system: files and the sink are given to it.
+#![tactic(auto)]
+
+mod judge;
+mod laws;
+mod top;
+mod warnings;
+
+pub use laws::{constructs_are_printed, kinds_are_printed};
+pub use top::{Outcome, predator};
