@@ -7,3 +7,5 @@ pub mod Examples
 pub mod Releases
 pub mod Ranges
 pub mod Pointers
+pub mod Edges
+pub mod Moves

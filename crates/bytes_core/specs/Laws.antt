@@ -1,5 +1,5 @@
 -- Words in which the laws of memories are stated.
-use Rattle.std.specs.Prelude.{◌≡◌, ◌≢◌, ℕ, ◌+◌, ◌^◌, ◌<◌, ◌≤◌, List, ◌++◌, length, take, drop, slice_get, ℤ, pos, Some, IsTrue}
+use Rattle.std.specs.Prelude.{◌≡◌, ◌≢◌, ℕ, ◌+◌, ◌^◌, ◌<◌, ◌≤◌, List, ◌++◌, length, take, drop, slice_get, ℤ, pos, ◌+ℤ◌, ◌≤ℤ◌, ◌<ℤ◌, Some, IsTrue}
 use Rattle.bytes_core.specs.declared.byte.Byte.{Byte}
 use Rattle.bytes_core.specs.declared.word.Word.{Word}
 use Rattle.bytes_core.specs.declared.word.Word.TheVariants.{Plain, To}
@@ -51,3 +51,16 @@ pub record KeepsOtherBytes (old new : Block) (from count : ℕ) : Type 0 where
   pub size : length new.bytes ≡ length old.bytes
   pub before : take from new.bytes ≡ take from old.bytes
   pub after : drop (from + count) new.bytes ≡ drop (from + count) old.bytes
+
+-- some byte of one block lies in both ranges of `count` bytes, from one word on and from the other
+pub record SharesByte (one other : Word) (count : ℕ) : Type 0 where
+  pub block : ℕ
+  pub from : ℤ
+  pub from' : ℤ
+  pub at : ℤ
+  pub is : one ≡ To block from
+  pub is' : other ≡ To block from'
+  pub not_before : from ≤ℤ at
+  pub not_behind : at <ℤ (from +ℤ pos count)
+  pub not_before' : from' ≤ℤ at
+  pub not_behind' : at <ℤ (from' +ℤ pos count)

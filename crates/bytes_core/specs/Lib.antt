@@ -8,3 +8,4 @@ pub mod Loss
 pub mod Valid
 pub mod Laws
 pub mod Examples
+pub mod Edges

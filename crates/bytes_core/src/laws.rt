@@ -1,20 +1,23 @@
 //! Laws of memories. Each is the contract of a function that does nothing.
 //!
 //! They say in other words what the definitions of `specs/` compute.
-ghost use Rattle.std.specs.Prelude.{◌≡◌, ℕ, ◌+◌, ◌*◌, ◌%◌, ◌^◌, ◌≤◌, Bool, true, false, List, length, replicate, slice_get, ℤ, pos, None, Some, ◌↔◌, ◌⊎◌, IsTrue};
+ghost use Rattle.std.specs.Prelude.{◌≡◌, ℕ, ◌+◌, ◌*◌, ◌%◌, ◌^◌, ◌≤◌, Bool, true, false, List, length, replicate, slice_get, ℤ, pos, ◌+ℤ◌, None, Some, ◌↔◌, ◌⊎◌, IsTrue};
+ghost use Rattle.std.specs.Prelude.{FitsSigned};
+ghost use Rattle.std.specs.Int.{w64};
 ghost use Rattle.bytes_core.specs.declared.byte.Byte.{Byte};
 ghost use Rattle.bytes_core.specs.declared.byte.Byte.TheVariants.{Num};
 ghost use Rattle.bytes_core.specs.declared.block.Block.{Block};
 ghost use Rattle.bytes_core.specs.declared.word.Word.{Word};
 ghost use Rattle.bytes_core.specs.declared.word.Word.TheVariants.{Plain, To};
 ghost use Rattle.bytes_core.specs.Fault.{double_free};
-ghost use Rattle.bytes_core.specs.Value.{word_bytes, address_number, pointer_read};
+ghost use Rattle.bytes_core.specs.Value.{word_bytes, wrapped, address_number, moved, pointer_read};
 ghost use Rattle.bytes_core.specs.Access.{access_fault, range_fault, bytes_at, loaded, stored, filled};
-ghost use Rattle.bytes_core.specs.Copying.{copy_fault, copied};
+ghost use Rattle.bytes_core.specs.Copying.{share_byte, copy_fault, copied};
 ghost use Rattle.bytes_core.specs.Release.{is_heap, free_fault, freed};
 ghost use Rattle.bytes_core.specs.Loss.{holds_pointer_to, is_reached, is_lost, Chain, IsLostBlock};
-ghost use Rattle.bytes_core.specs.Laws.{IsWord, HoldsPointer, LeadsTo, LeadsToHeap, KeepsOthers, KeepsOtherBytes};
+ghost use Rattle.bytes_core.specs.Laws.{IsWord, HoldsPointer, LeadsTo, LeadsToHeap, KeepsOthers, KeepsOtherBytes, SharesByte};
 ghost use Rattle.bytes_core.specs.Examples.{AreExamples};
+ghost use Rattle.bytes_core.specs.Edges.{AreMemories, ArePlaces, AreAddresses, AreRanges, AreFrees};
 
 /// A pointer is read exactly from its eight bytes, in order (C11 6.2.6.1p4).
 pub fn pointer_is_read_whole()
@@ -91,6 +94,26 @@ pub fn store_keeps_other_bytes()
         × KeepsOtherBytes block changed from size }
 {}
 
+/// A move adds to the address of a word, modulo 2^64, be it a pointer or a number (C11 6.5.6p8).
+#[tactic(auto, using(crate::proofs::Moves::move_adds))]
+pub fn move_adds_to_the_address()
+    ensures { (memory : List Block) (word : Word) (bytes : ℤ) →
+        address_number memory (moved word bytes) ≡ wrapped (pos (address_number memory word) +ℤ bytes) }
+{}
+
+/// A pointer that is moved leads to the same block, at the sum of the offsets where that has 64 bits.
+pub fn move_stays_in_its_block()
+    ensures { (block : ℕ) (offset bytes : ℤ) → FitsSigned w64 (offset +ℤ bytes) →
+        moved (To block offset) bytes ≡ To block (offset +ℤ bytes) }
+{}
+
+/// Two ranges share a byte exactly where some byte of one block lies in both (C11 7.24.2.1p2).
+#[tactic(auto, using(crate::proofs::Moves::shared_bytes))]
+pub fn shared_bytes_lie_in_both_ranges()
+    ensures { (one other : Word) (count : ℕ) →
+        IsTrue (share_byte one other count) ↔ SharesByte one other count }
+{}
+
 /// A fill leaves its number in each byte of its range (C11 7.24.6.1p2).
 #[tactic(auto, using(crate::proofs::Ranges::fill_leaves))]
 pub fn fill_leaves_its_number()
@@ -147,4 +170,35 @@ pub fn free_of_null_changes_nothing()
 #[tactic(auto, using(crate::proofs::Examples::examples))]
 pub fn examples_hold()
     ensures { AreExamples }
+{}
+
+/// Lists of blocks are memories where each block lies where it may, live ones share no address, and each part of
+/// a pointer names a block: the worked examples come out so.
+#[tactic(auto, using(crate::proofs::Edges::memories))]
+pub fn edges_of_memories_hold()
+    ensures { AreMemories }
+{}
+
+/// The worked examples of bases come out as they should.
+#[tactic(auto, using(crate::proofs::Edges::places))]
+pub fn edges_of_places_hold()
+    ensures { ArePlaces }
+{}
+
+/// The worked examples of addresses and moves come out as they should.
+#[tactic(auto, using(crate::proofs::Edges::addresses))]
+pub fn edges_of_addresses_hold()
+    ensures { AreAddresses }
+{}
+
+/// The worked examples of accesses, fills and copies come out as they should.
+#[tactic(auto, using(crate::proofs::Edges::ranges))]
+pub fn edges_of_ranges_hold()
+    ensures { AreRanges }
+{}
+
+/// The worked examples of frees come out as they should.
+#[tactic(auto, using(crate::proofs::Edges::frees))]
+pub fn edges_of_frees_hold()
+    ensures { AreFrees }
 {}
