@@ -87,7 +87,7 @@ Put shapes shape after number = IsTable after × Interns (types_of shapes) (type
 
 put_old : (shapes after : List Shape) (shape : Shape) (number : ℕ) → IsTable shapes → after ≡ shapes → slice_get after number ≡ Some shape → Put shapes shape after number
 put_old shapes after shape number table e found =
-    subst (λ a. slice_get a number ≡ Some shape → Put shapes shape a number) (sym e) (λ f. (table, (found_type shapes shape number table f, inl refl))) found
+    subst (λ a. slice_get a number ≡ Some shape → Put shapes shape a number) (sym e) (λ f. (table, (found_type shapes shape number table f, inl refl, table.apart))) found
 
 put_new : (shapes after : List Shape) (shape : Shape) (number : ℕ) → IsTable shapes → NamesBelow (length shapes) shape
     → ((k : ℕ) (s : Shape) → slice_get shapes k ≡ Some s → s ≡ shape → ⊥) → after ≡ shapes ++ shape ∷ [] → slice_get after number ≡ Some shape → Put shapes shape after number
@@ -98,7 +98,7 @@ put_new shapes after shape number table names absent e found =
     let size : length types ≡ length shapes = table.size in
     let names_types : NamesBelow (length types) shape = subst (λ n. NamesBelow n shape) (sym size) names in
     let same : type_of (types_of after) shape ≡ type_of types shape = ap (λ ts. type_of ts shape) pushed ∙ type_of-grown types (type_of types shape ∷ []) shape names_types in
-    (next, (found_type after shape number next found ∙ ap Some same, inr pushed))
+    (next, (found_type after shape number next found ∙ ap Some same, inr pushed, next.apart))
 
 absent_of : (eq : Shape → Shape → Bool) → ((x y : Shape) → x ≡ y → eq x y ≡ true) → (shapes : List Shape) (shape : Shape) → list_any (eq shape) shapes ≡ false
     → (k : ℕ) (s : Shape) → slice_get shapes k ≡ Some s → s ≡ shape → ⊥

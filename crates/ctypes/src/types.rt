@@ -145,6 +145,5 @@ fn same_number(shapes: &IndexSet<Shape>, first: u32, second: u32) -> bool
     requires second { second < length (types_of shapes.now.keys) }
     ensures { IsTrue result ↔ (type_at (types_of shapes.now.keys) first ≡ type_at (types_of shapes.now.keys) second) }
 {
-    let _ = shapes.len();
     first == second
 }
