@@ -1,0 +1,10 @@
+//! Types of C as numbers in a table of shapes: equal types have one number.
+//!
+//! It knows how types are built from one another, and nothing of names, of scopes or of expressions.
+#![tactic(auto)]
+
+mod shape;
+mod types;
+
+pub use shape::Shape;
+pub use types::Types;
