@@ -1,10 +1,10 @@
 #!/usr/bin/env python3
 """Lays out the tables of wrong bodies in docs/attack.md from the edits that stand in the repository.
 
-Usage: tools/attack.py [--check] [RECORD ..]
+Usage: tools/attack.py [--check] [LOG ..]
 An edit of crates/NAME/must-fail/ is one that the gate tries, one of tests/wrong_bodies/NAME/ was tried by hand. What refused an
-edit is taken from a line 'CRATE<tab>NAME<tab>WHAT' of a RECORD, else from the page as it stands. With --check nothing is written,
-and the status is 1 where the page would change or an edit has no record.
+edit is taken from a LOG of the gate, of rt must-fail or of tests/wrong_bodies/try.py, else from the page as it stands. With --check
+nothing is written, and the status is 1 where the page would change or an edit has no record.
 """
 import re
 import sys
@@ -36,7 +36,27 @@ def changed(edit):
     return ", ".join(f"`{file}`" for file in files)
 
 
-def recorded(text, records):
+def cause(said):
+    """What refused an edit, from the first line that the prover said of it."""
+    proof, code = re.search(r"\./proofs/[\w/+.-]+\.antt", said), re.search(r"src/[\w/]+\.rt", said)
+    if said.startswith("./proofs") or not code:
+        return f"a proof, `{proof.group()}`" if proof else "the check; its log names no place"
+    kinds = (("what the function ensures", "what a function ensures"), ("invariant of the struct", "the invariant of the struct"),
+             ("invariant of the type", "the invariant of the struct"), ("invariant", "the invariant of a loop"),
+             ("requires", "what a call requires"))
+    return f"{next((words for part, words in kinds if part in said), 'a check')}, `{code.group()}`"
+
+
+def told(log):
+    """What a log says of edits: the crate, the title, and what refused it."""
+    for line in Path(log).read_text(errors="replace").splitlines():
+        if found := re.search(r"must-fail (\w+)/(\w+)\.edit: refused, as it must be[^:]*: (.*)", line):
+            yield found.group(1), found.group(2).replace("_", " "), cause(found.group(3))
+        elif found := re.search(r"must-fail (\w+)/(\w+)\.edit: (refused, as it must be)", line):
+            yield found.group(1), found.group(2).replace("_", " "), "the check; its log names no place"
+
+
+def recorded(text, logs):
     """What refused each edit, by its crate and title."""
     refused, crate = {}, None
     for line in text.splitlines():
@@ -44,10 +64,7 @@ def recorded(text, records):
             crate = head.group(1)
         elif crate and (row := re.fullmatch(r"\| (.+?) \| (.+?) \| (.+) \|", line)) and row.group(1) != "bug":
             refused[crate, row.group(1)] = row.group(3)
-    for record in records:
-        for line in Path(record).read_text().splitlines():
-            name, bug, what = line.split("\t")
-            refused[name, bug.replace("_", " ")] = what
+    refused.update(((crate, bug), what) for log in logs for crate, bug, what in told(log))
     return refused
 
 
