@@ -4,3 +4,4 @@ pub mod Pulled
 pub mod Renamed
 pub mod Reformed
 pub mod Numbered
+pub mod Alike

@@ -1,6 +1,6 @@
 -- Parts whose keys are their places.
 use Rattle.std.proofs.Common.{◌≡◌, ℕ, suc, zero, ◌+◌, ◌<◌, ◌≤◌, ◌^◌, Bool, true, false, ◌&&◌, List, [], ◌∷◌, map, length, Option, None, Some, nat_eq, nat_lt, get_or, refl, sym, ◌∙◌, ap, subst, eqb-true, eq-eqb, ne_eqb, ltb-true, ltb-false, arith, sum_by}
-use Rattle.std.specs.Prelude.{IsSome, IsTrue}
+use Rattle.std.specs.Prelude.{IsSome, IsTrue, ◌↔◌}
 use Rattle.std.specs.List.{AllPairs, position_or_len, fold}
 use Rattle.std.proofs.lemmas.Bool.{false≢true}
 use Rattle.std.proofs.lemmas.List.{length-map, get_or-map}
@@ -17,7 +17,10 @@ use Rattle.graph.specs.WellFormed.{HasAscendingKeys, IsWellFormed, nodes_of, nod
 use Rattle.graph.specs.Whole.{parts_of}
 use Rattle.graph.specs.Laws.{IsRenaming, IsOneToOne}
 use Rattle.graph.proofs.Found.{found-later}
+use Rattle.graph.specs.State.{State}
+use Rattle.graph.specs.Meaning.{StandsFor}
 use Rattle.graph.proofs.Reformed.{IsWellFormed-renamed}
+use Rattle.graph.proofs.Renamed.{renaming_keeps}
 
 -- a place of a key that is there
 record Index (keys : List ℕ) (at : ℕ) : Type 0 where
@@ -140,3 +143,12 @@ ascending_from inside = record {
       let other = value_key_from 0 inside.values j default within in
       omega arith;
 }
+
+pub numbering_renames : (parts : Parts) → HasAscendingKeys parts →
+    IsRenaming (object_place parts) (value_place parts) parts × (numbered parts ≡ renamed (object_place parts) (value_place parts) parts)
+numbering_renames parts ascending = (IsRenaming-places parts, numbered-renamed parts ascending)
+
+pub numbering_keeps : (parts : Parts) (state : State) → HasAscendingKeys parts → IsWellFormed parts → (StandsFor (numbered parts) state ↔ StandsFor parts state)
+numbering_keeps parts state ascending well_formed =
+    subst (λ (p : Parts). StandsFor p state ↔ StandsFor parts state) (sym (numbered-renamed parts ascending))
+    (renaming_keeps (object_place parts) (value_place parts) parts state (IsRenaming-places parts) well_formed)

@@ -243,3 +243,6 @@ module _ (of_objects of_values : ℕ → ℕ) (parts : Parts) (renaming : IsRena
         list_all-map (is_unequal_pair other) (renamed_pair of_values) parts.unequal
         ∙ list_all-implies (is_unequal_pair parts) (λ pair. is_unequal_pair other (renamed_pair of_values pair)) pair_renamed parts.unequal well_formed.pairs_may_be_unequal;
   }
+
+pub renaming_keeps_form : (of_objects of_values : ℕ → ℕ) (parts : Parts) → IsRenaming of_objects of_values parts → IsWellFormed parts → IsWellFormed (renamed of_objects of_values parts)
+renaming_keeps_form of_objects of_values parts renaming well_formed = IsWellFormed-renamed of_objects of_values parts renaming well_formed

@@ -9,6 +9,7 @@ mod build;
 mod edges;
 mod graph;
 mod keyed;
+pub mod laws;
 mod object;
 mod parts;
 mod post;
