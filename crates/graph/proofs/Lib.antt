@@ -5,3 +5,6 @@ pub mod Renamed
 pub mod Reformed
 pub mod Numbered
 pub mod Alike
+pub mod Chosen
+pub mod Table
+pub mod Placing
