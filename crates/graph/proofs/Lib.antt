@@ -8,3 +8,4 @@ pub mod Alike
 pub mod Chosen
 pub mod Table
 pub mod Placing
+pub mod Witness
