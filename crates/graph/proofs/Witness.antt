@@ -1,5 +1,5 @@
 -- Every well-formed graph stands for some state.
-use Rattle.std.proofs.Common.{◌≡◌, ◌≢◌, ℕ, zero, suc, ◌+◌, ◌-◌, ◌*◌, ◌^◌, ◌<◌, ◌≤◌, Bool, true, false, ◌&&◌, ◌||◌, not, List, [], ◌∷◌, map, length, take, drop, get_or, nat_eq, nat_le, nat_lt, Option, None, Some, refl, sym, ◌∙◌, ap, subst, eqb-true, eq-eqb, le-leb, leb-true, leb-false, ltb-true, arith, sum_by}
+use Rattle.std.proofs.Common.{◌≡◌, ◌≢◌, ℕ, zero, suc, ◌+◌, ◌-◌, ◌*◌, ◌^◌, ◌<◌, ◌≤◌, Bool, true, false, ◌&&◌, ◌||◌, not, List, [], ◌∷◌, map, length, take, drop, get_or, min, length-take, length-drop, nat_eq, nat_le, nat_lt, Option, None, Some, refl, sym, ◌∙◌, ap, subst, eqb-true, eq-eqb, le-leb, leb-true, leb-false, ltb-true, arith, sum_by, ◌⊎◌, inl, inr}
 use Rattle.std.specs.Prelude.{IsSome, IsTrue, option_map, slice_get, Contains, if◌then◌else◌}
 use Rattle.std.specs.Int.{w64, to_le_bytes}
 use Rattle.std.specs.List.{All, AllPairs, list_all, fold}
@@ -193,3 +193,235 @@ module _ (objects : List Object) (parts : Parts) (objects_are : parts.objects �
           ((if nat_le 4 size then number_for parts key else 0), refl, chosen_fits (number_for parts key) size (sized key (Number size) is) (number_for-below parts key few_pairs))
       by_value Any is = record { small = omega arith; named = tt }
       by_value (Address object offset Region) is = refl
+
+  -- Bytes.
+
+  abbrev bytes_for : Object → List Byte
+  bytes_for object = table (byte_at (word_for parts) object.edges) 0 object.size
+
+  zero_has : (class : ℕ) → HasClass class (Num 0)
+  zero_has zero = refl
+  zero_has (suc zero) = tt
+  zero_has (suc (suc class)) = tt
+
+  number_has : (bytes : List ℕ) (i : ℕ) → HasClass 1 (get_or (map Num bytes) i (Num 0))
+  number_has [] i = tt
+  number_has (byte ∷ rest) zero = tt
+  number_has (byte ∷ rest) (suc i) = number_has rest i
+
+  -- a byte of a value's word has the value's class
+  word_has : (number i : ℕ) (value : Value) → HasClass (value_class value) (get_or (word_bytes (word_as number (Some value))) i (Num 0))
+  word_has number i (Const constant size) = number_has (to_le_bytes w64 constant) i
+  word_has number i (Number size) = number_has (to_le_bytes w64 (if nat_le 4 size then number else 0)) i
+  word_has number i Any = tt
+  word_has number i (Address object offset target) = tt
+
+  -- the class of a byte under an edge is that of the value
+  class_is : (plane : List ℕ) (edge : HasValue) (class place d : ℕ) → list_all (nat_eq class) (take edge.size (drop edge.at plane)) ≡ true → place < length plane →
+      edge.at ≤ place → place < edge.at + edge.size → get_or plane place d ≡ class
+  class_is plane edge class place d all within low high =
+      let pass = AllPass-from_list_all (nat_eq class) (take edge.size (drop edge.at plane)) all in
+      let part : get_or (take edge.size (drop edge.at plane)) (place - edge.at) d ≡ get_or plane place d =
+          get_or-take edge.size (drop edge.at plane) (place - edge.at) d (omega arith)
+          ∙ get_or-drop edge.at plane (place - edge.at) d
+          ∙ ap (λ (n : ℕ). get_or plane n d) (let e : edge.at + (place - edge.at) ≡ place = omega arith in e) in
+      let long : length (take edge.size (drop edge.at plane)) ≡ min edge.size (length plane - edge.at) = length-take edge.size (drop edge.at plane) ∙ ap (min edge.size) (length-drop edge.at plane) in
+      let equal : class ≡ get_or (take edge.size (drop edge.at plane)) (place - edge.at) d = eqb-true _ _ (pass (place - edge.at) d (omega arith)) in
+      sym part ∙ sym equal
+
+  edge_has : (plane : List ℕ) (edge : HasValue) (place d : ℕ) → edge_has_class parts plane edge ≡ true → place < length plane → covers edge place ≡ true →
+      HasClass (get_or plane place d) (edge_byte (word_for parts) edge place)
+  edge_has plane edge place d has within covered =
+      let held = Holds-some (value_at parts.values edge.value) (passes-some (λ value. list_all (nat_eq (value_class value)) (take edge.size (drop edge.at plane))) (value_at parts.values edge.value) has) in
+      let all = subst (λ (o : Option Value). option_map_or (λ value. list_all (nat_eq (value_class value)) (take edge.size (drop edge.at plane))) o false ≡ true) held.is has in
+      let low = leb-true _ _ (and_left (nat_le edge.at place) (nat_lt place (edge.at + edge.size)) covered) in
+      let high = ltb-true _ _ (and_right (nat_le edge.at place) (nat_lt place (edge.at + edge.size)) covered) in
+      let class = class_is plane edge (value_class held.item) place d all within low high in
+      let byte = subst (λ (o : Option Value). HasClass (value_class held.item) (get_or (word_bytes (word_as (number_for parts edge.value) o)) (place - edge.at) (Num 0))) (sym held.is)
+          (word_has (number_for parts edge.value) (place - edge.at) held.item) in
+      subst (λ (c : ℕ). HasClass c (edge_byte (word_for parts) edge place)) (sym class) byte
+
+  byte_has : (plane : List ℕ) (edges : List HasValue) (place d : ℕ) → list_all (edge_has_class parts plane) edges ≡ true → place < length plane →
+      HasClass (get_or plane place d) (byte_at (word_for parts) edges place)
+  byte_has plane [] place d has within = zero_has (get_or plane place d)
+  byte_has plane (edge ∷ rest) place d has within =
+      by_cases (covers edge place) refl (byte_has plane rest place d (and_right (edge_has_class parts plane edge) (list_all (edge_has_class parts plane) rest) has) within)
+    where
+      by_cases : (b : Bool) → covers edge place ≡ b → HasClass (get_or plane place d) (byte_at (word_for parts) rest place) →
+          HasClass (get_or plane place d) (if b then edge_byte (word_for parts) edge place else byte_at (word_for parts) rest place)
+      by_cases true is later = edge_has plane edge place d (and_left (edge_has_class parts plane edge) (list_all (edge_has_class parts plane) rest) has) within is
+      by_cases false is later = later
+
+  small_edge : (edge : HasValue) → edge_has_size parts edge ≡ true → nat_le edge.size 8 ≡ true
+  small_edge edge has =
+      let held = Holds-some (value_at parts.values edge.value) (passes-some (λ value. nat_eq (value_size value) edge.size) (value_at parts.values edge.value) has) in
+      let equal = eqb-true _ _ (subst (λ (o : Option Value). option_map_or (λ value. nat_eq (value_size value) edge.size) o false ≡ true) held.is has) in
+      let small = size_of_sized held.item (sized edge.value held.item held.is) in
+      le-leb _ _ (omega arith)
+
+  -- what all objects are, the one with a key is
+  each : (test : Object → Bool) (key : ℕ) (object : Object) → list_all (λ (entry : KeyedObject). test entry.object) parts.objects ≡ true → object_at parts.objects key ≡ Some object → test object ≡ true
+  each test key object all stands = found-all (λ (entry : KeyedObject). entry.key) (λ entry. entry.object) test parts.objects key object all stands
+
+  -- the block of a live object
+  node : (key : ℕ) (object : Object) → object_at parts.objects key ≡ Some object → object.live ≡ true → IsNode object (word_for parts) (block_of bytes_for key object)
+  node key object stands live =
+      let disjoint = each (λ object. are_disjoint object.edges) key object well_formed.edges_are_disjoint stands in
+      let inside = each (λ object. list_all (lies_in object.size) object.edges) key object well_formed.edges_lie_inside stands in
+      let sizes = each (λ object. list_all (edge_has_size parts) object.edges) key object well_formed.edges_have_their_sizes stands in
+      let small = list_all-implies (edge_has_size parts) (λ edge. nat_le edge.size 8) small_edge object.edges sizes in
+      let classes = each (λ object. list_all (edge_has_class parts object.plane) object.edges) key object well_formed.edges_have_their_classes stands in
+      let long : length object.plane ≡ object.size = eqb-true _ _ (lives object.live live (each has_class_a_byte key object well_formed.planes_are_as_long stands)) in
+      record {
+        live = live;
+        kind = refl;
+        size = length-table (byte_at (word_for parts) object.edges) 0 object.size;
+        edges = HoldEdges-table (word_for parts) object.edges object.size disjoint inside small;
+        classes = subst (λ (n : ℕ). HaveClasses object.plane (table (byte_at (word_for parts) object.edges) 0 n)) long
+            (HaveClasses-table (byte_at (word_for parts) object.edges) 0 object.plane (λ i d below. subst (λ (n : ℕ). HasClass (get_or object.plane i d) (byte_at (word_for parts) object.edges n)) (let e : i ≡ 0 + i = omega arith in e) (byte_has object.plane object.edges i d classes below)));
+      }
+    where
+      lives : (b : Bool) → b ≡ true → (not b || nat_eq (length object.plane) object.size) ≡ true → nat_eq (length object.plane) object.size ≡ true
+      lives true is has = has
+      lives false is has = absurd (false≢true is)
+
+  abbrev memory_for : List Block
+  memory_for = blocks_from bytes_for 0 objects
+
+  block_there : (key : ℕ) (object : Object) → object_at parts.objects key ≡ Some object → slice_get memory_for key ≡ Some (block_of bytes_for key object)
+  block_there key object stands =
+      slice_get-blocks bytes_for 0 objects key
+      ∙ ap (option_map (block_of bytes_for (0 + key))) (sym (object_is key) ∙ stands)
+      ∙ ap (λ (n : ℕ). Some (block_of bytes_for n object)) (let e : 0 + key ≡ key = omega arith in e)
+
+  shape_there : (shape : Shape) (key : ℕ) (object : Object) → object_at parts.objects key ≡ Some object → object.live ≡ true → HasShape shape memory_for object (word_for parts) (key ∷ [])
+  shape_there RegionShape key object stands live = (key, refl, record { block = block_of bytes_for key object; there = block_there key object stands; node = node key object stands live })
+
+  blocks_there : (key : ℕ) (object : Object) → object_at parts.objects key ≡ Some object → HasBlocksAs object.live memory_for object (word_for parts) (key ∷ [])
+  blocks_there key object stands = by_life object.live refl
+    where
+      by_life : (b : Bool) → object.live ≡ b → HasBlocksAs b memory_for object (word_for parts) (key ∷ [])
+      by_life true live = shape_there object.shape key object stands live
+      by_life false dead = (key, refl, subst (λ (o : Option Block). IsGone object.kind o) (sym (block_there key object stands)) (dead, refl))
+
+  -- Pairs.
+
+  one_node : (shape : Shape) → nodes_of shape ≡ 1
+  one_node RegionShape = refl
+
+  count_nodes : (from before : ℕ) (os : List Object) → fold (λ count (entry : KeyedObject). count + nodes_of entry.object.shape) before (objects_from from os) ≡ before + length os
+  count_nodes from before [] = omega arith
+  count_nodes from before (object ∷ rest) = let one = one_node object.shape in count_nodes (from + 1) (before + nodes_of object.shape) rest ∙ omega arith
+
+  few_objects : length objects < 2 ^ 30
+  few_objects =
+      let few = ltb-true (nodes parts) (2 ^ 30) (and_left (nat_lt (nodes parts) (2 ^ 30)) (nat_lt (length parts.unequal) (2 ^ 30)) limits) in
+      let count : nodes parts ≡ 0 + length objects = ap (λ (entries : List KeyedObject). fold (λ count (entry : KeyedObject). count + nodes_of entry.object.shape) 0 entries) objects_are ∙ count_nodes 0 0 objects in
+      omega arith
+
+  plain_differ : (one next : ℕ) → one ≢ next → Plain one ≢ Plain next
+  plain_differ one next differ equal = differ (ap number_in equal)
+    where
+      number_in : Word → ℕ
+      number_in (Plain number) = number
+      number_in (To block offset) = 0
+
+  large : (size : ℕ) → (nat_eq size 4 ≡ true) ⊎ (nat_eq size 8 ≡ true) → (number : ℕ) → (if nat_le 4 size then number else 0) ≡ number
+  large size either number = ap (λ (b : Bool). if b then number else 0) (le-leb 4 size (by_cases either))
+    where
+      by_cases : (nat_eq size 4 ≡ true) ⊎ (nat_eq size 8 ≡ true) → 4 ≤ size
+      by_cases (inl four) = let e = eqb-true _ _ four in omega arith
+      by_cases (inr eight) = let e = eqb-true _ _ eight in omega arith
+
+  -- two numbers have one size, 4 or 8
+  sizes_of : (one next : Value) → (are_numbers one next 4 || are_numbers one next 8) ≡ true →
+      ((is_number one 4 ≡ true) × (is_number next 4 ≡ true)) ⊎ ((is_number one 8 ≡ true) × (is_number next 8 ≡ true))
+  sizes_of one next numbers = by_cases (are_numbers one next 4) refl numbers
+    where
+      by_cases : (b : Bool) → are_numbers one next 4 ≡ b → (b || are_numbers one next 8) ≡ true → ((is_number one 4 ≡ true) × (is_number next 4 ≡ true)) ⊎ ((is_number one 8 ≡ true) × (is_number next 8 ≡ true))
+      by_cases true is either = inl (and_left (is_number one 4) (is_number next 4) is, and_right (is_number one 4) (is_number next 4) is)
+      by_cases false is either = inr (and_left (is_number one 8) (is_number next 8) either, and_right (is_number one 8) (is_number next 8) either)
+
+  size_left : (one next : Value) → (are_numbers one next 4 || are_numbers one next 8) ≡ true → (is_number one 4 ≡ true) ⊎ (is_number one 8 ≡ true)
+  size_left one next numbers = by_cases (sizes_of one next numbers)
+    where
+      by_cases : ((is_number one 4 ≡ true) × (is_number next 4 ≡ true)) ⊎ ((is_number one 8 ≡ true) × (is_number next 8 ≡ true)) → (is_number one 4 ≡ true) ⊎ (is_number one 8 ≡ true)
+      by_cases (inl both) = inl both.0
+      by_cases (inr both) = inr both.0
+
+  size_right : (one next : Value) → (are_numbers one next 4 || are_numbers one next 8) ≡ true → (is_number next 4 ≡ true) ⊎ (is_number next 8 ≡ true)
+  size_right one next numbers = by_cases (sizes_of one next numbers)
+    where
+      by_cases : ((is_number one 4 ≡ true) × (is_number next 4 ≡ true)) ⊎ ((is_number one 8 ≡ true) × (is_number next 8 ≡ true)) → (is_number next 4 ≡ true) ⊎ (is_number next 8 ≡ true)
+      by_cases (inl both) = inl both.1
+      by_cases (inr both) = inr both.1
+
+  no_number : (number : Bool) → number ≡ false → (number ≡ true) → ⊥
+  no_number number is true_ = false≢true (sym is ∙ true_)
+
+  neither : {A : Type 0} → (false ≡ true) ⊎ (false ≡ true) → A
+  neither (inl h) = absurd (false≢true h)
+  neither (inr h) = absurd (false≢true h)
+
+  -- the words of two numbers of a pair differ
+  values_differ : (left right : ℕ) (one next : Value) → left ≢ right → may_be_unequal one next ≡ true →
+      is_in left (pair_keys parts.unequal) ≡ true → is_in right (pair_keys parts.unequal) ≡ true →
+      is_in (constant_of (Some one)) (pair_constants parts.values parts.unequal) ≡ true → is_in (constant_of (Some next)) (pair_constants parts.values parts.unequal) ≡ true →
+      word_as (number_for parts left) (Some one) ≢ word_as (number_for parts right) (Some next)
+  values_differ left right one next apart may left_in right_in one_in next_in =
+      by_values one next (and_left (are_numbers one next 4 || are_numbers one next 8) (not (is_constant one && is_constant next)) may) (and_right (are_numbers one next 4 || are_numbers one next 8) (not (is_constant one && is_constant next)) may) one_in next_in
+    where
+      outside : (key number : ℕ) → is_in key (pair_keys parts.unequal) ≡ true → is_in number (pair_constants parts.values parts.unequal) ≡ true → number_for parts key ≢ number
+      outside key number key_in number_in equal =
+          false≢true (sym (chosen-outside (pair_keys parts.unequal) (pair_constants parts.values parts.unequal) key key_in) ∙ ap (λ (n : ℕ). is_in n (pair_constants parts.values parts.unequal)) equal ∙ number_in)
+      by_values : (one next : Value) → (are_numbers one next 4 || are_numbers one next 8) ≡ true → not (is_constant one && is_constant next) ≡ true →
+          is_in (constant_of (Some one)) (pair_constants parts.values parts.unequal) ≡ true → is_in (constant_of (Some next)) (pair_constants parts.values parts.unequal) ≡ true →
+          word_as (number_for parts left) (Some one) ≢ word_as (number_for parts right) (Some next)
+      by_values (Const m size) (Const n size') numbers constants one_in next_in = absurd (false≢true constants)
+      by_values (Const m size) (Number size') numbers constants one_in next_in =
+          plain_differ _ _ (λ equal. outside right m right_in one_in (sym (large size' (size_right (Const m size) (Number size') numbers) (number_for parts right)) ∙ sym equal))
+      by_values (Number size) (Const n size') numbers constants one_in next_in =
+          plain_differ _ _ (λ equal. outside left n left_in next_in (sym (large size (size_left (Number size) (Const n size') numbers) (number_for parts left)) ∙ equal))
+      by_values (Number size) (Number size') numbers constants one_in next_in =
+          plain_differ _ _ (λ equal. chosen-differ (pair_keys parts.unequal) (pair_constants parts.values parts.unequal) left right apart left_in right_in
+              (sym (large size (size_left (Number size) (Number size') numbers) (number_for parts left)) ∙ equal ∙ large size' (size_right (Number size) (Number size') numbers) (number_for parts right)))
+      by_values Any next numbers constants one_in next_in = neither (size_left Any next numbers)
+      by_values (Address object offset target) next numbers constants one_in next_in = neither (size_left (Address object offset target) next numbers)
+      by_values (Const m size) Any numbers constants one_in next_in = neither (size_right (Const m size) Any numbers)
+      by_values (Const m size) (Address object offset target) numbers constants one_in next_in = neither (size_right (Const m size) (Address object offset target) numbers)
+      by_values (Number size) Any numbers constants one_in next_in = neither (size_right (Number size) Any numbers)
+      by_values (Number size) (Address object offset target) numbers constants one_in next_in = neither (size_right (Number size) (Address object offset target) numbers)
+
+  pair_differs : (pair : Pair) → is_unequal_pair parts pair ≡ true → is_in pair.left (pair_keys parts.unequal) ≡ true → is_in pair.right (pair_keys parts.unequal) ≡ true →
+      is_in (constant_of (value_at parts.values pair.left)) (pair_constants parts.values parts.unequal) ≡ true → is_in (constant_of (value_at parts.values pair.right)) (pair_constants parts.values parts.unequal) ≡ true →
+      word_for parts pair.left ≢ word_for parts pair.right
+  pair_differs pair unequal left_in right_in one_in next_in =
+      let both = and_right (not (nat_eq pair.left pair.right)) (passes_at parts (λ one. passes_at parts (may_be_unequal one) pair.right) pair.left) unequal in
+      let one = Holds-some (value_at parts.values pair.left) (passes-some (λ one. passes_at parts (may_be_unequal one) pair.right) (value_at parts.values pair.left) both) in
+      let right = subst (λ (o : Option Value). option_map_or (λ one. passes_at parts (may_be_unequal one) pair.right) o false ≡ true) one.is both in
+      let next = Holds-some (value_at parts.values pair.right) (passes-some (may_be_unequal one.item) (value_at parts.values pair.right) right) in
+      let may = subst (λ (o : Option Value). option_map_or (may_be_unequal one.item) o false ≡ true) next.is right in
+      let apart : pair.left ≢ pair.right = λ equal.
+          false≢true (sym (ap not (eq-eqb pair.left pair.right equal)) ∙ and_left (not (nat_eq pair.left pair.right)) (passes_at parts (λ one. passes_at parts (may_be_unequal one) pair.right) pair.left) unequal) in
+      λ equal.
+          values_differ pair.left pair.right one.item next.item apart may left_in right_in
+          (subst (λ (o : Option Value). is_in (constant_of o) (pair_constants parts.values parts.unequal) ≡ true) one.is one_in)
+          (subst (λ (o : Option Value). is_in (constant_of o) (pair_constants parts.values parts.unequal) ≡ true) next.is next_in)
+          (ap (word_as (number_for parts pair.left)) (sym one.is) ∙ equal ∙ ap (word_as (number_for parts pair.right)) next.is)
+
+  pairs_differ : (pairs : List Pair) → list_all (is_unequal_pair parts) pairs ≡ true → ((key : ℕ) → is_in key (pair_keys pairs) ≡ true → is_in key (pair_keys parts.unequal) ≡ true) →
+      ((number : ℕ) → is_in number (pair_constants parts.values pairs) ≡ true → is_in number (pair_constants parts.values parts.unequal) ≡ true) → AreUnequal (word_for parts) pairs
+  pairs_differ [] all keys constants = tt
+  pairs_differ (pair ∷ rest) all keys constants =
+      (pair_differs pair (and_left (is_unequal_pair parts pair) (list_all (is_unequal_pair parts) rest) all)
+          (keys pair.left (is_in-first pair.left (pair.right ∷ pair_keys rest)))
+          (keys pair.right (is_in-later pair.right pair.left (pair.right ∷ pair_keys rest) (is_in-first pair.right (pair_keys rest))))
+          (constants (constant_of (value_at parts.values pair.left)) (is_in-first (constant_of (value_at parts.values pair.left)) (constant_of (value_at parts.values pair.right) ∷ pair_constants parts.values rest)))
+          (constants (constant_of (value_at parts.values pair.right))
+              (is_in-later (constant_of (value_at parts.values pair.right)) (constant_of (value_at parts.values pair.left)) (constant_of (value_at parts.values pair.right) ∷ pair_constants parts.values rest)
+                  (is_in-first (constant_of (value_at parts.values pair.right)) (pair_constants parts.values rest)))),
+      pairs_differ rest (and_right (is_unequal_pair parts pair) (list_all (is_unequal_pair parts) rest) all)
+          (λ key within. keys key (is_in-later key pair.left (pair.right ∷ pair_keys rest) (is_in-later key pair.right (pair_keys rest) within)))
+          (λ number within. constants number
+              (is_in-later number (constant_of (value_at parts.values pair.left)) (constant_of (value_at parts.values pair.right) ∷ pair_constants parts.values rest)
+                  (is_in-later number (constant_of (value_at parts.values pair.right)) (pair_constants parts.values rest) within))))
