@@ -1,6 +1,6 @@
 -- Every well-formed graph stands for some state.
 use Rattle.std.proofs.Common.{◌≡◌, ◌≢◌, ℕ, zero, suc, ◌+◌, ◌-◌, ◌*◌, ◌^◌, ◌<◌, ◌≤◌, Bool, true, false, ◌&&◌, ◌||◌, not, List, [], ◌∷◌, map, length, take, drop, get_or, min, length-take, length-drop, nat_eq, nat_le, nat_lt, Option, None, Some, refl, sym, ◌∙◌, ap, subst, eqb-true, eq-eqb, le-leb, leb-true, leb-false, ltb-true, arith, sum_by, ◌⊎◌, inl, inr}
-use Rattle.std.specs.Prelude.{IsSome, IsTrue, option_map, slice_get, Contains, if◌then◌else◌}
+use Rattle.std.specs.Prelude.{IsSome, IsTrue, option_map, slice_get, Contains, ℤ, if◌then◌else◌}
 use Rattle.std.specs.Int.{w64, to_le_bytes}
 use Rattle.std.specs.List.{All, AllPairs, list_all, fold}
 use Rattle.std.specs.Option.{option_map_or}
@@ -32,13 +32,14 @@ use Rattle.graph.specs.declared.parts.Pair.{Pair}
 use Rattle.graph.specs.declared.parts.Parts.{Parts}
 use Rattle.graph.specs.Maps.{found_at, object_at, value_at, storage_of, held_by}
 use Rattle.graph.specs.Sizes.{value_size, value_class, is_scalar_size, is_sized, is_number, is_constant}
-use Rattle.graph.specs.Renaming.{objects_from}
-use Rattle.graph.specs.WellFormed.{IsWellFormed, has_value, passes_at, target_fits, leads_to_object, is_storage, has_class_a_byte, lies_in, share_no_byte, are_disjoint, edge_has_size, edge_has_class, is_unequal_pair, may_be_unequal, are_numbers, nodes_of, nodes, is_within_limits}
+use Rattle.graph.specs.Renaming.{renamed_object, objects_from, value_place, numbered}
+use Rattle.graph.specs.WellFormed.{IsWellFormed, has_value, passes_at, target_fits, leads_to_object, is_storage, has_class_a_byte, lies_in, share_no_byte, are_disjoint, edge_has_size, edge_has_class, is_unequal_pair, may_be_unequal, are_numbers, nodes_of, nodes, is_within_limits, HasAscendingKeys}
 use Rattle.graph.specs.State.{State, IsWordBelow, IsState}
 use Rattle.graph.specs.Meaning.{HasClass, HaveClasses, HoldEdges, IsNode, StandsAt, IsGone, HasShape, HasBlocksAs, address_word, HasWord, IsRooted, AreRooted, AreUnequal, maps_of, Assignment, IsOwned, Meets, StandsForBy, StandsFor}
 use Rattle.graph.proofs.Tests.{and_left, and_right, and_both, list_all-implies}
 use Rattle.graph.proofs.Found.{Holds, Holds-some, IsSome-holds, found-all, found-here, found-later}
 use Rattle.graph.proofs.Renamed.{passes-some}
+use Rattle.graph.proofs.Numbered.{numbered_well_formed, numbered_within_limits, numbering_keeps}
 use Rattle.graph.proofs.Chosen.{is_in, is_in-later, is_in-first, chosen, chosen-below, chosen-outside, chosen-differ}
 use Rattle.graph.proofs.Table.{covers, edge_byte, byte_at, table, length-table, HoldEdges-table, HaveClasses-table}
 use Rattle.graph.proofs.Placing.{All-nil, All-cons, block_of, blocks_from, slice_get-blocks, length-blocks, IsMemory-blocks}
@@ -425,3 +426,165 @@ module _ (objects : List Object) (parts : Parts) (objects_are : parts.objects �
           (λ number within. constants number
               (is_in-later number (constant_of (value_at parts.values pair.left)) (constant_of (value_at parts.values pair.right) ∷ pair_constants parts.values rest)
                   (is_in-later number (constant_of (value_at parts.values pair.right)) (pair_constants parts.values rest) within))))
+
+  -- The state.
+
+  abbrev root_of : Word → List ℕ → List ℕ
+  root_of (Plain number) rest = rest
+  root_of (To block offset) rest = block ∷ rest
+
+  abbrev roots_for : List ℕ → List ℕ
+  roots_for [] = []
+  roots_for (port ∷ rest) = root_of (word_for parts port) (roots_for rest)
+
+  rooted_here : (number : ℕ) (rest : List ℕ) (found : Option Value) → IsRooted (root_of (word_as number found) rest) (λ object. object ∷ []) found
+  rooted_here number rest None = tt
+  rooted_here number rest (Some (Const constant size)) = tt
+  rooted_here number rest (Some (Number size)) = tt
+  rooted_here number rest (Some Any) = tt
+  rooted_here number rest (Some (Address object offset target)) =
+      All-cons (Contains (object ∷ rest)) object [] (0, omega arith, refl) (All-nil (Contains (object ∷ rest)))
+
+  more_roots : (root : ℕ) (rest : List ℕ) (found : Option Value) → IsRooted rest (λ object. object ∷ []) found → IsRooted (root ∷ rest) (λ object. object ∷ []) found
+  more_roots root rest None rooted = tt
+  more_roots root rest (Some (Const number size)) rooted = tt
+  more_roots root rest (Some (Number size)) rooted = tt
+  more_roots root rest (Some Any) rooted = tt
+  more_roots root rest (Some (Address object offset target)) rooted =
+      let here : Contains rest object = rooted 0 object (omega arith) in
+      All-cons (Contains (root ∷ rest)) object [] (suc here.0, (let w = here.1 in omega arith), here.2) (All-nil (Contains (root ∷ rest)))
+
+  all_more_roots : (word : Word) (rest : List ℕ) (ports : List ℕ) → AreRooted rest (λ object. object ∷ []) (value_at parts.values) ports → AreRooted (root_of word rest) (λ object. object ∷ []) (value_at parts.values) ports
+  all_more_roots (Plain number) rest ports rooted = rooted
+  all_more_roots (To block offset) rest [] rooted = tt
+  all_more_roots (To block offset) rest (port ∷ ports) rooted = (more_roots block rest (value_at parts.values port) rooted.0, all_more_roots (To block offset) rest ports rooted.1)
+
+  ports_rooted : (ports : List ℕ) → AreRooted (roots_for ports) (λ object. object ∷ []) (value_at parts.values) ports
+  ports_rooted [] = tt
+  ports_rooted (port ∷ rest) = (rooted_here (number_for parts port) (roots_for rest) (value_at parts.values port), all_more_roots (word_for parts port) (roots_for rest) rest (ports_rooted rest))
+
+  root_below : (count : ℕ) (word : Word) (rest : List ℕ) → IsWordBelow count word → All (λ root. root < count) rest → All (λ root. root < count) (root_of word rest)
+  root_below count (Plain number) rest below all = all
+  root_below count (To block offset) rest below all = All-cons (λ root. root < count) block rest below.named all
+
+  roots_below : (ports : List ℕ) → All (λ root. root < length objects) (roots_for ports)
+  roots_below [] = All-nil (λ root. root < length objects)
+  roots_below (port ∷ rest) = root_below (length objects) (word_for parts port) (roots_for rest) (word_below port) (roots_below rest)
+
+  ports_below : (ports : List ℕ) → All (IsWordBelow (length objects)) (map (word_for parts) ports)
+  ports_below [] = All-nil (IsWordBelow (length objects))
+  ports_below (port ∷ rest) = All-cons (IsWordBelow (length objects)) (word_for parts port) (map (word_for parts) rest) (word_below port) (ports_below rest)
+
+  -- the bytes of a word name only what it names
+  number_names : (count : ℕ) (bytes : List ℕ) (i : ℕ) → NamesBelow count (get_or (map Num bytes) i (Num 0))
+  number_names count [] i = tt
+  number_names count (byte ∷ rest) zero = tt
+  number_names count (byte ∷ rest) (suc i) = number_names count rest i
+
+  parts_name : (count block : ℕ) (offset : ℤ) (ks : List ℕ) (i : ℕ) → block < count → list_all (λ k. nat_lt k 8) ks ≡ true → NamesBelow count (get_or (map (Part block offset) ks) i (Num 0))
+  parts_name count block offset [] i below small = tt
+  parts_name count block offset (k ∷ ks) zero below small = (below, ltb-true _ _ (and_left (nat_lt k 8) (list_all (λ k. nat_lt k 8) ks) small))
+  parts_name count block offset (k ∷ ks) (suc i) below small = parts_name count block offset ks i below (and_right (nat_lt k 8) (list_all (λ k. nat_lt k 8) ks) small)
+
+  word_names : (count : ℕ) (word : Word) (i : ℕ) → IsWordBelow count word → NamesBelow count (get_or (word_bytes word) i (Num 0))
+  word_names count (Plain number) i below = number_names count (to_le_bytes w64 number) i
+  word_names count (To block offset) i below = parts_name count block offset (0 ∷ 1 ∷ 2 ∷ 3 ∷ 4 ∷ 5 ∷ 6 ∷ 7 ∷ []) i below.named refl
+
+  byte_names : (edges : List HasValue) (place : ℕ) → NamesBelow (length objects) (byte_at (word_for parts) edges place)
+  byte_names [] place = tt
+  byte_names (edge ∷ rest) place = by_cases (covers edge place) (byte_names rest place)
+    where
+      by_cases : (b : Bool) → NamesBelow (length objects) (byte_at (word_for parts) rest place) → NamesBelow (length objects) (if b then edge_byte (word_for parts) edge place else byte_at (word_for parts) rest place)
+      by_cases true later = word_names (length objects) (word_for parts edge.value) (place - edge.at) (word_below edge.value)
+      by_cases false later = later
+
+  table_names : (edges : List HasValue) (from count : ℕ) → All (NamesBelow (length objects)) (table (byte_at (word_for parts) edges) from count)
+  table_names edges from zero = All-nil (NamesBelow (length objects))
+  table_names edges from (suc count) =
+      All-cons (NamesBelow (length objects)) (byte_at (word_for parts) edges from) (table (byte_at (word_for parts) edges) (from + 1) count) (byte_names edges from) (table_names edges (from + 1) count)
+
+  all_objects : (test : Object → Bool) (from : ℕ) (os : List Object) → list_all (λ (entry : KeyedObject). test entry.object) (objects_from from os) ≡ list_all test os
+  all_objects test from [] = refl
+  all_objects test from (object ∷ rest) = ap (λ (b : Bool). test object && b) (all_objects test (from + 1) rest)
+
+  small_blocks : list_all (λ object. nat_le (length (bytes_for object)) 65536) objects ≡ true
+  small_blocks =
+      let sizes : list_all (λ (object : Object). nat_le object.size 65536) objects ≡ true =
+          sym (all_objects (λ object. nat_le object.size 65536) 0 objects)
+          ∙ sym (ap (λ (entries : List KeyedObject). list_all (λ (entry : KeyedObject). nat_le entry.object.size 65536) entries) objects_are) ∙ well_formed.objects_are_small in
+      list_all-implies (λ (object : Object). nat_le object.size 65536) (λ object. nat_le (length (bytes_for object)) 65536)
+      (λ object small. ap (λ (n : ℕ). nat_le n 65536) (length-table (byte_at (word_for parts) object.edges) 0 object.size) ∙ small) objects sizes
+
+  count_is : length objects ≡ length memory_for
+  count_is = sym (length-blocks bytes_for 0 objects)
+
+  state_for : State
+  state_for = record {
+    memory = memory_for;
+    variables = storage_of parts.variables;
+    registers = λ register. option_map (word_for parts) (held_by parts.registers register);
+    ports = map (word_for parts) parts.ports;
+    roots = roots_for parts.ports;
+  }
+
+  is_state : IsState state_for
+  unfolding state_for
+  is_state = record {
+    memory = IsMemory-blocks bytes_for objects few_objects small_blocks (λ object. table_names object.edges 0 object.size);
+    variables = λ variable number stands.
+        let storage = found-all (λ (named : Named). named.variable) (λ named. named.object) (λ key. option_map_or is_storage (object_at parts.objects key) false) parts.variables variable number well_formed.variables_have_storage stands in
+        subst (λ (count : ℕ). number < count) count_is (object_within number (passes-some is_storage (object_at parts.objects number) storage));
+    registers = λ register word stands. held_below (held_by parts.registers register) word stands;
+    ports = subst (λ (count : ℕ). All (IsWordBelow count) (map (word_for parts) parts.ports)) count_is (ports_below parts.ports);
+    roots = subst (λ (count : ℕ). All (λ root. root < count) (roots_for parts.ports)) count_is (roots_below parts.ports);
+  }
+    where
+      held_below : (o : Option ℕ) (word : Word) → option_map (word_for parts) o ≡ Some word → IsWordBelow (length memory_for) word
+      held_below None word stands = absurd (none-some word stands)
+      held_below (Some key) word stands =
+          subst (λ (w : Word). IsWordBelow (length memory_for) w) (same_Some _ _ stands) (subst (λ (count : ℕ). IsWordBelow count (word_for parts key)) count_is (word_below key))
+
+  given_for : Assignment
+  given_for = record {
+    word = word_for parts;
+    blocks = λ key. key ∷ [];
+    owner = λ number. number;
+    place = λ number. 0;
+  }
+
+  one_block : (key place number : ℕ) → slice_get (key ∷ []) place ≡ Some number → (number ≡ key) × (0 ≡ place)
+  one_block key zero number stands = (sym (same_Some _ _ stands), refl)
+  one_block key (suc place) number stands = absurd (none-some number stands)
+
+  stands_for : StandsFor parts state_for
+  unfolding state_for given_for
+  stands_for = record {
+    given = given_for;
+    meets = record {
+      values = λ key value stands. subst (λ (count : ℕ). HasWord count (λ object. object ∷ []) value (word_for parts key)) count_is (has_word key value stands);
+      objects = blocks_there;
+      owners = λ key place number some stands. (one_block key place number stands).0;
+      places = λ key place number some stands. (one_block key place number stands).1;
+      used = λ number block stands live. used number block (slice_get objects number) refl stands;
+      variables = λ variable. refl;
+      registers = λ register. refl;
+      ports = refl;
+      rooted = ports_rooted parts.ports;
+      unequal = pairs_differ parts.unequal well_formed.pairs_may_be_unequal (λ key within. within) (λ number within. within);
+    };
+  }
+    where
+      used : (number : ℕ) (block : Block) (found : Option Object) → slice_get objects number ≡ found → slice_get memory_for number ≡ Some block → IsOwned (maps_of parts) given_for number
+      used number block None is stands =
+          absurd (none-some block (sym (slice_get-blocks bytes_for 0 objects number ∙ ap (option_map (block_of bytes_for (0 + number))) is) ∙ stands))
+      used number block (Some object) is stands = record { object = IsSome-holds _ _ (object_is number ∙ is); block = refl }
+
+  pub witness : (state : State) × IsState state × StandsFor parts state
+  witness = (state_for, is_state, stands_for)
+
+-- every graph of well-formed parts within the limits stands for some state
+pub some_state : (parts : Parts) → HasAscendingKeys parts → IsWellFormed parts → IsTrue (is_within_limits parts) → (state : State) × IsState state × StandsFor parts state
+some_state parts ascending well_formed limits =
+    let found = witness (map (λ (entry : KeyedObject). renamed_object (value_place parts) entry.object) parts.objects) (numbered parts) refl
+        (numbered_well_formed parts ascending well_formed) (numbered_within_limits parts ∙ limits) in
+    (found.0, found.1, (numbering_keeps parts found.0 ascending well_formed).0 found.2)

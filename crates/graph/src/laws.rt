@@ -1,12 +1,12 @@
 //! Laws of what graphs stand for. Each is the contract of a function that does nothing.
-ghost use Rattle.std.specs.Prelude.{◌≡◌, ℕ, ◌↔◌};
+ghost use Rattle.std.specs.Prelude.{◌≡◌, ℕ, ◌↔◌, IsTrue};
 ghost use Rattle.graph.specs.declared.parts.Parts.{Parts};
 ghost use Rattle.graph.specs.Alike.{IsSeenAs};
 ghost use Rattle.graph.specs.Laws.{IsRenaming};
 ghost use Rattle.graph.specs.Meaning.{StandsFor};
 ghost use Rattle.graph.specs.Renaming.{renamed, numbered, object_place, value_place};
-ghost use Rattle.graph.specs.State.{State};
-ghost use Rattle.graph.specs.WellFormed.{IsWellFormed, HasAscendingKeys};
+ghost use Rattle.graph.specs.State.{State, IsState};
+ghost use Rattle.graph.specs.WellFormed.{IsWellFormed, HasAscendingKeys, is_within_limits};
 
 /// Other keys, one to one, leave a graph well formed.
 pub fn renaming_keeps_well_formedness()
@@ -46,4 +46,13 @@ pub fn what_is_not_seen_may_differ()
         IsSeenAs there back one other →
         StandsFor parts one →
         StandsFor parts other }
+{}
+
+/// Every well-formed graph within the limits stands for some state.
+pub fn every_graph_stands_for_some_state()
+    ensures { (parts : Parts) →
+        HasAscendingKeys parts →
+        IsWellFormed parts →
+        IsTrue (is_within_limits parts) →
+        (state : State) × IsState state × StandsFor parts state }
 {}
