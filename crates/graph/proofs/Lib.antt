@@ -4,3 +4,5 @@ pub mod Pulled
 pub mod Renamed
 pub mod Reformed
 pub mod Numbered
+pub mod InSlots
+pub mod Places
