@@ -4,7 +4,7 @@ use Rattle.std.specs.Prelude.{All, IsSome, slice_get, slice_index_or}
 use Rattle.std.specs.List.{filter_map}
 use Rattle.std.proofs.lemmas.List.{append-nil}
 use Rattle.std.proofs.lemmas.List.Elements.{All-head, All-tail, All-cons, All-nil, All-push, All-append, filter_map-append}
-use Rattle.std.proofs.lemmas.Bool.{cases_eq}
+use Rattle.std.proofs.lemmas.Option.{slice_get_past}
 use Rattle.slab.specs.Slab.{Slab, get, Updates}
 use Rattle.graph.specs.Slots.{slot_at, held_at, AreHeld}
 use Rattle.graph.proofs.Found.{Holds, Holds-some, IsSome-holds}
@@ -31,6 +31,11 @@ module _ {T : Type 0} where
       let first : Holds (slot_at slots key) = Holds-some (slot_at slots key) (All-head (λ k. IsSome (slot_at slots k)) key keys all) in
       ap (λ (t : List T). slice_get t (suc place)) (held_first slots key keys first.item first.is)
       ∙ held_get slots keys place (All-tail (λ k. IsSome (slot_at slots k)) key keys all) (omega arith)
+
+  pub held_past : (slots : List (Option T)) (keys : List ℕ) (place : ℕ) → AreHeld slots keys → length keys ≤ place → slice_get (held_at slots keys) place ≡ None
+  held_past slots keys place all past =
+      let many : length (held_at slots keys) ≤ place = omega (arith, length_held slots keys all) in
+      slice_get_past (held_at slots keys) place many
 
   -- a key at which nothing stood is none of these keys
   apart : (slots : List (Option T)) (vacant key : ℕ) → slot_at slots vacant ≡ None → IsSome (slot_at slots key) → key ≢ vacant

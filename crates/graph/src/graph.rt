@@ -63,11 +63,18 @@ impl Graph {
     }
 
     /// The contents of the graph, with its own keys, which ascend in both lists.
-    #[tactic(auto, using(crate::proofs::Numbered::ascending_from))]
     pub fn parts(&self, alloc: Global) -> Result<Parts, NoMemory>
         ensures ok { IfOk result (λ parts. parts ≡ self.now) }
         ensures graph { IsGraph self.now }
         ensures ascending { HasAscendingKeys self.now }
+    {
+        let _ = &self.objects;
+        self.entries(alloc)
+    }
+
+    /// The contents of the graph.
+    fn entries(&self, alloc: Global) -> Result<Parts, NoMemory>
+        ensures { IfOk result (λ parts. parts ≡ self.now) }
     {
         Ok(Parts {
             objects: keyed_objects(alloc, &self.objects)?,

@@ -57,11 +57,7 @@ impl<T> Keyed<T> {
     pub fn get(&self, key: u32) -> Option<&T>
         ensures { option_copied result ≡ slice_get self.now key }
     {
-        if key < self.len() {
-            self.slots.get(self.keys[key as usize])
-        } else {
-            None
-        }
+        find(&self.slots, self.keys.as_slice(), key as usize)
     }
 }
 
@@ -81,6 +77,19 @@ impl<T: Drop> Keyed<T> {
 
 /// How many keys there are: one is left out, so that the number of items is a `u32`.
 const MOST_KEYS: usize = 4_294_967_295;
+
+/// What the slots hold at a key of this place.
+#[tactic(auto, using(crate::proofs::InSlots::held_get, crate::proofs::InSlots::held_past))]
+fn find<'a, T>(slots: &'a Slab<T>, keys: &[usize], place: usize) -> Option<&'a T>
+    requires { AreHeld slots.now.slots keys.now }
+    ensures { option_copied result ≡ slice_get (held_at slots.now.slots keys.now) place }
+{
+    if place < keys.len() {
+        slots.get(keys[place])
+    } else {
+        None
+    }
+}
 
 /// Puts an item into the slots, and its key behind the others.
 #[tactic(auto, using(crate::proofs::InSlots::held_put, crate::proofs::InSlots::are_held_put))]
