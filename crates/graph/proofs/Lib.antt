@@ -9,3 +9,5 @@ pub mod Chosen
 pub mod Table
 pub mod Placing
 pub mod Witness
+pub mod InSlots
+pub mod Places

@@ -6,6 +6,7 @@
 #![tactic(auto)]
 
 mod build;
+mod copies;
 mod edges;
 mod graph;
 mod keyed;

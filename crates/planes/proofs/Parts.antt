@@ -1,8 +1,11 @@
 -- Parts of lists of runs, cut inside a run.
-use Rattle.std.proofs.Common.{◌≡◌, ℕ, zero, suc, ◌+◌, ◌-◌, ◌<◌, ◌≤◌, min, List, [], ◌∷◌, ◌++◌, length, get_or, take, drop, replicate, refl, ap, sym, ◌∙◌, arith, append_assoc}
+use Rattle.std.specs.Prelude.{slice_get, All}
+use Rattle.std.proofs.Common.{List, Some, [], ap, append_assoc, arith, drop, get_or, length, min, refl, replicate, subst, suc, sym, take, zero, ℕ, ◌++◌, ◌+◌, ◌-◌, ◌<◌, ◌∙◌, ◌∷◌, ◌≡◌, ◌≤◌}
 use Rattle.std.proofs.Math.Seq.{drop-nil}
 use Rattle.std.proofs.lemmas.List.{append-nil, drop_more, drop_all}
 use Rattle.planes.specs.declared.run.Run.{Run}
+use Rattle.std.proofs.lemmas.Option.{get_or_from_slice_get, slice_get_within}
+use Rattle.planes.specs.Classes.{IsClass}
 use Rattle.planes.specs.Runs.{expanded}
 
 -- the first `before` bytes are left out
@@ -63,3 +66,21 @@ range_end runs number before left done end =
     ∙ ap (λ (t : List ℕ). done ++ take left t) (drop-nil before)
     ∙ ap (λ (t : List ℕ). done ++ t) (take_nil left)
     ∙ append-nil done
+
+-- the class of a byte of a run, and of one behind it
+pub class_here : (n class at : ℕ) (others : List ℕ) → at < n → slice_get (replicate n class ++ others) at ≡ Some class
+class_here zero class at others within = absurd (omega arith)
+class_here (suc n) class zero others within = refl
+class_here (suc n) class (suc at) others within = class_here n class at others (omega arith)
+
+pub class_behind : (n class at : ℕ) (others : List ℕ) → n ≤ at → slice_get (replicate n class ++ others) at ≡ slice_get others (at - n)
+class_behind zero class at others beyond = let same : at - 0 ≡ at = omega arith in rw same refl
+class_behind (suc n) class zero others beyond = absurd (omega arith)
+class_behind (suc n) class (suc at) others beyond =
+    let same : suc at - suc n ≡ at - n = omega arith in rw same (class_behind n class at others (omega arith))
+
+-- a list in which a byte has a class that is one has that class
+pub class_of_byte : (classes : List ℕ) (at class : ℕ) → All IsClass classes → slice_get classes at ≡ Some class → IsClass class
+class_of_byte classes at class all is =
+    let value : get_or classes at 0 ≡ class = get_or_from_slice_get classes at class 0 is in
+    subst IsClass value (all at 0 (slice_get_within classes at class is))

@@ -4,7 +4,7 @@ ghost use Rattle.planes.specs.Classes.{IsClass, filled, highest, IsFirstAbove};
 
 use crate::change::{fill_runs, raise_runs};
 use crate::class::MOST_BYTES;
-use crate::run::{Run, first_above, push_range, push_run};
+use crate::run::{Run, class_at, first_above, push_range, push_run};
 use crate::walk::is_at_most;
 use cbase::NoMemory;
 use std::alloc::Global;
@@ -77,6 +77,15 @@ impl Plane {
         ensures { IsTrue result ↔ (length self.now ≡ 0) }
     {
         self.size == 0
+    }
+
+    /// The class of the byte `at`. It takes no memory.
+    pub fn class_at(&self, at: u32) -> u8
+        requires { at < length self.now }
+        ensures value { slice_get self.now at ≡ Some result }
+        ensures class { IsClass result }
+    {
+        class_at(self.runs.as_slice(), at)
     }
 
     /// Gives `count` bytes from `from` on a class; the others keep theirs. It takes no memory.

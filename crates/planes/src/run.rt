@@ -1,4 +1,4 @@
-ghost use Rattle.std.specs.Prelude.{◌≡◌, ◌+◌, ◌<◌, ◌≤◌, ◌++◌, length, take, drop, replicate, nat_lt, vec_capacity};
+ghost use Rattle.std.specs.Prelude.{◌≡◌, ◌+◌, ◌<◌, ◌≤◌, ◌++◌, length, take, drop, replicate, nat_lt, slice_get, Some, vec_capacity};
 ghost use Rattle.std.specs.List.{position_from};
 ghost use Rattle.planes.specs.Classes.{IsClass};
 ghost use Rattle.planes.specs.Runs.{expanded, IsRun, AreRuns};
@@ -120,4 +120,20 @@ pub(crate) fn first_above(runs: &[Run], from: u32, class: u8) -> Option<u32>
         begin = end;
     }
     None
+}
+
+/// The class of a byte.
+#[tactic(auto, using(crate::proofs::Parts::from_end))]
+pub(crate) fn class_at(runs: &[Run], at: u32) -> u8
+    requires { at < length (expanded runs.now) }
+    ensures { slice_get (expanded runs.now) at ≡ Some result }
+{
+    let mut before = at;
+    for run in runs {
+        if before < run.length {
+            return run.class;
+        }
+        before -= run.length;
+    }
+    unreachable!()
 }
