@@ -37,13 +37,14 @@ word_bytes-renumbered there (To block offset) = refl
 HoldEdges-renumbered : (there : ℕ → ℕ) (bytes : List Byte) (word : ℕ → Word) (edges : List HasValue) → HoldEdges bytes word edges →
     HoldEdges (map (renumbered_byte there) bytes) (λ key. renumbered_word there (word key)) edges
 HoldEdges-renumbered there bytes word [] hold = tt
-HoldEdges-renumbered there bytes word (edge ∷ rest) hold =
-    (ap (take edge.size) (drop-map (renumbered_byte there) edge.at bytes)
-        ∙ take-map (renumbered_byte there) edge.size (drop edge.at bytes)
-        ∙ ap (map (renumbered_byte there)) hold.0
-        ∙ sym (take-map (renumbered_byte there) edge.size (word_bytes (word edge.value)))
-        ∙ ap (take edge.size) (word_bytes-renumbered there (word edge.value)),
-    HoldEdges-renumbered there bytes word rest hold.1)
+HoldEdges-renumbered there bytes word (edge ∷ rest) hold = (
+  ap (take edge.size) (drop-map (renumbered_byte there) edge.at bytes)
+      ∙ take-map (renumbered_byte there) edge.size (drop edge.at bytes)
+      ∙ ap (map (renumbered_byte there)) hold.0
+      ∙ sym (take-map (renumbered_byte there) edge.size (word_bytes (word edge.value)))
+      ∙ ap (take edge.size) (word_bytes-renumbered there (word edge.value)),
+  HoldEdges-renumbered there bytes word rest hold.1,
+)
 
 HasClass-renumbered : (there : ℕ → ℕ) (class : ℕ) (byte : Byte) → HasClass class byte → HasClass class (renumbered_byte there byte)
 HasClass-renumbered there zero (Num number) has = has
@@ -70,9 +71,10 @@ word-back there back same (To block offset) = ap (λ (b : ℕ). To b offset) (sa
 AreUnequal-renumbered : (there back : ℕ → ℕ) → ((number : ℕ) → back (there number) ≡ number) → (word : ℕ → Word) (pairs : List Pair) → AreUnequal word pairs →
     AreUnequal (λ key. renumbered_word there (word key)) pairs
 AreUnequal-renumbered there back same word [] differ = tt
-AreUnequal-renumbered there back same word (pair ∷ rest) differ =
-    (λ equal. differ.0 (sym (word-back there back same (word pair.left)) ∙ ap (renumbered_word back) equal ∙ word-back there back same (word pair.right)),
-    AreUnequal-renumbered there back same word rest differ.1)
+AreUnequal-renumbered there back same word (pair ∷ rest) differ = (
+  λ equal. differ.0 (sym (word-back there back same (word pair.left)) ∙ ap (renumbered_word back) equal ∙ word-back there back same (word pair.right)),
+  AreUnequal-renumbered there back same word rest differ.1,
+)
 
 module _ (there back : ℕ → ℕ) (one other : State) (seen : IsSeenAs there back one other) where
   IsWordBelow-renumbered : (word : Word) → IsWordBelow (length one.memory) word → IsWordBelow (length other.memory) (renumbered_word there word)
@@ -167,6 +169,7 @@ module _ (there back : ℕ → ℕ) (one other : State) (seen : IsSeenAs there b
       one_block : (o : Option ℕ) → option_map (λ number. number ∷ []) (option_map there o) ≡ option_map (map there) (option_map (λ number. number ∷ []) o)
       one_block None = refl
       one_block (Some number) = refl
+
       used : (number : ℕ) → WasLive one.memory (back number) × (there (back number) ≡ number) → IsOwned maps (renumbered given) number
       used number (was, is) =
           let owned = meets.used (back number) was.block was.stands was.live in

@@ -72,7 +72,7 @@ place_is key entries ascend index default within =
     let value : (k : ℕ) → k < length entries → get_or (map key entries) k 0 ≡ key (get_or entries k default) = λ k below. get_or-map key entries k default 0 below in
     position_or_len_is (nat_eq at) (map key entries) index 0 (omega arith)
     (λ k before. let lower : key (get_or entries k default) < at = ascend k index default before within in
-        ap (nat_eq at) (value k (omega arith)) ∙ ne_eqb at (key (get_or entries k default)) (omega arith))
+    ap (nat_eq at) (value k (omega arith)) ∙ ne_eqb at (key (get_or entries k default)) (omega arith))
     (λ below. ap (nat_eq at) (value index within) ∙ eq-eqb at at refl)
 
 objects_in_places : (place : ℕ → ℕ) (become : Object → Object) (from : ℕ) (entries : List KeyedObject) →
@@ -99,9 +99,9 @@ values_in_places place become from (entry ∷ rest) places =
 pub numbered-renamed : (parts : Parts) → HasAscendingKeys parts → numbered parts ≡ renamed (object_place parts) (value_place parts) parts
 numbered-renamed parts ascending =
     let objects = objects_in_places (object_place parts) (renamed_object (value_place parts)) 0 parts.objects
-        (λ index default within. place_is (λ (entry : KeyedObject). entry.key) parts.objects ascending.objects index default within ∙ omega arith) in
+    (λ index default within. place_is (λ (entry : KeyedObject). entry.key) parts.objects ascending.objects index default within ∙ omega arith) in
     let values = values_in_places (value_place parts) (renamed_value (object_place parts)) 0 parts.values
-        (λ index default within. place_is (λ (entry : KeyedValue). entry.key) parts.values ascending.values index default within ∙ omega arith) in
+    (λ index default within. place_is (λ (entry : KeyedValue). entry.key) parts.values ascending.values index default within ∙ omega arith) in
     ap (λ (os : List KeyedObject). record (numbered parts) { objects = os }) objects
     ∙ ap (λ (vs : List KeyedValue). record (renamed (object_place parts) (value_place parts) parts) { values = vs }) values
 

@@ -63,7 +63,7 @@ module _ (bytes : Object → List Byte) where
   compatible number later one (object ∷ rest) small before =
       All-cons (λ other. IsTrue (are_compatible (block_of bytes number one) other)) (block_of bytes later object) (blocks_from bytes (later + 1) rest)
       (let ends : nat_le (16 + 65536 * number + max 16 (length (bytes one))) (16 + 65536 * later) ≡ true = le-leb _ _ (omega arith) in
-          either one.live object.live ends)
+      either one.live object.live ends)
       (compatible number (later + 1) one rest small (omega arith))
     where
       either : (one_lives other_lives : Bool) → nat_le (16 + 65536 * number + max 16 (length (bytes one))) (16 + 65536 * later) ≡ true →

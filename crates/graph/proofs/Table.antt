@@ -64,7 +64,7 @@ take_of-table at from (suc count) [] enough same = absurd (omega arith)
 take_of-table at from (suc count) (x ∷ xs) enough same =
     let here : at from ≡ x = ap at (let e : from ≡ from + 0 = omega arith in e) ∙ same 0 (omega arith) in
     let later = take_of-table at (from + 1) count xs (omega arith)
-        (λ i below. ap at (let e : from + 1 + i ≡ from + suc i = omega arith in e) ∙ same (suc i) (omega arith)) in
+    (λ i below. ap at (let e : from + 1 + i ≡ from + suc i = omega arith in e) ∙ same (suc i) (omega arith)) in
     ap (λ (b : Byte). b ∷ table at (from + 1) count) here ∙ ap (λ (bs : List Byte). x ∷ bs) later
 
 -- an edge's bytes are found in its range
@@ -114,20 +114,22 @@ misses first edge i apart below = by_cases (nat_le (first.at + first.size) edge.
 
 found_later : (word : ℕ → Word) (first : HasValue) (rest edges : List HasValue) → list_all (share_no_byte first) edges ≡ true → AreFound word rest edges → AreFound word (first ∷ rest) edges
 found_later word first rest [] apart found = tt
-found_later word first rest (edge ∷ more) apart found =
-    (record {
-        found = λ i below.
-            ap (λ (b : Bool). if b then edge_byte word first (edge.at + i) else byte_at word rest (edge.at + i)) (misses first edge i (and_left (share_no_byte first edge) (list_all (share_no_byte first) more) apart) below)
-            ∙ found.0.found i below;
-      },
-    found_later word first rest more (and_right (share_no_byte first edge) (list_all (share_no_byte first) more) apart) found.1)
+found_later word first rest (edge ∷ more) apart found = (
+  record {
+    found = λ i below.
+        ap (λ (b : Bool). if b then edge_byte word first (edge.at + i) else byte_at word rest (edge.at + i)) (misses first edge i (and_left (share_no_byte first edge) (list_all (share_no_byte first) more) apart) below)
+        ∙ found.0.found i below;
+  },
+  found_later word first rest more (and_right (share_no_byte first edge) (list_all (share_no_byte first) more) apart) found.1,
+)
 
 all_found : (word : ℕ → Word) (edges : List HasValue) → are_disjoint edges ≡ true → AreFound word edges edges
 all_found word [] disjoint = tt
-all_found word (edge ∷ rest) disjoint =
-    (found_first word edge rest,
-    found_later word edge rest rest (and_left (list_all (share_no_byte edge) rest) (are_disjoint rest) disjoint)
-        (all_found word rest (and_right (list_all (share_no_byte edge) rest) (are_disjoint rest) disjoint)))
+all_found word (edge ∷ rest) disjoint = (
+  found_first word edge rest,
+  found_later word edge rest rest (and_left (list_all (share_no_byte edge) rest) (are_disjoint rest) disjoint)
+      (all_found word rest (and_right (list_all (share_no_byte edge) rest) (are_disjoint rest) disjoint)),
+)
 
 length-word_bytes : (word : Word) → length (word_bytes word) ≡ 8
 length-word_bytes (Plain number) = refl
@@ -139,10 +141,11 @@ holds word all size [] found inside small = tt
 holds word all size (edge ∷ rest) found inside small =
     let within = leb-true _ _ (and_left (lies_in size edge) (list_all (lies_in size) rest) inside) in
     let eight = leb-true _ _ (and_left (nat_le edge.size 8) (list_all (λ edge. nat_le edge.size 8) rest) small) in
-    let long = length-word_bytes (word edge.value) in
-    (range-table (byte_at word all) size edge.at edge.size within
-        ∙ take_of-table (byte_at word all) edge.at edge.size (word_bytes (word edge.value)) (omega arith) found.0.found,
-    holds word all size rest found.1 (and_right (lies_in size edge) (list_all (lies_in size) rest) inside) (and_right (nat_le edge.size 8) (list_all (λ edge. nat_le edge.size 8) rest) small))
+    let long = length-word_bytes (word edge.value) in (
+      range-table (byte_at word all) size edge.at edge.size within
+          ∙ take_of-table (byte_at word all) edge.at edge.size (word_bytes (word edge.value)) (omega arith) found.0.found,
+      holds word all size rest found.1 (and_right (lies_in size edge) (list_all (lies_in size) rest) inside) (and_right (nat_le edge.size 8) (list_all (λ edge. nat_le edge.size 8) rest) small),
+    )
 
 -- the table holds the word of each edge
 pub HoldEdges-table : (word : ℕ → Word) (edges : List HasValue) (size : ℕ) → are_disjoint edges ≡ true → list_all (lies_in size) edges ≡ true → list_all (λ edge. nat_le edge.size 8) edges ≡ true →
@@ -152,6 +155,7 @@ HoldEdges-table word edges size disjoint inside small = holds word edges size ed
 -- a table whose bytes have the classes
 pub HaveClasses-table : (at : ℕ → Byte) (from : ℕ) (plane : List ℕ) → ((i d : ℕ) → i < length plane → HasClass (get_or plane i d) (at (from + i))) → HaveClasses plane (table at from (length plane))
 HaveClasses-table at from [] has = tt
-HaveClasses-table at from (class ∷ plane) has =
-    (subst (λ (n : ℕ). HasClass class (at n)) (let e : from + 0 ≡ from = omega arith in e) (has 0 0 (omega arith)),
-    HaveClasses-table at (from + 1) plane (λ i d below. subst (λ (n : ℕ). HasClass (get_or plane i d) (at n)) (let e : from + suc i ≡ from + 1 + i = omega arith in e) (has (suc i) d (omega arith))))
+HaveClasses-table at from (class ∷ plane) has = (
+  subst (λ (n : ℕ). HasClass class (at n)) (let e : from + 0 ≡ from = omega arith in e) (has 0 0 (omega arith)),
+  HaveClasses-table at (from + 1) plane (λ i d below. subst (λ (n : ℕ). HasClass (get_or plane i d) (at n)) (let e : from + suc i ≡ from + 1 + i = omega arith in e) (has (suc i) d (omega arith))),
+)

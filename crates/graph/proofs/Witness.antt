@@ -223,9 +223,9 @@ module _ (objects : List Object) (parts : Parts) (objects_are : parts.objects �
   class_is plane edge class place d all within low high =
       let pass = AllPass-from_list_all (nat_eq class) (take edge.size (drop edge.at plane)) all in
       let part : get_or (take edge.size (drop edge.at plane)) (place - edge.at) d ≡ get_or plane place d =
-          get_or-take edge.size (drop edge.at plane) (place - edge.at) d (omega arith)
-          ∙ get_or-drop edge.at plane (place - edge.at) d
-          ∙ ap (λ (n : ℕ). get_or plane n d) (let e : edge.at + (place - edge.at) ≡ place = omega arith in e) in
+      get_or-take edge.size (drop edge.at plane) (place - edge.at) d (omega arith)
+      ∙ get_or-drop edge.at plane (place - edge.at) d
+      ∙ ap (λ (n : ℕ). get_or plane n d) (let e : edge.at + (place - edge.at) ≡ place = omega arith in e) in
       let long : length (take edge.size (drop edge.at plane)) ≡ min edge.size (length plane - edge.at) = length-take edge.size (drop edge.at plane) ∙ ap (min edge.size) (length-drop edge.at plane) in
       let equal : class ≡ get_or (take edge.size (drop edge.at plane)) (place - edge.at) d = eqb-true _ _ (pass (place - edge.at) d (omega arith)) in
       sym part ∙ sym equal
@@ -239,7 +239,7 @@ module _ (objects : List Object) (parts : Parts) (objects_are : parts.objects �
       let high = ltb-true _ _ (and_right (nat_le edge.at place) (nat_lt place (edge.at + edge.size)) covered) in
       let class = class_is plane edge (value_class held.item) place d all within low high in
       let byte = subst (λ (o : Option Value). HasClass (value_class held.item) (get_or (word_bytes (word_as (number_for parts edge.value) o)) (place - edge.at) (Num 0))) (sym held.is)
-          (word_has (number_for parts edge.value) (place - edge.at) held.item) in
+      (word_has (number_for parts edge.value) (place - edge.at) held.item) in
       subst (λ (c : ℕ). HasClass c (edge_byte (word_for parts) edge place)) (sym class) byte
 
   byte_has : (plane : List ℕ) (edges : List HasValue) (place d : ℕ) → list_all (edge_has_class parts plane) edges ≡ true → place < length plane →
@@ -375,6 +375,7 @@ module _ (objects : List Object) (parts : Parts) (objects_are : parts.objects �
       outside : (key number : ℕ) → is_in key (pair_keys parts.unequal) ≡ true → is_in number (pair_constants parts.values parts.unequal) ≡ true → number_for parts key ≢ number
       outside key number key_in number_in equal =
           false≢true (sym (chosen-outside (pair_keys parts.unequal) (pair_constants parts.values parts.unequal) key key_in) ∙ ap (λ (n : ℕ). is_in n (pair_constants parts.values parts.unequal)) equal ∙ number_in)
+
       by_values : (one next : Value) → (are_numbers one next 4 || are_numbers one next 8) ≡ true → not (is_constant one && is_constant next) ≡ true →
           is_in (constant_of (Some one)) (pair_constants parts.values parts.unequal) ≡ true → is_in (constant_of (Some next)) (pair_constants parts.values parts.unequal) ≡ true →
           word_as (number_for parts left) (Some one) ≢ word_as (number_for parts right) (Some next)
@@ -385,7 +386,7 @@ module _ (objects : List Object) (parts : Parts) (objects_are : parts.objects �
           plain_differ _ _ (λ equal. outside left n left_in next_in (sym (large size (size_left (Number size) (Const n size') numbers) (number_for parts left)) ∙ equal))
       by_values (Number size) (Number size') numbers constants one_in next_in =
           plain_differ _ _ (λ equal. chosen-differ (pair_keys parts.unequal) (pair_constants parts.values parts.unequal) left right apart left_in right_in
-              (sym (large size (size_left (Number size) (Number size') numbers) (number_for parts left)) ∙ equal ∙ large size' (size_right (Number size) (Number size') numbers) (number_for parts right)))
+          (sym (large size (size_left (Number size) (Number size') numbers) (number_for parts left)) ∙ equal ∙ large size' (size_right (Number size) (Number size') numbers) (number_for parts right)))
       by_values Any next numbers constants one_in next_in = neither (size_left Any next numbers)
       by_values (Address object offset target) next numbers constants one_in next_in = neither (size_left (Address object offset target) next numbers)
       by_values (Const m size) Any numbers constants one_in next_in = neither (size_right (Const m size) Any numbers)
@@ -403,29 +404,30 @@ module _ (objects : List Object) (parts : Parts) (objects_are : parts.objects �
       let next = Holds-some (value_at parts.values pair.right) (passes-some (may_be_unequal one.item) (value_at parts.values pair.right) right) in
       let may = subst (λ (o : Option Value). option_map_or (may_be_unequal one.item) o false ≡ true) next.is right in
       let apart : pair.left ≢ pair.right = λ equal.
-          false≢true (sym (ap not (eq-eqb pair.left pair.right equal)) ∙ and_left (not (nat_eq pair.left pair.right)) (passes_at parts (λ one. passes_at parts (may_be_unequal one) pair.right) pair.left) unequal) in
+      false≢true (sym (ap not (eq-eqb pair.left pair.right equal)) ∙ and_left (not (nat_eq pair.left pair.right)) (passes_at parts (λ one. passes_at parts (may_be_unequal one) pair.right) pair.left) unequal) in
       λ equal.
-          values_differ pair.left pair.right one.item next.item apart may left_in right_in
-          (subst (λ (o : Option Value). is_in (constant_of o) (pair_constants parts.values parts.unequal) ≡ true) one.is one_in)
-          (subst (λ (o : Option Value). is_in (constant_of o) (pair_constants parts.values parts.unequal) ≡ true) next.is next_in)
-          (ap (word_as (number_for parts pair.left)) (sym one.is) ∙ equal ∙ ap (word_as (number_for parts pair.right)) next.is)
+      values_differ pair.left pair.right one.item next.item apart may left_in right_in
+      (subst (λ (o : Option Value). is_in (constant_of o) (pair_constants parts.values parts.unequal) ≡ true) one.is one_in)
+      (subst (λ (o : Option Value). is_in (constant_of o) (pair_constants parts.values parts.unequal) ≡ true) next.is next_in)
+      (ap (word_as (number_for parts pair.left)) (sym one.is) ∙ equal ∙ ap (word_as (number_for parts pair.right)) next.is)
 
   pairs_differ : (pairs : List Pair) → list_all (is_unequal_pair parts) pairs ≡ true → ((key : ℕ) → is_in key (pair_keys pairs) ≡ true → is_in key (pair_keys parts.unequal) ≡ true) →
       ((number : ℕ) → is_in number (pair_constants parts.values pairs) ≡ true → is_in number (pair_constants parts.values parts.unequal) ≡ true) → AreUnequal (word_for parts) pairs
   pairs_differ [] all keys constants = tt
-  pairs_differ (pair ∷ rest) all keys constants =
-      (pair_differs pair (and_left (is_unequal_pair parts pair) (list_all (is_unequal_pair parts) rest) all)
-          (keys pair.left (is_in-first pair.left (pair.right ∷ pair_keys rest)))
-          (keys pair.right (is_in-later pair.right pair.left (pair.right ∷ pair_keys rest) (is_in-first pair.right (pair_keys rest))))
-          (constants (constant_of (value_at parts.values pair.left)) (is_in-first (constant_of (value_at parts.values pair.left)) (constant_of (value_at parts.values pair.right) ∷ pair_constants parts.values rest)))
-          (constants (constant_of (value_at parts.values pair.right))
-              (is_in-later (constant_of (value_at parts.values pair.right)) (constant_of (value_at parts.values pair.left)) (constant_of (value_at parts.values pair.right) ∷ pair_constants parts.values rest)
-                  (is_in-first (constant_of (value_at parts.values pair.right)) (pair_constants parts.values rest)))),
-      pairs_differ rest (and_right (is_unequal_pair parts pair) (list_all (is_unequal_pair parts) rest) all)
-          (λ key within. keys key (is_in-later key pair.left (pair.right ∷ pair_keys rest) (is_in-later key pair.right (pair_keys rest) within)))
-          (λ number within. constants number
-              (is_in-later number (constant_of (value_at parts.values pair.left)) (constant_of (value_at parts.values pair.right) ∷ pair_constants parts.values rest)
-                  (is_in-later number (constant_of (value_at parts.values pair.right)) (pair_constants parts.values rest) within))))
+  pairs_differ (pair ∷ rest) all keys constants = (
+    pair_differs pair (and_left (is_unequal_pair parts pair) (list_all (is_unequal_pair parts) rest) all)
+        (keys pair.left (is_in-first pair.left (pair.right ∷ pair_keys rest)))
+        (keys pair.right (is_in-later pair.right pair.left (pair.right ∷ pair_keys rest) (is_in-first pair.right (pair_keys rest))))
+        (constants (constant_of (value_at parts.values pair.left)) (is_in-first (constant_of (value_at parts.values pair.left)) (constant_of (value_at parts.values pair.right) ∷ pair_constants parts.values rest)))
+        (constants (constant_of (value_at parts.values pair.right))
+        (is_in-later (constant_of (value_at parts.values pair.right)) (constant_of (value_at parts.values pair.left)) (constant_of (value_at parts.values pair.right) ∷ pair_constants parts.values rest)
+        (is_in-first (constant_of (value_at parts.values pair.right)) (pair_constants parts.values rest)))),
+    pairs_differ rest (and_right (is_unequal_pair parts pair) (list_all (is_unequal_pair parts) rest) all)
+        (λ key within. keys key (is_in-later key pair.left (pair.right ∷ pair_keys rest) (is_in-later key pair.right (pair_keys rest) within)))
+        (λ number within. constants number
+        (is_in-later number (constant_of (value_at parts.values pair.left)) (constant_of (value_at parts.values pair.right) ∷ pair_constants parts.values rest)
+        (is_in-later number (constant_of (value_at parts.values pair.right)) (pair_constants parts.values rest) within))),
+  )
 
   -- The state.
 
@@ -510,8 +512,8 @@ module _ (objects : List Object) (parts : Parts) (objects_are : parts.objects �
   small_blocks : list_all (λ object. nat_le (length (bytes_for object)) 65536) objects ≡ true
   small_blocks =
       let sizes : list_all (λ (object : Object). nat_le object.size 65536) objects ≡ true =
-          sym (all_objects (λ object. nat_le object.size 65536) 0 objects)
-          ∙ sym (ap (λ (entries : List KeyedObject). list_all (λ (entry : KeyedObject). nat_le entry.object.size 65536) entries) objects_are) ∙ well_formed.objects_are_small in
+      sym (all_objects (λ object. nat_le object.size 65536) 0 objects)
+      ∙ sym (ap (λ (entries : List KeyedObject). list_all (λ (entry : KeyedObject). nat_le entry.object.size 65536) entries) objects_are) ∙ well_formed.objects_are_small in
       list_all-implies (λ (object : Object). nat_le object.size 65536) (λ object. nat_le (length (bytes_for object)) 65536)
       (λ object small. ap (λ (n : ℕ). nat_le n 65536) (length-table (byte_at (word_for parts) object.edges) 0 object.size) ∙ small) objects sizes
 
@@ -586,5 +588,5 @@ module _ (objects : List Object) (parts : Parts) (objects_are : parts.objects �
 pub some_state : (parts : Parts) → HasAscendingKeys parts → IsWellFormed parts → IsTrue (is_within_limits parts) → (state : State) × IsState state × StandsFor parts state
 some_state parts ascending well_formed limits =
     let found = witness (map (λ (entry : KeyedObject). renamed_object (value_place parts) entry.object) parts.objects) (numbered parts) refl
-        (numbered_well_formed parts ascending well_formed) (numbered_within_limits parts ∙ limits) in
+    (numbered_well_formed parts ascending well_formed) (numbered_within_limits parts ∙ limits) in
     (found.0, found.1, (numbering_keeps parts found.0 ascending well_formed).0 found.2)

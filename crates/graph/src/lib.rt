@@ -5,7 +5,6 @@
 //! words and blocks, and nothing of C: no statement, no step and no fault.
 #![tactic(auto)]
 
-mod build;
 mod copies;
 mod edges;
 mod graph;
@@ -17,7 +16,6 @@ mod post;
 mod stop;
 mod value;
 
-pub use build::{built, graph_of};
 pub use edges::{Edges, HasValue};
 pub use graph::{Graph, Objects, Values};
 pub use keyed::Keyed;
