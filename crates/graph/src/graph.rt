@@ -4,6 +4,7 @@ ghost use Rattle.graph.specs.Maps.{object_at, value_at};
 ghost use Rattle.graph.specs.WellFormed.{HasAscendingKeys};
 ghost use Rattle.graph.specs.Whole.{IsGraph};
 
+use crate::copies::{copied_items, copied_objects, copied_values, keyed_objects, keyed_values};
 use crate::keyed::Keyed;
 use crate::object::Object;
 use crate::parts::{Held, Named, Pair, Parts};
@@ -46,6 +47,7 @@ impl Model for Graph {
 
 impl Graph {
     /// The object with a key. None exactly where no object has it. It takes no memory.
+    #[tactic(auto, using(crate::proofs::Places::object_at_place))]
     pub fn object(&self, key: u32) -> Option<&Object>
         ensures { option_copied result ≡ object_at self.now.objects key }
     {
@@ -53,6 +55,7 @@ impl Graph {
     }
 
     /// The value with a key. None exactly where no value has it. It takes no memory.
+    #[tactic(auto, using(crate::proofs::Places::value_at_place))]
     pub fn value(&self, key: u32) -> Option<&Value>
         ensures { option_copied result ≡ value_at self.now.values key }
     {
@@ -65,7 +68,22 @@ impl Graph {
         ensures graph { IsGraph self.now }
         ensures ascending { HasAscendingKeys self.now }
     {
-        unreachable!()
+        let _ = &self.objects;
+        self.entries(alloc)
+    }
+
+    /// The contents of the graph.
+    fn entries(&self, alloc: Global) -> Result<Parts, NoMemory>
+        ensures { IfOk result (λ parts. parts ≡ self.now) }
+    {
+        Ok(Parts {
+            objects: keyed_objects(alloc, &self.objects)?,
+            values: keyed_values(alloc, &self.values)?,
+            variables: copied_items(alloc, &self.variables)?,
+            registers: copied_items(alloc, &self.registers)?,
+            ports: copied_items(alloc, &self.ports)?,
+            unequal: copied_items(alloc, &self.unequal)?,
+        })
     }
 
     /// An equal graph with the same keys. It is never too large.
@@ -73,6 +91,23 @@ impl Graph {
         ensures ok { IfOk result (λ copy. copy ≡ self.now) }
         ensures small { IfErr result (λ stop. stop ≡ Stop.NoMemory) }
     {
-        unreachable!()
+        match self.duplicate(alloc) {
+            Ok(copy) => Ok(copy),
+            Err(NoMemory) => Err(Stop::NoMemory),
+        }
+    }
+
+    /// An equal graph.
+    fn duplicate(&self, alloc: Global) -> Result<Graph, NoMemory>
+        ensures { IfOk result (λ copy. copy ≡ self.now) }
+    {
+        Ok(Graph {
+            objects: copied_objects(alloc, &self.objects)?,
+            values: copied_values(alloc, &self.values)?,
+            variables: copied_items(alloc, &self.variables)?,
+            registers: copied_items(alloc, &self.registers)?,
+            ports: copied_items(alloc, &self.ports)?,
+            unequal: copied_items(alloc, &self.unequal)?,
+        })
     }
 }

@@ -1,5 +1,6 @@
-ghost use Rattle.std.specs.Prelude.{◌≡◌, [], ◌∷◌, ◌++◌, length, slice_get, OnOk, OnErr};
+ghost use Rattle.std.specs.Prelude.{◌≡◌, ◌+◌, [], ◌∷◌, ◌++◌, length, slice_get, OnOk, OnErr};
 ghost use Rattle.std.specs.Option.{option_copied};
+ghost use Rattle.graph.specs.Slots.{held_at, AreHeld};
 
 use cbase::NoMemory;
 use slab::Slab;
@@ -28,7 +29,9 @@ impl<T> Model for Keyed<T> {
 
     ghost view = { λ k. held_at k.slots.slots k.keys.items };
 
-    ghost invariant = { λ k. AreHeld k.slots.slots k.keys.items };
+    ghost use Rattle.std.specs.Prelude.{◌<◌, length};
+
+    ghost invariant = { λ k. AreHeld k.slots.slots k.keys.items × (length k.keys.items < 4294967296) };
 }
 
 impl<T> Keyed<T> {
@@ -42,18 +45,19 @@ impl<T> Keyed<T> {
         }
     }
 
-    /// How many items there are.
-    pub fn len(&self) -> usize
+    /// How many items there are. Each key is a `u32`.
+    #[tactic(auto, using(crate::proofs::InSlots::length_held))]
+    pub fn len(&self) -> u32
         ensures { result ≡ length self.now }
     {
-        self.keys.len()
+        self.keys.len() as u32
     }
 
     /// The item with this key. None exactly where the key is no place of an item. It takes no memory.
     pub fn get(&self, key: u32) -> Option<&T>
         ensures { option_copied result ≡ slice_get self.now key }
     {
-        unreachable!()
+        find(&self.slots, self.keys.as_slice(), key as usize)
     }
 }
 
@@ -63,6 +67,42 @@ impl<T: Drop> Keyed<T> {
         ensures ok { OnOk result (self.new ≡ self.old ++ item ∷ []) }
         ensures err { OnErr result (self.new ≡ self.old) }
     {
-        unreachable!()
+        if self.keys.len() >= MOST_KEYS {
+            return Err(NoMemory);
+        }
+        put(&mut self.slots, &mut self.keys, item)?;
+        Ok(())
     }
+}
+
+/// How many keys there are: one is left out, so that the number of items is a `u32`.
+const MOST_KEYS: usize = 4_294_967_295;
+
+/// What the slots hold at a key of this place.
+#[tactic(auto, using(crate::proofs::InSlots::held_get, crate::proofs::InSlots::held_past))]
+fn find<'a, T>(slots: &'a Slab<T>, keys: &[usize], place: usize) -> Option<&'a T>
+    requires { AreHeld slots.now.slots keys.now }
+    ensures { option_copied result ≡ slice_get (held_at slots.now.slots keys.now) place }
+{
+    if place < keys.len() {
+        slots.get(keys[place])
+    } else {
+        None
+    }
+}
+
+/// Puts an item into the slots, and its key behind the others.
+#[tactic(auto, using(crate::proofs::InSlots::held_put, crate::proofs::InSlots::are_held_put))]
+fn put<T: Drop>(slots: &mut Slab<T>, keys: &mut Vec<usize>, item: T) -> Result<(), NoMemory>
+    requires { AreHeld slots.old.slots keys.old.items }
+    ensures ok { OnOk result (held_at slots.new.slots keys.new.items ≡ held_at slots.old.slots keys.old.items ++ item ∷ []) }
+    ensures longer { OnOk result (length keys.new.items ≡ length keys.old.items + 1) }
+    ensures err { OnErr result (slots.new.slots ≡ slots.old.slots) }
+    ensures err_keys { OnErr result (keys.new.items ≡ keys.old.items) }
+    ensures held { AreHeld slots.new.slots keys.new.items }
+{
+    slots.reserve(1)?;
+    keys.push(slots.vacant_key())?;
+    slots.insert_reserved(item);
+    Ok(())
 }
