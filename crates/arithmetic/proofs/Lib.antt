@@ -1,0 +1,5 @@
+pub mod Residues
+pub mod Modulo
+pub mod Examples
+pub mod Inverse
+pub mod Quotients
