@@ -1,33 +1,5 @@
+use arithmetic::Op;
 use cbase::List;
-
-/// An operation on two integers (C11 6.5.5 to 6.5.8, 6.5.10 to 6.5.12).
-#[derive(Clone, Copy, Debug, PartialEq, Eq)]
-pub enum Op {
-    /// Addition.
-    Add,
-    /// Subtraction.
-    Sub,
-    /// Multiplication.
-    Mul,
-    /// Division, which cuts towards 0.
-    Div,
-    /// The remainder of that division.
-    Rem,
-    /// And, bit by bit.
-    And,
-    /// Or, bit by bit.
-    Or,
-    /// Exclusive or, bit by bit.
-    Xor,
-    /// Shift to the left.
-    Left,
-    /// Shift to the right.
-    Right,
-    /// Whether the left side is less.
-    Less,
-    /// Whether the left side is less or equal.
-    LessEqual,
-}
 
 /// What an edge of the flow graph does. Registers, variables and functions are named by numbers, sizes are bytes.
 ///

@@ -15,5 +15,5 @@ pub use flow_graph::{
     Flow, FlowEdge, FlowFunction, Initial, InitialWord, Standing, Variable, Width,
 };
 pub use heads::is_head;
-pub use instruction::{Instr, Op};
+pub use instruction::Instr;
 pub use walking::{Walks, count_walks};
