@@ -1,5 +1,5 @@
 -- Registers and variables that stand, in ascending order of their numbers.
-use Rattle.std.specs.Prelude.{ℕ, Bool, List, [], ◌∷◌, nat_eq, nat_lt, Option, None, Some, if◌then◌else◌, ◌&&◌, not, filter}
+use Rattle.std.specs.Prelude.{ℕ, List, [], ◌∷◌, nat_eq, nat_lt, Option, None, Some, if◌then◌else◌, not, filter}
 use Rattle.std.specs.List.{list_any}
 use Rattle.bytes_core.specs.declared.word.Word.{Word}
 use Rattle.flow.specs.declared.flow_graph.Width.{Width}

@@ -4,7 +4,7 @@
 -- blocks outside all frames. A step goes along one edge out of the point. It takes choices where a block is made or
 -- an input is asked for; a choice that breaks the placement of blocks, or has another form than the one asked for,
 -- ends the run. A fault ends it too, at the place of the edge.
-use Rattle.std.specs.Prelude.{ℕ, zero, suc, ◌+◌, ◌*◌, ◌^◌, ◌%◌, Bool, true, false, not, ◌&&◌, ◌||◌, List, [], ◌∷◌, ◌++◌, map, length, replicate, nat_eq, nat_lt, ℤ, pos, ◌*ℤ◌, Option, None, Some, if◌then◌else◌, slice_get}
+use Rattle.std.specs.Prelude.{ℕ, ◌^◌, ◌%◌, Bool, true, false, not, ◌&&◌, ◌||◌, List, [], ◌∷◌, ◌++◌, map, length, nat_eq, nat_lt, pos, ◌*ℤ◌, Option, None, Some, if◌then◌else◌, slice_get}
 use Rattle.std.specs.List.{list_all}
 use Rattle.std.specs.Option.{option_map_or}
 use Rattle.cbase.specs.declared.place.Place.{Place}
@@ -30,7 +30,6 @@ use Rattle.flow.specs.declared.instruction.Instr.TheVariants.{Number, Address, M
 use Rattle.flow.specs.declared.flow_graph.Flow.{Flow}
 use Rattle.flow.specs.declared.flow_graph.FlowEdge.{FlowEdge}
 use Rattle.flow.specs.declared.flow_graph.FlowFunction.{FlowFunction}
-use Rattle.flow.specs.declared.flow_graph.Variable.{Variable}
 use Rattle.flow.specs.Holding.{Held, Owned, held_by, put, emptied, block_of, put_owned, left}
 
 -- what a run leaves open; a step that asks for a choice takes the next one
@@ -241,7 +240,7 @@ with_parameters flow (variable ∷ rest) [] state choices = Ended
 with_parameters flow (variable ∷ rest) (argument ∷ arguments) state choices =
     with_new_block storage.Local (size_in flow variable) false state choices
     (λ after block more. with_parameters flow rest arguments
-      (with_memory (stored after.memory (To block (pos 0)) argument.size argument.word) (with_variable variable block after)) more)
+    (with_memory (stored after.memory (To block (pos 0)) argument.size argument.word) (with_variable variable block after)) more)
 
 -- a function is entered: the caller waits behind the call
 abbrev pub called : Flow → Option FlowFunction → List ℕ → Option ℕ → ℕ → State → List Choice → Outcome
@@ -249,11 +248,11 @@ called flow None arguments into onward state choices = Ended
 called flow (Some function) arguments into onward state choices =
     with_arguments state.frame.registers arguments
     (λ held. with_parameters flow function.parameters held
-      (record state {
-        point = function.entry;
-        frame = record { variables = []; registers = [] };
-        callers = record { frame = record state.frame { registers = emptied arguments state.frame.registers }; point = onward; into = into } ∷ state.callers;
-      }) choices)
+    (record state {
+      point = function.entry;
+      frame = record { variables = []; registers = [] };
+      callers = record { frame = record state.frame { registers = emptied arguments state.frame.registers }; point = onward; into = into } ∷ state.callers;
+    }) choices)
 
 -- the frame that a caller goes on with: its register for the result holds what the function's did
 abbrev pub with_result : Option Held → Option ℕ → Frame → Frame
@@ -285,51 +284,51 @@ execute flow (Move into from) to place state choices =
     given (held_by state.frame.registers from) (λ held. Went (at to (with_value into held.size held.word state)) choices)
 execute flow (Read into address size pointer) to place state choices =
     given (held_by state.frame.registers address) (λ held.
-      unless_fault (access_fault state.memory held.word size) place
-      (Went (at to (with_value into size (loaded state.memory held.word size pointer) (without_registers (address ∷ []) state))) choices))
+    unless_fault (access_fault state.memory held.word size) place
+    (Went (at to (with_value into size (loaded state.memory held.word size pointer) (without_registers (address ∷ []) state))) choices))
 execute flow (Write address from size) to place state choices =
     given (held_by state.frame.registers address) (λ held. given (held_by state.frame.registers from) (λ written.
-      unless_fault (access_fault state.memory held.word size) place
-      (Went (at to (with_memory (stored state.memory held.word size written.word) (without_registers (address ∷ from ∷ []) state))) choices)))
+    unless_fault (access_fault state.memory held.word size) place
+    (Went (at to (with_memory (stored state.memory held.word size written.word) (without_registers (address ∷ from ∷ []) state))) choices)))
 execute flow (Shift into address by) to place state choices =
     given (held_by state.frame.registers address) (λ held.
-      Went (at to (with_value into 8 (moved held.word by) (without_registers (address ∷ []) state))) choices)
+    Went (at to (with_value into 8 (moved held.word by) (without_registers (address ∷ []) state))) choices)
 execute flow (ShiftBy into address by scale) to place state choices =
     given (held_by state.frame.registers address) (λ held. given (held_by state.frame.registers by) (λ number.
-      Went (at to (with_value into 8 (moved held.word (value 8 true (number_in state.memory number) *ℤ scale))
-        (without_registers (address ∷ by ∷ []) state))) choices))
+    Went (at to (with_value into 8 (moved held.word (value 8 true (number_in state.memory number) *ℤ scale))
+    (without_registers (address ∷ by ∷ []) state))) choices))
 execute flow (Compute into op one other size signed) to place state choices =
     given (held_by state.frame.registers one) (λ held. given (held_by state.frame.registers other) (λ second.
-      if_computed (computed op size signed (number_in state.memory held) (number_in state.memory second)) (λ number.
-        Went (at to (with_value into (size_after op size) (Plain number) (without_registers (one ∷ other ∷ []) state))) choices)))
+    if_computed (computed op size signed (number_in state.memory held) (number_in state.memory second)) (λ number.
+    Went (at to (with_value into (size_after op size) (Plain number) (without_registers (one ∷ other ∷ []) state))) choices)))
 execute flow (Convert into from size signed) to place state choices =
     given (held_by state.frame.registers from) (λ held.
-      Went (at to (with_value into size (Plain (converted held.size signed size (number_in state.memory held)))
-        (without_registers (from ∷ []) state))) choices)
+    Went (at to (with_value into size (Plain (converted held.size signed size (number_in state.memory held)))
+    (without_registers (from ∷ []) state))) choices)
 execute flow (IfSame one other) to place state choices =
     given (held_by state.frame.registers one) (λ held. given (held_by state.frame.registers other) (λ second.
-      if is_same_address state.memory held.word second.word
-      then Went (at to (without_registers (one ∷ other ∷ []) state)) choices else Barred))
+    if is_same_address state.memory held.word second.word
+    then Went (at to (without_registers (one ∷ other ∷ []) state)) choices else Barred))
 execute flow (IfDifferent one other) to place state choices =
     given (held_by state.frame.registers one) (λ held. given (held_by state.frame.registers other) (λ second.
-      if is_same_address state.memory held.word second.word
-      then Barred else Went (at to (without_registers (one ∷ other ∷ []) state)) choices))
+    if is_same_address state.memory held.word second.word
+    then Barred else Went (at to (without_registers (one ∷ other ∷ []) state)) choices))
 execute flow (Allocate into bytes zeroed) to place state choices = allocated into bytes zeroed (at to state) choices
 execute flow (AllocateNone into) to place state choices = allocated_none into (at to state) choices
 execute flow (Release address) to place state choices =
     given (held_by state.frame.registers address) (λ held.
-      unless_fault (free_fault state.memory held.word) place
-      (Went (at to (with_memory (freed state.memory held.word) (without_registers (address ∷ []) state))) choices))
+    unless_fault (free_fault state.memory held.word) place
+    (Went (at to (with_memory (freed state.memory held.word) (without_registers (address ∷ []) state))) choices))
 execute flow (Fill address from length) to place state choices =
     given (held_by state.frame.registers address) (λ held. given (held_by state.frame.registers from) (λ second.
-      unless_fault (range_fault state.memory held.word length) place
-      (Went (at to (with_memory (filled state.memory held.word (number_in state.memory second % 256) length)
-        (without_registers (address ∷ from ∷ []) state))) choices)))
+    unless_fault (range_fault state.memory held.word length) place
+    (Went (at to (with_memory (filled state.memory held.word (number_in state.memory second % 256) length)
+    (without_registers (address ∷ from ∷ []) state))) choices)))
 execute flow (Copy target from length disjoint) to place state choices =
     given (held_by state.frame.registers target) (λ held. given (held_by state.frame.registers from) (λ second.
-      unless_fault (copy_fault state.memory held.word second.word length disjoint) place
-      (Went (at to (with_memory (copied state.memory held.word second.word length)
-        (without_registers (target ∷ from ∷ []) state))) choices)))
+    unless_fault (copy_fault state.memory held.word second.word length disjoint) place
+    (Went (at to (with_memory (copied state.memory held.word second.word length)
+    (without_registers (target ∷ from ∷ []) state))) choices)))
 execute flow (Enter variables) to place state choices = entered flow variables (at to state) choices
 execute flow (Leave variables) to place state choices = unless_lost place (at to (after_scope variables state)) choices
 execute flow (Finish registers) to place state choices = unless_lost place (at to (without_registers registers state)) choices

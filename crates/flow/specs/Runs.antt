@@ -1,5 +1,5 @@
 -- Runs of the flow machine: how they begin, what they come to, and the faults that they meet.
-use Rattle.std.specs.Prelude.{◌≡◌, ℕ, zero, suc, ◌+◌, true, List, [], ◌∷◌, pos, Option, None, Some, slice_get, if◌then◌else◌}
+use Rattle.std.specs.Prelude.{◌≡◌, ℕ, zero, suc, ◌+◌, true, List, [], ◌∷◌, pos, Some, slice_get, if◌then◌else◌}
 use Rattle.std.specs.Option.{option_map_or}
 use Rattle.cbase.specs.declared.place.Place.{Place}
 use Rattle.bytes_core.specs.declared.word.Word.{Word}
@@ -35,8 +35,8 @@ with_statics number [] state choices = Went state choices
 with_statics number (variable ∷ rest) state choices =
     if variable.fixed
     then with_new_block storage.Static variable.size true state choices
-      (λ after block more. with_statics (number + 1) rest
-        (record after { statics = put_owned (record { variable = number; block = block }) after.statics }) more)
+    (λ after block more. with_statics (number + 1) rest
+    (record after { statics = put_owned (record { variable = number; block = block }) after.statics }) more)
     else with_statics (number + 1) rest state choices
 
 -- what a scalar holds at the start, once static variables have their blocks
@@ -64,7 +64,7 @@ abbrev pub start : Flow → List Choice → Outcome
 start flow choices =
     then_go (with_statics 0 flow.variables (blank (entry_of flow flow.main)) choices)
     (λ state more. entered flow (parameters_of flow flow.main)
-      (with_memory (with_initials state.statics flow.initial state.memory) state) more)
+    (with_memory (with_initials state.statics flow.initial state.memory) state) more)
 
 -- what stands after at most so many steps, with the choices taken in order
 abbrev pub run : ℕ → Flow → State → List Choice → Outcome

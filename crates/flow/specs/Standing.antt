@@ -1,14 +1,11 @@
 -- What stands at the points of a flow graph: which registers an instruction reads, and what stands behind it.
-use Rattle.std.specs.Prelude.{ℕ, Bool, true, false, ◌&&◌, List, [], ◌∷◌, map, nat_eq, Option, None, Some, slice_get, if◌then◌else◌}
-use Rattle.std.specs.List.{list_all}
+use Rattle.std.specs.Prelude.{ℕ, Bool, true, false, List, [], ◌∷◌, map, nat_eq, Option, None, Some, slice_get, if◌then◌else◌}
 use Rattle.std.specs.Option.{option_map, option_map_or}
 use Rattle.arithmetic.specs.declared.op.Op.{Op}
 use Rattle.arithmetic.specs.declared.op.Op.TheVariants.{Left, Right}
 use Rattle.flow.specs.declared.instruction.Instr.{Instr}
 use Rattle.flow.specs.declared.instruction.Instr.TheVariants.{Number, Address, Move, Read, Write, Shift, ShiftBy, Compute, Convert, IfSame, IfDifferent, Allocate, AllocateNone, Release, Fill, Copy, Enter, Leave, Finish, Input, Call, Return, Close}
 use Rattle.flow.specs.declared.flow_graph.Flow.{Flow}
-use Rattle.flow.specs.declared.flow_graph.FlowFunction.{FlowFunction}
-use Rattle.flow.specs.declared.flow_graph.Variable.{Variable}
 use Rattle.flow.specs.declared.flow_graph.Standing.{Standing}
 use Rattle.flow.specs.declared.flow_graph.Width.{Width}
 use Rattle.flow.specs.Holding.{size_of, put_width, emptied_widths, put_variable, left_variables}
@@ -144,6 +141,6 @@ variables_after instr variables = variables
 -- what stands behind an instruction
 abbrev pub stands_after : Flow → Instr → Standing → Standing
 stands_after flow instr standing = record {
-    variables = variables_after instr standing.variables;
-    registers = registers_after flow instr standing.registers;
-  }
+  variables = variables_after instr standing.variables;
+  registers = registers_after flow instr standing.registers;
+}

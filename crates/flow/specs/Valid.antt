@@ -1,13 +1,12 @@
 -- What holds of each flow graph.
-use Rattle.std.specs.Prelude.{◌≡◌, ◌≢◌, ℕ, ◌+◌, ◌^◌, ◌<◌, ◌≤◌, Bool, true, false, not, ◌&&◌, ◌||◌, List, [], ◌∷◌, length, map, filter, nat_eq, nat_le, nat_lt, Option, None, Some, slice_get, IsTrue, All, AllPairs, Contains, IsSome, if◌then◌else◌, ◌⊎◌}
+use Rattle.std.specs.Prelude.{◌≡◌, ◌≢◌, ℕ, ◌+◌, ◌^◌, ◌<◌, ◌≤◌, Bool, true, false, not, ◌&&◌, ◌||◌, List, [], ◌∷◌, length, map, filter, nat_eq, nat_le, nat_lt, Option, None, Some, slice_get, IsTrue, All, AllPairs, Contains, ◌⊎◌}
 use Rattle.std.specs.List.{list_all, list_any}
 use Rattle.std.specs.Option.{option_map_or}
 use Rattle.flow.specs.declared.instruction.Instr.{Instr}
-use Rattle.flow.specs.declared.instruction.Instr.TheVariants.{Number, Address, Move, Read, Write, Shift, ShiftBy, Compute, Convert, IfSame, IfDifferent, Allocate, AllocateNone, Release, Fill, Copy, Enter, Leave, Finish, Input, Call, Return, Close}
+use Rattle.flow.specs.declared.instruction.Instr.TheVariants.{Number, Address, Read, Write, Compute, Convert, IfSame, IfDifferent, Allocate, Fill, Copy, Enter, Leave, Input, Call, Return, Close}
 use Rattle.flow.specs.declared.flow_graph.Flow.{Flow}
 use Rattle.flow.specs.declared.flow_graph.FlowEdge.{FlowEdge}
 use Rattle.flow.specs.declared.flow_graph.FlowFunction.{FlowFunction}
-use Rattle.flow.specs.declared.flow_graph.Variable.{Variable}
 use Rattle.flow.specs.declared.flow_graph.Initial.{Initial}
 use Rattle.flow.specs.declared.flow_graph.InitialWord.{InitialWord}
 use Rattle.flow.specs.declared.flow_graph.InitialWord.TheVariants as initial

@@ -6,8 +6,8 @@ use Rattle.std.specs.Prelude.{◌≡◌, ℕ, ◌<◌, ◌≤◌, Bool, true, fa
 use Rattle.flow.specs.declared.instruction.Instr.{Instr}
 use Rattle.flow.specs.declared.instruction.Instr.TheVariants.{Return}
 use Rattle.flow.specs.declared.flow_graph.FlowEdge.{FlowEdge}
-use Rattle.flow.specs.declared.walking.Walks.{Walks}
-use Rattle.flow.specs.declared.walking.Walks.TheVariants.{Number, Cycle, More}
+use Rattle.flow.specs.declared.answer.Walks.{Walks}
+use Rattle.flow.specs.declared.answer.Walks.TheVariants.{Number, Cycle, More}
 
 -- whether an instruction is a return
 abbrev pub is_return : Instr → Bool

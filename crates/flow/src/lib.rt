@@ -4,16 +4,20 @@
 //! instructions is the flow machine of `specs/`. The crate knows nothing of the text or the trees of a program.
 #![tactic(auto)]
 
+mod answer;
 mod counting;
 mod flow_graph;
 mod heads;
 mod instruction;
 mod links;
+mod range;
 mod walking;
 
+pub use answer::Walks;
 pub use flow_graph::{
     Flow, FlowEdge, FlowFunction, Initial, InitialWord, Standing, Variable, Width,
 };
 pub use heads::is_head;
 pub use instruction::Instr;
-pub use walking::{Walks, count_walks};
+pub use range::is_in_range;
+pub use walking::walks;

@@ -4,22 +4,12 @@ ghost use Rattle.flow.specs.Walks.{Answers, IsNumberOfWalks};
 ghost use Rattle.flow.specs.InRange.{IsInRange, entry_of};
 ghost use Rattle.flow.specs.Counting.{AreEndsBelow, AreLinks, IsSearch, IsCapped};
 
+use crate::answer::Walks;
 use crate::counting::{MANY, Mark, Search, Turn, take_turn, visit_of};
 use crate::flow_graph::{Flow, FlowEdge};
 use crate::links::{Links, links_of};
 use cbase::NoMemory;
 use std::alloc::Global;
-
-/// How many walks there are within a function.
-#[derive(Clone, Copy, Debug, PartialEq, Eq)]
-pub enum Walks {
-    /// So many, at most 200,000.
-    Number(u32),
-    /// A cycle is reached.
-    Cycle,
-    /// There is no cycle that is reached, and there are more than 200,000.
-    More,
-}
 
 /// The search begins at a point, and knows nothing of the others.
 fn search_from(alloc: Global, links: &Links, points: u32, point: u32) -> Result<Search, NoMemory>
@@ -72,7 +62,7 @@ fn answer_of(number: u32) -> Walks
 /// A walk goes along no `Return`, and a call is one step to the point where the caller goes on. `Cycle` is told
 /// exactly where a cycle is reached within main, and `More` exactly where none is and there are more than 200,000.
 /// It takes time in proportion to the points and edges.
-pub fn count_walks(alloc: Global, flow: &Flow) -> Result<Walks, NoMemory>
+pub fn walks(alloc: Global, flow: &Flow) -> Result<Walks, NoMemory>
     requires { IsInRange flow.now }
     ensures { IfOk result (λ walks. Answers flow.now.edges (entry_of flow.now flow.now.main) walks) }
 {
