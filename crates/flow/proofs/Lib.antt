@@ -4,3 +4,4 @@ pub mod LinkLaws
 pub mod Trails
 pub mod Marks
 pub mod Steps
+pub mod MachineRows

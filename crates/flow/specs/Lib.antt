@@ -6,3 +6,4 @@ pub mod Machine
 pub mod Runs
 pub mod Standing
 pub mod Valid
+pub mod MachineRows

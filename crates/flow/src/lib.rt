@@ -9,6 +9,7 @@ mod counting;
 mod flow_graph;
 mod heads;
 mod instruction;
+pub mod laws;
 mod links;
 mod range;
 mod walking;
