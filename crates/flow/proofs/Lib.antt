@@ -5,3 +5,4 @@ pub mod Trails
 pub mod Marks
 pub mod Steps
 pub mod MachineRows
+pub mod ClauseRows

@@ -7,3 +7,4 @@ pub mod Runs
 pub mod Standing
 pub mod Valid
 pub mod MachineRows
+pub mod ClauseRows

@@ -1,4 +1,5 @@
-//! Worked examples of the flow machine. Each is the contract of a function that does nothing.
+//! Worked examples of the flow machine, and of what holds of flow graphs. Each is the contract of a function that does nothing.
+ghost use Rattle.flow.specs.ClauseRows.{AreSizesTold, AreObjectsTold, IsStandingTold};
 ghost use Rattle.flow.specs.MachineRows.{AreValuesMade, AreAccesses, AreWays};
 
 /// Values that are made, moved, computed and converted come out as they should.
@@ -17,4 +18,22 @@ pub fn accesses_come_out()
 #[tactic(auto, using(crate::proofs::MachineRows::ways))]
 pub fn ways_come_out()
     ensures { AreWays }
+{}
+
+/// Numbers name what is there, and sizes are those of scalars and objects.
+#[tactic(auto, using(crate::proofs::ClauseRows::sizes_told))]
+pub fn sizes_are_told()
+    ensures { AreSizesTold }
+{}
+
+/// What static variables hold, parameters, calls and returns are as they should be.
+#[tactic(auto, using(crate::proofs::ClauseRows::objects_told))]
+pub fn objects_are_told()
+    ensures { AreObjectsTold }
+{}
+
+/// An instruction reads what stands, and leaves what stands behind it.
+#[tactic(auto, using(crate::proofs::ClauseRows::standing_told))]
+pub fn standing_is_told()
+    ensures { IsStandingTold }
 {}
