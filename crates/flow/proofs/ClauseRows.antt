@@ -1,6 +1,9 @@
 -- The rows hold by computation.
-use Rattle.std.proofs.Common.{refl}
-use Rattle.flow.specs.ClauseRows.{AreSizesTold, AreObjectsTold, IsStandingTold}
+use Rattle.std.proofs.Common.{refl, ◌≡◌, List, [], ◌∷◌, None}
+use Rattle.flow.specs.ClauseRows.{AreSizesTold, AreObjectsTold, IsStandingTold, AreExitsTold, edge, with_edges, second}
+use Rattle.flow.specs.declared.flow_graph.FlowEdge.{FlowEdge}
+use Rattle.flow.specs.declared.instruction.Instr.TheVariants.{Return}
+use Rattle.flow.specs.Valid.{HasReturn}
 
 pub sizes_told : AreSizesTold
 sizes_told = record {
@@ -105,4 +108,20 @@ standing_told = record {
   no_close = refl;
   a_call_of_main = refl;
   a_call_of_another = refl;
+}
+
+no_edge_out : HasReturn (with_edges []) second → ⊥
+no_edge_out has =
+    let none : List FlowEdge = [] in
+    let e : none ≡ has.edge ∷ [] = has.only in cc
+
+two_edges_out : HasReturn (with_edges (edge 2 0 (Return None) ∷ edge 2 1 (Return None) ∷ [])) second → ⊥
+two_edges_out has =
+    let e : edge 2 0 (Return None) ∷ edge 2 1 (Return None) ∷ [] ≡ has.edge ∷ [] = has.only in cc
+
+pub exits_told : AreExitsTold
+exits_told = record {
+  one_return = record { edge = edge 2 0 (Return None); only = refl; returns = refl; ends = refl };
+  no_edge_out = no_edge_out;
+  two_edges_out = two_edges_out;
 }

@@ -1,17 +1,19 @@
 -- What holds of flow graphs, rule by rule: data that just meet it, and data that just miss it.
-use Rattle.std.specs.Prelude.{◌≡◌, ℕ, ◌-◌, ◌^◌, Bool, true, false, List, [], ◌∷◌, pos, None, Some}
+use Rattle.std.specs.Prelude.{◌≡◌, ℕ, ◌-◌, ◌^◌, true, false, List, [], ◌∷◌, pos, None, Some}
 use Rattle.cbase.specs.declared.abi.Abi.TheVariants.{Lp64}
 use Rattle.arithmetic.specs.declared.op.Op.TheVariants as op
 use Rattle.flow.specs.declared.instruction.Instr.{Instr}
-use Rattle.flow.specs.declared.instruction.Instr.TheVariants.{Number, Address, Move, Read, Write, Shift, ShiftBy, Compute, Convert, IfSame, IfDifferent, Allocate, AllocateNone, Release, Fill, Copy, Enter, Leave, Finish, Input, Call, Return, Close}
+use Rattle.flow.specs.declared.instruction.Instr.TheVariants.{Number, Address, Move, Read, Write, ShiftBy, Compute, Convert, IfSame, IfDifferent, Allocate, Fill, Copy, Enter, Leave, Finish, Input, Call, Return, Close}
 use Rattle.flow.specs.declared.flow_graph.Flow.{Flow}
+use Rattle.flow.specs.declared.flow_graph.FlowEdge.{FlowEdge}
+use Rattle.flow.specs.declared.flow_graph.FlowFunction.{FlowFunction}
 use Rattle.flow.specs.declared.flow_graph.Initial.{Initial}
 use Rattle.flow.specs.declared.flow_graph.InitialWord.{InitialWord}
 use Rattle.flow.specs.declared.flow_graph.InitialWord.TheVariants as initial
 use Rattle.flow.specs.declared.flow_graph.Standing.{Standing}
 use Rattle.flow.specs.declared.flow_graph.Width.{Width}
 use Rattle.flow.specs.Standing.{stands_after}
-use Rattle.flow.specs.Valid.{is_object_size, names_what_is_there, has_sizes, are_distinct, ascend, reads_what_stands, tests_one_size, has_scope, calls_rightly, is_initial, is_parameter, returns_what_stands, is_close, is_call_of}
+use Rattle.flow.specs.Valid.{is_object_size, names_what_is_there, has_sizes, are_distinct, ascend, reads_what_stands, tests_one_size, has_scope, calls_rightly, is_initial, is_parameter, returns_what_stands, is_close, is_call_of, HasReturn}
 
 abbrev pub width : ℕ → ℕ → Width
 width register size = record { register = register; size = size }
@@ -23,17 +25,17 @@ stand variables registers = record { variables = variables; registers = register
 -- as its parameter, and a result of 4 bytes; the second has neither.
 abbrev pub graph : Flow
 graph = record {
-    points = 3;
-    edges = [];
-    functions = record { entry = 0; exit = 1; parameters = 1 ∷ [] } ∷ record { entry = 2; exit = 2; parameters = [] } ∷ [];
-    variables = record { size = 8; fixed = true } ∷ record { size = 4; fixed = false } ∷ record { size = 8; fixed = false } ∷ record { size = 3; fixed = false } ∷ [];
-    initial = [];
-    heads = [];
-    main = 1;
-    stands = stand (1 ∷ []) [] ∷ stand [] (width 0 4 ∷ []) ∷ stand [] [] ∷ [];
-    abi = Lp64;
-    strict = false;
-  }
+  points = 3;
+  edges = [];
+  functions = record { entry = 0; exit = 1; parameters = 1 ∷ [] } ∷ record { entry = 2; exit = 2; parameters = [] } ∷ [];
+  variables = record { size = 8; fixed = true } ∷ record { size = 4; fixed = false } ∷ record { size = 8; fixed = false } ∷ record { size = 3; fixed = false } ∷ [];
+  initial = [];
+  heads = [];
+  main = 1;
+  stands = stand (1 ∷ []) [] ∷ stand [] (width 0 4 ∷ []) ∷ stand [] [] ∷ [];
+  abi = Lp64;
+  strict = false;
+}
 
 -- variable 1 stands, register 1 with 4 bytes and register 2 with 8
 abbrev pub here : Standing
@@ -144,3 +146,19 @@ pub record IsStandingTold : Type 0 where
   pub no_close : is_close (Return None) ≡ false
   pub a_call_of_main : is_call_of 1 (Call 1 [] None) ≡ true
   pub a_call_of_another : is_call_of 1 (Call 0 [] None) ≡ false
+
+-- an edge, and the second function above, whose exit is point 2, in a graph with such edges
+abbrev pub edge : ℕ → ℕ → Instr → FlowEdge
+edge from to instr = record { from = from; to = to; instr = instr; place = record { file = 0; line = 1; column = 1; at = 0 } }
+
+abbrev pub second : FlowFunction
+second = record { entry = 2; exit = 2; parameters = [] }
+
+abbrev pub with_edges : List FlowEdge → Flow
+with_edges edges = record graph { edges = edges }
+
+-- returns out of an exit
+pub record AreExitsTold : Type 0 where
+  pub one_return : HasReturn (with_edges (edge 2 0 (Return None) ∷ [])) second
+  pub no_edge_out : HasReturn (with_edges []) second → ⊥
+  pub two_edges_out : HasReturn (with_edges (edge 2 0 (Return None) ∷ edge 2 1 (Return None) ∷ [])) second → ⊥

@@ -1,12 +1,11 @@
 -- Worked examples of the flow machine: what each instruction leaves in a small state, and each fault that it can meet.
-use Rattle.std.specs.Prelude.{◌≡◌, ℕ, ◌-◌, ◌^◌, Bool, true, false, List, [], ◌∷◌, replicate, pos, negsuc, None, Some, slice_get}
+use Rattle.std.specs.Prelude.{◌≡◌, ℕ, ◌-◌, ◌^◌, true, false, List, [], ◌∷◌, pos, negsuc, None, Some}
 use Rattle.cbase.specs.declared.abi.Abi.TheVariants.{Lp64}
 use Rattle.cbase.specs.declared.place.Place.{Place}
 use Rattle.arithmetic.specs.declared.op.Op.TheVariants as op
 use Rattle.bytes_core.specs.declared.word.Word.{Word}
 use Rattle.bytes_core.specs.declared.word.Word.TheVariants.{Plain, To}
 use Rattle.bytes_core.specs.declared.block.BlockKind.TheVariants as storage
-use Rattle.bytes_core.specs.declared.block.Block.{Block}
 use Rattle.bytes_core.specs.Placement.{new_block, placed}
 use Rattle.bytes_core.specs.Access.{stored, filled}
 use Rattle.bytes_core.specs.Copying.{copied}
@@ -15,23 +14,23 @@ use Rattle.bytes_core.specs.Examples.{example}
 use Rattle.flow.specs.declared.instruction.Instr.{Instr}
 use Rattle.flow.specs.declared.instruction.Instr.TheVariants.{Number, Address, Move, Read, Write, Shift, ShiftBy, Compute, Convert, IfSame, IfDifferent, Allocate, AllocateNone, Release, Fill, Copy, Enter, Leave, Finish, Input, Call, Return, Close}
 use Rattle.flow.specs.declared.flow_graph.Flow.{Flow}
-use Rattle.flow.specs.Holding.{Held, Owned}
+use Rattle.flow.specs.Holding.{Held}
 use Rattle.flow.specs.Machine.{Choice, NoBlock, NewBlock, GivenInput, State, Outcome, Went, Barred, Waits, Ended, Faulted, at, with_memory, execute}
 
 -- a graph with two variables of 16 and of 4 bytes, and with a function whose parameter is the second
 abbrev pub graph : Flow
 graph = record {
-    points = 9;
-    edges = [];
-    functions = record { entry = 7; exit = 8; parameters = 1 ∷ [] } ∷ [];
-    variables = record { size = 16; fixed = false } ∷ record { size = 4; fixed = false } ∷ [];
-    initial = [];
-    heads = [];
-    main = 0;
-    stands = [];
-    abi = Lp64;
-    strict = false;
-  }
+  points = 9;
+  edges = [];
+  functions = record { entry = 7; exit = 8; parameters = 1 ∷ [] } ∷ [];
+  variables = record { size = 16; fixed = false } ∷ record { size = 4; fixed = false } ∷ [];
+  initial = [];
+  heads = [];
+  main = 0;
+  stands = [];
+  abi = Lp64;
+  strict = false;
+}
 
 abbrev pub place : Place
 place = record { file = 0; line = 1; column = 1; at = 0 }
@@ -44,13 +43,13 @@ holds register size word = record { register = register; size = size; word = wor
 -- allocated, and block 2 was freed
 abbrev pub state : List Held → State
 state registers = record {
-    point = 0;
-    frame = record { variables = record { variable = 0; block = 0 } ∷ []; registers = registers };
-    callers = [];
-    statics = [];
-    memory = example;
-    outer = [];
-  }
+  point = 0;
+  frame = record { variables = record { variable = 0; block = 0 } ∷ []; registers = registers };
+  callers = [];
+  statics = [];
+  memory = example;
+  outer = [];
+}
 
 -- what an instruction comes to, on the way to point 5
 abbrev pub after : Instr → List Held → List Choice → Outcome
@@ -130,13 +129,13 @@ pub record AreWays : Type 0 where
   pub enter_null : after (Enter (1 ∷ [])) [] (NoBlock ∷ []) ≡ Ended
   pub enter : after (Enter (1 ∷ [])) [] (NewBlock 16384 (1 ∷ 2 ∷ 3 ∷ 4 ∷ []) ∷ [])
       ≡ Went (record {
-          point = 5;
-          frame = record { variables = record { variable = 0; block = 0 } ∷ record { variable = 1; block = 3 } ∷ []; registers = [] };
-          callers = [];
-          statics = [];
-          memory = placed example (new_block storage.Local 16384 (1 ∷ 2 ∷ 3 ∷ 4 ∷ []));
-          outer = [];
-        }) []
+        point = 5;
+        frame = record { variables = record { variable = 0; block = 0 } ∷ record { variable = 1; block = 3 } ∷ []; registers = [] };
+        callers = [];
+        statics = [];
+        memory = placed example (new_block storage.Local 16384 (1 ∷ 2 ∷ 3 ∷ 4 ∷ []));
+        outer = [];
+      }) []
   -- the variable held the only pointer to block 1
   pub leave : after (Leave (0 ∷ [])) [] [] ≡ Faulted 7 place
   pub leave_nothing : after (Leave []) [] [] ≡ went []
@@ -144,21 +143,21 @@ pub record AreWays : Type 0 where
   -- a call makes the parameter and stores the argument in it
   pub call : after (Call 0 (2 ∷ []) (Some 4)) (holds 1 4 (Plain 7) ∷ holds 2 4 (Plain 258) ∷ []) (NewBlock 16384 (9 ∷ 9 ∷ 9 ∷ 9 ∷ []) ∷ [])
       ≡ Went (record {
-          point = 7;
-          frame = record { variables = record { variable = 1; block = 3 } ∷ []; registers = [] };
-          callers = record {
-            frame = record { variables = record { variable = 0; block = 0 } ∷ []; registers = holds 1 4 (Plain 7) ∷ [] };
-            point = 5;
-            into = Some 4;
-          } ∷ [];
-          statics = [];
-          memory = placed example (new_block storage.Local 16384 (2 ∷ 1 ∷ 0 ∷ 0 ∷ []));
-          outer = [];
-        }) []
+        point = 7;
+        frame = record { variables = record { variable = 1; block = 3 } ∷ []; registers = [] };
+        callers = record {
+          frame = record { variables = record { variable = 0; block = 0 } ∷ []; registers = holds 1 4 (Plain 7) ∷ [] };
+          point = 5;
+          into = Some 4;
+        } ∷ [];
+        statics = [];
+        memory = placed example (new_block storage.Local 16384 (2 ∷ 1 ∷ 0 ∷ 0 ∷ []));
+        outer = [];
+      }) []
   pub return_from_last : after (Return None) [] [] ≡ Ended
   pub return_result : execute graph (Return (Some 1)) 8 place (record (state (holds 1 4 (Plain 7) ∷ [])) {
-        callers = record { frame = record { variables = record { variable = 0; block = 0 } ∷ []; registers = [] }; point = 5; into = Some 4 } ∷ [];
-      }) []
+    callers = record { frame = record { variables = record { variable = 0; block = 0 } ∷ []; registers = [] }; point = 5; into = Some 4 } ∷ [];
+  }) []
       ≡ went (holds 4 4 (Plain 7) ∷ [])
   -- block 1 lives
   pub close : after Close [] [] ≡ Faulted 9 place

@@ -1,5 +1,5 @@
 //! Worked examples of the flow machine, and of what holds of flow graphs. Each is the contract of a function that does nothing.
-ghost use Rattle.flow.specs.ClauseRows.{AreSizesTold, AreObjectsTold, IsStandingTold};
+ghost use Rattle.flow.specs.ClauseRows.{AreSizesTold, AreObjectsTold, IsStandingTold, AreExitsTold};
 ghost use Rattle.flow.specs.MachineRows.{AreValuesMade, AreAccesses, AreWays};
 
 /// Values that are made, moved, computed and converted come out as they should.
@@ -36,4 +36,10 @@ pub fn objects_are_told()
 #[tactic(auto, using(crate::proofs::ClauseRows::standing_told))]
 pub fn standing_is_told()
     ensures { IsStandingTold }
+{}
+
+/// The one edge out of an exit is a return.
+#[tactic(auto, using(crate::proofs::ClauseRows::exits_told))]
+pub fn exits_are_told()
+    ensures { AreExitsTold }
 {}
