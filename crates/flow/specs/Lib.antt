@@ -1,0 +1,10 @@
+pub mod Walks
+pub mod Counting
+pub mod InRange
+pub mod Holding
+pub mod Machine
+pub mod Runs
+pub mod Standing
+pub mod Valid
+pub mod MachineRows
+pub mod ClauseRows

@@ -1,0 +1,24 @@
+//! The flow graph of a C program: points, edges with one instruction each, and what stands at each point.
+//!
+//! It answers how many walks there are within main, and which points are loop heads. The meaning of the
+//! instructions is the flow machine of `specs/`. The crate knows nothing of the text or the trees of a program.
+#![tactic(auto)]
+
+mod answer;
+mod counting;
+mod flow_graph;
+mod heads;
+mod instruction;
+pub mod laws;
+mod links;
+mod range;
+mod walking;
+
+pub use answer::Walks;
+pub use flow_graph::{
+    Flow, FlowEdge, FlowFunction, Initial, InitialWord, Standing, Variable, Width,
+};
+pub use heads::is_head;
+pub use instruction::Instr;
+pub use range::is_in_range;
+pub use walking::walks;
