@@ -25,15 +25,26 @@ pub fn edge(alloc: Global, from: u32, sign: u8, to: u32) -> FlowEdge {
     }
 }
 
-/// The flow graph of one function, main, whose entry is point 0, with these edges and loop heads.
-pub fn flow_of(alloc: Global, points: u32, edges: List<FlowEdge>, heads: List<u32>) -> Result<Flow, NoMemory> {
+/// The one function main, whose entry is point 0.
+pub fn main_alone(alloc: Global) -> Result<List<FlowFunction>, NoMemory> {
     let mut functions: List<FlowFunction> = List::new(alloc);
     functions.push(FlowFunction {
         entry: 0,
         exit: 0,
         parameters: List::new(alloc),
     })?;
-    Ok(Flow {
+    Ok(functions)
+}
+
+/// The flow graph of these functions, with these edges and loop heads.
+pub fn flow_of(
+    alloc: Global,
+    points: u32,
+    functions: List<FlowFunction>,
+    edges: List<FlowEdge>,
+    heads: List<u32>,
+) -> Flow {
+    Flow {
         points,
         edges,
         functions,
@@ -44,11 +55,11 @@ pub fn flow_of(alloc: Global, points: u32, edges: List<FlowEdge>, heads: List<u3
         stands: List::new(alloc),
         abi: Abi::Lp64,
         strict: false,
-    })
+    }
 }
 
-/// The flow graph over 26 points whose edges are written so, as `a>b b!c`: the letters are the points from 0 on.
-pub fn flow_of_text(alloc: Global, text: &[u8]) -> Result<Flow, NoMemory> {
+/// The edges that are written so, as `a>b b!c`: the letters are the points from 0 on.
+fn edges_of(alloc: Global, text: &[u8]) -> Result<List<FlowEdge>, NoMemory> {
     let mut edges: List<FlowEdge> = List::new(alloc);
     for written in text.chunks(4) {
         if let [from, sign, to, ..] = written {
@@ -57,7 +68,14 @@ pub fn flow_of_text(alloc: Global, text: &[u8]) -> Result<Flow, NoMemory> {
             edges.push(edge(alloc, start, *sign, end))?;
         }
     }
-    flow_of(alloc, 26, edges, List::new(alloc))
+    Ok(edges)
+}
+
+/// The flow graph over 26 points with the edges of a text.
+pub fn flow_of_text(alloc: Global, text: &[u8]) -> Result<Flow, NoMemory> {
+    let edges = edges_of(alloc, text)?;
+    let functions = main_alone(alloc)?;
+    Ok(flow_of(alloc, 26, functions, edges, List::new(alloc)))
 }
 
 /// What is answered of the walks of a graph, as text; `?` where its numbers are out of range.

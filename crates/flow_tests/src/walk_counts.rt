@@ -1,11 +1,11 @@
-use crate::graphs::{edge, flow_of, flow_of_text, shown};
+use crate::graphs::{edge, flow_of, flow_of_text, main_alone, shown};
 use cbase::{List, NoMemory};
 use flow::{Flow, FlowEdge};
 use std::alloc::Global;
 use std::test::Fail;
 
 /// Graphs with what is counted by hand: the walks from `a`. A return is no step, and a call is one.
-static COUNTED: [(&str, &str); 36] = [
+static COUNTED: [(&str, &str); 37] = [
     ("", "1"),
     ("a>b", "2"),
     ("a>b b>c", "3"),
@@ -42,6 +42,10 @@ static COUNTED: [(&str, &str); 36] = [
     ("c>d b>c a>b a>b", "7"),
     ("a>b a!c b>d d>e e>b", "cycle"),
     ("z>z a>b", "2"),
+    (
+        "a>b b>c c>d c>d d>e e>f f>g g>h h>i i>j j>k k>l l>m m>n n!o",
+        "25",
+    ),
 ];
 
 #[test]
@@ -56,14 +60,21 @@ fn walks_are_counted_as_by_hand(rt: HostRuntime) -> Result<(), Fail> {
 }
 
 /// So many forks in a row, each of so many edges that meet at once: with one edge a row of points.
-fn row_of_forks(alloc: Global, forks: u32, sides: u32) -> Result<Flow, NoMemory> {
+fn forked_edges(alloc: Global, forks: u32, sides: u32) -> Result<List<FlowEdge>, NoMemory> {
     let mut edges: List<FlowEdge> = List::new(alloc);
     for point in 0..forks {
         for _ in 0..sides {
             edges.push(edge(alloc, point, b'>', point.saturating_add(1)))?;
         }
     }
-    flow_of(alloc, forks.saturating_add(1), edges, List::new(alloc))
+    Ok(edges)
+}
+
+fn row_of_forks(alloc: Global, forks: u32, sides: u32) -> Result<Flow, NoMemory> {
+    let edges = forked_edges(alloc, forks, sides)?;
+    let functions = main_alone(alloc)?;
+    let points = forks.saturating_add(1);
+    Ok(flow_of(alloc, points, functions, edges, List::new(alloc)))
 }
 
 /// Rows of forks: how many, of how many edges each, and what is counted. The walks of n forks of two edges are
