@@ -11,3 +11,4 @@ pub mod Placing
 pub mod Witness
 pub mod InSlots
 pub mod Places
+pub mod Ranges

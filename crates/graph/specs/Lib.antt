@@ -8,3 +8,4 @@ pub mod State
 pub mod Meaning
 pub mod Laws
 pub mod Alike
+pub mod Points

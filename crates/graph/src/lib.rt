@@ -12,6 +12,7 @@ mod keyed;
 pub mod laws;
 mod object;
 mod parts;
+mod points;
 mod post;
 mod stop;
 mod value;
