@@ -5,4 +5,6 @@ pub mod Renamed
 pub mod Reformed
 pub mod Numbered
 pub mod InSlots
-pub mod Places
+pub mod AtPlaces
+pub mod PlaceAmong
+pub mod AllPlaced

@@ -5,7 +5,23 @@ ghost use Rattle.graph.specs.Renaming.{numbered};
 use crate::graph::Graph;
 use crate::parts::Parts;
 use crate::stop::Stop;
+use cbase::NoMemory;
 use std::alloc::Global;
+
+/// How many nodes, and how many unequal pairs, are too many.
+const TOO_MANY: usize = 1_073_741_824;
+
+/// Whether a graph may have so many nodes and unequal pairs. Each region is one node.
+#[tactic(auto, using(crate::proofs::PlaceAmong::nodes_are_objects))]
+fn is_within_limits(parts: &Parts) -> bool
+    ensures { result ≡ is_within_limits parts.now }
+{
+    if parts.objects.len() < TOO_MANY {
+        parts.unequal.len() < TOO_MANY
+    } else {
+        false
+    }
+}
 
 /// The graph with these parts, in the same order. In place of its key each object and each value has its place
 /// in its list.
@@ -17,7 +33,13 @@ pub fn built(alloc: Global, parts: Parts) -> Result<Graph, Stop>
     ensures ok { IfOk result (λ graph. graph ≡ numbered parts) }
     ensures large { (result ≡ Err Stop.Large) ↔ (is_within_limits parts ≡ false) }
 {
-    unreachable!()
+    if !is_within_limits(&parts) {
+        return Err(Stop::Large);
+    }
+    match Graph::numbered(alloc, &parts) {
+        Ok(graph) => Ok(graph),
+        Err(NoMemory) => Err(Stop::NoMemory),
+    }
 }
 
 /// The graph with these parts, as `built` makes it. None exactly where they make no graph, the limits aside.

@@ -12,6 +12,7 @@ mod graph;
 mod keyed;
 mod object;
 mod parts;
+mod places;
 mod post;
 mod stop;
 mod value;
