@@ -66,7 +66,6 @@ module _ {Entry Item : Type 0} (key : Entry → ℕ) (item : Entry → Item) whe
 module _ {Entry Item Entry' Item' : Type 0} (key : Entry → ℕ) (item : Entry → Item) (key' : Entry' → ℕ) (item' : Entry' → Item')
     (change : Entry → Entry') (rename : ℕ → ℕ) (become : Item → Item')
     (keys : (entry : Entry) → key' (change entry) ≡ rename (key entry)) (items : (entry : Entry) → item' (change entry) ≡ become (item entry)) where
-
   -- an entry that is found by its old key is found by the new one, if no other old key gets that
   pub found-renamed : (entries : List Entry) (at : ℕ) (found : Item) → IsOneToOne rename (found_at key item entries) →
       found_at key item entries at ≡ Some found → found_at key' item' (map change entries) (rename at) ≡ Some (become found)
@@ -76,15 +75,18 @@ module _ {Entry Item Entry' Item' : Type 0} (key : Entry → ℕ) (item : Entry 
     where
       here : IsSome (found_at key item (first ∷ rest) (key first))
       here = IsSome-holds _ _ (found-here key item first rest (key first) (eq-eqb (key first) (key first) refl))
+
       apart : nat_eq (key first) at ≡ false → nat_eq (key' (change first)) (rename at) ≡ true → ⊥
       apart other clash =
           let new : rename (key first) ≡ rename at = sym (keys first) ∙ eqb-true _ _ clash in
           let old : key first ≡ at = one_to_one.same (key first) at here (IsSome-holds _ found stands) new in
           false≢true (sym other ∙ eq-eqb (key first) at old)
+
       passed : nat_eq (key first) at ≡ false → found_at key' item' (map change rest) (rename at) ≡ Some (become found) →
           (new : Bool) → nat_eq (key' (change first)) (rename at) ≡ new → found_at key' item' (map change (first ∷ rest)) (rename at) ≡ Some (become found)
       passed other in_rest true clash = absurd (apart other clash)
       passed other in_rest false no_clash = found-later key' item' (change first) (map change rest) (rename at) no_clash ∙ in_rest
+
       by_cases : (old : Bool) → nat_eq (key first) at ≡ old → (found_at key item rest at ≡ Some found → found_at key' item' (map change rest) (rename at) ≡ Some (become found)) →
           found_at key' item' (map change (first ∷ rest)) (rename at) ≡ Some (become found)
       by_cases true is rest_does =
@@ -112,8 +114,8 @@ module _ {Entry Item Entry' Item' : Type 0} (key : Entry → ℕ) (item : Entry 
         old_key = before.old_key;
         old = before.old;
         stands =
-          let distinct : nat_eq (key first) before.old_key ≡ false = by_test (nat_eq (key first) before.old_key) refl in
-          found-later key item first rest before.old_key distinct ∙ before.stands;
+            let distinct : nat_eq (key first) before.old_key ≡ false = by_test (nat_eq (key first) before.old_key) refl in
+            found-later key item first rest before.old_key distinct ∙ before.stands;
         new_key = before.new_key;
         new = before.new;
       }
@@ -123,6 +125,7 @@ module _ {Entry Item Entry' Item' : Type 0} (key : Entry → ℕ) (item : Entry 
           by_test true is =
               let hit : nat_eq (key' (change first)) at ≡ true = eq-eqb _ _ (keys first ∙ ap rename (eqb-true _ _ is) ∙ before.new_key) in
               absurd (false≢true (sym other ∙ hit))
+
       by_cases : (hit : Bool) → nat_eq (key' (change first)) at ≡ hit → (found_at key' item' (map change rest) at ≡ Some found → WasFound rest at found) → WasFound (first ∷ rest) at found
       by_cases true is rest_does = record {
         old_key = key first;
@@ -141,6 +144,7 @@ module _ {Entry Item Entry' Item' : Type 0} (key : Entry → ℕ) (item : Entry 
     where
       here : IsSome (found_at key item (first ∷ rest) (key first))
       here = IsSome-holds _ _ (found-here key item first rest (key first) (eq-eqb (key first) (key first) refl))
+
       by_cases : (hit : Bool) → nat_eq (rename (key first)) at ≡ hit →
           (IsSome (found_at key' item' (map change rest) at) → IsSome (found_at key item rest (back_in key item rename rest at)) × (rename (back_in key item rename rest at) ≡ at)) →
           IsSome (found_at key item (first ∷ rest) (back_in key item rename (first ∷ rest) at)) × (rename (back_in key item rename (first ∷ rest) at) ≡ at)
@@ -165,7 +169,6 @@ module _ {Entry Item Entry' Item' : Type 0} (key : Entry → ℕ) (item : Entry 
 module _ {Entry Item Entry' Item' : Type 0} (key : Entry → ℕ) (item : Entry → Item) (key' : Entry' → ℕ) (item' : Entry' → Item')
     (change : Entry → Entry') (become : Item → Item')
     (keys : (entry : Entry) → key' (change entry) ≡ key entry) (items : (entry : Entry) → item' (change entry) ≡ become (item entry)) where
-
   pub found-changed : (entries : List Entry) (at : ℕ) → found_at key' item' (map change entries) at ≡ option_map become (found_at key item entries at)
   found-changed [] at = refl
   found-changed (first ∷ rest) at = by_cases (nat_eq (key first) at) refl (found-changed rest at)

@@ -4,6 +4,11 @@ pub mod Pulled
 pub mod Renamed
 pub mod Reformed
 pub mod Numbered
+pub mod Alike
+pub mod Chosen
+pub mod Table
+pub mod Placing
+pub mod Witness
 pub mod InSlots
 pub mod AtPlaces
 pub mod PlaceAmong

@@ -1,6 +1,6 @@
 -- Parts whose keys are their places.
 use Rattle.std.proofs.Common.{◌≡◌, ℕ, suc, zero, ◌+◌, ◌<◌, ◌≤◌, ◌^◌, Bool, true, false, ◌&&◌, List, [], ◌∷◌, map, length, Option, None, Some, nat_eq, nat_lt, get_or, refl, sym, ◌∙◌, ap, subst, eqb-true, eq-eqb, ne_eqb, ltb-true, ltb-false, arith, sum_by}
-use Rattle.std.specs.Prelude.{IsSome, IsTrue}
+use Rattle.std.specs.Prelude.{IsSome, IsTrue, ◌↔◌}
 use Rattle.std.specs.List.{AllPairs, position_or_len, fold}
 use Rattle.std.proofs.lemmas.Bool.{false≢true}
 use Rattle.std.proofs.lemmas.List.{length-map, get_or-map}
@@ -17,7 +17,10 @@ use Rattle.graph.specs.WellFormed.{HasAscendingKeys, IsWellFormed, nodes_of, nod
 use Rattle.graph.specs.Whole.{parts_of}
 use Rattle.graph.specs.Laws.{IsRenaming, IsOneToOne}
 use Rattle.graph.proofs.Found.{found-later}
+use Rattle.graph.specs.State.{State}
+use Rattle.graph.specs.Meaning.{StandsFor}
 use Rattle.graph.proofs.Reformed.{IsWellFormed-renamed}
+use Rattle.graph.proofs.Renamed.{renaming_keeps}
 
 -- a place of a key that is there
 record Index (keys : List ℕ) (at : ℕ) : Type 0 where
@@ -69,7 +72,7 @@ place_is key entries ascend index default within =
     let value : (k : ℕ) → k < length entries → get_or (map key entries) k 0 ≡ key (get_or entries k default) = λ k below. get_or-map key entries k default 0 below in
     position_or_len_is (nat_eq at) (map key entries) index 0 (omega arith)
     (λ k before. let lower : key (get_or entries k default) < at = ascend k index default before within in
-        ap (nat_eq at) (value k (omega arith)) ∙ ne_eqb at (key (get_or entries k default)) (omega arith))
+    ap (nat_eq at) (value k (omega arith)) ∙ ne_eqb at (key (get_or entries k default)) (omega arith))
     (λ below. ap (nat_eq at) (value index within) ∙ eq-eqb at at refl)
 
 objects_in_places : (place : ℕ → ℕ) (become : Object → Object) (from : ℕ) (entries : List KeyedObject) →
@@ -96,9 +99,9 @@ values_in_places place become from (entry ∷ rest) places =
 pub numbered-renamed : (parts : Parts) → HasAscendingKeys parts → numbered parts ≡ renamed (object_place parts) (value_place parts) parts
 numbered-renamed parts ascending =
     let objects = objects_in_places (object_place parts) (renamed_object (value_place parts)) 0 parts.objects
-        (λ index default within. place_is (λ (entry : KeyedObject). entry.key) parts.objects ascending.objects index default within ∙ omega arith) in
+    (λ index default within. place_is (λ (entry : KeyedObject). entry.key) parts.objects ascending.objects index default within ∙ omega arith) in
     let values = values_in_places (value_place parts) (renamed_value (object_place parts)) 0 parts.values
-        (λ index default within. place_is (λ (entry : KeyedValue). entry.key) parts.values ascending.values index default within ∙ omega arith) in
+    (λ index default within. place_is (λ (entry : KeyedValue). entry.key) parts.values ascending.values index default within ∙ omega arith) in
     ap (λ (os : List KeyedObject). record (numbered parts) { objects = os }) objects
     ∙ ap (λ (vs : List KeyedValue). record (renamed (object_place parts) (value_place parts) parts) { values = vs }) values
 
@@ -140,3 +143,12 @@ ascending_from inside = record {
       let other = value_key_from 0 inside.values j default within in
       omega arith;
 }
+
+pub numbering_renames : (parts : Parts) → HasAscendingKeys parts →
+    IsRenaming (object_place parts) (value_place parts) parts × (numbered parts ≡ renamed (object_place parts) (value_place parts) parts)
+numbering_renames parts ascending = (IsRenaming-places parts, numbered-renamed parts ascending)
+
+pub numbering_keeps : (parts : Parts) (state : State) → HasAscendingKeys parts → IsWellFormed parts → (StandsFor (numbered parts) state ↔ StandsFor parts state)
+numbering_keeps parts state ascending well_formed =
+    subst (λ (p : Parts). StandsFor p state ↔ StandsFor parts state) (sym (numbered-renamed parts ascending))
+    (renaming_keeps (object_place parts) (value_place parts) parts state (IsRenaming-places parts) well_formed)

@@ -72,7 +72,7 @@ are_disjoint-renamed : (of_values : ℕ → ℕ) (edges : List HasValue) → are
 are_disjoint-renamed of_values [] = refl
 are_disjoint-renamed of_values (edge ∷ rest) =
     let first : list_all (share_no_byte (renamed_edge of_values edge)) (map (renamed_edge of_values) rest) ≡ list_all (share_no_byte edge) rest =
-        list_all-map (share_no_byte (renamed_edge of_values edge)) (renamed_edge of_values) rest in
+    list_all-map (share_no_byte (renamed_edge of_values edge)) (renamed_edge of_values) rest in
     ap (λ (b : Bool). b && are_disjoint (map (renamed_edge of_values) rest)) first ∙ ap (λ (b : Bool). list_all (share_no_byte edge) rest && b) (are_disjoint-renamed of_values rest)
 
 all_or_kept : (one other : Bool) (one' other' : Bool) → one' ≡ one → other' ≡ other → (one' || other') ≡ (one || other)
@@ -115,10 +115,10 @@ module _ (of_objects of_values : ℕ → ℕ) (parts : Parts) (renaming : IsRena
   edges_pass test test' implies all =
       list_all-map (λ (entry : KeyedObject). list_all (test' entry.object) entry.object.edges) keyed_object parts.objects
       ∙ list_all-implies (λ (entry : KeyedObject). list_all (test entry.object) entry.object.edges)
-        (λ (entry : KeyedObject). list_all (test' (renamed_object of_values entry.object)) (map (renamed_edge of_values) entry.object.edges))
-        (λ entry pass. list_all-map (test' (renamed_object of_values entry.object)) (renamed_edge of_values) entry.object.edges
-            ∙ list_all-implies (test entry.object) (λ edge. test' (renamed_object of_values entry.object) (renamed_edge of_values edge)) (implies entry.object) entry.object.edges pass)
-        parts.objects all
+      (λ (entry : KeyedObject). list_all (test' (renamed_object of_values entry.object)) (map (renamed_edge of_values) entry.object.edges))
+      (λ entry pass. list_all-map (test' (renamed_object of_values entry.object)) (renamed_edge of_values) entry.object.edges
+      ∙ list_all-implies (test entry.object) (λ edge. test' (renamed_object of_values entry.object) (renamed_edge of_values edge)) (implies entry.object) entry.object.edges pass)
+      parts.objects all
 
   -- a test of every object
   objects_pass : (test test' : Object → Bool) → ((object : Object) → test object ≡ true → test' (renamed_object of_values object) ≡ true) →
@@ -146,7 +146,7 @@ module _ (of_objects of_values : ℕ → ℕ) (parts : Parts) (renaming : IsRena
   distinct {Item} rename at one_to_one (key ∷ rest) all is =
       and_both (list_all (λ next. not (nat_eq (rename key) next)) (map rename rest)) (are_distinct (map rename rest))
       (list_all-map (λ next. not (nat_eq (rename key) next)) rename rest
-          ∙ first rest (and_left (list_all (λ next. not (nat_eq key next)) rest) (are_distinct rest) is) (and_right (is_some (at key)) (list_all (λ key. is_some (at key)) rest) all))
+      ∙ first rest (and_left (list_all (λ next. not (nat_eq key next)) rest) (are_distinct rest) is) (and_right (is_some (at key)) (list_all (λ key. is_some (at key)) rest) all))
       (distinct rename at one_to_one rest (and_right (is_some (at key)) (list_all (λ key. is_some (at key)) rest) all) (and_right (list_all (λ next. not (nat_eq key next)) rest) (are_distinct rest) is))
     where
       apart : (next : ℕ) → not (nat_eq key next) ≡ true → is_some (at next) ≡ true → (b : Bool) → nat_eq (rename key) (rename next) ≡ b → not b ≡ true
@@ -155,6 +155,7 @@ module _ (of_objects of_values : ℕ → ℕ) (parts : Parts) (renaming : IsRena
           let same : key ≡ next = one_to_one.same key next (and_left (is_some (at key)) (list_all (λ key. is_some (at key)) rest) all) there (eqb-true _ _ is) in
           let equal : nat_eq key next ≡ true = eq-eqb key next same in
           absurd (false≢true (sym (ap not equal) ∙ differ))
+
       first : (others : List ℕ) → list_all (λ next. not (nat_eq key next)) others ≡ true → list_all (λ key. is_some (at key)) others ≡ true →
           list_all (λ next. not (nat_eq (rename key) (rename next))) others ≡ true
       first [] differ there = refl
@@ -168,7 +169,7 @@ module _ (of_objects of_values : ℕ → ℕ) (parts : Parts) (renaming : IsRena
   objects_there named all =
       list_all-map (λ key. is_some (object_at parts.objects key)) (λ (n : Named). n.object) named
       ∙ list_all-implies (λ (n : Named). option_map_or is_storage (object_at parts.objects n.object) false) (λ (n : Named). is_some (object_at parts.objects n.object))
-        (λ n is. passes-some is_storage (object_at parts.objects n.object) is) named all
+      (λ n is. passes-some is_storage (object_at parts.objects n.object) is) named all
 
   may_differ : (one next : Value) → may_be_unequal one next ≡ true → may_be_unequal (renamed_value of_objects one) (renamed_value of_objects next) ≡ true
   may_differ one next may =
@@ -183,7 +184,7 @@ module _ (of_objects of_values : ℕ → ℕ) (parts : Parts) (renaming : IsRena
       and_both (not (nat_eq (of_values pair.left) (of_values pair.right))) (passes_at other (λ one. passes_at other (may_be_unequal one) (of_values pair.right)) (of_values pair.left))
       (apart (IsSome-holds _ _ held.is) right_there (and_left (not (nat_eq pair.left pair.right)) (passes_at parts (λ one. passes_at parts (may_be_unequal one) pair.right) pair.left) unequal) (nat_eq (of_values pair.left) (of_values pair.right)) refl)
       (passes_renamed (λ one. passes_at parts (may_be_unequal one) pair.right) (λ one. passes_at other (may_be_unequal one) (of_values pair.right)) pair.left
-          (λ one passes. passes_renamed (may_be_unequal one) (may_be_unequal (renamed_value of_objects one)) pair.right (may_differ one) passes) both)
+      (λ one passes. passes_renamed (may_be_unequal one) (may_be_unequal (renamed_value of_objects one)) pair.right (may_differ one) passes) both)
     where
       apart : IsSome (value_at parts.values pair.left) → IsSome (value_at parts.values pair.right) → not (nat_eq pair.left pair.right) ≡ true →
           (b : Bool) → nat_eq (of_values pair.left) (of_values pair.right) ≡ b → not b ≡ true
@@ -206,12 +207,12 @@ module _ (of_objects of_values : ℕ → ℕ) (parts : Parts) (renaming : IsRena
     variables_have_storage =
         list_all-map (λ (named : Named). option_map_or is_storage (object_at other.objects named.object) false) (λ (named : Named). record { variable = named.variable; object = of_objects named.object }) parts.variables
         ∙ list_all-implies (λ (named : Named). option_map_or is_storage (object_at parts.objects named.object) false)
-          (λ (named : Named). option_map_or is_storage (object_at other.objects (of_objects named.object)) false)
-          (λ named storage. passes_object is_storage is_storage named.object (λ object is. is) storage) parts.variables well_formed.variables_have_storage;
+        (λ (named : Named). option_map_or is_storage (object_at other.objects (of_objects named.object)) false)
+        (λ named storage. passes_object is_storage is_storage named.object (λ object is. is) storage) parts.variables well_formed.variables_have_storage;
     storage_is_distinct =
         let keys : map (λ (named : Named). named.object) other.variables ≡ map of_objects (map (λ (named : Named). named.object) parts.variables) =
-            map-map (λ (named : Named). named.object) (λ (named : Named). record { variable = named.variable; object = of_objects named.object }) parts.variables
-            ∙ sym (map-map of_objects (λ (named : Named). named.object) parts.variables) in
+        map-map (λ (named : Named). named.object) (λ (named : Named). record { variable = named.variable; object = of_objects named.object }) parts.variables
+        ∙ sym (map-map of_objects (λ (named : Named). named.object) parts.variables) in
         ap are_distinct keys
         ∙ distinct of_objects (object_at parts.objects) renaming.objects (map (λ (named : Named). named.object) parts.variables) (objects_there parts.variables well_formed.variables_have_storage) well_formed.storage_is_distinct;
     variables_are_distinct =
@@ -229,17 +230,20 @@ module _ (of_objects of_values : ℕ → ℕ) (parts : Parts) (renaming : IsRena
     edges_have_their_sizes =
         edges_pass (λ object edge. edge_has_size parts edge) (λ object edge. edge_has_size other edge)
         (λ object edge has. passes_renamed (λ value. nat_eq (value_size value) edge.size) (λ value. nat_eq (value_size value) edge.size) edge.value
-            (λ value is. ap (λ (size : ℕ). nat_eq size edge.size) (value_size-renamed of_objects value) ∙ is) has) well_formed.edges_have_their_sizes;
+        (λ value is. ap (λ (size : ℕ). nat_eq size edge.size) (value_size-renamed of_objects value) ∙ is) has) well_formed.edges_have_their_sizes;
     edges_have_their_classes =
         edges_pass (λ object edge. edge_has_class parts object.plane edge) (λ object edge. edge_has_class other object.plane edge)
         (λ object edge has. passes_renamed (λ value. list_all (nat_eq (value_class value)) (take edge.size (drop edge.at object.plane))) (λ value. list_all (nat_eq (value_class value)) (take edge.size (drop edge.at object.plane))) edge.value
-            (λ value is. ap (λ (class : ℕ). list_all (nat_eq class) (take edge.size (drop edge.at object.plane))) (value_class-renamed of_objects value) ∙ is) has) well_formed.edges_have_their_classes;
+        (λ value is. ap (λ (class : ℕ). list_all (nat_eq class) (take edge.size (drop edge.at object.plane))) (value_class-renamed of_objects value) ∙ is) has) well_formed.edges_have_their_classes;
     edges_are_not_zero =
         edges_pass (λ object edge. passes_at parts (λ value. not (is_zero value)) edge.value) (λ object edge. passes_at other (λ value. not (is_zero value)) edge.value)
         (λ object edge has. passes_renamed (λ value. not (is_zero value)) (λ value. not (is_zero value)) edge.value
-            (λ value is. ap not (is_zero-renamed of_objects value) ∙ is) has) well_formed.edges_are_not_zero;
+        (λ value is. ap not (is_zero-renamed of_objects value) ∙ is) has) well_formed.edges_are_not_zero;
     values_are_sized = values_pass is_sized is_sized (λ value sized. is_sized-renamed of_objects value ∙ sized) well_formed.values_are_sized;
     pairs_may_be_unequal =
         list_all-map (is_unequal_pair other) (renamed_pair of_values) parts.unequal
         ∙ list_all-implies (is_unequal_pair parts) (λ pair. is_unequal_pair other (renamed_pair of_values pair)) pair_renamed parts.unequal well_formed.pairs_may_be_unequal;
   }
+
+pub renaming_keeps_form : (of_objects of_values : ℕ → ℕ) (parts : Parts) → IsRenaming of_objects of_values parts → IsWellFormed parts → IsWellFormed (renamed of_objects of_values parts)
+renaming_keeps_form of_objects of_values parts renaming well_formed = IsWellFormed-renamed of_objects of_values parts renaming well_formed

@@ -104,14 +104,14 @@ module _ (of_objects of_values : ℕ → ℕ) (parts : Parts) (renaming : IsRena
     edges_kept [] all = refl
     edges_kept (edge ∷ rest) all =
         let one : renamed_edge old_value (renamed_edge of_values edge) ≡ edge =
-            ap (λ (value : ℕ). record edge { value = value }) (value_same edge.value (and_left (has_value parts edge.value) (list_all (λ edge. has_value parts edge.value) rest) all)) in
+        ap (λ (value : ℕ). record edge { value = value }) (value_same edge.value (and_left (has_value parts edge.value) (list_all (λ edge. has_value parts edge.value) rest) all)) in
         let others = edges_kept rest (and_right (has_value parts edge.value) (list_all (λ edge. has_value parts edge.value) rest) all) in
         rw (one, others) refl
 
     object_kept : (key : ℕ) (object : Object) → object_at parts.objects key ≡ Some object → renamed_object old_value (renamed_object of_values object) ≡ object
     object_kept key object stands =
         let all = found-all (λ (entry : KeyedObject). entry.key) (λ entry. entry.object) (λ object. list_all (λ edge. has_value parts edge.value) object.edges) parts.objects key object
-            well_formed.edges_hold_values stands in
+        well_formed.edges_hold_values stands in
         ap (λ (edges : List HasValue). record object { edges = edges }) (edges_kept object.edges all)
 
     value_kept : (value : Value) → leads_to_object parts value ≡ true → renamed_value old_object (renamed_value of_objects value) ≡ value
@@ -124,19 +124,19 @@ module _ (of_objects of_values : ℕ → ℕ) (parts : Parts) (renaming : IsRena
     objects_from_new : (key : ℕ) (object : Object) → object_at other.objects key ≡ Some object → object_at parts.objects (old_object key) ≡ Some (renamed_object old_value object)
     objects_from_new key object stands =
         let was = WasFound-renamed (λ (entry : KeyedObject). entry.key) (λ entry. entry.object) (λ (entry : KeyedObject). entry.key) (λ entry. entry.object)
-            (λ entry. record { key = of_objects entry.key; object = renamed_object of_values entry.object }) of_objects (renamed_object of_values) (λ _. refl) (λ _. refl)
-            parts.objects key object stands in
+        (λ entry. record { key = of_objects entry.key; object = renamed_object of_values entry.object }) of_objects (renamed_object of_values) (λ _. refl) (λ _. refl)
+        parts.objects key object stands in
         let key_is : old_object key ≡ was.old_key = ap old_object (sym was.new_key) ∙ object_same was.old_key (IsSome-holds _ _ was.stands) in
         ap (object_at parts.objects) key_is ∙ was.stands ∙ ap Some (sym (object_kept was.old_key was.old was.stands) ∙ ap (renamed_object old_value) was.new)
 
     values_from_new : (key : ℕ) (value : Value) → value_at other.values key ≡ Some value → value_at parts.values (old_value key) ≡ Some (renamed_value old_object value)
     values_from_new key value stands =
         let was = WasFound-renamed (λ (entry : KeyedValue). entry.key) (λ entry. entry.value) (λ (entry : KeyedValue). entry.key) (λ entry. entry.value)
-            (λ entry. record { key = of_values entry.key; value = renamed_value of_objects entry.value }) of_values (renamed_value of_objects) (λ _. refl) (λ _. refl)
-            parts.values key value stands in
+        (λ entry. record { key = of_values entry.key; value = renamed_value of_objects entry.value }) of_values (renamed_value of_objects) (λ _. refl) (λ _. refl)
+        parts.values key value stands in
         let key_is : old_value key ≡ was.old_key = ap old_value (sym was.new_key) ∙ value_same was.old_key (IsSome-holds _ _ was.stands) in
         let leads = found-all (λ (entry : KeyedValue). entry.key) (λ entry. entry.value) (leads_to_object parts) parts.values was.old_key was.old
-            well_formed.addresses_lead_to_objects was.stands in
+        well_formed.addresses_lead_to_objects was.stands in
         ap (value_at parts.values) key_is ∙ was.stands ∙ ap Some (sym (value_kept was.old leads) ∙ ap (renamed_value old_object) was.new)
 
     keys_kept : (keys : List ℕ) → list_all (has_value parts) keys ≡ true → keys ≡ map old_value (map of_values keys)
@@ -170,8 +170,8 @@ module _ (of_objects of_values : ℕ → ℕ) (parts : Parts) (renaming : IsRena
     variables_from_new variable =
         option_kept old_object of_objects (storage_of parts.variables variable)
         (λ key stands. object_same key (passes-some is_storage (object_at parts.objects key)
-            (found-all (λ (named : Named). named.variable) (λ named. named.object) (λ key. option_map_or is_storage (object_at parts.objects key) false) parts.variables variable key
-                well_formed.variables_have_storage stands)))
+        (found-all (λ (named : Named). named.variable) (λ named. named.object) (λ key. option_map_or is_storage (object_at parts.objects key) false) parts.variables variable key
+        well_formed.variables_have_storage stands)))
         ∙ ap (option_map old_object) (sym (variable_sent variable))
 
     registers_from_new : (register : ℕ) → held_by parts.registers register ≡ option_map old_value (held_by other.registers register)

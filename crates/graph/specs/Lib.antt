@@ -7,3 +7,4 @@ pub mod Whole
 pub mod State
 pub mod Meaning
 pub mod Laws
+pub mod Alike

@@ -1,6 +1,6 @@
 -- What a graph stands for: a memory, with the variables and registers of the flow machine and the words that it
 -- shares with its surroundings.
-use Rattle.std.specs.Prelude.{ℕ, List, length, Option, Some, ◌≡◌}
+use Rattle.std.specs.Prelude.{ℕ, ◌<◌, List, length, Option, Some, ◌≡◌}
 use Rattle.std.specs.List.{All}
 use Rattle.bytes_core.specs.declared.block.Block.{Block}
 use Rattle.bytes_core.specs.declared.word.Word.{Word}
@@ -21,8 +21,10 @@ pub record IsWordBelow (count : ℕ) (word : Word) : Type 0 where
   pub small : IsWord word
   pub named : WordNamesBelow count word
 
--- the memory is one, and each word is a word of it
+-- the memory is one, and each word and each block is one of it
 pub record IsState (state : State) : Type 0 where
   pub memory : IsMemory state.memory
+  pub variables : (variable number : ℕ) → state.variables variable ≡ Some number → number < length state.memory
   pub registers : (register : ℕ) (word : Word) → state.registers register ≡ Some word → IsWordBelow (length state.memory) word
   pub ports : All (IsWordBelow (length state.memory)) state.ports
+  pub roots : All (λ root. root < length state.memory) state.roots

@@ -1,4 +1,4 @@
-ghost use Rattle.std.specs.Prelude.{◌≡◌, ◌↔◌, false, IfOk, IfSome};
+ghost use Rattle.std.specs.Prelude.{◌≡◌, ◌↔◌, false, IfOk};
 ghost use Rattle.graph.specs.WellFormed.{HasAscendingKeys, IsWellFormed, is_within_limits};
 ghost use Rattle.graph.specs.Renaming.{numbered};
 
@@ -40,16 +40,4 @@ pub fn built(alloc: Global, parts: Parts) -> Result<Graph, Stop>
         Ok(graph) => Ok(graph),
         Err(NoMemory) => Err(Stop::NoMemory),
     }
-}
-
-/// The graph with these parts, as `built` makes it. None exactly where they make no graph, the limits aside.
-///
-/// `Large` comes exactly where they do, but for 2^30 nodes or more, or 2^30 unequal pairs or more.
-pub fn graph_of(alloc: Global, parts: Parts) -> Result<Option<Graph>, Stop>
-    requires { HasAscendingKeys parts }
-    ensures some { IfOk result (λ answer. IfSome answer (λ graph. graph ≡ numbered parts)) }
-    ensures none { (result ≡ Ok None) ↔ (IsWellFormed parts → ⊥) }
-    ensures large { (result ≡ Err Stop.Large) ↔ (IsWellFormed parts × (is_within_limits parts ≡ false)) }
-{
-    unreachable!()
 }

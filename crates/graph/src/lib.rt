@@ -10,6 +10,7 @@ mod copies;
 mod edges;
 mod graph;
 mod keyed;
+pub mod laws;
 mod object;
 mod parts;
 mod places;
@@ -17,7 +18,7 @@ mod post;
 mod stop;
 mod value;
 
-pub use build::{built, graph_of};
+pub use build::built;
 pub use edges::{Edges, HasValue};
 pub use graph::{Graph, Objects, Values};
 pub use keyed::Keyed;

@@ -1,0 +1,58 @@
+//! Laws of what graphs stand for. Each is the contract of a function that does nothing.
+ghost use Rattle.std.specs.Prelude.{◌≡◌, ℕ, ◌↔◌, IsTrue};
+ghost use Rattle.graph.specs.declared.parts.Parts.{Parts};
+ghost use Rattle.graph.specs.Alike.{IsSeenAs};
+ghost use Rattle.graph.specs.Laws.{IsRenaming};
+ghost use Rattle.graph.specs.Meaning.{StandsFor};
+ghost use Rattle.graph.specs.Renaming.{renamed, numbered, object_place, value_place};
+ghost use Rattle.graph.specs.State.{State, IsState};
+ghost use Rattle.graph.specs.WellFormed.{IsWellFormed, HasAscendingKeys, is_within_limits};
+
+/// Other keys, one to one, leave a graph well formed.
+pub fn renaming_keeps_well_formedness()
+    ensures { (of_objects of_values : ℕ → ℕ) (parts : Parts) →
+        IsRenaming of_objects of_values parts →
+        IsWellFormed parts →
+        IsWellFormed (renamed of_objects of_values parts) }
+{}
+
+/// Other keys, one to one, keep what a graph stands for.
+pub fn renaming_keeps_meaning()
+    ensures { (of_objects of_values : ℕ → ℕ) (parts : Parts) (state : State) →
+        IsRenaming of_objects of_values parts →
+        IsWellFormed parts →
+        (StandsFor (renamed of_objects of_values parts) state ↔ StandsFor parts state) }
+{}
+
+/// The keys that a graph gets when it is built come from those of its parts one to one, and in the same order.
+pub fn numbering_is_a_renaming()
+    ensures { (parts : Parts) →
+        HasAscendingKeys parts →
+        IsRenaming (object_place parts) (value_place parts) parts
+        × (numbered parts ≡ renamed (object_place parts) (value_place parts) parts) }
+{}
+
+/// A graph that is built stands for what its parts stand for.
+pub fn numbering_keeps_meaning()
+    ensures { (parts : Parts) (state : State) →
+        HasAscendingKeys parts →
+        IsWellFormed parts →
+        (StandsFor (numbered parts) state ↔ StandsFor parts state) }
+{}
+
+/// A state that differs only in what a graph does not see is stood for as well.
+pub fn what_is_not_seen_may_differ()
+    ensures { (there back : ℕ → ℕ) (parts : Parts) (one other : State) →
+        IsSeenAs there back one other →
+        StandsFor parts one →
+        StandsFor parts other }
+{}
+
+/// Every well-formed graph within the limits stands for some state.
+pub fn every_graph_stands_for_some_state()
+    ensures { (parts : Parts) →
+        HasAscendingKeys parts →
+        IsWellFormed parts →
+        IsTrue (is_within_limits parts) →
+        (state : State) × IsState state × StandsFor parts state }
+{}
