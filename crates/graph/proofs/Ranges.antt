@@ -69,21 +69,28 @@ size_has_value parts edge has = passes-some (λ value. nat_eq (value_size value)
 module _ (parts : Parts) where
   abbrev inside : Object → HasValue → Bool
   inside object edge = lies_in object.size edge
+
   abbrev sized : Object → HasValue → Bool
   sized object edge = edge_has_size parts edge
+
   abbrev classed : Object → HasValue → Bool
   classed object edge = edge_has_class parts object.plane edge
+
   abbrev nonzero : Object → HasValue → Bool
   nonzero object edge = passes_at parts (λ value. not (is_zero value)) edge.value
 
   abbrev small : KeyedObject → Bool
   small entry = nat_le entry.object.size 65536
+
   abbrev long : KeyedObject → Bool
   long entry = has_class_a_byte entry.object
+
   abbrev bare : KeyedObject → Bool
   bare entry = entry.object.live || is_bare entry.object.shape entry.object.edges
+
   abbrev apart : KeyedObject → Bool
   apart entry = are_disjoint entry.object.edges
+
   abbrev edges : KeyedObject → Bool
   edges entry = list_all (edge_fits parts entry.object) entry.object.edges
 
@@ -110,8 +117,8 @@ module _ (parts : Parts) where
       let objects3 = right_all bare (λ entry. apart entry && edges entry) parts.objects objects2 in
       let each = right_all apart edges parts.objects objects3 in
       let part = λ (test : Object → HasValue → Bool) (implies : (object : Object) (edge : HasValue) → edge_fits parts object edge ≡ true → test object edge ≡ true).
-          list_all-implies edges (λ (entry : KeyedObject). list_all (test entry.object) entry.object.edges)
-          (λ entry fit. list_all-implies (edge_fits parts entry.object) (test entry.object) (implies entry.object) entry.object.edges fit) parts.objects each in
+      list_all-implies edges (λ (entry : KeyedObject). list_all (test entry.object) entry.object.edges)
+      (λ entry fit. list_all-implies (edge_fits parts entry.object) (test entry.object) (implies entry.object) entry.object.edges fit) parts.objects each in
       record {
         edges_hold_values = part (λ object edge. has_value parts edge.value)
             (λ object edge fit. size_has_value parts edge (and_left (sized object edge) (classed object edge && nonzero object edge) (and_right (inside object edge) (sized object edge && (classed object edge && nonzero object edge)) fit)));
@@ -147,19 +154,19 @@ module _ (parts : Parts) where
   pub is_well_formed_is : IsWellFormed parts → is_well_formed parts ≡ true
   is_well_formed_is w =
       let each = edges_of inside (λ object edge. sized object edge && (classed object edge && nonzero object edge)) w.edges_lie_inside
-          (edges_of sized (λ object edge. classed object edge && nonzero object edge) w.edges_have_their_sizes (edges_of classed nonzero w.edges_have_their_classes w.edges_are_not_zero)) in
+      (edges_of sized (λ object edge. classed object edge && nonzero object edge) w.edges_have_their_sizes (edges_of classed nonzero w.edges_have_their_classes w.edges_are_not_zero)) in
       and_both (objects_fit parts) _
       (both_all small (λ entry. long entry && (bare entry && (apart entry && edges entry))) parts.objects w.objects_are_small
-          (both_all long (λ entry. bare entry && (apart entry && edges entry)) parts.objects w.planes_are_as_long
-              (both_all bare (λ entry. apart entry && edges entry) parts.objects w.dead_objects_are_bare
-                  (both_all apart edges parts.objects w.edges_are_disjoint each))))
+      (both_all long (λ entry. bare entry && (apart entry && edges entry)) parts.objects w.planes_are_as_long
+      (both_all bare (λ entry. apart entry && edges entry) parts.objects w.dead_objects_are_bare
+      (both_all apart edges parts.objects w.edges_are_disjoint each))))
       (and_both (values_fit parts) _ (both_all (λ entry. leads_to_object parts entry.value) (λ entry. is_sized entry.value) parts.values w.addresses_lead_to_objects w.values_are_sized)
-          (and_both (variables_have_storage parts) _ w.variables_have_storage
-              (and_both (storage_is_distinct parts) _ w.storage_is_distinct
-                  (and_both (variables_are_distinct parts) _ w.variables_are_distinct
-                      (and_both (registers_hold_values parts) _ w.registers_hold_values
-                          (and_both (registers_are_distinct parts) _ w.registers_are_distinct
-                              (and_both (ports_are_values parts) _ w.ports_are_values w.pairs_may_be_unequal)))))))
+      (and_both (variables_have_storage parts) _ w.variables_have_storage
+      (and_both (storage_is_distinct parts) _ w.storage_is_distinct
+      (and_both (variables_are_distinct parts) _ w.variables_are_distinct
+      (and_both (registers_hold_values parts) _ w.registers_hold_values
+      (and_both (registers_are_distinct parts) _ w.registers_are_distinct
+      (and_both (ports_are_values parts) _ w.ports_are_values w.pairs_may_be_unequal)))))))
 
 -- the one walk finds exactly the well-formed parts
 pub all_points : (parts : Parts) → ((is_well_formed parts ≡ true) ↔ IsWellFormed parts)

@@ -35,7 +35,7 @@ abbrev pub is_well_formed : Parts → Bool
 is_well_formed parts =
     objects_fit parts
     && (values_fit parts
-        && (variables_have_storage parts
-            && (storage_is_distinct parts
-                && (variables_are_distinct parts
-                    && (registers_hold_values parts && (registers_are_distinct parts && (ports_are_values parts && pairs_may_be_unequal parts)))))))
+    && (variables_have_storage parts
+    && (storage_is_distinct parts
+    && (variables_are_distinct parts
+    && (registers_hold_values parts && (registers_are_distinct parts && (ports_are_values parts && pairs_may_be_unequal parts)))))))

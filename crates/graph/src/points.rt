@@ -51,7 +51,11 @@ fn size_of(value: Value) -> u8
         Value::Const { number: _, size } => size,
         Value::Number { size } => size,
         Value::Any => 8,
-        Value::Address { object: _, offset: _, target: _ } => 8,
+        Value::Address {
+            object: _,
+            offset: _,
+            target: _,
+        } => 8,
     }
 }
 
@@ -63,7 +67,11 @@ fn class_of(value: Value) -> u8
         Value::Const { number: _, size: _ } => 1,
         Value::Number { size: _ } => 1,
         Value::Any => 2,
-        Value::Address { object: _, offset: _, target: _ } => 2,
+        Value::Address {
+            object: _,
+            offset: _,
+            target: _,
+        } => 2,
     }
 }
 
@@ -75,7 +83,11 @@ fn is_zero(value: Value) -> bool
         Value::Const { number, size: _ } => number == 0,
         Value::Number { size: _ } => false,
         Value::Any => false,
-        Value::Address { object: _, offset: _, target: _ } => false,
+        Value::Address {
+            object: _,
+            offset: _,
+            target: _,
+        } => false,
     }
 }
 
@@ -87,7 +99,11 @@ fn is_constant(value: Value) -> bool
         Value::Const { number: _, size: _ } => true,
         Value::Number { size: _ } => false,
         Value::Any => false,
-        Value::Address { object: _, offset: _, target: _ } => false,
+        Value::Address {
+            object: _,
+            offset: _,
+            target: _,
+        } => false,
     }
 }
 
@@ -99,7 +115,11 @@ fn is_number(value: Value, count: u8) -> bool
         Value::Const { number: _, size } => size == count,
         Value::Number { size } => size == count,
         Value::Any => false,
-        Value::Address { object: _, offset: _, target: _ } => false,
+        Value::Address {
+            object: _,
+            offset: _,
+            target: _,
+        } => false,
     }
 }
 
@@ -149,7 +169,11 @@ fn is_sized(value: Value) -> bool
         }
         Value::Number { size } => is_scalar_size(size),
         Value::Any => true,
-        Value::Address { object: _, offset: _, target: _ } => true,
+        Value::Address {
+            object: _,
+            offset: _,
+            target: _,
+        } => true,
     }
 }
 
@@ -311,7 +335,11 @@ fn leads_to_object(parts: &Parts, value: Value) -> bool
         Value::Const { number: _, size: _ } => true,
         Value::Number { size: _ } => true,
         Value::Any => true,
-        Value::Address { object, offset: _, target } => match object_with(parts, object) {
+        Value::Address {
+            object,
+            offset: _,
+            target,
+        } => match object_with(parts, object) {
             None => false,
             Some(found) => match target {
                 Target::Region => match found.shape {
