@@ -10,5 +10,7 @@ pub mod Table
 pub mod Placing
 pub mod Witness
 pub mod InSlots
-pub mod Places
 pub mod Ranges
+pub mod AtPlaces
+pub mod PlaceAmong
+pub mod AllPlaced

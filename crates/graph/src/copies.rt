@@ -33,7 +33,7 @@ pub(crate) fn copied_object(alloc: Global, object: &Object) -> Result<Object, No
 }
 
 /// The same objects, under the same keys.
-#[tactic(auto, using(crate::proofs::Places::take_more_get, crate::proofs::Places::take_whole))]
+#[tactic(auto, using(crate::proofs::AtPlaces::take_more_get, crate::proofs::AtPlaces::take_whole))]
 pub(crate) fn copied_objects(alloc: Global, objects: &Objects) -> Result<Objects, NoMemory>
     ensures { IfOk result (λ copy. copy ≡ objects.now) }
 {
@@ -48,7 +48,7 @@ pub(crate) fn copied_objects(alloc: Global, objects: &Objects) -> Result<Objects
 }
 
 /// The same values, under the same keys.
-#[tactic(auto, using(crate::proofs::Places::take_more_get, crate::proofs::Places::take_whole))]
+#[tactic(auto, using(crate::proofs::AtPlaces::take_more_get, crate::proofs::AtPlaces::take_whole))]
 pub(crate) fn copied_values(alloc: Global, values: &Values) -> Result<Values, NoMemory>
     ensures { IfOk result (λ copy. copy ≡ values.now) }
 {
@@ -63,7 +63,7 @@ pub(crate) fn copied_values(alloc: Global, values: &Values) -> Result<Values, No
 }
 
 /// The objects with their keys.
-#[tactic(auto, using(crate::proofs::Places::objects_more, crate::proofs::Places::take_whole))]
+#[tactic(auto, using(crate::proofs::AtPlaces::objects_more, crate::proofs::AtPlaces::take_whole))]
 pub(crate) fn keyed_objects(alloc: Global, objects: &Objects) -> Result<List<KeyedObject>, NoMemory>
     ensures { IfOk result (λ entries. entries ≡ objects_from 0 objects.now) }
 {
@@ -81,7 +81,7 @@ pub(crate) fn keyed_objects(alloc: Global, objects: &Objects) -> Result<List<Key
 }
 
 /// The values with their keys.
-#[tactic(auto, using(crate::proofs::Places::values_more, crate::proofs::Places::take_whole))]
+#[tactic(auto, using(crate::proofs::AtPlaces::values_more, crate::proofs::AtPlaces::take_whole))]
 pub(crate) fn keyed_values(alloc: Global, values: &Values) -> Result<List<KeyedValue>, NoMemory>
     ensures { IfOk result (λ entries. entries ≡ values_from 0 values.now) }
 {

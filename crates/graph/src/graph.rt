@@ -1,13 +1,18 @@
-ghost use Rattle.std.specs.Prelude.{◌≡◌, IfOk, IfErr};
+ghost use Rattle.std.specs.Prelude.{◌≡◌, true, IfOk, IfErr};
 ghost use Rattle.std.specs.Option.{option_copied};
 ghost use Rattle.graph.specs.Maps.{object_at, value_at};
-ghost use Rattle.graph.specs.WellFormed.{HasAscendingKeys};
+ghost use Rattle.graph.specs.Renaming.{numbered};
+ghost use Rattle.graph.specs.WellFormed.{HasAscendingKeys, IsWellFormed, is_within_limits};
 ghost use Rattle.graph.specs.Whole.{IsGraph};
 
 use crate::copies::{copied_items, copied_objects, copied_values, keyed_objects, keyed_values};
-use crate::keyed::Keyed;
+use crate::keyed::{Keyed, MOST_KEYS};
 use crate::object::Object;
 use crate::parts::{Held, Named, Pair, Parts};
+use crate::places::{
+    object_keys, placed_objects, placed_pairs, placed_ports, placed_registers, placed_values,
+    placed_variables, value_keys,
+};
 use crate::stop::Stop;
 use crate::value::Value;
 use cbase::{List, NoMemory};
@@ -47,7 +52,7 @@ impl Model for Graph {
 
 impl Graph {
     /// The object with a key. None exactly where no object has it. It takes no memory.
-    #[tactic(auto, using(crate::proofs::Places::object_at_place))]
+    #[tactic(auto, using(crate::proofs::AtPlaces::object_at_place))]
     pub fn object(&self, key: u32) -> Option<&Object>
         ensures { option_copied result ≡ object_at self.now.objects key }
     {
@@ -55,7 +60,7 @@ impl Graph {
     }
 
     /// The value with a key. None exactly where no value has it. It takes no memory.
-    #[tactic(auto, using(crate::proofs::Places::value_at_place))]
+    #[tactic(auto, using(crate::proofs::AtPlaces::value_at_place))]
     pub fn value(&self, key: u32) -> Option<&Value>
         ensures { option_copied result ≡ value_at self.now.values key }
     {
@@ -95,6 +100,31 @@ impl Graph {
             Ok(copy) => Ok(copy),
             Err(NoMemory) => Err(Stop::NoMemory),
         }
+    }
+
+    /// The graph of some parts, with places in place of keys.
+    pub(crate) fn numbered(alloc: Global, parts: &Parts) -> Result<Graph, NoMemory>
+        requires ascending { HasAscendingKeys parts.now }
+        requires well_formed { IsWellFormed parts.now }
+        requires within_limits { is_within_limits parts.now ≡ true }
+        ensures { IfOk result (λ graph. graph ≡ numbered parts.now) }
+    {
+        let objects = object_keys(alloc, parts.objects.as_slice())?;
+        let values = value_keys(alloc, parts.values.as_slice())?;
+        if objects.len() >= MOST_KEYS {
+            return Err(NoMemory);
+        }
+        if values.len() >= MOST_KEYS {
+            return Err(NoMemory);
+        }
+        Ok(Graph {
+            objects: placed_objects(alloc, values.as_slice(), parts.objects.as_slice())?,
+            values: placed_values(alloc, objects.as_slice(), parts.values.as_slice())?,
+            variables: placed_variables(alloc, objects.as_slice(), parts.variables.as_slice())?,
+            registers: placed_registers(alloc, values.as_slice(), parts.registers.as_slice())?,
+            ports: placed_ports(alloc, values.as_slice(), parts.ports.as_slice())?,
+            unequal: placed_pairs(alloc, values.as_slice(), parts.unequal.as_slice())?,
+        })
     }
 
     /// An equal graph.

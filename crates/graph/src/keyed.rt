@@ -76,7 +76,7 @@ impl<T: Drop> Keyed<T> {
 }
 
 /// How many keys there are: one is left out, so that the number of items is a `u32`.
-const MOST_KEYS: usize = 4_294_967_295;
+pub(crate) const MOST_KEYS: usize = 4_294_967_295;
 
 /// What the slots hold at a key of this place.
 #[tactic(auto, using(crate::proofs::InSlots::held_get, crate::proofs::InSlots::held_past))]

@@ -5,6 +5,7 @@
 //! words and blocks, and nothing of C: no statement, no step and no fault.
 #![tactic(auto)]
 
+mod build;
 mod copies;
 mod edges;
 mod graph;
@@ -12,11 +13,13 @@ mod keyed;
 pub mod laws;
 mod object;
 mod parts;
+mod places;
 mod points;
 mod post;
 mod stop;
 mod value;
 
+pub use build::{built, graph_of};
 pub use edges::{Edges, HasValue};
 pub use graph::{Graph, Objects, Values};
 pub use keyed::Keyed;
