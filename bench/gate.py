@@ -1,8 +1,8 @@
 #!/usr/bin/env python3
 """Runs the gate from nothing in a clone of what is committed, and writes what it cost into docs/gate.md, crate by crate.
 
-Usage, at the project's root, on a machine with nothing else to do: bench/gate.py
-The processor time of a crate's proof, of its tests, of the proof that its edits begin with and of its edits is read from /proc
+Usage, at the project's root, on a machine with nothing else to do: bench/gate.py [NAME ..]
+With names, these crates and those below them are proved anew, and the rows of these alone are written. The processor time of a crate's proof, of its tests, of the proof that its edits begin with and of its edits is read from /proc
 while their processes run, four times a second; that of the whole gate is what the kernel counts for it. The part of
 docs/gate.md between the lines 'gate.py: begin' and 'gate.py: end' is written anew. It ends with the gate's status.
 """
@@ -21,6 +21,7 @@ HOME = Path(__file__).resolve().parent.parent
 PAGE = HOME / "docs" / "gate.md"
 BEGIN, END = "<!-- gate.py: begin -->\n", "<!-- gate.py: end -->\n"
 KINDS = ("proof", "tests", "seed", "edits")
+HEAD = "| crate | its proof | its tests | once more for its edits | its edits | all |\n|---|---|---|---|---|---|\n"
 TICK = os.sysconf("SC_CLK_TCK")
 
 
@@ -67,29 +68,41 @@ def counts(crate):
     return tests, len(list(folder.glob("must-fail/*.edit")))
 
 
-def table(seen, crates):
-    """The table of minutes, and how many minutes it tells of."""
+def row(crate, minutes):
+    """The row of a crate: its minutes, with how many tests and edits it has."""
+    tests, edits = counts(crate)
+    parts = [minutes[crate, kind] for kind in KINDS]
+    shown = [f"{part:.1f}" if part else "none" for part in parts]
+    shown[1] += f" ({tests} tests)" if tests else ""
+    shown[3] += f" ({edits} edits)" if edits else ""
+    return f"| `{crate}` | {' | '.join(shown)} | {sum(parts):.1f} |\n"
+
+
+def number(cell):
+    return 0.0 if cell.startswith("none") else float(cell.split()[0])
+
+
+def together(rows):
+    """The last row: the sums of the columns."""
+    cells = [[number(cell.strip()) for cell in line.split("|")[2:-1]] for line in rows]
+    return f"| together | {' | '.join(f'{sum(column):.1f}' for column in zip(*cells))} |\n"
+
+
+def table(seen, crates, names, text):
+    """The table of minutes, in which the rows of other crates than `names` are those of the page as it stands."""
     minutes = defaultdict(float)
     for what, seconds in seen.values():
         minutes[what] += seconds / 60
-    lines = ["| crate | its proof | its tests | once more for its edits | its edits | all |\n|---|---|---|---|---|---|\n"]
-    for crate in crates:
-        tests, edits = counts(crate)
-        parts = [minutes[crate, kind] for kind in KINDS]
-        shown = [f"{part:.1f}" if part else "none" for part in parts]
-        shown[1] += f" ({tests} tests)" if tests else ""
-        shown[3] += f" ({edits} edits)" if edits else ""
-        lines.append(f"| `{crate}` | {' | '.join(shown)} | {sum(parts):.1f} |\n")
-    sums = [sum(minutes[crate, kind] for crate in crates) for kind in KINDS]
-    lines.append(f"| together | {' | '.join(f'{part:.1f}' for part in sums)} | {sum(sums):.1f} |\n")
-    return "".join(lines), sum(sums)
+    known = {line.split("`")[1]: line + "\n" for line in text.splitlines() if re.match(r"\| `\w+` \| (none|[\d.]+)", line)}
+    rows = [row(crate, minutes) if crate in names else known[crate] for crate in crates if crate in names or crate in known]
+    return HEAD + "".join(rows) + together(rows)
 
 
-def gate(folder, log):
-    """Runs the gate in a folder; what was seen of it, its status, its minutes on the clock and of processor time."""
+def gate(folder, log, names):
+    """Runs the gate in a folder, of these crates or of all; what was seen of it, its status, its minutes on the clock and of processor time."""
     seen, is_over, began = {}, threading.Event(), time.monotonic()
     with open(log, "wb") as out:
-        run = subprocess.Popen(["rt", "ci", "--anew"], cwd=folder, stdin=subprocess.DEVNULL, stdout=out, stderr=out,
+        run = subprocess.Popen(["rt", "ci", "--anew", *names], cwd=folder, stdin=subprocess.DEVNULL, stdout=out, stderr=out,
                                start_new_session=True)
         watcher = threading.Thread(target=watched, args=(run.pid, seen, is_over))
         watcher.start()
@@ -101,19 +114,21 @@ def gate(folder, log):
 
 
 def main():
+    names = sys.argv[1:]
     lines = (HOME / "crates.txt").read_text().splitlines()
     crates = [line.partition(":")[0].split()[0] for line in lines if ":" in line and not line.startswith("#")]
     with tempfile.TemporaryDirectory() as room:
         copy, log = Path(room, "copy"), Path(room, "log")
         subprocess.run(["git", "clone", "--quiet", "--no-hardlinks", HOME, copy], check=True)
-        seen, status, wall, used = gate(copy, log)
-        last = log.read_text(errors="replace").rstrip().splitlines()[-1:]
-        print(log.read_text(errors="replace"))
-    rows, told = table(seen, crates)
-    rest = f"The whole run used {used:.0f} minutes of processor time, {used - told:.0f} of them for compiling and running programs and all else, and took {wall:.0f} minutes on {os.cpu_count()} processors. Its last line: `{''.join(last)}`.\n"
+        seen, status, wall, used = gate(copy, log, names)
+        said = log.read_text(errors="replace")
+        print(said)
     text = PAGE.read_text()
-    before, after = text[:text.index(BEGIN) + len(BEGIN)], text[text.index(END):]
-    PAGE.write_text(f"{before}\n{rows}\n{rest}\n{after}")
+    at, end = text.index(BEGIN) + len(BEGIN), text.index(END)
+    rest = re.search(r"^The whole run .*\n", text[at:end], re.M)
+    whole = f"The whole run used {used:.0f} minutes of processor time, compilers and programs included, and took {wall:.0f} minutes on {os.cpu_count()} processors. Its last line: `{said.rstrip().splitlines()[-1]}`.\n"
+    last = (rest.group() if rest else "") if names else whole
+    PAGE.write_text(f"{text[:at]}\n{table(seen, crates, names or crates, text[at:end])}\n{last}\n{text[end:]}")
     return status
 
 
