@@ -1,6 +1,5 @@
 -- The reader of statements and blocks is complete, rule by rule of the grammar.
 use Rattle.std.proofs.Common.{◌≡◌, ℕ, zero, suc, ◌+◌, ◌<◌, ◌≤◌, Bool, true, false, ◌&&◌, not, refl, ap, sym, ◌∙◌, List, [], ◌∷◌, ◌++◌, length, map, codes, IsTrue, inl, inr, arith, Option, Some, None, ◌⊎◌}
-use Rattle.std.specs.Prelude.{max}
 use Rattle.std.specs.List.{list_any}
 use Rattle.std.specs.Str.{bytes_eq}
 use Rattle.cbase.specs.declared.place.Place.{Place}
@@ -11,7 +10,7 @@ use Rattle.cbase.specs.declared.tree.stmt.StmtForm.TheVariants.{Declare, Eval, B
 use Rattle.ctokens.specs.declared.token.TokenKind.TheVariants.{Word}
 use Rattle.ctokens.specs.SymbolTables.{keyword_symbol, name_symbol, passed_symbol}
 use Rattle.ctrees.specs.Weight.{joined}
-use Rattle.ctrees.specs.Levels.{depth, decl_levels, expr_levels, maybe_levels, stmt_levels}
+use Rattle.ctrees.specs.Levels.{depth, decl_levels, expr_levels, stmt_levels}
 use Rattle.cgrammar.proofs.CompletingOutcomes.{go_true, go_false, go_read, go_past, not_is, braces_of_none, braces_of_more, row_of_two, row_of_three}
 use Rattle.cgrammar.proofs.CompletingTokens.{by_mark, by_word, begins_apart, operand_no_mark, operand_row_no_mark}
 use Rattle.cgrammar.proofs.CompletingParts.{read_levels, ends_known, expression_read, not_declaration_row, declaration_row, declaration_row_no_mark, fewer}
