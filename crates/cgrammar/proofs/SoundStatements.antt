@@ -21,7 +21,7 @@ use Rattle.cgrammar.specs.Firsts.{begins_declaration, Begins}
 use Rattle.cgrammar.specs.FrontOf.{front_of}
 use Rattle.cgrammar.specs.FrontReadings.{begins_with_label}
 use Rattle.cgrammar.specs.Grammar.{Spells, inside, outside, OneBlock, NoMoreItems, NextDeclaration, NextStatement, BlockStatement, EmptyStatement, ExpressionStatement, OneSubstatement, IfStatement, IfElseStatement, WhileStatement, DoStatement, ForStatement, FirstDeclaration, FirstLeftOut, FirstExpression, NoExpression, SomeExpression, BreakStatement, ContinueStatement, ReturnStatement, LabeledStatement}
-use Rattle.cgrammar.specs.Outcomes.{Outcome, Nothing, Stopped, Read, has_first, has_mark, behind_first, after_mark}
+use Rattle.cgrammar.specs.Outcomes.{Outcome, Nothing, Stopped, Read, has_first, has_mark, after_mark}
 use Rattle.cgrammar.specs.Phrases.{Context, scoped}
 use Rattle.cgrammar.specs.Phrases.{Expression, Declaration, CompoundStatement, BlockItems, Statement, Substatement, FirstClause, MaybeExpression}
 use Rattle.cgrammar.specs.ReadDeclarations.{leaving, read_declaration}
