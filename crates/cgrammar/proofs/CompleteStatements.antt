@@ -1,6 +1,5 @@
 -- The reader of statements and blocks is complete, rule by rule of the grammar.
 use Rattle.std.proofs.Common.{◌≡◌, ℕ, zero, suc, ◌+◌, ◌<◌, ◌≤◌, Bool, true, false, ◌&&◌, not, refl, ap, sym, ◌∙◌, List, [], ◌∷◌, ◌++◌, length, map, codes, IsTrue, inl, inr, arith, Option, Some, None, ◌⊎◌}
-use Rattle.std.specs.Prelude.{max}
 use Rattle.std.specs.List.{list_any}
 use Rattle.std.specs.Str.{bytes_eq}
 use Rattle.cbase.specs.declared.place.Place.{Place}
@@ -11,7 +10,7 @@ use Rattle.cbase.specs.declared.tree.stmt.StmtForm.TheVariants.{Declare, Eval, B
 use Rattle.ctokens.specs.declared.token.TokenKind.TheVariants.{Word}
 use Rattle.ctokens.specs.SymbolTables.{keyword_symbol, name_symbol, passed_symbol}
 use Rattle.ctrees.specs.Weight.{joined}
-use Rattle.ctrees.specs.Levels.{depth, decl_levels, expr_levels, maybe_levels, stmt_levels}
+use Rattle.ctrees.specs.Levels.{depth, decl_levels, expr_levels, stmt_levels}
 use Rattle.cgrammar.proofs.CompletingOutcomes.{go_true, go_false, go_read, go_past, not_is, braces_of_none, braces_of_more, row_of_two, row_of_three}
 use Rattle.cgrammar.proofs.CompletingTokens.{by_mark, by_word, begins_apart, operand_no_mark, operand_row_no_mark}
 use Rattle.cgrammar.proofs.CompletingParts.{read_levels, ends_known, expression_read, not_declaration_row, declaration_row, declaration_row_no_mark, fewer}
@@ -365,7 +364,7 @@ unfolding read_if statement_start keyword_symbol name_symbol passed_symbol
 complete_if_statement before middle after xs ys test dangling stmt word opening closing p1 p2 p3 d1 p4 d2 c1 c2 zero rest small ends = absurd (let levels = levels_if word.place stmt.after test closing.place stmt in omega (arith, small, levels))
 complete_if_statement before middle after xs ys test dangling stmt word opening closing p1 p2 p3 d1 p4 d2 c1 c2 (suc m) rest small ends =
     let levels = levels_if word.place stmt.after test closing.place stmt in
-    let kept = scopes_kept (Substatement dangling stmt) middle after ys d2 ∙ (scopes_kept (Expression test) (inside before) middle xs d1 ∙ left_entered before.scope) in
+    let kept = ap left (scopes_kept (Substatement dangling stmt) middle after ys d2) ∙ (scopes_kept (Expression test) (inside before) middle xs d1 ∙ left_entered before.scope) in
     ap (λ row. read_statement (level m) before (word ∷ (opening ∷ row))) (row_of_two xs (closing ∷ ys) rest)
     ∙ (statement_of_word (level m) before (codes "if") word (opening ∷ (xs ++ (closing ∷ (ys ++ rest)))) start.If p1 refl refl
     ∙ go_true _ p2 (go_read _ (untyped_read m (inside before) middle xs test closing (ys ++ rest) p3 d1 p4 c1 (omega (arith, small, levels)))
@@ -392,7 +391,7 @@ unfolding read_if statement_start keyword_symbol name_symbol passed_symbol
 complete_if_else_statement before first second after xs ys zs test dangling one other word opening closing otherwise p1 p2 p3 d1 p4 d2 p5 d3 c1 c2 c3 zero rest small ends = absurd (let levels = levels_if_else word.place other.after test closing.place one other in omega (arith, small, levels))
 complete_if_else_statement before first second after xs ys zs test dangling one other word opening closing otherwise p1 p2 p3 d1 p4 d2 p5 d3 c1 c2 c3 (suc m) rest small ends =
     let levels = levels_if_else word.place other.after test closing.place one other in
-    let kept = scopes_kept (Substatement dangling other) second after zs d3 ∙ (scopes_kept (Substatement false one) first second ys d2 ∙ (scopes_kept (Expression test) (inside before) first xs d1 ∙ left_entered before.scope)) in
+    let kept = ap left (scopes_kept (Substatement dangling other) second after zs d3) ∙ (ap left (scopes_kept (Substatement false one) first second ys d2) ∙ (scopes_kept (Expression test) (inside before) first xs d1 ∙ left_entered before.scope)) in
     ap (λ row. read_statement (level m) before (word ∷ (opening ∷ row))) (row_of_else xs closing ys otherwise zs rest)
     ∙ (statement_of_word (level m) before (codes "if") word (opening ∷ (xs ++ (closing ∷ (ys ++ (otherwise ∷ (zs ++ rest)))))) start.If p1 refl refl
     ∙ go_true _ p2 (go_read _ (untyped_read m (inside before) first xs test closing (ys ++ (otherwise ∷ (zs ++ rest))) p3 d1 p4 c1 (omega (arith, small, levels)))
@@ -413,7 +412,7 @@ unfolding read_while statement_start keyword_symbol name_symbol passed_symbol
 complete_while_statement before middle after xs ys test dangling body word opening closing p1 p2 p3 d1 p4 d2 c1 c2 zero rest small ends = absurd (let levels = levels_while word.place body.after test closing.place body in omega (arith, small, levels))
 complete_while_statement before middle after xs ys test dangling body word opening closing p1 p2 p3 d1 p4 d2 c1 c2 (suc m) rest small ends =
     let levels = levels_while word.place body.after test closing.place body in
-    let kept = scopes_kept (Substatement dangling body) middle after ys d2 ∙ (scopes_kept (Expression test) (inside before) middle xs d1 ∙ left_entered before.scope) in
+    let kept = ap left (scopes_kept (Substatement dangling body) middle after ys d2) ∙ (scopes_kept (Expression test) (inside before) middle xs d1 ∙ left_entered before.scope) in
     ap (λ row. read_statement (level m) before (word ∷ (opening ∷ row))) (row_of_two xs (closing ∷ ys) rest)
     ∙ (statement_of_word (level m) before (codes "while") word (opening ∷ (xs ++ (closing ∷ (ys ++ rest)))) start.While p1 refl refl
     ∙ go_true _ p2 (go_read _ (untyped_read m (inside before) middle xs test closing (ys ++ rest) p3 d1 p4 c1 (omega (arith, small, levels)))
@@ -439,7 +438,7 @@ unfolding read_do statement_start keyword_symbol name_symbol passed_symbol
 complete_do_statement before middle after xs ys test dangling body word while opening closing semicolon p1 d1 p2 p3 p4 d2 p5 p6 c1 c2 zero rest small ends = absurd (let levels = levels_do word.place semicolon.place body test closing.place in omega (arith, small, levels))
 complete_do_statement before middle after xs ys test dangling body word while opening closing semicolon p1 d1 p2 p3 p4 d2 p5 p6 c1 c2 (suc m) rest small ends =
     let levels = levels_do word.place semicolon.place body test closing.place in
-    let kept = scopes_kept (Expression test) middle after ys d2 ∙ (scopes_kept (Substatement dangling body) (inside before) middle xs d1 ∙ left_entered before.scope) in
+    let kept = scopes_kept (Expression test) middle after ys d2 ∙ (ap left (scopes_kept (Substatement dangling body) (inside before) middle xs d1) ∙ left_entered before.scope) in
     ap (λ row. read_statement (level m) before (word ∷ row)) (row_of_do xs while opening ys closing semicolon rest)
     ∙ (statement_of_word (level m) before (codes "do") word (xs ++ (while ∷ (opening ∷ (ys ++ (closing ∷ (semicolon ∷ rest)))))) start.Do p1 refl refl
     ∙ go_read _ (c1 m (while ∷ (opening ∷ (ys ++ (closing ∷ (semicolon ∷ rest))))) (omega (arith, small, levels)) (no_else_ends dangling (while ∷ (opening ∷ (ys ++ (closing ∷ (semicolon ∷ rest))))) (other_word (codes "while") (codes "else") while refl p2)))
@@ -469,7 +468,7 @@ unfolding read_for statement_start keyword_symbol name_symbol passed_symbol
 complete_for_statement before one two three after ws xs ys zs first test next dangling body word opening semicolon closing p1 p2 d1 d2 p3 d3 p4 d4 c1 c2 c3 c4 zero rest small ends = absurd (let levels = levels_for word.place body.after first test semicolon.place next closing.place body in omega (arith, small, levels))
 complete_for_statement before one two three after ws xs ys zs first test next dangling body word opening semicolon closing p1 p2 d1 d2 p3 d3 p4 d4 c1 c2 c3 c4 (suc m) rest small ends =
     let levels = levels_for word.place body.after first test semicolon.place next closing.place body in
-    let kept = scopes_kept (Substatement dangling body) three after zs d4 ∙ (scopes_kept (MaybeExpression next) two three ys d3 ∙ (scopes_kept (MaybeExpression test) one two xs d2 ∙ (scopes_kept (FirstClause first) (inside before) one ws d1 ∙ left_entered before.scope))) in
+    let kept = ap left (scopes_kept (Substatement dangling body) three after zs d4) ∙ (scopes_kept (MaybeExpression next) two three ys d3 ∙ (scopes_kept (MaybeExpression test) one two xs d2 ∙ (scopes_kept (FirstClause first) (inside before) one ws d1 ∙ left_entered before.scope))) in
     ap (λ row. read_statement (level m) before (word ∷ (opening ∷ row))) (row_of_for ws xs semicolon ys closing zs rest)
     ∙ (statement_of_word (level m) before (codes "for") word (opening ∷ (ws ++ (xs ++ (semicolon ∷ (ys ++ (closing ∷ (zs ++ rest))))))) start.For p1 refl refl
     ∙ go_true _ p2 (go_read _ (c1 m (xs ++ (semicolon ∷ (ys ++ (closing ∷ (zs ++ rest))))) (omega (arith, small, levels)))
