@@ -1,5 +1,5 @@
--- What a row that spells a phrase does to the names in scope and to the count of expressions.
-use Rattle.std.specs.Prelude.{◌≡◌, ◌+◌, ◌≤◌, List}
+-- What a row that spells a phrase does to the names in scope, and which number an expression has.
+use Rattle.std.specs.Prelude.{◌≡◌, ◌+◌, List}
 use Rattle.cgrammar.specs.Grammar.{Spells}
 use Rattle.cgrammar.specs.Phrases.{Phrase, Context, Expression, Assignment, Conditional, Operation, CastExpression, UnaryExpression, PostfixExpression, PrimaryExpression, CompoundStatement, Substatement, FunctionDeclarator}
 use Rattle.cgrammar.specs.Scope.{left}
@@ -17,10 +17,6 @@ KeepsOuter _ before after = left after.scope ≡ left before.scope
 -- each phrase keeps the names of outer scopes
 abbrev pub ScopesAreKept : Type 0
 ScopesAreKept = (phrase : Phrase) (before after : Context) (row : List Terminal) → Spells phrase before row after → KeepsOuter phrase before after
-
--- no fewer expressions stand behind a phrase than before it
-abbrev pub NumbersGrow : Type 0
-NumbersGrow = (phrase : Phrase) (before after : Context) (row : List Terminal) → Spells phrase before row after → before.expressions ≤ after.expressions
 
 -- an expression has the last of the numbers of its row
 abbrev pub HasLastNumber : Phrase → Context → Type 0

@@ -12,3 +12,4 @@ pub mod Named
 pub mod Needed
 pub mod NamesAfter
 pub mod SpelledNames
+pub mod Numbered

@@ -14,7 +14,8 @@ mod tables;
 
 pub use answer::{ItemAnswer, read_item};
 pub use laws::{
-    each_row_is_one_item, names_after_are_spelled, needed_have_one_answer, one_item_answer,
+    each_row_is_one_item, expressions_are_numbered, names_after_are_spelled,
+    needed_have_one_answer, one_item_answer,
 };
 pub use names_after::scope_after;
 pub use needed_items::{ReadNeeded, read_needed};
