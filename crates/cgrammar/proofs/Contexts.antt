@@ -2,7 +2,7 @@
 use Rattle.std.proofs.Common.{◌≡◌, ℕ, ◌≤◌, Bool, false, refl, ap, ◌∙◌, arith, List, [], ◌∷◌}
 use Rattle.cgrammar.proofs.Scopes.{left_entered}
 use Rattle.cgrammar.specs.Contexts.{KeepsOuter, ScopesAreKept, NumbersGrow, HasLastNumber, NumbersAreLast}
-use Rattle.cgrammar.specs.Grammar.{Spells, OneAssignment, CommaOperator, OneConditional, AssignmentOperator, OneOperation, ConditionalOperator, OneCast, BinaryOperator, OneUnary, CastOperator, OnePostfix, CountBefore, UnaryOperator, SizeOfExpression, SizeOfTypeName, OnePrimary, IndexOperator, CallOfNothing, CallOperator, MemberOperator, CountBehind, OneArgument, MoreArguments, OneName, OneConstant, Bracketed, StatementExpression, OffsetOfMember, NoMoreMembers, PathToMember, PathToItem, FailedAssertion, BasicWords, TypedefName, TypeOfExpression, TypeOfType, StructWithFields, StructByTag, NoMoreFields, MoreFields, OneFieldDeclaration, OneField, MoreFieldNames, NamedField, NamedBits, UnnamedBits, EnumWithValues, EnumByTag, LastEnumerator, MoreEnumerators, PlainEnumerator, ValuedEnumerator, OneTypeName, NoMoreSizes, SizeLeftOut, SizeGiven, TypeAlone, StorageBefore, StorageBehind, NoDeclarator, WithDeclarators, OneDeclarator, MoreDeclarators, ObjectDeclarator, InitializedDeclarator, DeclaratorOfFunction, NoParameters, VoidParameters, WithParameters, OneParameter, MoreParameters, NamedParameter, UnnamedParameter, InitializedTo, EmptyBraces, InBraces, OneInitializer, MoreInitializers, NextPart, MemberPart, OneBlock, NoMoreItems, NextDeclaration, NextStatement, BlockStatement, EmptyStatement, ExpressionStatement, IfStatement, IfElseStatement, WhileStatement, DoStatement, ForStatement, FirstDeclaration, FirstLeftOut, FirstExpression, NoExpression, SomeExpression, BreakStatement, ContinueStatement, ReturnStatement, LabeledStatement}
+use Rattle.cgrammar.specs.Grammar.{Spells, OneAssignment, CommaOperator, OneConditional, AssignmentOperator, OneOperation, ConditionalOperator, OneCast, BinaryOperator, OneUnary, CastOperator, OnePostfix, CountBefore, UnaryOperator, SizeOfExpression, SizeOfTypeName, OnePrimary, IndexOperator, CallOfNothing, CallOperator, MemberOperator, CountBehind, OneArgument, MoreArguments, OneName, OneConstant, Bracketed, StatementExpression, OffsetOfMember, NoMoreMembers, PathToMember, PathToItem, FailedAssertion, BasicWords, TypedefName, TypeOfExpression, TypeOfType, StructWithFields, StructByTag, NoMoreFields, MoreFields, OneFieldDeclaration, OneField, MoreFieldNames, NamedField, NamedBits, UnnamedBits, EnumWithValues, EnumByTag, LastEnumerator, MoreEnumerators, PlainEnumerator, ValuedEnumerator, OneTypeName, NoMoreSizes, SizeLeftOut, SizeGiven, TypeAlone, StorageBefore, StorageBehind, NoDeclarator, WithDeclarators, OneDeclarator, MoreDeclarators, ObjectDeclarator, InitializedDeclarator, DeclaratorOfFunction, NoParameters, VoidParameters, WithParameters, OneParameter, MoreParameters, NamedParameter, UnnamedParameter, InitializedTo, EmptyBraces, InBraces, OneInitializer, MoreInitializers, NextPart, MemberPart, OneBlock, NoMoreItems, NextDeclaration, NextStatement, BlockStatement, EmptyStatement, ExpressionStatement, OneSubstatement, IfStatement, IfElseStatement, WhileStatement, DoStatement, ForStatement, FirstDeclaration, FirstLeftOut, FirstExpression, NoExpression, SomeExpression, BreakStatement, ContinueStatement, ReturnStatement, LabeledStatement}
 use Rattle.cgrammar.specs.Phrases.{Phrase, Context}
 use Rattle.cgrammar.specs.Scope.{Names, declared, left}
 use Rattle.cgrammar.specs.Terminals.{Terminal}
@@ -102,10 +102,11 @@ kept (NextStatement d1 d2) = kept d2 ∙ kept d1
 kept (BlockStatement d1) = ap left (kept d1)
 kept (EmptyStatement _ _) = refl
 kept (ExpressionStatement _ _ d1 _) = kept d1
-kept (IfStatement _ _ _ _ _ _ d1 _ d2) = kept d2 ∙ kept d1
-kept (IfElseStatement _ _ _ _ _ _ _ d1 _ d2 _ d3) = kept d3 ∙ (kept d2 ∙ kept d1)
-kept (WhileStatement _ _ _ _ _ _ d1 _ d2) = kept d2 ∙ kept d1
-kept (DoStatement _ _ _ _ _ _ d1 _ _ _ d2 _ _) = kept d2 ∙ kept d1
+kept (OneSubstatement d1) = refl
+kept (IfStatement _ _ _ _ _ _ d1 _ d2) = refl
+kept (IfElseStatement _ _ _ _ _ _ _ d1 _ d2 _ d3) = refl
+kept (WhileStatement _ _ _ _ _ _ d1 _ d2) = refl
+kept (DoStatement _ _ _ _ _ _ d1 _ _ _ d2 _ _) = refl
 kept (ForStatement _ _ _ _ _ _ d1 d2 _ d3 _ d4) = refl
 kept (FirstDeclaration d1) = kept d1
 kept (FirstLeftOut _ _) = refl
@@ -208,6 +209,7 @@ grows (NextStatement d1 d2) = omega (arith, grows d1, grows d2)
 grows (BlockStatement d1) = omega (arith, grows d1)
 grows (EmptyStatement _ _) = omega (arith)
 grows (ExpressionStatement _ _ d1 _) = omega (arith, grows d1)
+grows (OneSubstatement d1) = omega (arith, grows d1)
 grows (IfStatement _ _ _ _ _ _ d1 _ d2) = omega (arith, grows d1, grows d2)
 grows (IfElseStatement _ _ _ _ _ _ _ d1 _ d2 _ d3) = omega (arith, grows d1, grows d2, grows d3)
 grows (WhileStatement _ _ _ _ _ _ d1 _ d2) = omega (arith, grows d1, grows d2)
@@ -314,6 +316,7 @@ last (NextStatement _ _) = tt
 last (BlockStatement _) = tt
 last (EmptyStatement _ _) = tt
 last (ExpressionStatement _ _ _ _) = tt
+last (OneSubstatement _) = tt
 last (IfStatement _ _ _ _ _ _ _ _ _) = tt
 last (IfElseStatement _ _ _ _ _ _ _ _ _ _ _ _) = tt
 last (WhileStatement _ _ _ _ _ _ _ _ _) = tt
