@@ -275,24 +275,24 @@ keep_otherwise inner place close test tests one ones is most context row inside 
 
 pub keep_if_statement : (inner : Level) (place : Place) → KeepsLevel inner → Keeps (read_if inner place)
 unfolding read_if
-keep_if_statement inner place is most context row inside =
-    keep_first most _ row _ _ inside tt (λ opening others fewer.
-    keep_then most (untyped inner _ others) _ (keep_untyped inner is most _ others fewer) (λ test tests behind rest within.
+keep_if_statement inner place is most context row fits =
+    keep_first most _ row _ _ fits tt (λ opening others fewer.
+    keep_then most (untyped inner (inside context) others) _ (keep_untyped inner is most (inside context) others fewer) (λ test tests behind rest within.
     keep_first most _ rest _ _ within tt (λ closing more less.
     keep_then most (substatement inner behind more) _ (keep_substatement inner is most behind more less) (λ one ones last end ends. keep_otherwise inner place closing.place test tests one ones is most last end ends))))
 
 pub keep_while_statement : (inner : Level) (place : Place) → KeepsLevel inner → Keeps (read_while inner place)
 unfolding read_while
-keep_while_statement inner place is most context row inside =
-    keep_first most _ row _ _ inside tt (λ opening others fewer.
-    keep_then most (untyped inner _ others) _ (keep_untyped inner is most _ others fewer) (λ test tests behind rest within.
+keep_while_statement inner place is most context row fits =
+    keep_first most _ row _ _ fits tt (λ opening others fewer.
+    keep_then most (untyped inner (inside context) others) _ (keep_untyped inner is most (inside context) others fewer) (λ test tests behind rest within.
     keep_first most _ rest _ _ within tt (λ closing more less.
     keep_then most (substatement inner behind more) _ (keep_substatement inner is most behind more less) (λ body levels last end ends. ends))))
 
 pub keep_do_statement : (inner : Level) (place : Place) → KeepsLevel inner → Keeps (read_do inner place)
 unfolding read_do
-keep_do_statement inner place is most context row inside =
-    keep_then most (substatement inner _ row) _ (keep_substatement inner is most _ row inside) (λ body levels behind rest within.
+keep_do_statement inner place is most context row fits =
+    keep_then most (substatement inner (inside context) row) _ (keep_substatement inner is most (inside context) row fits) (λ body levels behind rest within.
     keep_first most _ rest _ _ within tt (λ while others fewer.
     keep_first most _ others _ _ fewer tt (λ opening more less.
     keep_then most (untyped inner behind more) _ (keep_untyped inner is most behind more less) (λ test tests last end ends.
