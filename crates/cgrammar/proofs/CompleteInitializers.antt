@@ -94,7 +94,7 @@ braces_read : (inner : Level) (before : Context) (row : List Terminal) (parts : 
 braces_read inner before row parts levels behind rest closing end none is comma closes =
     go_past (is_mark (codes "}")) row _ _ none ∙ go_read _ is (rw comma (go_true _ closes refl))
 
--- a list in braces is the same up to the brace, whatever stands behind it
+-- where the token behind the parts of a list in braces stands: a comma, or else the brace
 place_before : (last : List Terminal) (closing : Terminal) (rest : List Terminal) → first_place (last ++ (closing ∷ rest)) ≡ first_place (last ++ (closing ∷ []))
 place_before [] closing rest = refl
 place_before (token ∷ last) closing rest = refl

@@ -195,7 +195,7 @@ sound_parts inner count is =
     (λ part before behind front rest spelled. OneInitializer spelled)
     (λ part parts comma before middle behind front others between rest spelled marked more. MoreInitializers comma spelled marked more)
 
--- what stands behind the closing brace says nothing of where the token behind the parts stands
+-- the token behind the parts in braces is a comma or the closing brace, whatever stands behind that brace
 place_behind : (last others : List Terminal) (closing : Terminal) → first_place (last ++ (closing ∷ others)) ≡ first_place (last ++ (closing ∷ []))
 place_behind [] others closing = refl
 place_behind (first ∷ more) others closing = refl

@@ -21,7 +21,7 @@ use Rattle.cgrammar.specs.Firsts.{begins_declaration, Begins}
 use Rattle.cgrammar.specs.FrontOf.{front_of}
 use Rattle.cgrammar.specs.FrontReadings.{begins_with_label}
 use Rattle.cgrammar.specs.Grammar.{Spells, inside, outside, OneBlock, NoMoreItems, NextDeclaration, NextStatement, BlockStatement, EmptyStatement, ExpressionStatement, OneSubstatement, IfStatement, IfElseStatement, WhileStatement, DoStatement, ForStatement, FirstDeclaration, FirstLeftOut, FirstExpression, NoExpression, SomeExpression, BreakStatement, ContinueStatement, ReturnStatement, LabeledStatement}
-use Rattle.cgrammar.specs.Outcomes.{Outcome, Nothing, Stopped, Read, has_first, has_mark, behind_first, after_mark}
+use Rattle.cgrammar.specs.Outcomes.{Outcome, Nothing, Stopped, Read, has_first, has_mark, after_mark}
 use Rattle.cgrammar.specs.Phrases.{Context, scoped}
 use Rattle.cgrammar.specs.Phrases.{Expression, Declaration, CompoundStatement, BlockItems, Statement, Substatement, FirstClause, MaybeExpression}
 use Rattle.cgrammar.specs.ReadDeclarations.{leaving, read_declaration}
@@ -168,7 +168,7 @@ sound_if_statement inner context word row is worded =
     sound_first _ rest _ _ (λ none. sound_nothing) (λ closing more next closes.
     sound_then (substatement inner behind more) _ (sound_substatement inner is behind more) (λ one ones last end read_one.
     let kept : left last.scope ≡ context.scope =
-    scopes_kept (Substatement read_one.spelled.0 one) behind last read_one.front read_one.spelled.1
+    ap left (scopes_kept (Substatement read_one.spelled.0 one) behind last read_one.front read_one.spelled.1)
     ∙ (scopes_kept (Expression test) (inside context) behind read.front read.spelled.1
     ∙ left_entered context.scope) in
     sound_first _ end _ _
@@ -179,7 +179,7 @@ sound_if_statement inner context word row is worded =
     (λ otherwise further then_else elses.
     let whole_one = subst (λ (dangling : Bool). Spells (Substatement dangling one) behind read_one.front last) (no_dangling read_one.spelled.0 (is_word (codes "else")) end further otherwise then_else elses read_one.spelled.2) read_one.spelled.1 in
     sound_then (substatement inner last further) _ (sound_substatement inner is last further) (λ other twos final over read_other.
-    leaves context final (scopes_kept (Substatement read_other.spelled.0 other) last final read_other.front read_other.spelled.1 ∙ kept)
+    leaves context final (ap left (scopes_kept (Substatement read_other.spelled.0 other) last final read_other.front read_other.spelled.1) ∙ kept)
     (made (split_first refl (split_first from (split_more read.whole (split_first next (split_more read_one.whole (split_first then_else read_other.whole))))))
     (read_other.spelled.0, IfElseStatement word opening closing otherwise worded marked read.spelled.0 read.spelled.1 closes whole_one elses read_other.spelled.1, read_other.spelled.2)
     (one_more (larger read.same (larger read_one.same read_other.same)) ∙ sym (levels_if_else word.place other.after test closing.place one other))
@@ -194,7 +194,7 @@ sound_while_statement inner context word row is worded =
     sound_first _ rest _ _ (λ none. sound_nothing) (λ closing more next closes.
     sound_then (substatement inner behind more) _ (sound_substatement inner is behind more) (λ body levels last end read_body.
     leaves context last
-    (scopes_kept (Substatement read_body.spelled.0 body) behind last read_body.front read_body.spelled.1
+    (ap left (scopes_kept (Substatement read_body.spelled.0 body) behind last read_body.front read_body.spelled.1)
     ∙ (scopes_kept (Expression test) (inside context) behind read.front read.spelled.1
     ∙ left_entered context.scope))
     (made (split_first refl (split_first from (split_more read.whole (split_first next read_body.whole))))
@@ -214,7 +214,7 @@ sound_do_statement inner context word row is worded =
     sound_first _ ends _ _ (λ none. sound_nothing) (λ semicolon final fourth ended.
     leaves context last
     (scopes_kept (Expression test) behind last read.front read.spelled.1
-    ∙ (scopes_kept (Substatement read_body.spelled.0 body) (inside context) behind read_body.front read_body.spelled.1
+    ∙ (ap left (scopes_kept (Substatement read_body.spelled.0 body) (inside context) behind read_body.front read_body.spelled.1)
     ∙ left_entered context.scope))
     (made (split_first refl (split_more read_body.whole (split_first from (split_first next (split_more read.whole (split_first third (split_last fourth)))))))
     (false, DoStatement word while opening closing semicolon worded read_body.spelled.1 whiles marked read.spelled.0 read.spelled.1 closes ended, refl)
@@ -233,7 +233,7 @@ sound_for_statement inner context word row is worded =
     sound_first _ ends _ _ (λ none. sound_nothing) (λ closing final third closes.
     sound_then (substatement inner three final) _ (sound_substatement inner is three final) (λ body levels within over read_body.
     let kept : left within.scope ≡ context.scope =
-    scopes_kept (Substatement read_body.spelled.0 body) three within read_body.front read_body.spelled.1
+    ap left (scopes_kept (Substatement read_body.spelled.0 body) three within read_body.front read_body.spelled.1)
     ∙ (scopes_kept (MaybeExpression next) two three read_next.front read_next.spelled
     ∙ (scopes_kept (MaybeExpression test) one two read_test.front read_test.spelled
     ∙ (scopes_kept (FirstClause first) (inside context) one read_first.front read_first.spelled

@@ -7,8 +7,8 @@ ghost use Rattle.cgrammar.specs.Contexts.{ScopesAreKept, NumbersGrow, NumbersAre
 ghost use Rattle.cgrammar.specs.Labels.{LabelsAreNoExpressions};
 ghost use Rattle.cgrammar.specs.Firsts.{FirstTokens, DeclarationsAreNoStatements, TypesAreNoExpressions};
 
-/// A block leaves the names in scope as they were, and whatever is read changes no scope but the innermost (C11
-/// 6.2.1p4).
+/// A block leaves the names in scope as they were, and so does a statement in an `if` or in a loop; whatever is read
+/// changes no scope but the innermost (C11 6.2.1p4, 6.8.4p3, 6.8.5p5).
 #[tactic(auto, using(crate::proofs::Contexts::scopes_kept))]
 pub fn scopes_are_kept()
     ensures { ScopesAreKept }
