@@ -132,7 +132,7 @@ impl Builder {
     ) -> Result<bool, NoMemory>
         ensures { IfOk result (λ made. left_by made self.new ≡ built row.now (Event.Member through at name) self.old.count self.old.pieces) }
     {
-        let name = identifier_at(self.alloc, row, name)?;
+        let member = identifier_at(self.alloc, row, name)?;
         let Some(base) = self.pop_expr() else {
             return Ok(false);
         };
@@ -140,7 +140,7 @@ impl Builder {
             place_at(row, at),
             ExprForm::Member {
                 base,
-                name,
+                name: member,
                 through,
             },
         )
