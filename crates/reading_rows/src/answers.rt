@@ -4,11 +4,21 @@ ghost use Rattle.ctokens.specs.Passed.{passed_tokens};
 ghost use Rattle.ctokens.specs.InText.{LieInText};
 ghost use Rattle.ctokens.specs.TokenList.{AreNumbered};
 
+use crate::places::places;
 use cbase::NoMemory;
 use cgrammar::Scope;
 use cread::{ItemAnswer, ItemBehind, ReadIn, read_item, read_item_in, scope_after};
 use ctokens::{ItemSpan, Tokens, items, passed_over};
 use std::alloc::Global;
+
+/// What is shown of an item that is read.
+#[derive(Clone, Copy)]
+pub enum Asked {
+    /// That it is read.
+    Answer,
+    /// Places in its tree.
+    Places,
+}
 
 /// The names in scope behind what was read, where it was.
 fn scope_behind(read: ReadIn) -> Option<Scope> {
@@ -63,10 +73,13 @@ fn behind_items(alloc: Global, t: &Tokens, spans: &[ItemSpan]) -> Result<Option<
     Ok(Some(scope))
 }
 
-/// An answer in words.
-fn shown(alloc: Global, answer: &ItemAnswer) -> Result<String, NoMemory> {
+/// An answer in words, or the places in an item that is read.
+fn shown(alloc: Global, answer: &ItemAnswer, asked: Asked) -> Result<String, NoMemory> {
     match answer {
-        ItemAnswer::Read(_) => Ok(String::from_str(alloc, "read")?),
+        ItemAnswer::Read(item) => match asked {
+            Asked::Answer => Ok(String::from_str(alloc, "read")?),
+            Asked::Places => places(alloc, item),
+        },
         ItemAnswer::Construct { number, place } => {
             Ok(format!(in alloc; "construct {} at {}:{}", number, place.line, place.column)?)
         }
@@ -77,7 +90,13 @@ fn shown(alloc: Global, answer: &ItemAnswer) -> Result<String, NoMemory> {
 }
 
 /// What is answered of an item, where these names are in scope.
-fn shown_item(alloc: Global, t: &Tokens, span: &ItemSpan, scope: &Scope) -> Result<String, NoMemory>
+fn shown_item(
+    alloc: Global,
+    t: &Tokens,
+    span: &ItemSpan,
+    scope: &Scope,
+    asked: Asked,
+) -> Result<String, NoMemory>
     requires text { LieInText t.now }
     requires numbered { AreNumbered t.now.list }
 {
@@ -88,13 +107,18 @@ fn shown_item(alloc: Global, t: &Tokens, span: &ItemSpan, scope: &Scope) -> Resu
         return Ok(String::from_str(alloc, "outside")?);
     }
     let answer = read_item(alloc, t, span, scope)?;
-    let shown = shown(alloc, &answer);
+    let shown = shown(alloc, &answer, asked);
     drop(answer);
     shown
 }
 
 /// What is answered of the last of these items, where each before it is read.
-fn shown_last(alloc: Global, t: &Tokens, spans: &[ItemSpan]) -> Result<String, NoMemory>
+fn shown_last(
+    alloc: Global,
+    t: &Tokens,
+    spans: &[ItemSpan],
+    asked: Asked,
+) -> Result<String, NoMemory>
     requires text { LieInText t.now }
     requires numbered { AreNumbered t.now.list }
 {
@@ -104,19 +128,19 @@ fn shown_last(alloc: Global, t: &Tokens, spans: &[ItemSpan]) -> Result<String, N
     }
     match behind_items(alloc, t, &spans[..count - 1])? {
         None => Ok(String::from_str(alloc, "not read before")?),
-        Some(scope) => shown_item(alloc, t, &spans[count - 1], &scope),
+        Some(scope) => shown_item(alloc, t, &spans[count - 1], &scope, asked),
     }
 }
 
 /// What is answered of the last item of a text, where the names that the items before it declare are in scope: that it is read,
-/// or the number of the construct that is given up and its place, or the place at which nothing is spelled.
-pub fn last(alloc: Global, t: &Tokens) -> Result<String, NoMemory>
+/// or the places in it, or the number of the construct that is given up and its place, or the place at which nothing is spelled.
+pub fn last(alloc: Global, t: &Tokens, asked: Asked) -> Result<String, NoMemory>
     requires text { LieInText t.now }
     requires numbered { AreNumbered t.now.list }
 {
     match items(alloc, t)? {
         Err(_) => Ok(String::from_str(alloc, "too deep")?),
-        Ok(spans) => shown_last(alloc, t, spans.as_slice()),
+        Ok(spans) => shown_last(alloc, t, spans.as_slice(), asked),
     }
 }
 

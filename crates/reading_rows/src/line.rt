@@ -2,7 +2,7 @@
 ghost use Rattle.ctokens.specs.InText.{LieInText};
 ghost use Rattle.ctokens.specs.TokenList.{AreNumbered};
 
-use crate::answers::{last, typedef};
+use crate::answers::{Asked, last, typedef};
 use crate::constructs::{construct, layout};
 use crate::cut::cut;
 use crate::expressions::{block, expression, left, statements};
@@ -66,7 +66,8 @@ fn answer_of_tokens(alloc: Global, kind: &str, number: u32, t: &Tokens) -> Resul
         "passed" => passed(alloc, t),
         "items" => items(alloc, t),
         "needed" => needed(alloc, t),
-        "last" => last(alloc, t),
+        "last" => last(alloc, t, Asked::Answer),
+        "places" => last(alloc, t, Asked::Places),
         "typedef" => typedef(alloc, t, number > 0),
         "expression" => expression(alloc, t, number),
         "left" => left(alloc, t, number),

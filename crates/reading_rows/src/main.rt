@@ -13,6 +13,8 @@ mod faults;
 mod items;
 mod lexical;
 mod line;
+mod nodes;
+mod places;
 mod reports;
 mod row;
 mod scopes;
