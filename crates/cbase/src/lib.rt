@@ -31,9 +31,9 @@ pub use rules::layout_rules;
 pub use structs::{Field, StructDef, Structs};
 pub use text::Text;
 pub use tree::{
-    BasicType, BinaryOp, Decl, Declared, Enumerator, Expr, ExprForm, FieldDecl, FieldName, Init,
-    InitPart, Item, Param, Part, Program, Rank, StaticObject, Stmt, StmtForm, Storage, TypeName,
-    TypeSpec, TypedProgram, UnaryOp,
+    BasicType, BinaryOp, Decl, Declared, Enumerator, Expr, ExprForm, FieldDecl, FieldName,
+    Identifier, Init, InitPart, Item, Param, Part, Program, Rank, StaticObject, Stmt, StmtForm,
+    Storage, TypeName, TypeSpec, TypedProgram, UnaryOp,
 };
 
 #[cfg(test)]

@@ -1,5 +1,6 @@
 mod decl;
 mod expr;
+mod identifier;
 mod init;
 mod item;
 mod operators;
@@ -9,6 +10,7 @@ mod typed;
 
 pub use decl::{Decl, Declared, Param, Storage, TypeName};
 pub use expr::{Expr, ExprForm, Part};
+pub use identifier::Identifier;
 pub use init::{Init, InitPart};
 pub use item::{Item, Program};
 pub use operators::{BinaryOp, UnaryOp};

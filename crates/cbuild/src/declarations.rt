@@ -3,7 +3,7 @@ ghost use Rattle.cevents.specs.Building.{built};
 ghost use Rattle.cevents.specs.Workshop.{left_by};
 
 use crate::builder::Builder;
-use crate::texts::{appended, count_of, maybe_text_at, text_at};
+use crate::texts::{appended, count_of, maybe_identifier_at, text_at};
 use cbase::{Decl, Declared, List, NoMemory, Param, Storage};
 use cevents::{Event, Piece, place_at};
 use cgrammar::Terminal;
@@ -25,7 +25,7 @@ impl Builder {
     ) -> Result<bool, NoMemory>
         ensures { IfOk result (λ made. left_by made self.new ≡ built row.now (Event.Parameter name stars) self.old.count self.old.pieces) }
     {
-        let name = maybe_text_at(self.alloc, row, name)?;
+        let name = maybe_identifier_at(self.alloc, row, name)?;
         let stars = count_of(stars)?;
         let Some(sizes) = self.pop_sizes() else {
             return Ok(false);

@@ -3,7 +3,7 @@ ghost use Rattle.cevents.specs.Building.{built};
 ghost use Rattle.cevents.specs.Workshop.{left_by};
 
 use crate::builder::Builder;
-use crate::texts::text_at;
+use crate::texts::{identifier_at, text_at};
 use cbase::{BinaryOp, ExprForm, NoMemory, UnaryOp};
 use cevents::{Event, place_at};
 use cgrammar::Terminal;
@@ -132,7 +132,7 @@ impl Builder {
     ) -> Result<bool, NoMemory>
         ensures { IfOk result (λ made. left_by made self.new ≡ built row.now (Event.Member through at name) self.old.count self.old.pieces) }
     {
-        let spelling = text_at(self.alloc, row, name)?;
+        let member = identifier_at(self.alloc, row, name)?;
         let Some(base) = self.pop_expr() else {
             return Ok(false);
         };
@@ -140,7 +140,7 @@ impl Builder {
             place_at(row, at),
             ExprForm::Member {
                 base,
-                name: spelling,
+                name: member,
                 through,
             },
         )
@@ -160,13 +160,19 @@ impl Builder {
     }
 
     /// A statement expression.
-    pub(crate) fn inner(&mut self, row: &[Terminal<'_>], at: usize) -> Result<bool, NoMemory>
-        ensures { IfOk result (λ made. left_by made self.new ≡ built row.now (Event.Inner at) self.old.count self.old.pieces) }
+    pub(crate) fn inner(
+        &mut self,
+        row: &[Terminal<'_>],
+        at: usize,
+        close: usize,
+    ) -> Result<bool, NoMemory>
+        ensures { IfOk result (λ made. left_by made self.new ≡ built row.now (Event.Inner at close) self.old.count self.old.pieces) }
     {
+        let close = place_at(row, close);
         let Some(body) = self.pop_statements() else {
             return Ok(false);
         };
-        self.express(place_at(row, at), ExprForm::Inner(body))
+        self.express(place_at(row, at), ExprForm::Inner { body, close })
     }
 
     /// A binary operator (C11 6.5.5 to 6.5.14, 6.5.17).

@@ -3,9 +3,9 @@ ghost use Rattle.cevents.specs.Building.{built};
 ghost use Rattle.cevents.specs.Workshop.{left_by};
 
 use crate::builder::Builder;
-use crate::texts::{appended, list_of_one, maybe_text_at, text_at};
+use crate::texts::{appended, identifier_at, list_of_one, maybe_identifier_at};
 use cbase::{Init, InitPart, List, NoMemory, Part};
-use cevents::{Event, Piece};
+use cevents::{Event, Piece, place_at};
 use cgrammar::Terminal;
 
 impl Builder {
@@ -34,7 +34,7 @@ impl Builder {
     pub(crate) fn path(&mut self, row: &[Terminal<'_>], name: usize) -> Result<bool, NoMemory>
         ensures { IfOk result (λ made. left_by made self.new ≡ built row.now (Event.Path name) self.old.count self.old.pieces) }
     {
-        let name = text_at(self.alloc, row, name)?;
+        let name = identifier_at(self.alloc, row, name)?;
         let path = list_of_one(self.alloc, Part::Member(name))?;
         self.put(Piece::Path(path))
     }
@@ -47,7 +47,7 @@ impl Builder {
     ) -> Result<bool, NoMemory>
         ensures { IfOk result (λ made. left_by made self.new ≡ built row.now (Event.PathMember name) self.old.count self.old.pieces) }
     {
-        let name = text_at(self.alloc, row, name)?;
+        let name = identifier_at(self.alloc, row, name)?;
         let Some(path) = self.pop_path() else {
             return Ok(false);
         };
@@ -70,13 +70,17 @@ impl Builder {
     }
 
     /// An expression as an initialiser (C11 6.7.9).
-    pub(crate) fn value(&mut self, row: &[Terminal<'_>]) -> Result<bool, NoMemory>
-        ensures { IfOk result (λ made. left_by made self.new ≡ built row.now Event.Value self.old.count self.old.pieces) }
+    pub(crate) fn value(&mut self, row: &[Terminal<'_>], after: usize) -> Result<bool, NoMemory>
+        ensures { IfOk result (λ made. left_by made self.new ≡ built row.now (Event.Value after) self.old.count self.old.pieces) }
     {
+        let after = place_at(row, after);
         let Some(value) = self.pop_expr() else {
             return Ok(false);
         };
-        self.put(Piece::Init(Init::Value(value.into_inner())))
+        self.put(Piece::Init(Init::Value {
+            value: value.into_inner(),
+            after,
+        }))
     }
 
     /// No parts of an initialiser yet.
@@ -94,7 +98,7 @@ impl Builder {
     ) -> Result<bool, NoMemory>
         ensures { IfOk result (λ made. left_by made self.new ≡ built row.now (Event.Part member) self.old.count self.old.pieces) }
     {
-        let member = maybe_text_at(self.alloc, row, member)?;
+        let member = maybe_identifier_at(self.alloc, row, member)?;
         let Some(init) = self.pop_init() else {
             return Ok(false);
         };

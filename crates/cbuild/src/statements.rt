@@ -88,9 +88,15 @@ impl Builder {
     }
 
     /// `if` without `else` (C11 6.8.4.1).
-    pub(crate) fn if_alone(&mut self, row: &[Terminal<'_>], first: usize) -> Result<bool, NoMemory>
-        ensures { IfOk result (λ made. left_by made self.new ≡ built row.now (Event.If first) self.old.count self.old.pieces) }
+    pub(crate) fn if_alone(
+        &mut self,
+        row: &[Terminal<'_>],
+        first: usize,
+        close: usize,
+    ) -> Result<bool, NoMemory>
+        ensures { IfOk result (λ made. left_by made self.new ≡ built row.now (Event.If first close) self.old.count self.old.pieces) }
     {
+        let close = place_at(row, close);
         let Some(yes) = self.pop_statement() else {
             return Ok(false);
         };
@@ -104,6 +110,7 @@ impl Builder {
             after,
             StmtForm::If {
                 test,
+                close,
                 yes,
                 no: None,
             },
@@ -111,9 +118,15 @@ impl Builder {
     }
 
     /// `if` with `else` (C11 6.8.4.1).
-    pub(crate) fn if_else(&mut self, row: &[Terminal<'_>], first: usize) -> Result<bool, NoMemory>
-        ensures { IfOk result (λ made. left_by made self.new ≡ built row.now (Event.IfElse first) self.old.count self.old.pieces) }
+    pub(crate) fn if_else(
+        &mut self,
+        row: &[Terminal<'_>],
+        first: usize,
+        close: usize,
+    ) -> Result<bool, NoMemory>
+        ensures { IfOk result (λ made. left_by made self.new ≡ built row.now (Event.IfElse first close) self.old.count self.old.pieces) }
     {
+        let close = place_at(row, close);
         let Some(no) = self.pop_statement() else {
             return Ok(false);
         };
@@ -130,6 +143,7 @@ impl Builder {
             after,
             StmtForm::If {
                 test,
+                close,
                 yes,
                 no: Some(no),
             },
@@ -141,9 +155,11 @@ impl Builder {
         &mut self,
         row: &[Terminal<'_>],
         first: usize,
+        close: usize,
     ) -> Result<bool, NoMemory>
-        ensures { IfOk result (λ made. left_by made self.new ≡ built row.now (Event.While first) self.old.count self.old.pieces) }
+        ensures { IfOk result (λ made. left_by made self.new ≡ built row.now (Event.While first close) self.old.count self.old.pieces) }
     {
+        let close = place_at(row, close);
         let Some(body) = self.pop_statement() else {
             return Ok(false);
         };
@@ -152,7 +168,11 @@ impl Builder {
         };
         let after = body.get().after;
         let test = test.into_inner();
-        self.state(place_at(row, first), after, StmtForm::While { test, body })
+        self.state(
+            place_at(row, first),
+            after,
+            StmtForm::While { test, close, body },
+        )
     }
 
     /// `do` (C11 6.8.5.2).
@@ -160,10 +180,12 @@ impl Builder {
         &mut self,
         row: &[Terminal<'_>],
         first: usize,
+        close: usize,
         last: usize,
     ) -> Result<bool, NoMemory>
-        ensures { IfOk result (λ made. left_by made self.new ≡ built row.now (Event.Do first last) self.old.count self.old.pieces) }
+        ensures { IfOk result (λ made. left_by made self.new ≡ built row.now (Event.Do first close last) self.old.count self.old.pieces) }
     {
+        let close = place_at(row, close);
         let Some(test) = self.pop_expr() else {
             return Ok(false);
         };
@@ -174,14 +196,22 @@ impl Builder {
         self.state(
             place_at(row, first),
             place_at(row, last),
-            StmtForm::Do { body, test },
+            StmtForm::Do { body, test, close },
         )
     }
 
     /// `for` (C11 6.8.5.3).
-    pub(crate) fn for_loop(&mut self, row: &[Terminal<'_>], first: usize) -> Result<bool, NoMemory>
-        ensures { IfOk result (λ made. left_by made self.new ≡ built row.now (Event.For first) self.old.count self.old.pieces) }
+    pub(crate) fn for_loop(
+        &mut self,
+        row: &[Terminal<'_>],
+        first: usize,
+        semicolon: usize,
+        close: usize,
+    ) -> Result<bool, NoMemory>
+        ensures { IfOk result (λ made. left_by made self.new ≡ built row.now (Event.For first semicolon close) self.old.count self.old.pieces) }
     {
+        let semicolon = place_at(row, semicolon);
+        let close = place_at(row, close);
         let Some(body) = self.pop_statement() else {
             return Ok(false);
         };
@@ -204,7 +234,9 @@ impl Builder {
             StmtForm::For {
                 first: clause,
                 test,
+                semicolon,
                 next,
+                close,
                 body,
             },
         )

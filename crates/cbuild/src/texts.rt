@@ -1,8 +1,8 @@
 ghost use Rattle.std.specs.Prelude.{◌≡◌, ◌∷◌, [], ◌++◌, IfOk};
-ghost use Rattle.cevents.specs.Workshop.{bytes_at, maybe_bytes_at};
+ghost use Rattle.cevents.specs.Workshop.{bytes_at, identifier_at, maybe_identifier_at};
 
-use cbase::{List, NoMemory, Text};
-use cevents::bytes_at;
+use cbase::{Identifier, List, NoMemory, Text};
+use cevents::{bytes_at, place_at};
 use cgrammar::Terminal;
 use std::alloc::Global;
 
@@ -13,17 +13,32 @@ pub(crate) fn text_at(alloc: Global, row: &[Terminal<'_>], at: usize) -> Result<
     Text::from_slice(alloc, bytes_at(row, at))
 }
 
-/// A text with the bytes of the token, where there is a number.
-pub(crate) fn maybe_text_at(
+/// The identifier that the token with the number is, with its place (C11 6.4.2).
+pub(crate) fn identifier_at(
+    alloc: Global,
+    row: &[Terminal<'_>],
+    at: usize,
+) -> Result<Identifier, NoMemory>
+    ensures { IfOk result (λ name. name ≡ identifier_at row.now at) }
+{
+    let name = text_at(alloc, row, at)?;
+    Ok(Identifier {
+        place: place_at(row, at),
+        name,
+    })
+}
+
+/// The identifier that the token is, where there is a number.
+pub(crate) fn maybe_identifier_at(
     alloc: Global,
     row: &[Terminal<'_>],
     at: Option<usize>,
-) -> Result<Option<Text>, NoMemory>
-    ensures { IfOk result (λ text. text ≡ maybe_bytes_at row.now at) }
+) -> Result<Option<Identifier>, NoMemory>
+    ensures { IfOk result (λ name. name ≡ maybe_identifier_at row.now at) }
 {
     match at {
         None => Ok(None),
-        Some(at) => Ok(Some(text_at(alloc, row, at)?)),
+        Some(at) => Ok(Some(identifier_at(alloc, row, at)?)),
     }
 }
 

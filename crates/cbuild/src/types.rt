@@ -3,7 +3,7 @@ ghost use Rattle.cevents.specs.Building.{built};
 ghost use Rattle.cevents.specs.Workshop.{left_by};
 
 use crate::builder::Builder;
-use crate::texts::{appended, count_of, maybe_text_at, text_at};
+use crate::texts::{appended, count_of, identifier_at, maybe_identifier_at, text_at};
 use cbase::{BasicType, Boxed, List, NoMemory, TypeName, TypeSpec};
 use cevents::{Event, Piece};
 use cgrammar::Terminal;
@@ -28,7 +28,7 @@ impl Builder {
     pub(crate) fn struct_tag(&mut self, row: &[Terminal<'_>], tag: usize) -> Result<bool, NoMemory>
         ensures { IfOk result (λ made. left_by made self.new ≡ built row.now (Event.StructTag tag) self.old.count self.old.pieces) }
     {
-        let name = text_at(self.alloc, row, tag)?;
+        let name = identifier_at(self.alloc, row, tag)?;
         self.put(Piece::Type(TypeSpec::Struct {
             name: Some(name),
             fields: None,
@@ -39,7 +39,7 @@ impl Builder {
     pub(crate) fn enum_tag(&mut self, row: &[Terminal<'_>], tag: usize) -> Result<bool, NoMemory>
         ensures { IfOk result (λ made. left_by made self.new ≡ built row.now (Event.EnumTag tag) self.old.count self.old.pieces) }
     {
-        let name = text_at(self.alloc, row, tag)?;
+        let name = identifier_at(self.alloc, row, tag)?;
         self.put(Piece::Type(TypeSpec::Enum {
             name: Some(name),
             values: None,
@@ -54,7 +54,7 @@ impl Builder {
     ) -> Result<bool, NoMemory>
         ensures { IfOk result (λ made. left_by made self.new ≡ built row.now (Event.Struct tag) self.old.count self.old.pieces) }
     {
-        let name = maybe_text_at(self.alloc, row, tag)?;
+        let name = maybe_identifier_at(self.alloc, row, tag)?;
         let Some(fields) = self.pop_fields() else {
             return Ok(false);
         };
@@ -72,7 +72,7 @@ impl Builder {
     ) -> Result<bool, NoMemory>
         ensures { IfOk result (λ made. left_by made self.new ≡ built row.now (Event.Enum tag) self.old.count self.old.pieces) }
     {
-        let name = maybe_text_at(self.alloc, row, tag)?;
+        let name = maybe_identifier_at(self.alloc, row, tag)?;
         let Some(values) = self.pop_enumerators() else {
             return Ok(false);
         };

@@ -7,7 +7,7 @@ use Rattle.cbase.specs.declared.tree.init.Init.TheVariants.{Value, Braces}
 use Rattle.cbase.specs.declared.tree.item.Item.TheVariants.{Empty, Declare as DeclaredItem, Function}
 use Rattle.cbase.specs.declared.tree.spec.TypeSpec.TheVariants.{Basic, Named, Struct, Enum, OfExpr, OfType}
 use Rattle.cbase.specs.declared.tree.stmt.StmtForm.TheVariants.{Declare, Eval, Block, If, While, Do, For, Break, Continue, Return}
-use Rattle.cevents.specs.Workshop.{Workshop, token_at, place_at, bytes_at, maybe_bytes_at, pushed, expressed, with_expr, with_arguments, with_path, with_type, with_sizes, with_type_name, with_field_names, with_fields, with_enumerators, with_parameters, with_declarators, with_declarator, with_declaration, with_init, with_parts, with_maybe, with_statement, with_statements}
+use Rattle.cevents.specs.Workshop.{Workshop, token_at, place_at, bytes_at, identifier_at, maybe_identifier_at, pushed, expressed, with_expr, with_arguments, with_path, with_type, with_sizes, with_type_name, with_field_names, with_fields, with_enumerators, with_parameters, with_declarators, with_declarator, with_declaration, with_init, with_parts, with_maybe, with_statement, with_statements}
 use Rattle.cevents.specs.declared.event.Event.{Event}
 use Rattle.cevents.specs.declared.event.Event.TheVariants as event
 use Rattle.cevents.specs.declared.piece.Piece.{Piece}
@@ -35,11 +35,11 @@ built row (event.Cast at) count pieces =
 built row (event.Index at) count pieces =
     with_expr pieces (λ index below. with_expr below (λ base others. expressed count (place_at row at) (Index base index) others))
 built row (event.Member through at name) count pieces =
-    with_expr pieces (λ base others. expressed count (place_at row at) (Member base (bytes_at row name) through) others)
+    with_expr pieces (λ base others. expressed count (place_at row at) (Member base (identifier_at row name) through) others)
 built row (event.Call at) count pieces =
     with_arguments pieces (λ arguments below. with_expr below (λ callee others. expressed count (place_at row at) (Call callee arguments) others))
-built row (event.Inner at) count pieces =
-    with_statements pieces (λ body others. expressed count (place_at row at) (Inner body) others)
+built row (event.Inner at close) count pieces =
+    with_statements pieces (λ body others. expressed count (place_at row at) (Inner body (place_at row close)) others)
 built row (event.Binary op at) count pieces =
     with_expr pieces (λ right below. with_expr below (λ left others. expressed count (place_at row at) (Binary op left right) others))
 built row (event.Assign op at) count pieces =
@@ -49,19 +49,19 @@ built row (event.Choose at) count pieces =
 built row event.NoArguments count pieces = pushed count (piece.Arguments []) pieces
 built row event.Argument count pieces =
     with_expr pieces (λ argument below. with_arguments below (λ arguments others. pushed count (piece.Arguments (arguments ++ argument ∷ [])) others))
-built row (event.Path name) count pieces = pushed count (piece.Path (NamedPart (bytes_at row name) ∷ [])) pieces
+built row (event.Path name) count pieces = pushed count (piece.Path (NamedPart (identifier_at row name) ∷ [])) pieces
 built row (event.PathMember name) count pieces =
-    with_path pieces (λ path others. pushed count (piece.Path (path ++ NamedPart (bytes_at row name) ∷ [])) others)
+    with_path pieces (λ path others. pushed count (piece.Path (path ++ NamedPart (identifier_at row name) ∷ [])) others)
 built row event.PathIndex count pieces =
     with_expr pieces (λ index below. with_path below (λ path others. pushed count (piece.Path (path ++ At index ∷ [])) others))
 built row (event.Basic basic) count pieces = pushed count (piece.Type (Basic basic)) pieces
 built row (event.Named at) count pieces = pushed count (piece.Type (Named (bytes_at row at))) pieces
-built row (event.StructTag tag) count pieces = pushed count (piece.Type (Struct (Some (bytes_at row tag)) None)) pieces
-built row (event.EnumTag tag) count pieces = pushed count (piece.Type (Enum (Some (bytes_at row tag)) None)) pieces
+built row (event.StructTag tag) count pieces = pushed count (piece.Type (Struct (Some (identifier_at row tag)) None)) pieces
+built row (event.EnumTag tag) count pieces = pushed count (piece.Type (Enum (Some (identifier_at row tag)) None)) pieces
 built row (event.Struct tag) count pieces =
-    with_fields pieces (λ declarations others. pushed count (piece.Type (Struct (maybe_bytes_at row tag) (Some declarations))) others)
+    with_fields pieces (λ declarations others. pushed count (piece.Type (Struct (maybe_identifier_at row tag) (Some declarations))) others)
 built row (event.Enum tag) count pieces =
-    with_enumerators pieces (λ values others. pushed count (piece.Type (Enum (maybe_bytes_at row tag) (Some values))) others)
+    with_enumerators pieces (λ values others. pushed count (piece.Type (Enum (maybe_identifier_at row tag) (Some values))) others)
 built row event.TypeOfExpr count pieces = with_expr pieces (λ expr others. pushed count (piece.Type (OfExpr expr)) others)
 built row event.TypeOfType count pieces = with_type_name pieces (λ to others. pushed count (piece.Type (OfType to)) others)
 built row event.NoSizes count pieces = pushed count (piece.Sizes []) pieces
@@ -93,7 +93,7 @@ built row (event.EnumeratorValue name) count pieces =
 built row event.NoParameters count pieces = pushed count (piece.Parameters []) pieces
 built row (event.Parameter name stars) count pieces =
     with_sizes pieces (λ sizes lower. with_type lower (λ type below. with_parameters below (λ params others.
-    pushed count (piece.Parameters (params ++ parameter type stars (maybe_bytes_at row name) sizes ∷ [])) others)))
+    pushed count (piece.Parameters (params ++ parameter type stars (maybe_identifier_at row name) sizes ∷ [])) others)))
 built row event.NoDeclarators count pieces = pushed count (piece.Declarators []) pieces
 built row (event.Object name stars) count pieces =
     with_sizes pieces (λ sizes below. with_declarators below (λ names others.
@@ -106,11 +106,11 @@ built row (event.Function name stars) count pieces =
     pushed count (piece.Declarators (names ++ function (token_at row name) stars params ∷ [])) others))
 built row (event.Declaration storage) count pieces =
     with_declarators pieces (λ names below. with_type below (λ type others. pushed count (piece.Declaration (declaration storage type names)) others))
-built row event.Value count pieces = with_expr pieces (λ value others. pushed count (piece.Init (Value value)) others)
+built row (event.Value after) count pieces = with_expr pieces (λ value others. pushed count (piece.Init (Value value (place_at row after))) others)
 built row event.NoParts count pieces = pushed count (piece.Parts []) pieces
 built row (event.Part member) count pieces =
     with_init pieces (λ init below. with_parts below (λ parts others.
-    pushed count (piece.Parts (parts ++ initializer (maybe_bytes_at row member) init ∷ [])) others))
+    pushed count (piece.Parts (parts ++ initializer (maybe_identifier_at row member) init ∷ [])) others))
 built row event.Braces count pieces = with_parts pieces (λ parts others. pushed count (piece.Init (Braces parts)) others)
 built row event.NoExpression count pieces = pushed count (piece.Maybe None) pieces
 built row event.OneExpression count pieces = with_expr pieces (λ expr others. pushed count (piece.Maybe (Some expr)) others)
@@ -123,21 +123,21 @@ built row (event.Eval first last) count pieces =
     with_maybe pieces (λ expr others. pushed count (piece.Statement (statement (place_at row first) (place_at row last) (Eval expr))) others)
 built row (event.Block first last) count pieces =
     with_statements pieces (λ body others. pushed count (piece.Statement (statement (place_at row first) (place_at row last) (Block body))) others)
-built row (event.If first) count pieces =
+built row (event.If first close) count pieces =
     with_statement pieces (λ one below. with_expr below (λ test others.
-    pushed count (piece.Statement (statement (place_at row first) one.after (If test one None))) others))
-built row (event.IfElse first) count pieces =
+    pushed count (piece.Statement (statement (place_at row first) one.after (If test (place_at row close) one None))) others))
+built row (event.IfElse first close) count pieces =
     with_statement pieces (λ other lower. with_statement lower (λ one below. with_expr below (λ test others.
-    pushed count (piece.Statement (statement (place_at row first) other.after (If test one (Some other)))) others)))
-built row (event.While first) count pieces =
+    pushed count (piece.Statement (statement (place_at row first) other.after (If test (place_at row close) one (Some other)))) others)))
+built row (event.While first close) count pieces =
     with_statement pieces (λ body below. with_expr below (λ test others.
-    pushed count (piece.Statement (statement (place_at row first) body.after (While test body))) others))
-built row (event.Do first last) count pieces =
+    pushed count (piece.Statement (statement (place_at row first) body.after (While test (place_at row close) body))) others))
+built row (event.Do first close last) count pieces =
     with_expr pieces (λ test below. with_statement below (λ body others.
-    pushed count (piece.Statement (statement (place_at row first) (place_at row last) (Do body test))) others))
-built row (event.For first) count pieces =
+    pushed count (piece.Statement (statement (place_at row first) (place_at row last) (Do body test (place_at row close)))) others))
+built row (event.For first semicolon close) count pieces =
     with_statement pieces (λ body deeper. with_maybe deeper (λ next lower. with_maybe lower (λ test below. with_statement below (λ clause others.
-    pushed count (piece.Statement (statement (place_at row first) body.after (For clause test next body))) others))))
+    pushed count (piece.Statement (statement (place_at row first) body.after (For clause test (place_at row semicolon) next (place_at row close) body))) others))))
 built row (event.Break first last) count pieces = pushed count (piece.Statement (statement (place_at row first) (place_at row last) Break)) pieces
 built row (event.Continue first last) count pieces = pushed count (piece.Statement (statement (place_at row first) (place_at row last) Continue)) pieces
 built row (event.Return first last) count pieces =

@@ -9,6 +9,7 @@ use Rattle.cbase.specs.declared.tree.decl.TypeName.{TypeName}
 use Rattle.cbase.specs.declared.tree.expr.Expr.{Expr}
 use Rattle.cbase.specs.declared.tree.expr.ExprForm.{ExprForm}
 use Rattle.cbase.specs.declared.tree.expr.Part.{Part}
+use Rattle.cbase.specs.declared.tree.identifier.Identifier.{Identifier}
 use Rattle.cbase.specs.declared.tree.init.Init.{Init}
 use Rattle.cbase.specs.declared.tree.init.InitPart.{InitPart}
 use Rattle.cbase.specs.declared.tree.spec.Enumerator.{Enumerator}
@@ -21,6 +22,7 @@ use Rattle.cevents.specs.declared.piece.Piece.{Piece}
 use Rattle.cevents.specs.declared.piece.Piece.TheVariants as piece
 use Rattle.ctokens.specs.declared.token.TokenKind.TheVariants.{Mark}
 use Rattle.cgrammar.specs.Terminals.{Terminal, no_place}
+use Rattle.cgrammar.specs.Trees.{identifier}
 
 -- `count` is the number of the next expression, and `pieces` has the piece on top first
 pub record Workshop : Type 0 where
@@ -43,10 +45,14 @@ place_at row at = (token_at row at).place
 abbrev pub bytes_at : List Terminal → ℕ → List ℕ
 bytes_at row at = (token_at row at).bytes
 
--- the bytes of the token with a number that may be left out
-abbrev pub maybe_bytes_at : List Terminal → Option ℕ → Option (List ℕ)
-maybe_bytes_at row None = None
-maybe_bytes_at row (Some at) = Some (bytes_at row at)
+-- the identifier that it is
+abbrev pub identifier_at : List Terminal → ℕ → Identifier
+identifier_at row at = identifier (token_at row at)
+
+-- the identifier with a number that may be left out
+abbrev pub maybe_identifier_at : List Terminal → Option ℕ → Option Identifier
+maybe_identifier_at row None = None
+maybe_identifier_at row (Some at) = Some (identifier_at row at)
 
 -- a piece that is made of none
 abbrev pub pushed : ℕ → Piece → List Piece → Option Workshop

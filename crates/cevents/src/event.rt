@@ -84,6 +84,8 @@ pub enum Event {
     Inner {
         /// The `(` before the block.
         at: usize,
+        /// The `}` of the block.
+        close: usize,
     },
     /// A binary operator: of the expression on top, to its right, and that below it.
     Binary {
@@ -240,7 +242,10 @@ pub enum Event {
         storage: Storage,
     },
     /// The expression on top as an initialiser.
-    Value,
+    Value {
+        /// The token behind it.
+        after: usize,
+    },
     /// No parts of an initialiser yet.
     NoParts,
     /// The initialiser on top as one more part, for a member or for the next one.
@@ -283,21 +288,29 @@ pub enum Event {
     If {
         /// The word `if`.
         first: usize,
+        /// The `)` behind the test.
+        close: usize,
     },
     /// `if` with the two statements on top and the test below them.
     IfElse {
         /// The word `if`.
         first: usize,
+        /// The `)` behind the test.
+        close: usize,
     },
     /// `while` with the statement on top and the test below it.
     While {
         /// The word `while`.
         first: usize,
+        /// The `)` behind the test.
+        close: usize,
     },
     /// `do` with the test on top and the statement below it.
     Do {
         /// The word `do`.
         first: usize,
+        /// The `)` behind the test.
+        close: usize,
         /// Its last token, the `;`.
         last: usize,
     },
@@ -305,6 +318,10 @@ pub enum Event {
     For {
         /// The word `for`.
         first: usize,
+        /// The `;` between the two expressions that may be left out.
+        semicolon: usize,
+        /// The `)` behind them.
+        close: usize,
     },
     /// `break`.
     Break {

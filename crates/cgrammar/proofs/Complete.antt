@@ -11,12 +11,12 @@ use Rattle.cgrammar.proofs.CompleteOperations.{complete_one_cast, complete_binar
 use Rattle.cgrammar.proofs.CompletePostfixes.{complete_one_postfix, complete_one_primary, complete_index_operator, complete_call_of_nothing, complete_call_operator, complete_member_operator, complete_count_behind}
 use Rattle.cgrammar.proofs.CompletePrefixes.{complete_one_unary, complete_cast_operator, complete_count_before, complete_unary_operator, complete_size_of_expression, complete_size_of_type_name}
 use Rattle.cgrammar.proofs.CompletePrimaries.{complete_one_name, complete_one_constant, complete_bracketed, complete_statement_expression, complete_offset_of_member}
-use Rattle.cgrammar.proofs.CompleteStatements.{complete_one_block, complete_no_more_items, complete_next_declaration, complete_next_statement, complete_block_statement, complete_empty_statement, complete_expression_statement, complete_if_statement, complete_if_else_statement, complete_while_statement, complete_do_statement, complete_for_statement, complete_first_declaration, complete_first_left_out, complete_first_expression, complete_no_expression, complete_some_expression, complete_break_statement, complete_continue_statement, complete_return_statement, complete_labeled_statement}
+use Rattle.cgrammar.proofs.CompleteStatements.{complete_one_block, complete_no_more_items, complete_next_declaration, complete_next_statement, complete_block_statement, complete_empty_statement, complete_expression_statement, complete_one_substatement, complete_if_statement, complete_if_else_statement, complete_while_statement, complete_do_statement, complete_for_statement, complete_first_declaration, complete_first_left_out, complete_first_expression, complete_no_expression, complete_some_expression, complete_break_statement, complete_continue_statement, complete_return_statement, complete_labeled_statement}
 use Rattle.cgrammar.proofs.CompleteTypes.{complete_basic_words, complete_typedef_name, complete_type_of_expression, complete_type_of_type, complete_struct_with_fields, complete_struct_by_tag, complete_no_more_fields, complete_more_fields, complete_one_field_declaration, complete_one_field, complete_more_field_names, complete_named_field, complete_named_bits, complete_unnamed_bits, complete_enum_with_values, complete_enum_by_tag, complete_last_enumerator, complete_more_enumerators, complete_plain_enumerator, complete_valued_enumerator, complete_one_type_name, complete_no_more_sizes, complete_size_left_out, complete_size_given}
 use Rattle.cgrammar.proofs.CompleteCommas.{CompletesCommas, commas_one_assignment, commas_comma_operator}
 use Rattle.cgrammar.proofs.Reached.{Completes}
 use Rattle.cgrammar.proofs.Within.{within}
-use Rattle.cgrammar.specs.Grammar.{Spells, OneAssignment, CommaOperator, OneConditional, AssignmentOperator, OneOperation, ConditionalOperator, OneCast, BinaryOperator, OneUnary, CastOperator, OnePostfix, CountBefore, UnaryOperator, SizeOfExpression, SizeOfTypeName, OnePrimary, IndexOperator, CallOfNothing, CallOperator, MemberOperator, CountBehind, OneArgument, MoreArguments, OneName, OneConstant, Bracketed, StatementExpression, OffsetOfMember, NoMoreMembers, PathToMember, PathToItem, FailedAssertion, BasicWords, TypedefName, TypeOfExpression, TypeOfType, StructWithFields, StructByTag, NoMoreFields, MoreFields, OneFieldDeclaration, OneField, MoreFieldNames, NamedField, NamedBits, UnnamedBits, EnumWithValues, EnumByTag, LastEnumerator, MoreEnumerators, PlainEnumerator, ValuedEnumerator, OneTypeName, NoMoreSizes, SizeLeftOut, SizeGiven, TypeAlone, StorageBefore, StorageBehind, NoDeclarator, WithDeclarators, OneDeclarator, MoreDeclarators, ObjectDeclarator, InitializedDeclarator, DeclaratorOfFunction, NoParameters, VoidParameters, WithParameters, OneParameter, MoreParameters, NamedParameter, UnnamedParameter, InitializedTo, EmptyBraces, InBraces, OneInitializer, MoreInitializers, NextPart, MemberPart, OneBlock, NoMoreItems, NextDeclaration, NextStatement, BlockStatement, EmptyStatement, ExpressionStatement, IfStatement, IfElseStatement, WhileStatement, DoStatement, ForStatement, FirstDeclaration, FirstLeftOut, FirstExpression, NoExpression, SomeExpression, BreakStatement, ContinueStatement, ReturnStatement, LabeledStatement}
+use Rattle.cgrammar.specs.Grammar.{Spells, OneAssignment, CommaOperator, OneConditional, AssignmentOperator, OneOperation, ConditionalOperator, OneCast, BinaryOperator, OneUnary, CastOperator, OnePostfix, CountBefore, UnaryOperator, SizeOfExpression, SizeOfTypeName, OnePrimary, IndexOperator, CallOfNothing, CallOperator, MemberOperator, CountBehind, OneArgument, MoreArguments, OneName, OneConstant, Bracketed, StatementExpression, OffsetOfMember, NoMoreMembers, PathToMember, PathToItem, FailedAssertion, BasicWords, TypedefName, TypeOfExpression, TypeOfType, StructWithFields, StructByTag, NoMoreFields, MoreFields, OneFieldDeclaration, OneField, MoreFieldNames, NamedField, NamedBits, UnnamedBits, EnumWithValues, EnumByTag, LastEnumerator, MoreEnumerators, PlainEnumerator, ValuedEnumerator, OneTypeName, NoMoreSizes, SizeLeftOut, SizeGiven, TypeAlone, StorageBefore, StorageBehind, NoDeclarator, WithDeclarators, OneDeclarator, MoreDeclarators, ObjectDeclarator, InitializedDeclarator, DeclaratorOfFunction, NoParameters, VoidParameters, WithParameters, OneParameter, MoreParameters, NamedParameter, UnnamedParameter, InitializedTo, EmptyBraces, InBraces, OneInitializer, MoreInitializers, NextPart, MemberPart, OneBlock, NoMoreItems, NextDeclaration, NextStatement, BlockStatement, EmptyStatement, ExpressionStatement, OneSubstatement, IfStatement, IfElseStatement, WhileStatement, DoStatement, ForStatement, FirstDeclaration, FirstLeftOut, FirstExpression, NoExpression, SomeExpression, BreakStatement, ContinueStatement, ReturnStatement, LabeledStatement}
 use Rattle.cgrammar.specs.Phrases.{Phrase, Context, Expression}
 use Rattle.cgrammar.specs.Terminals.{Terminal}
 
@@ -87,11 +87,11 @@ all (StorageBefore {before} {after} {xs} {storage} {type} word p1 d1) = (complet
 all (StorageBehind {before} {after} {xs} {storage} {type} word d1 p1) = (complete_storage_behind before after xs storage type word d1 p1 (all d1).0, tt)
 all (NoDeclarator {before} {after} {xs} {storage} {type} semicolon d1 p1) = (complete_no_declarator before after xs storage type semicolon d1 p1 (all d1).0, tt)
 all (WithDeclarators {before} {middle} {after} {xs} {ys} {storage} {type} {names} semicolon d1 d2 p1) = (complete_with_declarators before middle after xs ys storage type names semicolon d1 d2 p1 (all d1).0 (all d2).0, tt)
-all (OneDeclarator {before} {after} {xs} {typedef} {name} d1) = (complete_one_declarator before after xs typedef name d1 (all d1).0, tt)
-all (MoreDeclarators {before} {middle} {after} {xs} {ys} {typedef} {name} {others} comma d1 p1 d2) = (complete_more_declarators before middle after xs ys typedef name others comma d1 p1 d2 (all d1).0 (all d2).0, tt)
-all (ObjectDeclarator {before} {after} {xs} {typedef} {sizes} stars name p1 p2 d1) = (complete_object_declarator before after xs typedef sizes stars name p1 p2 d1 (all d1).0, tt)
-all (InitializedDeclarator {before} {middle} {after} {xs} {ys} {typedef} {sizes} {init} stars name mark p1 p2 d1 p3 d2) = (complete_initialized_declarator before middle after xs ys typedef sizes init stars name mark p1 p2 d1 p3 d2 (all d1).0 (all d2).0, tt)
-all (DeclaratorOfFunction {before} {within} {xs} {typedef} {name} {head} d1) = (complete_declarator_of_function before within xs typedef name head d1 (all d1).0, tt)
+all (OneDeclarator {before} {after} {xs} {typedef} {behind} {name} d1) = (complete_one_declarator before after xs typedef behind name d1 (all d1).0, tt)
+all (MoreDeclarators {before} {middle} {after} {xs} {ys} {typedef} {behind} {name} {others} comma d1 p1 d2) = (complete_more_declarators before middle after xs ys typedef behind name others comma d1 p1 d2 (all d1).0 (all d2).0, tt)
+all (ObjectDeclarator {before} {after} {xs} {typedef} {behind} {sizes} stars name p1 p2 d1) = (complete_object_declarator before after xs typedef behind sizes stars name p1 p2 d1 (all d1).0, tt)
+all (InitializedDeclarator {before} {middle} {after} {xs} {ys} {typedef} {behind} {sizes} {init} stars name mark p1 p2 d1 p3 d2) = (complete_initialized_declarator before middle after xs ys typedef behind sizes init stars name mark p1 p2 d1 p3 d2 (all d1).0 (all d2).0, tt)
+all (DeclaratorOfFunction {before} {within} {xs} {typedef} {behind} {name} {head} d1) = (complete_declarator_of_function before within xs typedef behind name head d1 (all d1).0, tt)
 all (NoParameters {before} stars name opening closing p1 p2 p3 p4) = (complete_no_parameters before stars name opening closing p1 p2 p3 p4, tt)
 all (VoidParameters {before} stars name opening word closing p1 p2 p3 p4 p5) = (complete_void_parameters before stars name opening word closing p1 p2 p3 p4 p5, tt)
 all (WithParameters {before} {after} {xs} {params} stars name opening closing p1 p2 p3 p4 d1 p5) = (complete_with_parameters before after xs params stars name opening closing p1 p2 p3 p4 d1 p5 (all d1).0, tt)
@@ -99,13 +99,13 @@ all (OneParameter {before} {after} {xs} {param} d1) = (complete_one_parameter be
 all (MoreParameters {before} {middle} {after} {xs} {ys} {param} {others} comma d1 p1 d2) = (complete_more_parameters before middle after xs ys param others comma d1 p1 d2 (all d1).0 (all d2).0, tt)
 all (NamedParameter {before} {middle} {after} {xs} {ys} {storage} {type} {sizes} stars name d1 p1 p2 d2) = (complete_named_parameter before middle after xs ys storage type sizes stars name d1 p1 p2 d2 (all d1).0 (all d2).0, tt)
 all (UnnamedParameter {before} {middle} {after} {xs} {ys} {storage} {type} {sizes} stars d1 p1 d2) = (complete_unnamed_parameter before middle after xs ys storage type sizes stars d1 p1 d2 (all d1).0 (all d2).0, tt)
-all (InitializedTo {before} {after} {xs} {value} d1) = (complete_initialized_to before after xs value d1 (all d1).0, tt)
-all (EmptyBraces {before} opening closing p1 p2) = (complete_empty_braces before opening closing p1 p2, tt)
-all (InBraces {before} {after} {xs} {parts} last opening closing p1 d1 p2 p3) = (complete_in_braces before after xs parts last opening closing p1 d1 p2 p3 (all d1).0, tt)
-all (OneInitializer {before} {after} {xs} {part} d1) = (complete_one_initializer before after xs part d1 (all d1).0, tt)
-all (MoreInitializers {before} {middle} {after} {xs} {ys} {part} {others} comma d1 p1 d2) = (complete_more_initializers before middle after xs ys part others comma d1 p1 d2 (all d1).0 (all d2).0, tt)
-all (NextPart {before} {after} {xs} {init} d1) = (complete_next_part before after xs init d1 (all d1).0, tt)
-all (MemberPart {before} {after} {xs} {init} dot name mark p1 p2 p3 d1) = (complete_member_part before after xs init dot name mark p1 p2 p3 d1 (all d1).0, tt)
+all (InitializedTo {before} {after} {xs} {behind} {value} d1) = (complete_initialized_to before after xs behind value d1 (all d1).0, tt)
+all (EmptyBraces {before} {behind} opening closing p1 p2) = (complete_empty_braces before behind opening closing p1 p2, tt)
+all (InBraces {before} {after} {xs} {behind} {parts} last opening closing p1 d1 p2 p3) = (complete_in_braces before after xs behind parts last opening closing p1 d1 p2 p3 (all d1).0, tt)
+all (OneInitializer {before} {after} {xs} {behind} {part} d1) = (complete_one_initializer before after xs behind part d1 (all d1).0, tt)
+all (MoreInitializers {before} {middle} {after} {xs} {ys} {behind} {part} {others} comma d1 p1 d2) = (complete_more_initializers before middle after xs ys behind part others comma d1 p1 d2 (all d1).0 (all d2).0, tt)
+all (NextPart {before} {after} {xs} {behind} {init} d1) = (complete_next_part before after xs behind init d1 (all d1).0, tt)
+all (MemberPart {before} {after} {xs} {behind} {init} dot name mark p1 p2 p3 d1) = (complete_member_part before after xs behind init dot name mark p1 p2 p3 d1 (all d1).0, tt)
 all (OneBlock {before} {within} {xs} {body} opening closing p1 d1 p2) = (complete_one_block before within xs body opening closing p1 d1 p2 (all d1).0, tt)
 all (NoMoreItems {before}) = (complete_no_more_items before, tt)
 all (NextDeclaration {before} {middle} {after} {xs} {ys} {decl} {others} d1 d2) = (complete_next_declaration before middle after xs ys decl others d1 d2 (all d1).0 (all d2).0, tt)
@@ -113,6 +113,7 @@ all (NextStatement {before} {middle} {after} {xs} {ys} {dangling} {stmt} {others
 all (BlockStatement {before} {within} {xs} {body} d1) = (complete_block_statement before within xs body d1 (all d1).0, tt)
 all (EmptyStatement {before} semicolon p1) = (complete_empty_statement before semicolon p1, tt)
 all (ExpressionStatement {before} {after} {xs} {expr} semicolon p1 d1 p2) = (complete_expression_statement before after xs expr semicolon p1 d1 p2 (all d1).0, tt)
+all (OneSubstatement {before} {within} {xs} {dangling} {stmt} d1) = (complete_one_substatement before within xs dangling stmt d1 (all d1).0, tt)
 all (IfStatement {before} {middle} {after} {xs} {ys} {test} {dangling} {stmt} word opening closing p1 p2 p3 d1 p4 d2) = (complete_if_statement before middle after xs ys test dangling stmt word opening closing p1 p2 p3 d1 p4 d2 (all d1).0 (all d2).0, tt)
 all (IfElseStatement {before} {first} {second} {after} {xs} {ys} {zs} {test} {dangling} {one} {other} word opening closing otherwise p1 p2 p3 d1 p4 d2 p5 d3) = (complete_if_else_statement before first second after xs ys zs test dangling one other word opening closing otherwise p1 p2 p3 d1 p4 d2 p5 d3 (all d1).0 (all d2).0 (all d3).0, tt)
 all (WhileStatement {before} {middle} {after} {xs} {ys} {test} {dangling} {body} word opening closing p1 p2 p3 d1 p4 d2) = (complete_while_statement before middle after xs ys test dangling body word opening closing p1 p2 p3 d1 p4 d2 (all d1).0 (all d2).0, tt)

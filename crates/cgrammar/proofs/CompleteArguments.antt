@@ -21,6 +21,7 @@ use Rattle.cgrammar.specs.ReadOperands.{read_path}
 use Rattle.cgrammar.specs.ReadTypes.{never}
 use Rattle.cgrammar.specs.Reader.{level}
 use Rattle.cgrammar.specs.Terminals.{Terminal, is_mark, IsMark, is_name, IsName}
+use Rattle.cgrammar.specs.Trees.{identifier}
 
 -- what ends a phrase ends each part of it that it goes on with
 pub ends_less : (test other : Terminal → Bool) (row : List Terminal) → ((token : Terminal) → IsTrue (test token) → IsTrue (other token)) → Ends other row → has_first test row ≡ false
@@ -111,17 +112,17 @@ complete_no_more_members before n (suc count) rest shorter fits ends =
     path_ends (level n) count before rest (ends_less (is_mark (codes ".")) goes_on_path rest dot_goes_on ends) (ends_less (is_mark (codes "[")) goes_on_path rest item_goes_on ends)
 
 member_read : (inner : Level) (count : ℕ) (context : Context) (mark name : Terminal) (row : List Terminal) → is_mark (codes ".") mark ≡ true → is_name name ≡ true
-    → read_path inner (suc count) context (mark ∷ (name ∷ row)) ≡ prepended (NamedPart name.bytes) 0 (read_path inner count context row)
+    → read_path inner (suc count) context (mark ∷ (name ∷ row)) ≡ prepended (NamedPart (identifier name)) 0 (read_path inner count context row)
 unfolding read_path
 member_read inner count context mark name row is named = chosen_yes (is_mark (codes ".") mark) _ _ is ∙ chosen_yes (is_name name) _ Nothing named
 
 pub complete_path_to_member : (before after : Context) (xs : List Terminal) (path : List Part) (mark name : Terminal) → IsMark (codes ".") mark → IsName name
-    → Completes (MemberPath path) before xs after → Completes (MemberPath (NamedPart name.bytes ∷ path)) before (mark ∷ (name ∷ xs)) after
+    → Completes (MemberPath path) before xs after → Completes (MemberPath (NamedPart (identifier name) ∷ path)) before (mark ∷ (name ∷ xs)) after
 complete_path_to_member before after xs path mark name is named whole n zero rest shorter fits ends = absurd (omega (arith, shorter))
 complete_path_to_member before after xs path mark name is named whole n (suc count) rest shorter fits ends =
     member_read (level n) count before mark name (xs ++ rest) is named
-    ∙ ap (prepended (NamedPart name.bytes) 0) (whole n count rest (omega (arith, shorter)) (omega (arith, fits)) ends)
-    ∙ ap (λ (m : ℕ). Read (NamedPart name.bytes ∷ path) (max m (joined depth (map part_levels path))) after rest) (sym (levels_named_part name.bytes))
+    ∙ ap (prepended (NamedPart (identifier name)) 0) (whole n count rest (omega (arith, shorter)) (omega (arith, fits)) ends)
+    ∙ ap (λ (m : ℕ). Read (NamedPart (identifier name) ∷ path) (max m (joined depth (map part_levels path))) after rest) (sym (levels_named_part (identifier name)))
 
 item_no_dot : (token : Terminal) → is_mark (codes "[") token ≡ true → is_mark (codes ".") token ≡ false
 item_no_dot token is = mark_test (is_mark (codes ".")) false (codes "[") token is (λ place. refl)

@@ -3,6 +3,7 @@ use Rattle.std.proofs.Common.{◌≡◌, ℕ, zero, suc, ◌+◌, ◌<◌, ◌�
 use Rattle.std.specs.Prelude.{max}
 use Rattle.std.specs.List.{list_any, prefix_len}
 use Rattle.std.specs.Str.{bytes_eq}
+use Rattle.cbase.specs.declared.place.Place.{Place}
 use Rattle.cbase.specs.declared.tree.decl.Declared.{Declared}
 use Rattle.cbase.specs.declared.tree.decl.Param.{Param}
 use Rattle.cbase.specs.declared.tree.decl.Storage.{Storage}
@@ -38,7 +39,7 @@ use Rattle.cgrammar.specs.Reader.{level}
 use Rattle.cgrammar.specs.Scope.{Names}
 use Rattle.cgrammar.specs.Terminals.{Terminal, is_word_kind, is_word, IsWord, is_mark, IsMark, is_name, IsName, is_typedef, AreStars}
 use Rattle.cgrammar.specs.TokenReadings.{storage_of}
-use Rattle.cgrammar.specs.Trees.{object, function, parameter, declaration}
+use Rattle.cgrammar.specs.Trees.{identifier, object, function, parameter, declaration}
 use Rattle.cgrammar.specs.TypeWords.{IsStorage, declares_typedef, IsBasic, basic_words}
 
 -- storage words
@@ -134,14 +135,14 @@ function_begins name declared before after xs (NoParameters stars token opening 
 function_begins name declared before after xs (VoidParameters stars token opening word closing are is opens void closes) = stars_and_name stars token (opening ∷ (word ∷ (closing ∷ []))) are is
 function_begins name declared before after xs (WithParameters {xs = ws} stars token opening closing are is opens many params closes) = stars_and_name stars token (opening ∷ (ws ++ (closing ∷ []))) are is
 
-declarator_begins : (typedef : Bool) (declared : Declared) (before after : Context) (xs : List Terminal) → Spells (Declarator typedef declared) before xs after → Begins begins_declarator xs
-declarator_begins typedef declared before after xs (ObjectDeclarator {xs = ws} stars token are is sizes) = stars_and_name stars token ws are is
-declarator_begins typedef declared before after xs (InitializedDeclarator {xs = ws} {ys} stars token mark are is sizes equals init) = stars_and_name stars token (ws ++ (mark ∷ ys)) are is
-declarator_begins typedef declared before after xs (DeclaratorOfFunction {within} {name} head) = function_begins name declared before within xs head
+declarator_begins : (typedef : Bool) (behind : Place) (declared : Declared) (before after : Context) (xs : List Terminal) → Spells (Declarator typedef behind declared) before xs after → Begins begins_declarator xs
+declarator_begins typedef behind declared before after xs (ObjectDeclarator {xs = ws} stars token are is sizes) = stars_and_name stars token ws are is
+declarator_begins typedef behind declared before after xs (InitializedDeclarator {xs = ws} {ys} stars token mark are is sizes equals init) = stars_and_name stars token (ws ++ (mark ∷ ys)) are is
+declarator_begins typedef behind declared before after xs (DeclaratorOfFunction {within} {name} head) = function_begins name declared before within xs head
 
-declarators_begin : (typedef : Bool) (names : List Declared) (before after : Context) (xs : List Terminal) → Spells (Declarators typedef names) before xs after → Begins begins_declarator xs
-declarators_begin typedef names before after xs (OneDeclarator {name} one) = declarator_begins typedef name before after xs one
-declarators_begin typedef names before after xs (MoreDeclarators {middle} {xs = ws} {ys} {name} comma one mark more) = begins-append begins_declarator ws (comma ∷ ys) (declarator_begins typedef name before middle ws one)
+declarators_begin : (typedef : Bool) (behind : Place) (names : List Declared) (before after : Context) (xs : List Terminal) → Spells (Declarators typedef behind names) before xs after → Begins begins_declarator xs
+declarators_begin typedef behind names before after xs (OneDeclarator {name} one) = declarator_begins typedef behind name before after xs one
+declarators_begin typedef behind names before after xs (MoreDeclarators {middle} {xs = ws} {ys} {name} comma one mark more) = begins-append begins_declarator ws (comma ∷ ys) (declarator_begins typedef comma.place name before middle ws one)
 
 pub declarator_no_specifiers : (token : Terminal) → begins_declarator token ≡ true → goes_on_specifiers token ≡ false
 declarator_no_specifiers token is = declarator_apart goes_on_specifiers (λ t star. by_mark goes_on_specifiers (codes "*") t star refl) name_no_specifiers token is
@@ -151,45 +152,45 @@ declarator_no_semicolon token is = declarator_apart (is_mark (codes ";")) (λ t 
 
 pub complete_with_declarators : (before middle after : Context) (xs ys : List Terminal) (storage : Storage) (type : TypeSpec) (names : List Declared) (semicolon : Terminal)
     → Spells (Specifiers storage type) before xs middle
-    → Spells (Declarators (declares_typedef storage) names) middle ys after
+    → Spells (Declarators (declares_typedef storage) semicolon.place names) middle ys after
     → IsMark (codes ";") semicolon
     → Completes (Specifiers storage type) before xs middle
-    → Completes (Declarators (declares_typedef storage) names) middle ys after
+    → Completes (Declarators (declares_typedef storage) semicolon.place names) middle ys after
     → Completes (Declaration (declaration storage type names)) before (xs ++ (ys ++ (semicolon ∷ []))) after
 unfolding read_declaration postfix_start
 complete_with_declarators before middle after xs ys storage type names semicolon d1 d2 p1 c1 c2 n rest small =
     let levels = levels_declaration storage type names in
-    let begins = declarators_begin (declares_typedef storage) names middle after ys d2 in
+    let begins = declarators_begin (declares_typedef storage) semicolon.place names middle after ys d2 in
     ap (λ row. read_declaration (level n) before row) (row_of_three xs ys (semicolon ∷ []) rest)
     ∙ go_read _ (c1 n (ys ++ (semicolon ∷ rest)) (omega (arith, small, levels)) (not_is _ (begins_apart begins_declarator goes_on_specifiers ys (semicolon ∷ rest) declarator_no_specifiers begins)))
     (go_past (is_mark (codes ";")) (ys ++ (semicolon ∷ rest)) _ _ (begins_apart begins_declarator (is_mark (codes ";")) ys (semicolon ∷ rest) declarator_no_semicolon begins)
-    ∙ go_read _ (c2 n (length (ys ++ (semicolon ∷ rest)) + 1) (semicolon ∷ rest) (omega arith) (omega (arith, small, levels)) (ends_known (goes_on_list goes_on_declarator) (codes ";") semicolon rest p1 refl))
+    ∙ go_read _ (c2 n (length (ys ++ (semicolon ∷ rest)) + 1) (semicolon ∷ rest) (omega arith) refl (omega (arith, small, levels)) (ends_known (goes_on_list goes_on_declarator) (codes ";") semicolon rest p1 refl))
     (go_true _ p1 (read_levels _ after rest (sym levels))))
 
-pub complete_one_declarator : (before after : Context) (xs : List Terminal) (typedef : Bool) (name : Declared)
-    → Spells (Declarator typedef name) before xs after
-    → Completes (Declarator typedef name) before xs after
-    → Completes (Declarators typedef (name ∷ [])) before xs after
-complete_one_declarator before after xs typedef name d1 c1 n count rest enough small ends =
+pub complete_one_declarator : (before after : Context) (xs : List Terminal) (typedef : Bool) (behind : Place) (name : Declared)
+    → Spells (Declarator typedef behind name) before xs after
+    → Completes (Declarator typedef behind name) before xs after
+    → Completes (Declarators typedef behind (name ∷ [])) before xs after
+complete_one_declarator before after xs typedef behind name d1 c1 n count rest enough place small ends =
     list_of_one never (read_declarator (level n) typedef) count before (xs ++ rest) name (declared_levels name) after rest enough
-    (c1 n rest (omega (arith, small)) (ends_less (goes_on_list goes_on_declarator) goes_on_declarator rest (λ t off. or-false-left (goes_on_declarator t) (is_mark (codes ",") t) off) ends))
+    (c1 n rest place (omega (arith, small)) (ends_less (goes_on_list goes_on_declarator) goes_on_declarator rest (λ t off. or-false-left (goes_on_declarator t) (is_mark (codes ",") t) off) ends))
     (ap (λ (b : Bool). b && true) (ends_first (is_mark (codes ",")) rest (ends_less (goes_on_list goes_on_declarator) (is_mark (codes ",")) rest (λ t off. or-false-right (goes_on_declarator t) (is_mark (codes ",") t) off) ends)))
     ∙ read_levels (name ∷ []) after rest (sym (joined_one (declared_levels name)))
 
-pub complete_more_declarators : (before middle after : Context) (xs ys : List Terminal) (typedef : Bool) (name : Declared) (others : List Declared) (comma : Terminal)
-    → Spells (Declarator typedef name) before xs middle
+pub complete_more_declarators : (before middle after : Context) (xs ys : List Terminal) (typedef : Bool) (behind : Place) (name : Declared) (others : List Declared) (comma : Terminal)
+    → Spells (Declarator typedef comma.place name) before xs middle
     → IsMark (codes ",") comma
-    → Spells (Declarators typedef others) middle ys after
-    → Completes (Declarator typedef name) before xs middle
-    → Completes (Declarators typedef others) middle ys after
-    → Completes (Declarators typedef (name ∷ others)) before (xs ++ (comma ∷ ys)) after
+    → Spells (Declarators typedef behind others) middle ys after
+    → Completes (Declarator typedef comma.place name) before xs middle
+    → Completes (Declarators typedef behind others) middle ys after
+    → Completes (Declarators typedef behind (name ∷ others)) before (xs ++ (comma ∷ ys)) after
 unfolding postfix_start
-complete_more_declarators before middle after xs ys typedef name others comma d1 p1 d2 c1 c2 n zero rest enough small ends = absurd (omega (arith, enough))
-complete_more_declarators before middle after xs ys typedef name others comma d1 p1 d2 c1 c2 n (suc count) rest enough small ends =
+complete_more_declarators before middle after xs ys typedef behind name others comma d1 p1 d2 c1 c2 n zero rest enough place small ends = absurd (omega (arith, enough))
+complete_more_declarators before middle after xs ys typedef behind name others comma d1 p1 d2 c1 c2 n (suc count) rest enough place small ends =
     let less : length (ys ++ rest) < count = let far = shorter_behind xs comma (ys ++ rest) in let same = ap (λ (r : List Terminal). length r) (row_of_two xs (comma ∷ ys) rest) in omega (arith, enough, far, same) in
     ap (λ row. read_list never (read_declarator (level n) typedef) (suc count) before row) (row_of_two xs (comma ∷ ys) rest)
     ∙ list_of_more never (read_declarator (level n) typedef) count before (xs ++ (comma ∷ (ys ++ rest))) name (declared_levels name) middle comma (ys ++ rest) others (joined depth (map declared_levels others)) after rest
-    (c1 n (comma ∷ (ys ++ rest)) (omega (arith, small)) (ends_known goes_on_declarator (codes ",") comma (ys ++ rest) p1 refl)) p1 refl (c2 n count rest less (omega (arith, small)) ends)
+    (c1 n (comma ∷ (ys ++ rest)) refl (omega (arith, small)) (ends_known goes_on_declarator (codes ",") comma (ys ++ rest) p1 refl)) p1 refl (c2 n count rest less place (omega (arith, small)) ends)
 
 -- declarators
 declarator_front : (inner : Level) (typedef : Bool) (before : Context) (stars : List Terminal) (name : Terminal) (others : List Terminal) (result : Outcome Declared) → AreStars stars → IsName name
@@ -212,13 +213,13 @@ declarator_equals rest ends = ends_first (is_mark (codes "=")) rest (ends_less g
 declarator_assignment : (rest : List Terminal) → Ends goes_on_declarator rest → Ends goes_on_assignment rest
 declarator_assignment rest ends = ends_less goes_on_declarator goes_on_assignment rest (λ t off. or-false-right (is_mark (codes "=") t) _ (or-false-right (goes_on_sizes t) _ (or-false-right (is_mark (codes "(") t) _ off))) ends
 
-pub complete_object_declarator : (before after : Context) (xs : List Terminal) (typedef : Bool) (sizes : List (Option Expr)) (stars : List Terminal) (name : Terminal)
+pub complete_object_declarator : (before after : Context) (xs : List Terminal) (typedef : Bool) (behind : Place) (sizes : List (Option Expr)) (stars : List Terminal) (name : Terminal)
     → AreStars stars
     → IsName name
     → Spells (ArraySizes sizes) before xs after
     → Completes (ArraySizes sizes) before xs after
-    → Completes (Declarator typedef (object name (length stars) sizes None)) before (stars ++ (name ∷ xs)) (declaring after name.bytes typedef)
-complete_object_declarator before after xs typedef sizes stars name p1 p2 d1 c1 n rest small ends =
+    → Completes (Declarator typedef behind (object name (length stars) sizes None)) before (stars ++ (name ∷ xs)) (declaring after name.bytes typedef)
+complete_object_declarator before after xs typedef behind sizes stars name p1 p2 d1 c1 n rest place small ends =
     let levels = levels_object name (length stars) sizes in
     ap (λ row. read_declarator (level n) typedef before row) (row_of_two stars (name ∷ xs) rest)
     ∙ declarator_front (level n) typedef before stars name (xs ++ rest) _ p1 p2
@@ -226,30 +227,30 @@ complete_object_declarator before after xs typedef sizes stars name p1 p2 d1 c1 
     ∙ go_read _ (c1 n (length (xs ++ rest) + 1) rest (omega arith) (omega (arith, small, levels)) (declarator_sizes rest ends))
     (go_past (is_mark (codes "=")) rest _ _ (declarator_equals rest ends) ∙ read_levels _ (declaring after name.bytes typedef) rest (sym levels)))
 
-pub complete_initialized_declarator : (before middle after : Context) (xs ys : List Terminal) (typedef : Bool) (sizes : List (Option Expr)) (init : Init) (stars : List Terminal) (name mark : Terminal)
+pub complete_initialized_declarator : (before middle after : Context) (xs ys : List Terminal) (typedef : Bool) (behind : Place) (sizes : List (Option Expr)) (init : Init) (stars : List Terminal) (name mark : Terminal)
     → AreStars stars
     → IsName name
     → Spells (ArraySizes sizes) before xs middle
     → IsMark (codes "=") mark
-    → Spells (Initializer init) (declaring middle name.bytes typedef) ys after
+    → Spells (Initializer behind init) (declaring middle name.bytes typedef) ys after
     → Completes (ArraySizes sizes) before xs middle
-    → Completes (Initializer init) (declaring middle name.bytes typedef) ys after
-    → Completes (Declarator typedef (object name (length stars) sizes (Some init))) before (stars ++ (name ∷ (xs ++ (mark ∷ ys)))) after
+    → Completes (Initializer behind init) (declaring middle name.bytes typedef) ys after
+    → Completes (Declarator typedef behind (object name (length stars) sizes (Some init))) before (stars ++ (name ∷ (xs ++ (mark ∷ ys)))) after
 unfolding postfix_start
-complete_initialized_declarator before middle after xs ys typedef sizes init stars name mark p1 p2 d1 p3 d2 c1 c2 n rest small ends =
+complete_initialized_declarator before middle after xs ys typedef behind sizes init stars name mark p1 p2 d1 p3 d2 c1 c2 n rest place small ends =
     let levels = levels_initialized name (length stars) sizes init in
     ap (λ row. read_declarator (level n) typedef before row) (row_of_two stars (name ∷ (xs ++ (mark ∷ ys))) rest)
     ∙ (ap (λ row. read_declarator (level n) typedef before (stars ++ (name ∷ row))) (row_of_two xs (mark ∷ ys) rest)
     ∙ declarator_front (level n) typedef before stars name (xs ++ (mark ∷ (ys ++ rest))) _ p1 p2
     (go_past (is_mark (codes "(")) (xs ++ (mark ∷ (ys ++ rest))) _ _ (sizes_first (is_mark (codes "(")) sizes before middle xs (mark ∷ (ys ++ rest)) d1 (λ t is. by_mark (is_mark (codes "(")) (codes "[") t is refl) (by_mark (is_mark (codes "(")) (codes "=") mark p3 refl))
     ∙ go_read _ (c1 n (length (xs ++ (mark ∷ (ys ++ rest))) + 1) (mark ∷ (ys ++ rest)) (omega arith) (omega (arith, small, levels)) (ends_known goes_on_sizes (codes "=") mark (ys ++ rest) p3 refl))
-    (go_true _ p3 (go_read _ (c2 n rest (omega (arith, small, levels)) (declarator_assignment rest ends)) (read_levels _ after rest (sym levels))))))
+    (go_true _ p3 (go_read _ (c2 n rest place (omega (arith, small, levels)) (declarator_assignment rest ends)) (read_levels _ after rest (sym levels))))))
 
-pub complete_declarator_of_function : (before within : Context) (xs : List Terminal) (typedef : Bool) (name : List ℕ) (head : Declared)
+pub complete_declarator_of_function : (before within : Context) (xs : List Terminal) (typedef : Bool) (behind : Place) (name : List ℕ) (head : Declared)
     → Spells (FunctionDeclarator name head) before xs within
     → Completes (FunctionDeclarator name head) before xs within
-    → Completes (Declarator typedef head) before xs (declaring (outside before within) name typedef)
-complete_declarator_of_function before within xs typedef name head d1 c1 n rest small ends =
+    → Completes (Declarator typedef behind head) before xs (declaring (outside before within) name typedef)
+complete_declarator_of_function before within xs typedef behind name head d1 c1 n rest place small ends =
     c1 n typedef rest small
     ∙ ap (λ (scope : List Names). Read head (declared_levels head) (declaring (scoped within scope) name typedef) rest) (scopes_kept (FunctionDeclarator name head) before within xs d1)
 
@@ -444,7 +445,7 @@ parameter_sizes rest ends = ends_less goes_on_parameter goes_on_sizes rest (λ t
 
 named_read : (inner : Level) (type : TypeSpec) (levels : ℕ) (before : Context) (stars : List Terminal) (name : Terminal) (others : List Terminal) (sizes : List (Option Expr)) (deeper : ℕ) (after : Context) (rest : List Terminal) → AreStars stars → IsName name
     → read_sizes inner (length others + 1) before others ≡ Read sizes deeper after rest
-    → parameter_behind inner type levels (star_count (stars ++ (name ∷ others))) before (behind_stars (stars ++ (name ∷ others))) ≡ Read (parameter type (length stars) (Some name.bytes) sizes) (max levels deeper) (declaring after name.bytes false) rest
+    → parameter_behind inner type levels (star_count (stars ++ (name ∷ others))) before (behind_stars (stars ++ (name ∷ others))) ≡ Read (parameter type (length stars) (Some (identifier name)) sizes) (max levels deeper) (declaring after name.bytes false) rest
 named_read inner type levels before stars name others sizes deeper after rest are is given =
     ap (λ (k : ℕ). parameter_behind inner type levels k before (drop k (stars ++ (name ∷ others)))) (stars_front stars (name ∷ others) are (name_is_no_mark (codes "*") name is))
     ∙ (ap (λ (row : List Terminal). parameter_behind inner type levels (length stars) before row) (drop_front stars (name ∷ others))
@@ -466,10 +467,10 @@ pub complete_named_parameter : (before middle after : Context) (xs ys : List Ter
     → Spells (ArraySizes sizes) middle ys after
     → Completes (Specifiers storage type) before xs middle
     → Completes (ArraySizes sizes) middle ys after
-    → Completes (Parameter (parameter type (length stars) (Some name.bytes) sizes)) before (xs ++ (stars ++ (name ∷ ys))) (declaring after name.bytes false)
+    → Completes (Parameter (parameter type (length stars) (Some (identifier name)) sizes)) before (xs ++ (stars ++ (name ∷ ys))) (declaring after name.bytes false)
 unfolding read_parameter
 complete_named_parameter before middle after xs ys storage type sizes stars name d1 p1 p2 d2 c1 c2 n rest small ends =
-    let levels = levels_parameter type (length stars) (Some name.bytes) sizes in
+    let levels = levels_parameter type (length stars) (Some (identifier name)) sizes in
     ap (λ row. read_parameter (level n) before row) (row_of_three xs stars (name ∷ ys) rest)
     ∙ go_read _ (c1 n (stars ++ (name ∷ (ys ++ rest))) (omega (arith, small, levels)) (not_is _ (begins_no_specifiers stars name (ys ++ rest) p1 p2)))
     (named_read (level n) type (spec_levels type) middle stars name (ys ++ rest) sizes (joined depth (map maybe_levels sizes)) after rest p1 p2 (c2 n (length (ys ++ rest) + 1) rest (omega arith) (omega (arith, small, levels)) (parameter_sizes rest ends))

@@ -14,6 +14,7 @@ use Rattle.cgrammar.specs.ReadOperands.{unary_operand, stopped_operand, index_be
 use Rattle.cgrammar.specs.ReadStarts.{postfix_start}
 use Rattle.cgrammar.specs.ReadTypes.{never}
 use Rattle.cgrammar.specs.Terminals.{Terminal, is_mark, is_name, begins_with_typedef, first_word_place}
+use Rattle.cgrammar.specs.Trees.{identifier}
 use Rattle.cgrammar.specs.declared.reading.operand.Operand.{Operand}
 use Rattle.cgrammar.specs.declared.reading.starts.PostfixStart.{PostfixStart}
 use Rattle.cgrammar.specs.declared.reading.starts.PostfixStart.TheVariants as postfix
@@ -95,8 +96,8 @@ member_reaches : (go : Expr → ℕ → Reader Operand) → Reaching go → (thr
     → Reaches (member_behind go through base levels context mark row) (mark ∷ row)
 unfolding Reaching
 member_reaches go further through base levels context mark row =
-    after_first_reaches is_name row (stopped_operand base context mark row) (λ name more. go (numbered context mark.place (Member base name.bytes through)) (1 + levels) (counted context) more) (mark ∷ row) (omega arith) (stopped_far base context mark row)
-    (λ name more. further (numbered context mark.place (Member base name.bytes through)) (1 + levels) (counted context) more)
+    after_first_reaches is_name row (stopped_operand base context mark row) (λ name more. go (numbered context mark.place (Member base (identifier name) through)) (1 + levels) (counted context) more) (mark ∷ row) (omega arith) (stopped_far base context mark row)
+    (λ name more. further (numbered context mark.place (Member base (identifier name) through)) (1 + levels) (counted context) more)
 
 postfix_reaches : (go : Expr → ℕ → Reader Operand) → Reaching go → (inner : Level) → IsWithinLevel inner → (start : List Terminal) (base : Expr) (levels : ℕ) (context : Context) (mark : Terminal) (row : List Terminal) (kind : PostfixStart)
     → Reaches (postfix_with go inner start base levels context mark row kind) (mark ∷ row)

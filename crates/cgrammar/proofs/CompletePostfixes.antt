@@ -29,6 +29,7 @@ use Rattle.cgrammar.specs.ReadTypes.{never}
 use Rattle.cgrammar.specs.Reader.{level}
 use Rattle.cgrammar.specs.Starts.{begins_operand}
 use Rattle.cgrammar.specs.Terminals.{Terminal, is_mark, IsMark, is_name, IsName, IsNoType, begins_with_typedef, first_word_place}
+use Rattle.cgrammar.specs.Trees.{identifier}
 use Rattle.cgrammar.specs.declared.reading.operand.Operand.{Operand}
 use Rattle.cgrammar.specs.declared.reading.starts.PostfixStart.{PostfixStart}
 use Rattle.cgrammar.specs.declared.reading.starts.PostfixStart.TheVariants as postfix
@@ -209,7 +210,7 @@ complete_call_operator before middle after xs ys callee arguments opening closin
 pub complete_member_operator : (before after : Context) (xs : List Terminal) (base : Expr) (through : Bool) (mark name : Terminal)
     → IsMember through mark → IsName name
     → Completes (PostfixExpression base) before xs after
-    → Completes (PostfixExpression (numbered after mark.place (Member base name.bytes through))) before (xs ++ (mark ∷ (name ∷ []))) (counted after)
+    → Completes (PostfixExpression (numbered after mark.place (Member base (identifier name) through))) before (xs ++ (mark ∷ (name ∷ []))) (counted after)
 complete_member_operator before after xs base through mark name is named one m rest fits =
     subst (λ row. Postfixed m before whole (counted after) rest row) (sym (append_assoc xs (mark ∷ (name ∷ [])) rest))
     (turned m before row base whole after (counted after) mark (name ∷ rest) rest (postfix.Member through) (1 + expr_levels base) levels (omega (arith, fits, levels)) (member_starts through mark is) (omega arith)
@@ -217,13 +218,13 @@ complete_member_operator before after xs base through mark name is named one m r
     (one m (mark ∷ (name ∷ rest)) (omega (arith, fits, levels))))
   where
     whole : Expr
-    whole = numbered after mark.place (Member base name.bytes through)
+    whole = numbered after mark.place (Member base (identifier name) through)
 
     row : List Terminal
     row = xs ++ (mark ∷ (name ∷ rest))
 
     levels : expr_levels whole ≡ 1 + expr_levels base
-    levels = levels_member after.expressions mark.place base name.bytes through
+    levels = levels_member after.expressions mark.place base (identifier name) through
 
 -- `++` and `--` behind their operand
 pub complete_count_behind : (before after : Context) (xs : List Terminal) (expr : Expr) (up : Bool) (mark : Terminal)

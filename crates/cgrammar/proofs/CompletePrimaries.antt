@@ -16,6 +16,7 @@ use Rattle.cgrammar.proofs.CompletePostfixes.{Postfixed}
 use Rattle.cgrammar.proofs.CompleteSteps.{goes_exactly, continued_read}
 use Rattle.cgrammar.proofs.CompleteTokens.{mark_test, closing_no_expression, closing_no_path}
 use Rattle.cgrammar.proofs.Firsts.{first_tokens}
+use Rattle.cgrammar.proofs.Fronts.{front_of_both}
 use Rattle.cgrammar.proofs.Reached.{Completes, goes_on_expression, goes_on_type_name}
 use Rattle.cgrammar.proofs.Starting.{starts}
 use Rattle.cgrammar.proofs.TokenKinds.{name_is_no_mark, constant_is_no_mark, word_is_no_mark}
@@ -23,6 +24,7 @@ use Rattle.cgrammar.proofs.TreeLevels.{levels_name, levels_constant, levels_inne
 use Rattle.cgrammar.proofs.Truth.{not-true}
 use Rattle.cgrammar.specs.Constants.{IsConstant}
 use Rattle.cgrammar.specs.Firsts.{Begins, is_plain}
+use Rattle.cgrammar.specs.FrontOf.{front_of}
 use Rattle.cgrammar.specs.Grammar.{Spells}
 use Rattle.cgrammar.specs.Outcomes.{Outcome, Nothing, Read, then_read, continued, after_first, after_mark, has_mark}
 use Rattle.cgrammar.specs.Phrases.{Context, counted, numbered, Expression, PrimaryExpression, CompoundStatement, NameOfType, MemberPath}
@@ -33,7 +35,8 @@ use Rattle.cgrammar.specs.ReadStatements.{read_block}
 use Rattle.cgrammar.specs.ReadTypes.{read_type_name}
 use Rattle.cgrammar.specs.Reader.{level}
 use Rattle.cgrammar.specs.Starts.{begins_operand}
-use Rattle.cgrammar.specs.Terminals.{Terminal, is_mark, IsMark, IsWord, is_name, IsName, IsNoType}
+use Rattle.cgrammar.specs.Terminals.{Terminal, is_mark, IsMark, IsWord, is_name, IsName, IsNoType, last_place}
+use Rattle.cgrammar.specs.Trees.{identifier}
 use Rattle.cgrammar.specs.declared.reading.operand.Operand.{Operand}
 use Rattle.cgrammar.specs.declared.reading.starts.OperandStart.TheVariants as operand
 
@@ -90,14 +93,14 @@ complete_bracketed before after xs expr opening closing is no_type ends spelled 
 -- a block in brackets
 block_read : (inner : Level) (context : Context) (opening : Terminal) (row : List Terminal) (body : List Stmt) (levels : ℕ) (behind : Context) (closing : Terminal) (rest : List Terminal)
     → has_mark (codes "{") row ≡ true → read_block inner context row ≡ Read body levels behind (closing ∷ rest) → is_mark (codes ")") closing ≡ true
-    → read_bracket inner context opening row ≡ postfixes_from inner (opening ∷ row) (numbered behind opening.place (Inner body)) (1 + levels) (counted behind) rest
+    → read_bracket inner context opening row ≡ postfixes_from inner (opening ∷ row) (numbered behind opening.place (Inner body (last_place (front_of row (closing ∷ rest))))) (1 + levels) (counted behind) rest
 unfolding read_bracket
 block_read inner context opening row body levels behind closing rest is read ends =
     chosen_yes (has_mark (codes "{") row) (statement_expression inner context opening row) (read_cast_to inner context opening row) is
     ∙ ap (λ o. then_read o (λ body levels behind rest.
     after_mark (codes ")") rest Nothing (λ closing others.
-    postfixes_from inner (opening ∷ row) (numbered behind opening.place (Inner body)) (1 + levels) (counted behind) others))) read
-    ∙ chosen_yes (is_mark (codes ")") closing) (postfixes_from inner (opening ∷ row) (numbered behind opening.place (Inner body)) (1 + levels) (counted behind) rest) Nothing ends
+    postfixes_from inner (opening ∷ row) (numbered behind opening.place (Inner body (last_place (front_of row rest)))) (1 + levels) (counted behind) others))) read
+    ∙ chosen_yes (is_mark (codes ")") closing) (postfixes_from inner (opening ∷ row) (numbered behind opening.place (Inner body (last_place (front_of row (closing ∷ rest))))) (1 + levels) (counted behind) rest) Nothing ends
 
 opens_no_expression : (context : Context) (first : Terminal) (xs more : List Terminal) → Begins (is_mark (codes "{")) xs → opens context.scope first (xs ++ more) ≡ false
 opens_no_expression context first [] more begins = absurd begins
@@ -110,23 +113,24 @@ has_brace (next ∷ xs) more begins = begins
 pub complete_statement_expression : (before after : Context) (xs : List Terminal) (body : List Stmt) (opening closing : Terminal)
     → IsMark (codes "(") opening → IsMark (codes ")") closing
     → Spells (CompoundStatement body) before xs after → Completes (CompoundStatement body) before xs after
-    → Completes (PrimaryExpression (numbered after opening.place (Inner body))) before (opening ∷ (xs ++ (closing ∷ []))) (counted after)
+    → Completes (PrimaryExpression (numbered after opening.place (Inner body (last_place xs)))) before (opening ∷ (xs ++ (closing ∷ []))) (counted after)
 complete_statement_expression before after xs body opening closing is ends spelled whole m rest fits =
-    subst (λ row. Postfixed m before (numbered after opening.place (Inner body)) (counted after) rest (opening ∷ row)) (sym (append_assoc xs (closing ∷ []) rest))
-    (postfixes_follow m before (opening ∷ row) (numbered after opening.place (Inner body)) (1 + joined depth (map stmt_levels body)) (counted after) rest levels
+    subst (λ row. Postfixed m before (numbered after opening.place (Inner body (last_place xs))) (counted after) rest (opening ∷ row)) (sym (append_assoc xs (closing ∷ []) rest))
+    (postfixes_follow m before (opening ∷ row) (numbered after opening.place (Inner body (last_place xs))) (1 + joined depth (map stmt_levels body)) (counted after) rest levels
     (read_as_plain (level m) before opening row operand.Bracket (opens_no_expression before opening xs (closing ∷ rest) (starts spelled)) (bracket_starts opening is)
-    ∙ block_read (level m) before opening row body (joined depth (map stmt_levels body)) after closing rest (has_brace xs (closing ∷ rest) (starts spelled)) (whole m (closing ∷ rest) (omega (arith, fits, levels))) ends))
+    ∙ block_read (level m) before opening row body (joined depth (map stmt_levels body)) after closing rest (has_brace xs (closing ∷ rest) (starts spelled)) (whole m (closing ∷ rest) (omega (arith, fits, levels))) ends
+    ∙ ap (λ (front : List Terminal). postfixes_from (level m) (opening ∷ row) (numbered after opening.place (Inner body (last_place front))) (1 + joined depth (map stmt_levels body)) (counted after) rest) (front_of_both xs (closing ∷ rest))))
   where
     row : List Terminal
     row = xs ++ (closing ∷ rest)
 
-    levels : expr_levels (numbered after opening.place (Inner body)) ≡ 1 + joined depth (map stmt_levels body)
-    levels = levels_inner after.expressions opening.place body
+    levels : expr_levels (numbered after opening.place (Inner body (last_place xs))) ≡ 1 + joined depth (map stmt_levels body)
+    levels = levels_inner after.expressions opening.place body (last_place xs)
 
 -- `__builtin_offsetof`
 abbrev offset : Level → Terminal → List Terminal → TypeName → ℕ → Terminal → List Part → ℕ → Context → List Terminal → Outcome Operand
 offset inner word row to levels name path others last end =
-    postfixes_from inner (word ∷ row) (numbered last word.place (OffsetOf to (NamedPart name.bytes ∷ path))) (1 + max levels others) (counted last) end
+    postfixes_from inner (word ∷ row) (numbered last word.place (OffsetOf to (NamedPart (identifier name) ∷ path))) (1 + max levels others) (counted last) end
 
 offset_read : (inner : Level) (context : Context) (word opening : Terminal) (row : List Terminal) (to : TypeName) (levels : ℕ) (behind : Context) (comma name : Terminal) (four : List Terminal)
     (path : List Part) (others : ℕ) (last : Context) (closing : Terminal) (end : List Terminal)
@@ -156,7 +160,7 @@ offset_row xs ys rest comma name closing =
 pub complete_offset_of_member : (before middle after : Context) (xs ys : List Terminal) (to : TypeName) (path : List Part) (word opening comma name closing : Terminal)
     → IsWord (codes "__builtin_offsetof") word → IsMark (codes "(") opening → IsMark (codes ",") comma → IsName name → IsMark (codes ")") closing
     → Completes (NameOfType to) before xs middle → Completes (MemberPath path) middle ys after
-    → Completes (PrimaryExpression (numbered after word.place (OffsetOf to (NamedPart name.bytes ∷ path)))) before (word ∷ (opening ∷ (xs ++ (comma ∷ (name ∷ (ys ++ (closing ∷ []))))))) (counted after)
+    → Completes (PrimaryExpression (numbered after word.place (OffsetOf to (NamedPart (identifier name) ∷ path)))) before (word ∷ (opening ∷ (xs ++ (comma ∷ (name ∷ (ys ++ (closing ∷ []))))))) (counted after)
 complete_offset_of_member before middle after xs ys to path word opening comma name closing is opens commas named ends one other m rest fits =
     subst (λ row. Postfixed m before whole (counted after) rest (word ∷ (opening ∷ row))) (sym (offset_row xs ys rest comma name closing))
     (postfixes_follow m before (word ∷ (opening ∷ row)) whole (1 + max (type_name_levels to) (joined depth (map part_levels path))) (counted after) rest levels
@@ -166,10 +170,10 @@ complete_offset_of_member before middle after xs ys to path word opening comma n
     (other m (length (ys ++ (closing ∷ rest)) + 1) (closing ∷ rest) (omega arith) (omega (arith, fits, levels)) (ap not (closing_no_path closing ends))) ends))
   where
     whole : Expr
-    whole = numbered after word.place (OffsetOf to (NamedPart name.bytes ∷ path))
+    whole = numbered after word.place (OffsetOf to (NamedPart (identifier name) ∷ path))
 
     row : List Terminal
     row = xs ++ (comma ∷ (name ∷ (ys ++ (closing ∷ rest))))
 
     levels : expr_levels whole ≡ 1 + max (type_name_levels to) (joined depth (map part_levels path))
-    levels = levels_offset_of after.expressions word.place to name.bytes path
+    levels = levels_offset_of after.expressions word.place to (identifier name) path

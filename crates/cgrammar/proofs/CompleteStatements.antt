@@ -1,6 +1,5 @@
 -- The reader of statements and blocks is complete, rule by rule of the grammar.
 use Rattle.std.proofs.Common.{◌≡◌, ℕ, zero, suc, ◌+◌, ◌<◌, ◌≤◌, Bool, true, false, ◌&&◌, not, refl, ap, sym, ◌∙◌, List, [], ◌∷◌, ◌++◌, length, map, codes, IsTrue, inl, inr, arith, Option, Some, None, ◌⊎◌}
-use Rattle.std.specs.Prelude.{max}
 use Rattle.std.specs.List.{list_any}
 use Rattle.std.specs.Str.{bytes_eq}
 use Rattle.cbase.specs.declared.place.Place.{Place}
@@ -11,7 +10,7 @@ use Rattle.cbase.specs.declared.tree.stmt.StmtForm.TheVariants.{Declare, Eval, B
 use Rattle.ctokens.specs.declared.token.TokenKind.TheVariants.{Word}
 use Rattle.ctokens.specs.SymbolTables.{keyword_symbol, name_symbol, passed_symbol}
 use Rattle.ctrees.specs.Weight.{joined}
-use Rattle.ctrees.specs.Levels.{depth, decl_levels, expr_levels, maybe_levels, stmt_levels}
+use Rattle.ctrees.specs.Levels.{depth, decl_levels, expr_levels, stmt_levels}
 use Rattle.cgrammar.proofs.CompletingOutcomes.{go_true, go_false, go_read, go_past, not_is, braces_of_none, braces_of_more, row_of_two, row_of_three}
 use Rattle.cgrammar.proofs.CompletingTokens.{by_mark, by_word, begins_apart, operand_no_mark, operand_row_no_mark}
 use Rattle.cgrammar.proofs.CompletingParts.{read_levels, ends_known, expression_read, not_declaration_row, declaration_row, declaration_row_no_mark, fewer}
@@ -29,7 +28,7 @@ use Rattle.cgrammar.specs.Firsts.{begins_declaration, Begins}
 use Rattle.cgrammar.specs.FrontReadings.{begins_with_label}
 use Rattle.cgrammar.specs.Grammar.{Spells, inside, outside, NoMoreItems, NextDeclaration, NextStatement}
 use Rattle.cgrammar.specs.Outcomes.{Read, has_first, has_mark}
-use Rattle.cgrammar.specs.Phrases.{Context, scoped, Expression, Declaration, CompoundStatement, BlockItems, Statement, FirstClause, MaybeExpression}
+use Rattle.cgrammar.specs.Phrases.{Context, scoped, Expression, Declaration, CompoundStatement, BlockItems, Statement, Substatement, FirstClause, MaybeExpression}
 use Rattle.cgrammar.specs.ReadDeclarations.{leaving}
 use Rattle.cgrammar.specs.ReadLevels.{Level, read_until_brace}
 use Rattle.cgrammar.specs.ReadStarts.{postfix_start, statement_start}
@@ -45,6 +44,11 @@ use Rattle.cgrammar.specs.declared.reading.starts.StatementStart.TheVariants as 
 -- outside the innermost scope again
 left_outside : (before within : Context) → left within.scope ≡ before.scope → ◌≡◌ {A = Context} (leaving within) (outside before within)
 left_outside before within is = ap (λ (scope : List Names). scoped within scope) is
+
+-- a statement that is read in a scope of its own, which is left again
+left_read : (stmt : Stmt) (levels : ℕ) (before within : Context) (rest : List Terminal) → left within.scope ≡ before.scope → levels ≡ stmt_levels stmt
+    → Read stmt levels (leaving within) rest ≡ Read stmt (stmt_levels stmt) (outside before within) rest
+left_read stmt levels before within rest is same = ap (λ (c : Context). Read stmt levels c rest) (left_outside before within is) ∙ read_levels stmt (outside before within) rest same
 
 -- blocks
 pub complete_one_block : (before within : Context) (xs : List Terminal) (body : List Stmt) (opening closing : Terminal)
@@ -338,25 +342,34 @@ rest_no_else : (rest : List Terminal) → Ends (goes_on_statement true) rest →
 rest_no_else [] ends = refl
 rest_no_else (token ∷ rest) ends = not-true (is_word (codes "else") token) ends
 
+-- statements in an `if` or in a loop
+pub complete_one_substatement : (before within : Context) (xs : List Terminal) (dangling : Bool) (stmt : Stmt)
+    → Spells (Statement dangling stmt) (inside before) xs within
+    → Completes (Statement dangling stmt) (inside before) xs within
+    → Completes (Substatement dangling stmt) before xs (outside before within)
+complete_one_substatement before within xs dangling stmt d1 c1 n rest small ends =
+    go_read _ (c1 n rest small ends) (left_read stmt (stmt_levels stmt) before within rest (scopes_kept (Statement dangling stmt) (inside before) within xs d1 ∙ left_entered before.scope) refl)
+
 pub complete_if_statement : (before middle after : Context) (xs ys : List Terminal) (test : Expr) (dangling : Bool) (stmt : Stmt) (word opening closing : Terminal)
     → IsWord (codes "if") word
     → IsMark (codes "(") opening
-    → IsNoType before.scope xs
-    → Spells (Expression test) before xs middle
+    → IsNoType (inside before).scope xs
+    → Spells (Expression test) (inside before) xs middle
     → IsMark (codes ")") closing
-    → Spells (Statement dangling stmt) middle ys after
-    → Completes (Expression test) before xs middle
-    → Completes (Statement dangling stmt) middle ys after
-    → Completes (Statement true (statement word.place stmt.after (If test stmt None))) before (word ∷ (opening ∷ (xs ++ (closing ∷ ys)))) after
+    → Spells (Substatement dangling stmt) middle ys after
+    → Completes (Expression test) (inside before) xs middle
+    → Completes (Substatement dangling stmt) middle ys after
+    → Completes (Statement true (statement word.place stmt.after (If test closing.place stmt None))) before (word ∷ (opening ∷ (xs ++ (closing ∷ ys)))) (outside before after)
 unfolding read_if statement_start keyword_symbol name_symbol passed_symbol
-complete_if_statement before middle after xs ys test dangling stmt word opening closing p1 p2 p3 d1 p4 d2 c1 c2 zero rest small ends = absurd (let levels = levels_if word.place stmt.after test stmt in omega (arith, small, levels))
+complete_if_statement before middle after xs ys test dangling stmt word opening closing p1 p2 p3 d1 p4 d2 c1 c2 zero rest small ends = absurd (let levels = levels_if word.place stmt.after test closing.place stmt in omega (arith, small, levels))
 complete_if_statement before middle after xs ys test dangling stmt word opening closing p1 p2 p3 d1 p4 d2 c1 c2 (suc m) rest small ends =
-    let levels = levels_if word.place stmt.after test stmt in
+    let levels = levels_if word.place stmt.after test closing.place stmt in
+    let kept = ap left (scopes_kept (Substatement dangling stmt) middle after ys d2) ∙ (scopes_kept (Expression test) (inside before) middle xs d1 ∙ left_entered before.scope) in
     ap (λ row. read_statement (level m) before (word ∷ (opening ∷ row))) (row_of_two xs (closing ∷ ys) rest)
     ∙ (statement_of_word (level m) before (codes "if") word (opening ∷ (xs ++ (closing ∷ (ys ++ rest)))) start.If p1 refl refl
-    ∙ go_true _ p2 (go_read _ (untyped_read m before middle xs test closing (ys ++ rest) p3 d1 p4 c1 (omega (arith, small, levels)))
+    ∙ go_true _ p2 (go_read _ (untyped_read m (inside before) middle xs test closing (ys ++ rest) p3 d1 p4 c1 (omega (arith, small, levels)))
     (go_true _ p4 (go_read _ (c2 m rest (omega (arith, small, levels)) (no_else_ends dangling rest (rest_no_else rest ends)))
-    (go_past (is_word (codes "else")) rest _ _ (rest_no_else rest ends) ∙ read_levels _ after rest (sym levels))))))
+    (go_past (is_word (codes "else")) rest _ _ (rest_no_else rest ends) ∙ left_read _ _ before after rest kept (sym levels))))))
 
 row_of_else : (xs : List Terminal) (closing : Terminal) (ys : List Terminal) (otherwise : Terminal) (zs rest : List Terminal) → (xs ++ (closing ∷ (ys ++ (otherwise ∷ zs)))) ++ rest ≡ xs ++ (closing ∷ (ys ++ (otherwise ∷ (zs ++ rest))))
 row_of_else xs closing ys otherwise zs rest = row_of_two xs (closing ∷ (ys ++ (otherwise ∷ zs))) rest ∙ ap (λ (row : List Terminal). xs ++ (closing ∷ row)) (row_of_two ys (otherwise ∷ zs) rest)
@@ -364,44 +377,46 @@ row_of_else xs closing ys otherwise zs rest = row_of_two xs (closing ∷ (ys ++ 
 pub complete_if_else_statement : (before first second after : Context) (xs ys zs : List Terminal) (test : Expr) (dangling : Bool) (one other : Stmt) (word opening closing otherwise : Terminal)
     → IsWord (codes "if") word
     → IsMark (codes "(") opening
-    → IsNoType before.scope xs
-    → Spells (Expression test) before xs first
+    → IsNoType (inside before).scope xs
+    → Spells (Expression test) (inside before) xs first
     → IsMark (codes ")") closing
-    → Spells (Statement false one) first ys second
+    → Spells (Substatement false one) first ys second
     → IsWord (codes "else") otherwise
-    → Spells (Statement dangling other) second zs after
-    → Completes (Expression test) before xs first
-    → Completes (Statement false one) first ys second
-    → Completes (Statement dangling other) second zs after
-    → Completes (Statement dangling (statement word.place other.after (If test one (Some other)))) before (word ∷ (opening ∷ (xs ++ (closing ∷ (ys ++ (otherwise ∷ zs)))))) after
+    → Spells (Substatement dangling other) second zs after
+    → Completes (Expression test) (inside before) xs first
+    → Completes (Substatement false one) first ys second
+    → Completes (Substatement dangling other) second zs after
+    → Completes (Statement dangling (statement word.place other.after (If test closing.place one (Some other)))) before (word ∷ (opening ∷ (xs ++ (closing ∷ (ys ++ (otherwise ∷ zs)))))) (outside before after)
 unfolding read_if statement_start keyword_symbol name_symbol passed_symbol
-complete_if_else_statement before first second after xs ys zs test dangling one other word opening closing otherwise p1 p2 p3 d1 p4 d2 p5 d3 c1 c2 c3 zero rest small ends = absurd (let levels = levels_if_else word.place other.after test one other in omega (arith, small, levels))
+complete_if_else_statement before first second after xs ys zs test dangling one other word opening closing otherwise p1 p2 p3 d1 p4 d2 p5 d3 c1 c2 c3 zero rest small ends = absurd (let levels = levels_if_else word.place other.after test closing.place one other in omega (arith, small, levels))
 complete_if_else_statement before first second after xs ys zs test dangling one other word opening closing otherwise p1 p2 p3 d1 p4 d2 p5 d3 c1 c2 c3 (suc m) rest small ends =
-    let levels = levels_if_else word.place other.after test one other in
+    let levels = levels_if_else word.place other.after test closing.place one other in
+    let kept = ap left (scopes_kept (Substatement dangling other) second after zs d3) ∙ (ap left (scopes_kept (Substatement false one) first second ys d2) ∙ (scopes_kept (Expression test) (inside before) first xs d1 ∙ left_entered before.scope)) in
     ap (λ row. read_statement (level m) before (word ∷ (opening ∷ row))) (row_of_else xs closing ys otherwise zs rest)
     ∙ (statement_of_word (level m) before (codes "if") word (opening ∷ (xs ++ (closing ∷ (ys ++ (otherwise ∷ (zs ++ rest)))))) start.If p1 refl refl
-    ∙ go_true _ p2 (go_read _ (untyped_read m before first xs test closing (ys ++ (otherwise ∷ (zs ++ rest))) p3 d1 p4 c1 (omega (arith, small, levels)))
+    ∙ go_true _ p2 (go_read _ (untyped_read m (inside before) first xs test closing (ys ++ (otherwise ∷ (zs ++ rest))) p3 d1 p4 c1 (omega (arith, small, levels)))
     (go_true _ p4 (go_read _ (c2 m (otherwise ∷ (zs ++ rest)) (omega (arith, small, levels)) refl)
-    (go_true _ p5 (go_read _ (c3 m rest (omega (arith, small, levels)) ends) (read_levels _ after rest (sym levels))))))))
+    (go_true _ p5 (go_read _ (c3 m rest (omega (arith, small, levels)) ends) (left_read _ _ before after rest kept (sym levels))))))))
 
 pub complete_while_statement : (before middle after : Context) (xs ys : List Terminal) (test : Expr) (dangling : Bool) (body : Stmt) (word opening closing : Terminal)
     → IsWord (codes "while") word
     → IsMark (codes "(") opening
-    → IsNoType before.scope xs
-    → Spells (Expression test) before xs middle
+    → IsNoType (inside before).scope xs
+    → Spells (Expression test) (inside before) xs middle
     → IsMark (codes ")") closing
-    → Spells (Statement dangling body) middle ys after
-    → Completes (Expression test) before xs middle
-    → Completes (Statement dangling body) middle ys after
-    → Completes (Statement dangling (statement word.place body.after (While test body))) before (word ∷ (opening ∷ (xs ++ (closing ∷ ys)))) after
+    → Spells (Substatement dangling body) middle ys after
+    → Completes (Expression test) (inside before) xs middle
+    → Completes (Substatement dangling body) middle ys after
+    → Completes (Statement dangling (statement word.place body.after (While test closing.place body))) before (word ∷ (opening ∷ (xs ++ (closing ∷ ys)))) (outside before after)
 unfolding read_while statement_start keyword_symbol name_symbol passed_symbol
-complete_while_statement before middle after xs ys test dangling body word opening closing p1 p2 p3 d1 p4 d2 c1 c2 zero rest small ends = absurd (let levels = levels_while word.place body.after test body in omega (arith, small, levels))
+complete_while_statement before middle after xs ys test dangling body word opening closing p1 p2 p3 d1 p4 d2 c1 c2 zero rest small ends = absurd (let levels = levels_while word.place body.after test closing.place body in omega (arith, small, levels))
 complete_while_statement before middle after xs ys test dangling body word opening closing p1 p2 p3 d1 p4 d2 c1 c2 (suc m) rest small ends =
-    let levels = levels_while word.place body.after test body in
+    let levels = levels_while word.place body.after test closing.place body in
+    let kept = ap left (scopes_kept (Substatement dangling body) middle after ys d2) ∙ (scopes_kept (Expression test) (inside before) middle xs d1 ∙ left_entered before.scope) in
     ap (λ row. read_statement (level m) before (word ∷ (opening ∷ row))) (row_of_two xs (closing ∷ ys) rest)
     ∙ (statement_of_word (level m) before (codes "while") word (opening ∷ (xs ++ (closing ∷ (ys ++ rest)))) start.While p1 refl refl
-    ∙ go_true _ p2 (go_read _ (untyped_read m before middle xs test closing (ys ++ rest) p3 d1 p4 c1 (omega (arith, small, levels)))
-    (go_true _ p4 (go_read _ (c2 m rest (omega (arith, small, levels)) ends) (read_levels _ after rest (sym levels))))))
+    ∙ go_true _ p2 (go_read _ (untyped_read m (inside before) middle xs test closing (ys ++ rest) p3 d1 p4 c1 (omega (arith, small, levels)))
+    (go_true _ p4 (go_read _ (c2 m rest (omega (arith, small, levels)) ends) (left_read _ _ before after rest kept (sym levels))))))
 
 row_of_do : (xs : List Terminal) (while opening : Terminal) (ys : List Terminal) (closing semicolon : Terminal) (rest : List Terminal)
     → (xs ++ (while ∷ (opening ∷ (ys ++ (closing ∷ (semicolon ∷ [])))))) ++ rest ≡ xs ++ (while ∷ (opening ∷ (ys ++ (closing ∷ (semicolon ∷ rest)))))
@@ -409,25 +424,26 @@ row_of_do xs while opening ys closing semicolon rest = row_of_two xs (while ∷ 
 
 pub complete_do_statement : (before middle after : Context) (xs ys : List Terminal) (test : Expr) (dangling : Bool) (body : Stmt) (word while opening closing semicolon : Terminal)
     → IsWord (codes "do") word
-    → Spells (Statement dangling body) before xs middle
+    → Spells (Substatement dangling body) (inside before) xs middle
     → IsWord (codes "while") while
     → IsMark (codes "(") opening
     → IsNoType middle.scope ys
     → Spells (Expression test) middle ys after
     → IsMark (codes ")") closing
     → IsMark (codes ";") semicolon
-    → Completes (Statement dangling body) before xs middle
+    → Completes (Substatement dangling body) (inside before) xs middle
     → Completes (Expression test) middle ys after
-    → Completes (Statement false (statement word.place semicolon.place (Do body test))) before (word ∷ (xs ++ (while ∷ (opening ∷ (ys ++ (closing ∷ (semicolon ∷ []))))))) after
+    → Completes (Statement false (statement word.place semicolon.place (Do body test closing.place))) before (word ∷ (xs ++ (while ∷ (opening ∷ (ys ++ (closing ∷ (semicolon ∷ []))))))) (outside before after)
 unfolding read_do statement_start keyword_symbol name_symbol passed_symbol
-complete_do_statement before middle after xs ys test dangling body word while opening closing semicolon p1 d1 p2 p3 p4 d2 p5 p6 c1 c2 zero rest small ends = absurd (let levels = levels_do word.place semicolon.place body test in omega (arith, small, levels))
+complete_do_statement before middle after xs ys test dangling body word while opening closing semicolon p1 d1 p2 p3 p4 d2 p5 p6 c1 c2 zero rest small ends = absurd (let levels = levels_do word.place semicolon.place body test closing.place in omega (arith, small, levels))
 complete_do_statement before middle after xs ys test dangling body word while opening closing semicolon p1 d1 p2 p3 p4 d2 p5 p6 c1 c2 (suc m) rest small ends =
-    let levels = levels_do word.place semicolon.place body test in
+    let levels = levels_do word.place semicolon.place body test closing.place in
+    let kept = scopes_kept (Expression test) middle after ys d2 ∙ (ap left (scopes_kept (Substatement dangling body) (inside before) middle xs d1) ∙ left_entered before.scope) in
     ap (λ row. read_statement (level m) before (word ∷ row)) (row_of_do xs while opening ys closing semicolon rest)
     ∙ (statement_of_word (level m) before (codes "do") word (xs ++ (while ∷ (opening ∷ (ys ++ (closing ∷ (semicolon ∷ rest)))))) start.Do p1 refl refl
     ∙ go_read _ (c1 m (while ∷ (opening ∷ (ys ++ (closing ∷ (semicolon ∷ rest))))) (omega (arith, small, levels)) (no_else_ends dangling (while ∷ (opening ∷ (ys ++ (closing ∷ (semicolon ∷ rest))))) (other_word (codes "while") (codes "else") while refl p2)))
     (go_true _ p2 (go_true _ p3 (go_read _ (untyped_read m middle after ys test closing (semicolon ∷ rest) p4 d2 p5 c2 (omega (arith, small, levels)))
-    (go_true _ p5 (go_true _ p6 (read_levels _ after rest (sym levels))))))))
+    (go_true _ p5 (go_true _ p6 (left_read _ _ before after rest kept (sym levels))))))))
 
 row_of_for : (ws xs : List Terminal) (semicolon : Terminal) (ys : List Terminal) (closing : Terminal) (zs rest : List Terminal)
     → (ws ++ (xs ++ (semicolon ∷ (ys ++ (closing ∷ zs))))) ++ rest ≡ ws ++ (xs ++ (semicolon ∷ (ys ++ (closing ∷ (zs ++ rest)))))
@@ -442,25 +458,24 @@ pub complete_for_statement : (before one two three after : Context) (ws xs ys zs
     → IsMark (codes ";") semicolon
     → Spells (MaybeExpression next) two ys three
     → IsMark (codes ")") closing
-    → Spells (Statement dangling body) three zs after
+    → Spells (Substatement dangling body) three zs after
     → Completes (FirstClause first) (inside before) ws one
     → Completes (MaybeExpression test) one xs two
     → Completes (MaybeExpression next) two ys three
-    → Completes (Statement dangling body) three zs after
-    → Completes (Statement dangling (statement word.place body.after (For first test next body))) before (word ∷ (opening ∷ (ws ++ (xs ++ (semicolon ∷ (ys ++ (closing ∷ zs))))))) (outside before after)
+    → Completes (Substatement dangling body) three zs after
+    → Completes (Statement dangling (statement word.place body.after (For first test semicolon.place next closing.place body))) before (word ∷ (opening ∷ (ws ++ (xs ++ (semicolon ∷ (ys ++ (closing ∷ zs))))))) (outside before after)
 unfolding read_for statement_start keyword_symbol name_symbol passed_symbol
-complete_for_statement before one two three after ws xs ys zs first test next dangling body word opening semicolon closing p1 p2 d1 d2 p3 d3 p4 d4 c1 c2 c3 c4 zero rest small ends = absurd (let levels = levels_for word.place body.after first test next body in omega (arith, small, levels))
+complete_for_statement before one two three after ws xs ys zs first test next dangling body word opening semicolon closing p1 p2 d1 d2 p3 d3 p4 d4 c1 c2 c3 c4 zero rest small ends = absurd (let levels = levels_for word.place body.after first test semicolon.place next closing.place body in omega (arith, small, levels))
 complete_for_statement before one two three after ws xs ys zs first test next dangling body word opening semicolon closing p1 p2 d1 d2 p3 d3 p4 d4 c1 c2 c3 c4 (suc m) rest small ends =
-    let levels = levels_for word.place body.after first test next body in
-    let kept = scopes_kept (Statement dangling body) three after zs d4 ∙ (scopes_kept (MaybeExpression next) two three ys d3 ∙ (scopes_kept (MaybeExpression test) one two xs d2 ∙ (scopes_kept (FirstClause first) (inside before) one ws d1 ∙ left_entered before.scope))) in
+    let levels = levels_for word.place body.after first test semicolon.place next closing.place body in
+    let kept = ap left (scopes_kept (Substatement dangling body) three after zs d4) ∙ (scopes_kept (MaybeExpression next) two three ys d3 ∙ (scopes_kept (MaybeExpression test) one two xs d2 ∙ (scopes_kept (FirstClause first) (inside before) one ws d1 ∙ left_entered before.scope))) in
     ap (λ row. read_statement (level m) before (word ∷ (opening ∷ row))) (row_of_for ws xs semicolon ys closing zs rest)
     ∙ (statement_of_word (level m) before (codes "for") word (opening ∷ (ws ++ (xs ++ (semicolon ∷ (ys ++ (closing ∷ (zs ++ rest))))))) start.For p1 refl refl
     ∙ go_true _ p2 (go_read _ (c1 m (xs ++ (semicolon ∷ (ys ++ (closing ∷ (zs ++ rest))))) (omega (arith, small, levels)))
     (go_read _ (c2 m (is_mark (codes ";")) (semicolon ∷ (ys ++ (closing ∷ (zs ++ rest)))) (omega (arith, small, levels)) p3 (λ t is. inr is))
     (go_true _ p3 (go_read _ (c3 m (is_mark (codes ")")) (closing ∷ (zs ++ rest)) (omega (arith, small, levels)) p4 (λ t is. inl is))
     (go_true _ p4 (go_read _ (c4 m rest (omega (arith, small, levels)) ends)
-    (ap (λ (c : Context). Read (statement word.place body.after (For first test next body)) (1 + max (max (stmt_levels first) (maybe_levels test)) (max (maybe_levels next) (stmt_levels body))) c rest) (left_outside before after kept)
-    ∙ read_levels _ (outside before after) rest (sym levels)))))))))
+    (left_read _ _ before after rest kept (sym levels)))))))))
 
 pub complete_break_statement : (before : Context) (word semicolon : Terminal)
     → IsWord (codes "break") word

@@ -4,6 +4,7 @@ use Rattle.std.specs.Prelude.{is_some}
 use Rattle.std.specs.List.{list_all, prefix_len}
 use Rattle.cbase.specs.declared.tree.decl.TypeName.{TypeName}
 use Rattle.cbase.specs.declared.tree.expr.Expr.{Expr}
+use Rattle.cbase.specs.declared.tree.identifier.Identifier.{Identifier}
 use Rattle.cbase.specs.declared.tree.spec.BasicType.{BasicType}
 use Rattle.cbase.specs.declared.tree.spec.Enumerator.{Enumerator}
 use Rattle.cbase.specs.declared.tree.spec.FieldDecl.{FieldDecl}
@@ -35,7 +36,7 @@ use Rattle.cgrammar.specs.ReadTypes.{behind_stars, read_sizes, read_type_name, r
 use Rattle.cgrammar.specs.Reader.{level}
 use Rattle.cgrammar.specs.Scope.{Names}
 use Rattle.cgrammar.specs.Terminals.{Terminal, IsWord, is_mark, IsMark, is_name, IsName, is_typedef, IsTypedef, IsNoType, AreStars, bytes_of}
-use Rattle.cgrammar.specs.Trees.{field, fields, enumerator, type_name}
+use Rattle.cgrammar.specs.Trees.{identifier, field, fields, enumerator, type_name}
 use Rattle.cgrammar.specs.TypeWords.{basic_rows, basic_of, IsBasic}
 use Rattle.cgrammar.specs.declared.reading.starts.TypeStart.TheVariants as start
 
@@ -148,12 +149,12 @@ complete_basic_words before type (token ∷ row) p1 (suc m) rest small ends =
     ∙ (basic_read before (token ∷ row) rest type (prefix_all is_basic_word (token ∷ row) rest all none) p1.1 ∙ read_levels _ before rest (sym (levels_basic type)))
 
 -- structs and enums
-tag_facts : (tag : List Terminal) (name : Option (List ℕ)) (opening : Terminal) (others : List Terminal) → IsTag tag name → IsMark (codes "{") opening
+tag_facts : (tag : List Terminal) (name : Option Identifier) (opening : Terminal) (others : List Terminal) → IsTag tag name → IsMark (codes "{") opening
     → (tag_at (tag ++ (opening ∷ others)) ≡ name) × (behind_tag (tag ++ (opening ∷ others)) ≡ opening ∷ others)
 tag_facts tag None opening others is mark = rw is (go_false _ (mark_is_no_name (codes "{") opening mark) refl, go_false _ (mark_is_no_name (codes "{") opening mark) refl)
 tag_facts tag (Some name) opening others (token, is, named, same) mark = rw is (go_true _ named (ap Some same), go_true _ named refl)
 
-struct_read : (inner : Level) (before : Context) (row : List Terminal) (name : Option (List ℕ)) (opening : Terminal) (others : List Terminal) (decls : List FieldDecl) (levels : ℕ) (behind : Context) (rest : List Terminal)
+struct_read : (inner : Level) (before : Context) (row : List Terminal) (name : Option Identifier) (opening : Terminal) (others : List Terminal) (decls : List FieldDecl) (levels : ℕ) (behind : Context) (rest : List Terminal)
     → tag_at row ≡ name → behind_tag row ≡ opening ∷ others → IsMark (codes "{") opening
     → read_until_brace (read_fields inner) (length (opening ∷ others)) before others ≡ Read decls levels behind rest
     → read_struct inner before row ≡ Read (Struct name (Some decls)) (1 + levels) behind (behind_first rest)
@@ -161,7 +162,7 @@ unfolding read_struct
 struct_read inner before row name opening others decls levels behind rest tag further mark is =
     rw further (rw tag (go_true _ mark (go_read _ is refl)))
 
-enum_read : (inner : Level) (before : Context) (row : List Terminal) (name : Option (List ℕ)) (opening : Terminal) (others : List Terminal) (values : List Enumerator) (levels : ℕ) (behind : Context) (rest : List Terminal) (closing : Terminal) (end : List Terminal)
+enum_read : (inner : Level) (before : Context) (row : List Terminal) (name : Option Identifier) (opening : Terminal) (others : List Terminal) (values : List Enumerator) (levels : ℕ) (behind : Context) (rest : List Terminal) (closing : Terminal) (end : List Terminal)
     → tag_at row ≡ name → behind_tag row ≡ opening ∷ others → IsMark (codes "{") opening
     → read_list closes_braces (read_enumerator inner) (length (opening ∷ others)) before others ≡ Read values levels behind rest
     → behind_comma rest ≡ closing ∷ end → IsMark (codes "}") closing
@@ -170,11 +171,11 @@ unfolding read_enum
 enum_read inner before row name opening others values levels behind rest closing end tag further mark is comma closes =
     rw further (rw tag (go_true _ mark (go_read _ is (rw comma (go_true _ closes refl)))))
 
-by_tag_struct : (inner : Level) (before : Context) (tag : Terminal) (rest : List Terminal) → IsName tag → has_mark (codes "{") rest ≡ false → read_struct inner before (tag ∷ rest) ≡ Read (Struct (Some tag.bytes) None) 1 before rest
+by_tag_struct : (inner : Level) (before : Context) (tag : Terminal) (rest : List Terminal) → IsName tag → has_mark (codes "{") rest ≡ false → read_struct inner before (tag ∷ rest) ≡ Read (Struct (Some (identifier tag)) None) 1 before rest
 unfolding read_struct
 by_tag_struct inner before tag rest named none = rw named (go_false _ none refl)
 
-by_tag_enum : (inner : Level) (before : Context) (tag : Terminal) (rest : List Terminal) → IsName tag → has_mark (codes "{") rest ≡ false → read_enum inner before (tag ∷ rest) ≡ Read (Enum (Some tag.bytes) None) 1 before rest
+by_tag_enum : (inner : Level) (before : Context) (tag : Terminal) (rest : List Terminal) → IsName tag → has_mark (codes "{") rest ≡ false → read_enum inner before (tag ∷ rest) ≡ Read (Enum (Some (identifier tag)) None) 1 before rest
 unfolding read_enum
 by_tag_enum inner before tag rest named none = rw named (go_false _ none refl)
 
@@ -184,27 +185,27 @@ no_brace rest ends = ends_first (is_mark (codes "{")) rest (ends_less goes_on_ty
 pub complete_struct_by_tag : (before : Context) (word tag : Terminal)
     → IsWord (codes "struct") word
     → IsName tag
-    → Completes (TypeSpecifier (Struct (Some tag.bytes) None)) before (word ∷ (tag ∷ [])) before
+    → Completes (TypeSpecifier (Struct (Some (identifier tag)) None)) before (word ∷ (tag ∷ [])) before
 unfolding read_specifier
-complete_struct_by_tag before word tag p1 p2 zero rest small ends = absurd (omega (arith, small, levels_struct_by_tag (Some tag.bytes)))
+complete_struct_by_tag before word tag p1 p2 zero rest small ends = absurd (omega (arith, small, levels_struct_by_tag (Some (identifier tag))))
 complete_struct_by_tag before word tag p1 p2 (suc m) rest small ends =
     ap (λ s. specifier_with (level m) before word (tag ∷ rest) s) (struct_start before.scope word p1)
-    ∙ (by_tag_struct (level m) before tag rest p2 (no_brace rest ends) ∙ read_levels _ before rest (sym (levels_struct_by_tag (Some tag.bytes))))
+    ∙ (by_tag_struct (level m) before tag rest p2 (no_brace rest ends) ∙ read_levels _ before rest (sym (levels_struct_by_tag (Some (identifier tag)))))
 
 pub complete_enum_by_tag : (before : Context) (word tag : Terminal)
     → IsWord (codes "enum") word
     → IsName tag
-    → Completes (TypeSpecifier (Enum (Some tag.bytes) None)) before (word ∷ (tag ∷ [])) before
+    → Completes (TypeSpecifier (Enum (Some (identifier tag)) None)) before (word ∷ (tag ∷ [])) before
 unfolding read_specifier
-complete_enum_by_tag before word tag p1 p2 zero rest small ends = absurd (omega (arith, small, levels_enum_by_tag (Some tag.bytes)))
+complete_enum_by_tag before word tag p1 p2 zero rest small ends = absurd (omega (arith, small, levels_enum_by_tag (Some (identifier tag))))
 complete_enum_by_tag before word tag p1 p2 (suc m) rest small ends =
     ap (λ s. specifier_with (level m) before word (tag ∷ rest) s) (enum_start before.scope word p1)
-    ∙ (by_tag_enum (level m) before tag rest p2 (no_brace rest ends) ∙ read_levels _ before rest (sym (levels_enum_by_tag (Some tag.bytes))))
+    ∙ (by_tag_enum (level m) before tag rest p2 (no_brace rest ends) ∙ read_levels _ before rest (sym (levels_enum_by_tag (Some (identifier tag)))))
 
 row_of_braces : (tag : List Terminal) (opening : Terminal) (xs : List Terminal) (closing : Terminal) (rest : List Terminal) → (tag ++ (opening ∷ (xs ++ (closing ∷ [])))) ++ rest ≡ tag ++ (opening ∷ (xs ++ (closing ∷ rest)))
 row_of_braces tag opening xs closing rest = append_assoc tag (opening ∷ (xs ++ (closing ∷ []))) rest ∙ ap (λ (row : List Terminal). tag ++ (opening ∷ row)) (append_assoc xs (closing ∷ []) rest)
 
-pub complete_struct_with_fields : (before after : Context) (xs : List Terminal) (name : Option (List ℕ)) (declarations : List FieldDecl) (tag : List Terminal) (word opening closing : Terminal)
+pub complete_struct_with_fields : (before after : Context) (xs : List Terminal) (name : Option Identifier) (declarations : List FieldDecl) (tag : List Terminal) (word opening closing : Terminal)
     → IsWord (codes "struct") word
     → IsTag tag name
     → IsMark (codes "{") opening
@@ -242,7 +243,7 @@ last_ends test last closing rest at_comma at_brace (inr (comma, is, named)) mark
 row_of_list : (tag : List Terminal) (opening : Terminal) (xs last : List Terminal) (closing : Terminal) (rest : List Terminal) → (tag ++ (opening ∷ (xs ++ (last ++ (closing ∷ []))))) ++ rest ≡ tag ++ (opening ∷ (xs ++ (last ++ (closing ∷ rest))))
 row_of_list tag opening xs last closing rest = append_assoc tag (opening ∷ (xs ++ (last ++ (closing ∷ [])))) rest ∙ ap (λ (row : List Terminal). tag ++ (opening ∷ row)) (row_of_three xs last (closing ∷ []) rest)
 
-pub complete_enum_with_values : (before after : Context) (xs : List Terminal) (name : Option (List ℕ)) (values : List Enumerator) (tag last : List Terminal) (word opening closing : Terminal)
+pub complete_enum_with_values : (before after : Context) (xs : List Terminal) (name : Option Identifier) (values : List Enumerator) (tag last : List Terminal) (word opening closing : Terminal)
     → IsWord (codes "enum") word
     → IsTag tag name
     → IsMark (codes "{") opening

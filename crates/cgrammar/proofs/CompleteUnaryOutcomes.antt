@@ -23,7 +23,8 @@ use Rattle.cgrammar.specs.ReadStatements.{read_block}
 use Rattle.cgrammar.specs.ReadStarts.{operand_start, postfix_start, is_constant, unary_start, counting_start}
 use Rattle.cgrammar.specs.ReadTypes.{never, read_type_name}
 use Rattle.cgrammar.specs.Reader.{level}
-use Rattle.cgrammar.specs.Terminals.{Terminal, is_mark, is_word, is_name, begins_with_typedef, first_word_place}
+use Rattle.cgrammar.specs.Terminals.{Terminal, is_mark, is_word, is_name, begins_with_typedef, first_word_place, last_place}
+use Rattle.cgrammar.specs.Trees.{identifier}
 use Rattle.cgrammar.specs.declared.reading.operand.Operand.{Operand}
 use Rattle.cgrammar.specs.declared.reading.starts.OperandStart.{OperandStart}
 use Rattle.cgrammar.specs.declared.reading.starts.OperandStart.TheVariants as operand
@@ -126,7 +127,7 @@ closed_unary inner start outcome =
 
 block_unary : (inner : Level) (context : Context) (opening : Terminal) (row : List Terminal) → AllUnary (statement_expression inner context opening row)
 block_unary inner context opening row =
-    then_unary (read_block inner context row) _ (λ body levels behind rest. first_unary (is_mark (codes ")")) rest Nothing _ tt (λ closing others. postfixes_unary inner (opening ∷ row) (length others + 1) (numbered behind opening.place (Inner body)) (1 + levels) (counted behind) others))
+    then_unary (read_block inner context row) _ (λ body levels behind rest. first_unary (is_mark (codes ")")) rest Nothing _ tt (λ closing others. postfixes_unary inner (opening ∷ row) (length others + 1) (numbered behind opening.place (Inner body (last_place (front_of row rest)))) (1 + levels) (counted behind) others))
 
 size_unary : (inner : Level) (context : Context) (word : Terminal) (row : List Terminal) → AllUnary (read_size_of inner context word row)
 unfolding read_size_of
@@ -140,14 +141,14 @@ offset_behind : Level → Terminal → List Terminal → TypeName → ℕ → Co
 offset_behind inner word row to levels behind name four =
     then_read (read_path inner (length four + 1) behind four) (λ path others last five.
     after_mark (codes ")") five Nothing (λ closing end.
-    postfixes_from inner (word ∷ row) (numbered last word.place (OffsetOf to (NamedPart name.bytes ∷ path))) (1 + max levels others) (counted last) end))
+    postfixes_from inner (word ∷ row) (numbered last word.place (OffsetOf to (NamedPart (identifier name) ∷ path))) (1 + max levels others) (counted last) end))
 
 offset_behind_unary : (inner : Level) (word : Terminal) (row : List Terminal) (to : TypeName) (levels : ℕ) (behind : Context) (name : Terminal) (four : List Terminal) → AllUnary (offset_behind inner word row to levels behind name four)
 unfolding offset_behind
 offset_behind_unary inner word row to levels behind name four =
     then_unary (read_path inner (length four + 1) behind four) _ (λ path others last five.
     first_unary (is_mark (codes ")")) five Nothing _ tt (λ closing end.
-    postfixes_unary inner (word ∷ row) (length end + 1) (numbered last word.place (OffsetOf to (NamedPart name.bytes ∷ path))) (1 + max levels others) (counted last) end))
+    postfixes_unary inner (word ∷ row) (length end + 1) (numbered last word.place (OffsetOf to (NamedPart (identifier name) ∷ path))) (1 + max levels others) (counted last) end))
 
 offset_unary : (inner : Level) (context : Context) (word : Terminal) (row : List Terminal) → AllUnary (read_offset_of inner context word row)
 unfolding read_offset_of offset_behind

@@ -1,8 +1,8 @@
 -- What holds between the contexts before and behind a row that spells a phrase, rule by rule.
-use Rattle.std.proofs.Common.{◌≡◌, ℕ, ◌≤◌, Bool, false, refl, ap, ◌∙◌, arith, List, [], ◌∷◌}
+use Rattle.std.proofs.Common.{◌≡◌, ℕ, Bool, false, refl, ap, ◌∙◌, List, [], ◌∷◌}
 use Rattle.cgrammar.proofs.Scopes.{left_entered}
-use Rattle.cgrammar.specs.Contexts.{KeepsOuter, ScopesAreKept, NumbersGrow, HasLastNumber, NumbersAreLast}
-use Rattle.cgrammar.specs.Grammar.{Spells, OneAssignment, CommaOperator, OneConditional, AssignmentOperator, OneOperation, ConditionalOperator, OneCast, BinaryOperator, OneUnary, CastOperator, OnePostfix, CountBefore, UnaryOperator, SizeOfExpression, SizeOfTypeName, OnePrimary, IndexOperator, CallOfNothing, CallOperator, MemberOperator, CountBehind, OneArgument, MoreArguments, OneName, OneConstant, Bracketed, StatementExpression, OffsetOfMember, NoMoreMembers, PathToMember, PathToItem, FailedAssertion, BasicWords, TypedefName, TypeOfExpression, TypeOfType, StructWithFields, StructByTag, NoMoreFields, MoreFields, OneFieldDeclaration, OneField, MoreFieldNames, NamedField, NamedBits, UnnamedBits, EnumWithValues, EnumByTag, LastEnumerator, MoreEnumerators, PlainEnumerator, ValuedEnumerator, OneTypeName, NoMoreSizes, SizeLeftOut, SizeGiven, TypeAlone, StorageBefore, StorageBehind, NoDeclarator, WithDeclarators, OneDeclarator, MoreDeclarators, ObjectDeclarator, InitializedDeclarator, DeclaratorOfFunction, NoParameters, VoidParameters, WithParameters, OneParameter, MoreParameters, NamedParameter, UnnamedParameter, InitializedTo, EmptyBraces, InBraces, OneInitializer, MoreInitializers, NextPart, MemberPart, OneBlock, NoMoreItems, NextDeclaration, NextStatement, BlockStatement, EmptyStatement, ExpressionStatement, IfStatement, IfElseStatement, WhileStatement, DoStatement, ForStatement, FirstDeclaration, FirstLeftOut, FirstExpression, NoExpression, SomeExpression, BreakStatement, ContinueStatement, ReturnStatement, LabeledStatement}
+use Rattle.cgrammar.specs.Contexts.{KeepsOuter, ScopesAreKept, HasLastNumber, NumbersAreLast}
+use Rattle.cgrammar.specs.Grammar.{Spells, OneAssignment, CommaOperator, OneConditional, AssignmentOperator, OneOperation, ConditionalOperator, OneCast, BinaryOperator, OneUnary, CastOperator, OnePostfix, CountBefore, UnaryOperator, SizeOfExpression, SizeOfTypeName, OnePrimary, IndexOperator, CallOfNothing, CallOperator, MemberOperator, CountBehind, OneArgument, MoreArguments, OneName, OneConstant, Bracketed, StatementExpression, OffsetOfMember, NoMoreMembers, PathToMember, PathToItem, FailedAssertion, BasicWords, TypedefName, TypeOfExpression, TypeOfType, StructWithFields, StructByTag, NoMoreFields, MoreFields, OneFieldDeclaration, OneField, MoreFieldNames, NamedField, NamedBits, UnnamedBits, EnumWithValues, EnumByTag, LastEnumerator, MoreEnumerators, PlainEnumerator, ValuedEnumerator, OneTypeName, NoMoreSizes, SizeLeftOut, SizeGiven, TypeAlone, StorageBefore, StorageBehind, NoDeclarator, WithDeclarators, OneDeclarator, MoreDeclarators, ObjectDeclarator, InitializedDeclarator, DeclaratorOfFunction, NoParameters, VoidParameters, WithParameters, OneParameter, MoreParameters, NamedParameter, UnnamedParameter, InitializedTo, EmptyBraces, InBraces, OneInitializer, MoreInitializers, NextPart, MemberPart, OneBlock, NoMoreItems, NextDeclaration, NextStatement, BlockStatement, EmptyStatement, ExpressionStatement, OneSubstatement, IfStatement, IfElseStatement, WhileStatement, DoStatement, ForStatement, FirstDeclaration, FirstLeftOut, FirstExpression, NoExpression, SomeExpression, BreakStatement, ContinueStatement, ReturnStatement, LabeledStatement}
 use Rattle.cgrammar.specs.Phrases.{Phrase, Context}
 use Rattle.cgrammar.specs.Scope.{Names, declared, left}
 use Rattle.cgrammar.specs.Terminals.{Terminal}
@@ -102,10 +102,11 @@ kept (NextStatement d1 d2) = kept d2 ∙ kept d1
 kept (BlockStatement d1) = ap left (kept d1)
 kept (EmptyStatement _ _) = refl
 kept (ExpressionStatement _ _ d1 _) = kept d1
-kept (IfStatement _ _ _ _ _ _ d1 _ d2) = kept d2 ∙ kept d1
-kept (IfElseStatement _ _ _ _ _ _ _ d1 _ d2 _ d3) = kept d3 ∙ (kept d2 ∙ kept d1)
-kept (WhileStatement _ _ _ _ _ _ d1 _ d2) = kept d2 ∙ kept d1
-kept (DoStatement _ _ _ _ _ _ d1 _ _ _ d2 _ _) = kept d2 ∙ kept d1
+kept (OneSubstatement d1) = refl
+kept (IfStatement _ _ _ _ _ _ d1 _ d2) = refl
+kept (IfElseStatement _ _ _ _ _ _ _ d1 _ d2 _ d3) = refl
+kept (WhileStatement _ _ _ _ _ _ d1 _ d2) = refl
+kept (DoStatement _ _ _ _ _ _ d1 _ _ _ d2 _ _) = refl
 kept (ForStatement _ _ _ _ _ _ d1 d2 _ d3 _ d4) = refl
 kept (FirstDeclaration d1) = kept d1
 kept (FirstLeftOut _ _) = refl
@@ -119,112 +120,6 @@ kept (LabeledStatement _ _ _ _ _ d1) = kept d1
 
 pub scopes_kept : ScopesAreKept
 scopes_kept phrase before after row spelled = kept spelled
-
-grows : {phrase : Phrase} {before after : Context} {row : List Terminal} → Spells phrase before row after → before.expressions ≤ after.expressions
-grows (OneAssignment d1) = omega (arith, grows d1)
-grows (CommaOperator _ d1 _ d2) = omega (arith, grows d1, grows d2)
-grows (OneConditional d1) = omega (arith, grows d1)
-grows (AssignmentOperator _ d1 _ d2) = omega (arith, grows d1, grows d2)
-grows (OneOperation d1) = omega (arith, grows d1)
-grows (ConditionalOperator _ _ d1 _ d2 _ d3) = omega (arith, grows d1, grows d2, grows d3)
-grows (OneCast d1) = omega (arith, grows d1)
-grows (BinaryOperator _ _ d1 _ d2) = omega (arith, grows d1, grows d2)
-grows (OneUnary d1) = omega (arith, grows d1)
-grows (CastOperator _ _ _ d1 _ d2) = omega (arith, grows d1, grows d2)
-grows (OnePostfix d1) = omega (arith, grows d1)
-grows (CountBefore _ _ d1) = omega (arith, grows d1)
-grows (UnaryOperator _ _ d1) = omega (arith, grows d1)
-grows (SizeOfExpression _ _ d1) = omega (arith, grows d1)
-grows (SizeOfTypeName _ _ _ _ _ d1 _) = omega (arith, grows d1)
-grows (OnePrimary d1) = omega (arith, grows d1)
-grows (IndexOperator _ _ d1 _ d2 _) = omega (arith, grows d1, grows d2)
-grows (CallOfNothing _ _ d1 _ _) = omega (arith, grows d1)
-grows (CallOperator _ _ d1 _ _ d2 _) = omega (arith, grows d1, grows d2)
-grows (MemberOperator _ _ d1 _ _) = omega (arith, grows d1)
-grows (CountBehind _ d1 _) = omega (arith, grows d1)
-grows (OneArgument d1) = omega (arith, grows d1)
-grows (MoreArguments _ d1 _ d2) = omega (arith, grows d1, grows d2)
-grows (OneName _ _) = omega (arith)
-grows (OneConstant _ _) = omega (arith)
-grows (Bracketed _ _ _ _ d1 _) = omega (arith, grows d1)
-grows (StatementExpression _ _ _ d1 _) = omega (arith, grows d1)
-grows (OffsetOfMember _ _ _ _ _ _ _ d1 _ _ d2 _) = omega (arith, grows d1, grows d2)
-grows NoMoreMembers = omega (arith)
-grows (PathToMember _ _ _ _ d1) = omega (arith, grows d1)
-grows (PathToItem _ _ _ d1 _ d2) = omega (arith, grows d1, grows d2)
-grows (FailedAssertion _ _ _ _ _ _ _) = omega (arith)
-grows (BasicWords _ _) = omega (arith)
-grows (TypedefName _ _) = omega (arith)
-grows (TypeOfExpression _ _ _ _ _ _ d1 _) = omega (arith, grows d1)
-grows (TypeOfType _ _ _ _ _ d1 _) = omega (arith, grows d1)
-grows (StructWithFields _ _ _ _ _ _ _ d1 _) = omega (arith, grows d1)
-grows (StructByTag _ _ _ _) = omega (arith)
-grows NoMoreFields = omega (arith)
-grows (MoreFields d1 d2) = omega (arith, grows d1, grows d2)
-grows (OneFieldDeclaration _ d1 d2 _) = omega (arith, grows d1, grows d2)
-grows (OneField d1) = omega (arith, grows d1)
-grows (MoreFieldNames _ d1 _ d2) = omega (arith, grows d1, grows d2)
-grows (NamedField _ _ _ _ d1 _) = omega (arith, grows d1)
-grows (NamedBits _ _ _ _ _ d1 _ _ d2) = omega (arith, grows d1, grows d2)
-grows (UnnamedBits _ _ d1) = omega (arith, grows d1)
-grows (EnumWithValues _ _ _ _ _ _ _ _ d1 _ _) = omega (arith, grows d1)
-grows (EnumByTag _ _ _ _) = omega (arith)
-grows (LastEnumerator d1) = omega (arith, grows d1)
-grows (MoreEnumerators _ d1 _ d2) = omega (arith, grows d1, grows d2)
-grows (PlainEnumerator _ _) = omega (arith)
-grows (ValuedEnumerator _ _ _ _ d1) = omega (arith, grows d1)
-grows (OneTypeName _ d1 _ d2) = omega (arith, grows d1, grows d2)
-grows NoMoreSizes = omega (arith)
-grows (SizeLeftOut _ _ _ _ d1) = omega (arith, grows d1)
-grows (SizeGiven _ _ _ d1 _ d2) = omega (arith, grows d1, grows d2)
-grows (TypeAlone d1) = omega (arith, grows d1)
-grows (StorageBefore _ _ d1) = omega (arith, grows d1)
-grows (StorageBehind _ d1 _) = omega (arith, grows d1)
-grows (NoDeclarator _ d1 _) = omega (arith, grows d1)
-grows (WithDeclarators _ d1 d2 _) = omega (arith, grows d1, grows d2)
-grows (OneDeclarator d1) = omega (arith, grows d1)
-grows (MoreDeclarators _ d1 _ d2) = omega (arith, grows d1, grows d2)
-grows (ObjectDeclarator _ _ _ _ d1) = omega (arith, grows d1)
-grows (InitializedDeclarator _ _ _ _ _ d1 _ d2) = omega (arith, grows d1, grows d2)
-grows (DeclaratorOfFunction d1) = omega (arith, grows d1)
-grows (NoParameters _ _ _ _ _ _ _ _) = omega (arith)
-grows (VoidParameters _ _ _ _ _ _ _ _ _ _) = omega (arith)
-grows (WithParameters _ _ _ _ _ _ _ _ d1 _) = omega (arith, grows d1)
-grows (OneParameter d1) = omega (arith, grows d1)
-grows (MoreParameters _ d1 _ d2) = omega (arith, grows d1, grows d2)
-grows (NamedParameter _ _ d1 _ _ d2) = omega (arith, grows d1, grows d2)
-grows (UnnamedParameter _ d1 _ d2) = omega (arith, grows d1, grows d2)
-grows (InitializedTo d1) = omega (arith, grows d1)
-grows (EmptyBraces _ _ _ _) = omega (arith)
-grows (InBraces _ _ _ _ d1 _ _) = omega (arith, grows d1)
-grows (OneInitializer d1) = omega (arith, grows d1)
-grows (MoreInitializers _ d1 _ d2) = omega (arith, grows d1, grows d2)
-grows (NextPart d1) = omega (arith, grows d1)
-grows (MemberPart _ _ _ _ _ _ d1) = omega (arith, grows d1)
-grows (OneBlock _ _ _ d1 _) = omega (arith, grows d1)
-grows NoMoreItems = omega (arith)
-grows (NextDeclaration d1 d2) = omega (arith, grows d1, grows d2)
-grows (NextStatement d1 d2) = omega (arith, grows d1, grows d2)
-grows (BlockStatement d1) = omega (arith, grows d1)
-grows (EmptyStatement _ _) = omega (arith)
-grows (ExpressionStatement _ _ d1 _) = omega (arith, grows d1)
-grows (IfStatement _ _ _ _ _ _ d1 _ d2) = omega (arith, grows d1, grows d2)
-grows (IfElseStatement _ _ _ _ _ _ _ d1 _ d2 _ d3) = omega (arith, grows d1, grows d2, grows d3)
-grows (WhileStatement _ _ _ _ _ _ d1 _ d2) = omega (arith, grows d1, grows d2)
-grows (DoStatement _ _ _ _ _ _ d1 _ _ _ d2 _ _) = omega (arith, grows d1, grows d2)
-grows (ForStatement _ _ _ _ _ _ d1 d2 _ d3 _ d4) = omega (arith, grows d1, grows d2, grows d3, grows d4)
-grows (FirstDeclaration d1) = omega (arith, grows d1)
-grows (FirstLeftOut _ _) = omega (arith)
-grows (FirstExpression _ _ d1 _) = omega (arith, grows d1)
-grows NoExpression = omega (arith)
-grows (SomeExpression d1) = omega (arith, grows d1)
-grows (BreakStatement _ _ _ _) = omega (arith)
-grows (ContinueStatement _ _ _ _) = omega (arith)
-grows (ReturnStatement _ _ _ d1 _) = omega (arith, grows d1)
-grows (LabeledStatement _ _ _ _ _ d1) = omega (arith, grows d1)
-
-pub numbers_grow : NumbersGrow
-numbers_grow phrase before after row spelled = grows spelled
 
 last : {phrase : Phrase} {before after : Context} {row : List Terminal} → Spells phrase before row after → HasLastNumber phrase after
 last (OneAssignment d1) = last d1
@@ -314,6 +209,7 @@ last (NextStatement _ _) = tt
 last (BlockStatement _) = tt
 last (EmptyStatement _ _) = tt
 last (ExpressionStatement _ _ _ _) = tt
+last (OneSubstatement _) = tt
 last (IfStatement _ _ _ _ _ _ _ _ _) = tt
 last (IfElseStatement _ _ _ _ _ _ _ _ _ _ _ _) = tt
 last (WhileStatement _ _ _ _ _ _ _ _ _) = tt

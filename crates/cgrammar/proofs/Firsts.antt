@@ -1,5 +1,5 @@
 -- With which tokens the parts of the grammar begin, rule by rule.
-use Rattle.std.proofs.Common.{◌≡◌, ℕ, Bool, true, false, ◌&&◌, ◌||◌, not, refl, ap, sym, ◌∙◌, List, [], ◌∷◌, ◌++◌, map, codes, Some, IsTrue, suc, ◌+◌, length, nat_eq, arith, eqb-true}
+use Rattle.std.proofs.Common.{◌≡◌, ℕ, Bool, true, false, ◌&&◌, ◌||◌, not, refl, ap, sym, ◌∙◌, List, [], ◌∷◌, ◌++◌, map, codes, Option, Some, IsTrue, suc, ◌+◌, length, nat_eq, arith, eqb-true}
 use Rattle.std.specs.Prelude.{if◌then◌else◌}
 use Rattle.std.specs.List.{list_any, list_all}
 use Rattle.std.specs.Str.{bytes_eq}
@@ -10,15 +10,16 @@ use Rattle.cbase.specs.declared.tree.spec.BasicType.{BasicType}
 use Rattle.ctokens.specs.Symbol.{is_identifier}
 use Rattle.ctokens.specs.SymbolTables.{keyword_symbol, name_symbol, passed_symbol, word_symbol}
 use Rattle.cgrammar.proofs.BasicRows.{some-times}
+use Rattle.cgrammar.proofs.Scopes.{found_entered}
 use Rattle.cgrammar.proofs.TokenKinds.{mark_is_mark_kind, mark_kind_no_word, no_identifier, bytes_same, row_is_mark_kind, constant_is_no_word_kind}
 use Rattle.cgrammar.proofs.Truth.{and-left, and-right, or-left, or-right, of-any}
 use Rattle.cgrammar.specs.Constants.{IsConstant}
 use Rattle.cgrammar.specs.Firsts.{type_words, storage_words, is_among, begins_type, begins_declaration, is_plain, Begins, BeginsAs, FirstTokens, DeclarationsAreNoStatements, TypesAreNoExpressions}
-use Rattle.cgrammar.specs.Grammar.{Spells, OneAssignment, CommaOperator, OneConditional, AssignmentOperator, OneOperation, ConditionalOperator, OneCast, BinaryOperator, OneUnary, CastOperator, OnePostfix, CountBefore, UnaryOperator, SizeOfExpression, SizeOfTypeName, OnePrimary, IndexOperator, CallOfNothing, CallOperator, MemberOperator, CountBehind, OneArgument, MoreArguments, OneName, OneConstant, Bracketed, StatementExpression, OffsetOfMember, NoMoreMembers, PathToMember, PathToItem, FailedAssertion, BasicWords, TypedefName, TypeOfExpression, TypeOfType, StructWithFields, StructByTag, NoMoreFields, MoreFields, OneFieldDeclaration, OneField, MoreFieldNames, NamedField, NamedBits, UnnamedBits, EnumWithValues, EnumByTag, LastEnumerator, MoreEnumerators, PlainEnumerator, ValuedEnumerator, OneTypeName, NoMoreSizes, SizeLeftOut, SizeGiven, TypeAlone, StorageBefore, StorageBehind, NoDeclarator, WithDeclarators, OneDeclarator, MoreDeclarators, ObjectDeclarator, InitializedDeclarator, DeclaratorOfFunction, NoParameters, VoidParameters, WithParameters, OneParameter, MoreParameters, NamedParameter, UnnamedParameter, InitializedTo, EmptyBraces, InBraces, OneInitializer, MoreInitializers, NextPart, MemberPart, OneBlock, NoMoreItems, NextDeclaration, NextStatement, BlockStatement, EmptyStatement, ExpressionStatement, IfStatement, IfElseStatement, WhileStatement, DoStatement, ForStatement, FirstDeclaration, FirstLeftOut, FirstExpression, NoExpression, SomeExpression, BreakStatement, ContinueStatement, ReturnStatement, LabeledStatement}
+use Rattle.cgrammar.specs.Grammar.{Spells, OneAssignment, CommaOperator, OneConditional, AssignmentOperator, OneOperation, ConditionalOperator, OneCast, BinaryOperator, OneUnary, CastOperator, OnePostfix, CountBefore, UnaryOperator, SizeOfExpression, SizeOfTypeName, OnePrimary, IndexOperator, CallOfNothing, CallOperator, MemberOperator, CountBehind, OneArgument, MoreArguments, OneName, OneConstant, Bracketed, StatementExpression, OffsetOfMember, NoMoreMembers, PathToMember, PathToItem, FailedAssertion, BasicWords, TypedefName, TypeOfExpression, TypeOfType, StructWithFields, StructByTag, NoMoreFields, MoreFields, OneFieldDeclaration, OneField, MoreFieldNames, NamedField, NamedBits, UnnamedBits, EnumWithValues, EnumByTag, LastEnumerator, MoreEnumerators, PlainEnumerator, ValuedEnumerator, OneTypeName, NoMoreSizes, SizeLeftOut, SizeGiven, TypeAlone, StorageBefore, StorageBehind, NoDeclarator, WithDeclarators, OneDeclarator, MoreDeclarators, ObjectDeclarator, InitializedDeclarator, DeclaratorOfFunction, NoParameters, VoidParameters, WithParameters, OneParameter, MoreParameters, NamedParameter, UnnamedParameter, InitializedTo, EmptyBraces, InBraces, OneInitializer, MoreInitializers, NextPart, MemberPart, OneBlock, NoMoreItems, NextDeclaration, NextStatement, BlockStatement, EmptyStatement, ExpressionStatement, OneSubstatement, IfStatement, IfElseStatement, WhileStatement, DoStatement, ForStatement, FirstDeclaration, FirstLeftOut, FirstExpression, NoExpression, SomeExpression, BreakStatement, ContinueStatement, ReturnStatement, LabeledStatement}
 use Rattle.cgrammar.specs.Operators.{unary_rows, count_rows}
 use Rattle.cgrammar.specs.Phrases.{Phrase, Context}
-use Rattle.cgrammar.specs.Scope.{Names, is_typedef_name}
-use Rattle.cgrammar.specs.Terminals.{Terminal, is_word_kind, is_mark_kind, IsWord, IsName, is_left_out, is_typedef, IsNoType, is_any_word, bytes_of}
+use Rattle.cgrammar.specs.Scope.{Names, says_typedef, is_typedef_name, entered}
+use Rattle.cgrammar.specs.Terminals.{Terminal, is_word_kind, is_mark_kind, IsWord, is_name, IsName, is_left_out, is_typedef, IsNoType, is_any_word, bytes_of}
 use Rattle.cgrammar.specs.TypeWords.{IsStorage, basic_rows, basic_of, are_same, times}
 
 pub begins-append : (test : Terminal → Bool) (xs ys : List Terminal) → Begins test xs → Begins test (xs ++ ys)
@@ -142,6 +143,12 @@ expression-statement scopes (token ∷ row) plain is = step (is_among storage_wo
     step false true typedef p t = p
     step false false typedef p t = t
 
+-- a scope that is entered makes no name a typedef's
+not-entered : (scopes : List Names) (row : List Terminal) → Begins (λ token. not (begins_declaration (entered scopes) token)) row → Begins (λ token. not (begins_declaration scopes token)) row
+not-entered scopes [] no-first = no-first
+not-entered scopes (token ∷ row) is =
+    ap (λ (answer : Option Bool). not (is_among storage_words token || (is_among type_words token || (is_name token && says_typedef answer)))) (sym (found_entered token.bytes scopes)) ∙ is
+
 pub first : {phrase : Phrase} {before after : Context} {row : List Terminal} → Spells phrase before row after → BeginsAs phrase before.scope row
 unfolding keyword_symbol name_symbol passed_symbol
 first (OneAssignment d1) = first d1
@@ -231,6 +238,7 @@ first (NextStatement _ _) = tt
 first (BlockStatement d1) = first d1
 first (EmptyStatement {before} semicolon p1) = mark-statement before.scope semicolon (mark_is_mark_kind (codes ";") semicolon p1)
 first (ExpressionStatement {before} {xs} semicolon p1 d1 _) = begins-append (λ token. not (begins_declaration before.scope token)) xs (semicolon ∷ []) (expression-statement before.scope xs (first d1) p1)
+first (OneSubstatement {before} {xs} d1) = not-entered before.scope xs (first d1)
 first (IfStatement {before} word _ _ p1 _ _ _ _ _) = word-statement before.scope (codes "if") word p1 refl refl
 first (IfElseStatement {before} word _ _ _ p1 _ _ _ _ _ _ _) = word-statement before.scope (codes "if") word p1 refl refl
 first (WhileStatement {before} word _ _ p1 _ _ _ _ _) = word-statement before.scope (codes "while") word p1 refl refl

@@ -8,6 +8,8 @@ pub mod CompleteInitializers
 pub mod CompleteStatements
 pub mod CompleteTypes
 pub mod Contexts
+pub mod Consecutive
+pub mod TreeNumbers
 pub mod Firsts
 pub mod FrontReadings
 pub mod Fronts

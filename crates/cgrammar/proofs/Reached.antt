@@ -12,16 +12,16 @@ use Rattle.cgrammar.specs.Grammar.{Spells, declaring}
 use Rattle.cgrammar.specs.Operators.{mark_row, binary_rows, assignment_rows}
 use Rattle.cgrammar.specs.Outcomes.{Outcome, Nothing, Stopped, Read, has_first, has_mark, behind_first, continued}
 use Rattle.cgrammar.specs.Phrases.{Phrase, Context}
-use Rattle.cgrammar.specs.Phrases.{Expression, Assignment, Conditional, Operation, CastExpression, UnaryExpression, PostfixExpression, PrimaryExpression, Arguments, MemberPath, TypeSpecifier, NameOfType, ArraySizes, Fields, FieldDeclaration, FieldDeclarators, FieldDeclarator, Enumerators, OneEnumerator, Specifiers, Declaration, Declarators, Declarator, FunctionDeclarator, Parameters, Parameter, Initializer, Initializers, DesignatedInitializer, CompoundStatement, BlockItems, Statement, FirstClause, MaybeExpression}
+use Rattle.cgrammar.specs.Phrases.{Expression, Assignment, Conditional, Operation, CastExpression, UnaryExpression, PostfixExpression, PrimaryExpression, Arguments, MemberPath, TypeSpecifier, NameOfType, ArraySizes, Fields, FieldDeclaration, FieldDeclarators, FieldDeclarator, Enumerators, OneEnumerator, Specifiers, Declaration, Declarators, Declarator, FunctionDeclarator, Parameters, Parameter, Initializer, Initializers, DesignatedInitializer, CompoundStatement, BlockItems, Statement, Substatement, FirstClause, MaybeExpression}
 use Rattle.cgrammar.specs.ReadDeclarations.{leaving, read_specifiers, read_parameter, read_declarator, read_declaration, read_part, specifiers_of}
 use Rattle.cgrammar.specs.ReadLevels.{Level, read_list, read_until_brace}
 use Rattle.cgrammar.specs.ReadOperands.{read_cast, read_postfixes, read_path, goes_on, unary_operand}
 use Rattle.cgrammar.specs.ReadOperators.{expr_of, read_operations, operations_from}
 use Rattle.cgrammar.specs.ReadStarts.{postfix_start}
-use Rattle.cgrammar.specs.ReadStatements.{read_block, read_maybe}
+use Rattle.cgrammar.specs.ReadStatements.{read_block, read_maybe, substatement}
 use Rattle.cgrammar.specs.ReadTypes.{read_sizes, read_type_name, read_field, read_fields, read_enumerator, never, closes_braces}
 use Rattle.cgrammar.specs.Reader.{level}
-use Rattle.cgrammar.specs.Terminals.{Terminal, is_mark, is_word, is_name}
+use Rattle.cgrammar.specs.Terminals.{Terminal, is_mark, is_word, is_name, first_place}
 use Rattle.cgrammar.specs.declared.reading.operand.Operand.{Operand}
 
 -- what was read goes at least as far as where the row is left
@@ -117,7 +117,8 @@ goes_on_statement dangling token = dangling && is_word (codes "else") token
 abbrev pub ClosesList : List Terminal → Type 0
 ClosesList rest = IsTrue (not (has_mark (codes ",") rest && not (closes_braces (behind_first rest))))
 
--- For each phrase what is read where it stands at the front of a row, and has at most so many levels.
+-- For each phrase what is read where it stands at the front of a row, and has at most so many levels. A phrase that says where
+-- the token behind it stands is read where the row behind it begins there.
 abbrev pub Completes : Phrase → Context → List Terminal → Context → Type 0
 Completes (Expression e) before front after =
     (n : ℕ) (rest : List Terminal) → expr_levels e ≤ n → Goes goes_on_expression e (expr_levels e) after rest ((level n).expression before (front ++ rest))
@@ -178,11 +179,11 @@ Completes (Specifiers s t) before front after =
     (n : ℕ) (rest : List Terminal) → spec_levels t ≤ n → Ends goes_on_specifiers rest → read_specifiers (level n) before (front ++ rest) ≡ Read (specifiers_of s t) (spec_levels t) after rest
 Completes (Declaration d) before front after =
     (n : ℕ) (rest : List Terminal) → decl_levels d ≤ n → read_declaration (level n) before (front ++ rest) ≡ Read d (decl_levels d) after rest
-Completes (Declarators typedef ns) before front after =
-    (n count : ℕ) (rest : List Terminal) → length (front ++ rest) < count → joined depth (map declared_levels ns) ≤ n → Ends (goes_on_list goes_on_declarator) rest
+Completes (Declarators typedef behind ns) before front after =
+    (n count : ℕ) (rest : List Terminal) → length (front ++ rest) < count → first_place rest ≡ behind → joined depth (map declared_levels ns) ≤ n → Ends (goes_on_list goes_on_declarator) rest
     → read_list never (read_declarator (level n) typedef) count before (front ++ rest) ≡ Read ns (joined depth (map declared_levels ns)) after rest
-Completes (Declarator typedef d) before front after =
-    (n : ℕ) (rest : List Terminal) → declared_levels d ≤ n → Ends goes_on_declarator rest → read_declarator (level n) typedef before (front ++ rest) ≡ Read d (declared_levels d) after rest
+Completes (Declarator typedef behind d) before front after =
+    (n : ℕ) (rest : List Terminal) → first_place rest ≡ behind → declared_levels d ≤ n → Ends goes_on_declarator rest → read_declarator (level n) typedef before (front ++ rest) ≡ Read d (declared_levels d) after rest
 -- behind a function's declarator the scope of its parameters is entered, which its declaration leaves again
 Completes (FunctionDeclarator name d) before front after =
     (n : ℕ) (typedef : Bool) (rest : List Terminal) → declared_levels d ≤ n
@@ -193,14 +194,14 @@ Completes (Parameters ps) before front after =
     → read_list never (read_parameter (level n)) count before (front ++ rest) ≡ Read ps (joined depth (map param_levels ps)) after rest
 Completes (Parameter p) before front after =
     (n : ℕ) (rest : List Terminal) → param_levels p ≤ n → Ends goes_on_parameter rest → read_parameter (level n) before (front ++ rest) ≡ Read p (param_levels p) after rest
-Completes (Initializer i) before front after =
-    (n : ℕ) (rest : List Terminal) → init_levels i ≤ n → Ends goes_on_assignment rest → (level n).initializer before (front ++ rest) ≡ Read i (init_levels i) after rest
+Completes (Initializer behind i) before front after =
+    (n : ℕ) (rest : List Terminal) → first_place rest ≡ behind → init_levels i ≤ n → Ends goes_on_assignment rest → (level n).initializer before (front ++ rest) ≡ Read i (init_levels i) after rest
 -- the part of a list is read with one level less than the list
-Completes (Initializers ps) before front after =
-    (n count : ℕ) (rest : List Terminal) → length (front ++ rest) < count → joined depth (map init_part_levels ps) ≤ n → Ends goes_on_assignment rest → ClosesList rest
+Completes (Initializers behind ps) before front after =
+    (n count : ℕ) (rest : List Terminal) → length (front ++ rest) < count → first_place rest ≡ behind → joined depth (map init_part_levels ps) ≤ n → Ends goes_on_assignment rest → ClosesList rest
     → read_list closes_braces (read_part (level n)) count before (front ++ rest) ≡ Read ps (joined depth (map init_part_levels ps)) after rest
-Completes (DesignatedInitializer p) before front after =
-    (n : ℕ) (rest : List Terminal) → init_part_levels p ≤ n → Ends goes_on_assignment rest → read_part (level n) before (front ++ rest) ≡ Read p (init_part_levels p) after rest
+Completes (DesignatedInitializer behind p) before front after =
+    (n : ℕ) (rest : List Terminal) → first_place rest ≡ behind → init_part_levels p ≤ n → Ends goes_on_assignment rest → read_part (level n) before (front ++ rest) ≡ Read p (init_part_levels p) after rest
 Completes (CompoundStatement b) before front after =
     (n : ℕ) (rest : List Terminal) → joined depth (map stmt_levels b) ≤ n → read_block (level n) before (front ++ rest) ≡ Read b (joined depth (map stmt_levels b)) after rest
 Completes (BlockItems b) before front after =
@@ -208,6 +209,8 @@ Completes (BlockItems b) before front after =
     → read_until_brace (level n).item count before (front ++ rest) ≡ Read b (joined depth (map stmt_levels b)) after rest
 Completes (Statement dangling s) before front after =
     (n : ℕ) (rest : List Terminal) → stmt_levels s ≤ n → Ends (goes_on_statement dangling) rest → (level n).statement before (front ++ rest) ≡ Read s (stmt_levels s) after rest
+Completes (Substatement dangling s) before front after =
+    (n : ℕ) (rest : List Terminal) → stmt_levels s ≤ n → Ends (goes_on_statement dangling) rest → substatement (level n) before (front ++ rest) ≡ Read s (stmt_levels s) after rest
 Completes (FirstClause s) before front after =
     (n : ℕ) (rest : List Terminal) → stmt_levels s ≤ n → (level n).clause before (front ++ rest) ≡ Read s (stmt_levels s) after rest
 Completes (MaybeExpression e) before front after =

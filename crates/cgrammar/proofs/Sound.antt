@@ -7,7 +7,7 @@ use Rattle.cgrammar.proofs.Reached.{IsSound, operand_phrase, operand_levels}
 use Rattle.cgrammar.proofs.SoundDeclarations.{sound_initializer}
 use Rattle.cgrammar.proofs.SoundOperands.{sound_cast}
 use Rattle.cgrammar.proofs.SoundOperators.{operand_cast, held_as, sound_operations_from, sound_conditional_from, sound_assignment_from, sound_expression_from}
-use Rattle.cgrammar.proofs.SoundSays.{spelled_as, says_operation, says_statement, says_item, SoundLevel}
+use Rattle.cgrammar.proofs.SoundSays.{spelled_as, spelled_before, says_operation, says_statement, says_item, SoundLevel}
 use Rattle.cgrammar.proofs.SoundStatements.{sound_clause, sound_statement, sound_item, sound_block as sound_block_of}
 use Rattle.cgrammar.proofs.SoundSteps.{Sound, sound_nothing, sound_continued}
 use Rattle.cgrammar.proofs.SoundTypes.{sound_specifier}
@@ -82,7 +82,7 @@ pub record IsSoundLevel (most : ℕ) (inner : Level) : Type 0 where
   pub assignment : (context : Context) (row : List Terminal) → IsSound Assignment expr_levels most context row (inner.assignment context row)
   pub expression : (context : Context) (row : List Terminal) → IsSound Expression expr_levels most context row (inner.expression context row)
   pub specifier : (context : Context) (row : List Terminal) → IsSound TypeSpecifier spec_levels most context row (inner.specifier context row)
-  pub initializer : (context : Context) (row : List Terminal) → IsSound Initializer init_levels most context row (inner.initializer context row)
+  pub initializer : (context : Context) (row : List Terminal) → Sound (spelled_before Initializer) init_levels most context row (inner.initializer context row)
   pub clause : (context : Context) (row : List Terminal) → IsSound FirstClause stmt_levels most context row (inner.clause context row)
   pub statement : (context : Context) (row : List Terminal) → Sound says_statement stmt_levels most context row (inner.statement context row)
   pub item : (context : Context) (row : List Terminal) → Sound says_item stmt_levels most context row (inner.item context row)
@@ -104,7 +104,7 @@ sound_at inner is = record {
   assignment = λ context row. is_sound Assignment expr_levels inner.most context row (inner.assignment context row) (is.assignment context row);
   expression = λ context row. is_sound Expression expr_levels inner.most context row (inner.expression context row) (is.expression context row);
   specifier = λ context row. is_sound TypeSpecifier spec_levels inner.most context row (inner.specifier context row) (is.specifier context row);
-  initializer = λ context row. is_sound Initializer init_levels inner.most context row (inner.initializer context row) (is.initializer context row);
+  initializer = is.initializer;
   clause = λ context row. is_sound FirstClause stmt_levels inner.most context row (inner.clause context row) (is.clause context row);
   statement = is.statement;
   item = is.item;

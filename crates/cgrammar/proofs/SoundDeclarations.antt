@@ -1,12 +1,13 @@
 -- Declarations and initialisers are read as the grammar spells them.
 use Rattle.std.proofs.Common.{◌≡◌, ℕ, ◌+◌, ◌≤◌, Bool, true, false, ◌&&◌, not, List, [], ◌∷◌, ◌++◌, length, refl, ap, sym, ◌∙◌, subst, arith, codes, Option, None, Some, IsTrue}
+use Rattle.cbase.specs.declared.place.Place.{Place}
 use Rattle.cbase.specs.declared.tree.decl.Param.{Param}
 use Rattle.cbase.specs.declared.tree.decl.Storage.{Storage}
 use Rattle.cbase.specs.declared.tree.spec.TypeSpec.{TypeSpec}
 use Rattle.ctrees.specs.Levels.{decl_levels, declared_levels, init_levels, init_part_levels, param_levels, spec_levels}
 use Rattle.cgrammar.proofs.Contexts.{scopes_kept}
 use Rattle.cgrammar.proofs.SoundLists.{levels_of_all, sound_list, stars_of, comma_of_row}
-use Rattle.cgrammar.proofs.SoundSays.{spelled_as, SoundLevel}
+use Rattle.cgrammar.proofs.SoundSays.{spelled_as, spelled_before, SoundLevel}
 use Rattle.cgrammar.proofs.SoundSteps.{Splits, split_last, split_first, split_more, Got, Sound, Reads, sound_nothing, made, sound_then, sound_if, sound_first, first_of, one_more, larger, larger_fits, one_more_fits}
 use Rattle.cgrammar.proofs.SoundTypes.{sound_sizes}
 use Rattle.cgrammar.proofs.TokenReadings.{storage_exact}
@@ -20,8 +21,8 @@ use Rattle.cgrammar.specs.ReadDeclarations.{leaving, storage_at, storage_behind,
 use Rattle.cgrammar.specs.ReadLevels.{Level, read_list}
 use Rattle.cgrammar.specs.ReadTypes.{behind_stars, read_sizes, never, closes_braces, behind_comma}
 use Rattle.cgrammar.specs.Scope.{Names, left}
-use Rattle.cgrammar.specs.Terminals.{Terminal, is_mark, IsMark, is_word, IsName, AreStars}
-use Rattle.cgrammar.specs.Trees.{function}
+use Rattle.cgrammar.specs.Terminals.{Terminal, is_mark, IsMark, is_word, IsName, AreStars, first_place}
+use Rattle.cgrammar.specs.Trees.{identifier, function}
 use Rattle.cgrammar.specs.TypeWords.{IsStorage, declares_typedef}
 use Rattle.cgrammar.specs.declared.reading.specifiers.Specifiers.{Specifiers as ReadSpecifiers}
 
@@ -66,7 +67,7 @@ sound_parameter_behind inner type storage levels stars front before context row 
     (larger same read.same ∙ sym (levels_parameter type (length stars) None sizes)) (larger_fits fits read.fits)))
     (λ name more from named. sound_then (read_sizes inner (length more + 1) context more) _ (sound_sizes inner (length more + 1) is context more) (λ sizes others behind rest read.
     made (split_more split (split_more stars_split (split_first from read.whole))) (NamedParameter stars name spelled are named read.spelled)
-    (larger same read.same ∙ sym (levels_parameter type (length stars) (Some name.bytes) sizes)) (larger_fits fits read.fits)))
+    (larger same read.same ∙ sym (levels_parameter type (length stars) (Some (identifier name)) sizes)) (larger_fits fits read.fits)))
 
 pub sound_parameter : (inner : Level) → SoundLevel inner → Reads (spelled_as Parameter) param_levels inner.most (read_parameter inner)
 unfolding read_parameter
@@ -124,7 +125,7 @@ sound_parameters inner is context row =
 
 sound_object_behind : (inner : Level) (typedef : Bool) (name : Terminal) (stars : List Terminal) (before : Context) (row whole middle : List Terminal)
     → SoundLevel inner → Splits whole stars middle → middle ≡ name ∷ row → AreStars stars → IsName name
-    → Sound (spelled_as (Declarator typedef)) declared_levels inner.most before whole (object_behind inner typedef name (length stars) before row)
+    → Sound (spelled_before (Declarator typedef)) declared_levels inner.most before whole (object_behind inner typedef name (length stars) before row)
 sound_object_behind inner typedef name stars before row whole middle is split from are named =
     sound_then (read_sizes inner (length row + 1) before row) _ (sound_sizes inner (length row + 1) is before row) (λ sizes levels behind rest read.
     sound_first _ rest _ _
@@ -138,28 +139,28 @@ sound_object_behind inner typedef name stars before row whole middle is split fr
 sound_function_behind : (inner : Level) (typedef : Bool) (name opening : Terminal) (stars : List Terminal) (before : Context) (row whole middle rest : List Terminal)
     → SoundLevel inner → Splits whole stars middle → middle ≡ name ∷ rest → rest ≡ opening ∷ row → AreStars stars → IsName name → IsMark (codes "(") opening
     → (params : List Param) (levels : ℕ) (within : Context) (more : List Terminal) → Got says_parameters (levels_of_all param_levels) inner.most before row params levels within more
-    → Sound (spelled_as (Declarator typedef)) declared_levels inner.most before whole (Read (function name (length stars) params) levels (declaring (leaving within) name.bytes typedef) more)
+    → Sound (spelled_before (Declarator typedef)) declared_levels inner.most before whole (Read (function name (length stars) params) levels (declaring (leaving within) name.bytes typedef) more)
 sound_function_behind inner typedef name opening stars before row whole middle rest is split from next are named marked params levels within more read =
     let spelled = read.spelled stars name opening are named marked in
     let kept : left within.scope ≡ before.scope = scopes_kept (FunctionDeclarator name.bytes (function name (length stars) params)) before within (stars ++ (name ∷ (opening ∷ read.front))) spelled in
-    subst (λ (scope : List Names). Sound (spelled_as (Declarator typedef)) declared_levels inner.most before whole (Read (function name (length stars) params) levels (declaring (scoped within scope) name.bytes typedef) more)) (sym kept)
+    subst (λ (scope : List Names). Sound (spelled_before (Declarator typedef)) declared_levels inner.most before whole (Read (function name (length stars) params) levels (declaring (scoped within scope) name.bytes typedef) more)) (sym kept)
     (made (split_more split (split_first from (split_first next read.whole))) (DeclaratorOfFunction spelled) (read.same ∙ sym (levels_function name (length stars) params)) read.fits)
 
-pub sound_declarator : (inner : Level) (typedef : Bool) → SoundLevel inner → Reads (spelled_as (Declarator typedef)) declared_levels inner.most (read_declarator inner typedef)
+pub sound_declarator : (inner : Level) (typedef : Bool) → SoundLevel inner → Reads (spelled_before (Declarator typedef)) declared_levels inner.most (read_declarator inner typedef)
 unfolding read_declarator
 sound_declarator inner typedef is context row =
     let stars = stars_of row in
     sound_first _ (behind_stars row) _ _ (λ none. sound_nothing) (λ name rest from named.
     sound_first _ rest _ _
-    (λ plain. subst (λ (n : ℕ). Sound (spelled_as (Declarator typedef)) declared_levels inner.most context row (object_behind inner typedef name n context rest)) stars.counted
+    (λ plain. subst (λ (n : ℕ). Sound (spelled_before (Declarator typedef)) declared_levels inner.most context row (object_behind inner typedef name n context rest)) stars.counted
     (sound_object_behind inner typedef name stars.stars context rest row (behind_stars row) is stars.split from stars.are named))
     (λ opening others next marked. sound_then (read_parameters inner context others) _ (sound_parameters inner is context others) (λ params levels within more read.
-    subst (λ (n : ℕ). Sound (spelled_as (Declarator typedef)) declared_levels inner.most context row (Read (function name n params) levels (declaring (leaving within) name.bytes typedef) more)) stars.counted
+    subst (λ (n : ℕ). Sound (spelled_before (Declarator typedef)) declared_levels inner.most context row (Read (function name n params) levels (declaring (leaving within) name.bytes typedef) more)) stars.counted
     (sound_function_behind inner typedef name opening stars.stars context others row (behind_stars row) rest is stars.split from next stars.are named marked params levels within more read))))
 
-sound_declarators : (inner : Level) (typedef : Bool) (count : ℕ) → SoundLevel inner → Reads (spelled_as (Declarators typedef)) (levels_of_all declared_levels) inner.most (read_list never (read_declarator inner typedef) count)
+sound_declarators : (inner : Level) (typedef : Bool) (count : ℕ) → SoundLevel inner → Reads (spelled_before (Declarators typedef)) (levels_of_all declared_levels) inner.most (read_list never (read_declarator inner typedef) count)
 sound_declarators inner typedef count is =
-    sound_list (spelled_as (Declarator typedef)) (spelled_as (Declarators typedef)) declared_levels inner.most never (read_declarator inner typedef) count (sound_declarator inner typedef is)
+    sound_list (spelled_before (Declarator typedef)) (spelled_before (Declarators typedef)) declared_levels inner.most never (read_declarator inner typedef) count (sound_declarator inner typedef is)
     (λ name before behind front rest spelled. OneDeclarator spelled)
     (λ name names comma before middle behind front others between rest spelled marked more. MoreDeclarators comma spelled marked more)
 
@@ -170,13 +171,14 @@ sound_declaration inner is context row =
     sound_first _ rest _ _
     (λ some. sound_then (read_list never (read_declarator inner (declares_typedef specifiers.storage)) (length rest + 1) behind rest) _ (sound_declarators inner (declares_typedef specifiers.storage) (length rest + 1) is behind rest) (λ names others last more read_names.
     sound_first _ more _ _ (λ none. sound_nothing) (λ semicolon end from marked.
-    made (split_more read.whole (split_more read_names.whole (split_last from))) (WithDeclarators semicolon read.spelled read_names.spelled marked)
+    let spelled = subst (λ (place : Place). Spells (Declarators (declares_typedef specifiers.storage) place names) behind read_names.front last) (ap first_place from) read_names.spelled in
+    made (split_more read.whole (split_more read_names.whole (split_last from))) (WithDeclarators semicolon read.spelled spelled marked)
     (larger read.same read_names.same ∙ sym (levels_declaration specifiers.storage specifiers.spec names)) (larger_fits read.fits read_names.fits))))
     (λ semicolon end from marked. made (split_more read.whole (split_last from)) (NoDeclarator semicolon read.spelled marked)
     (read.same ∙ sym (levels_type_declaration specifiers.storage specifiers.spec)) read.fits))
 
 -- initialisers
-pub sound_part : (inner : Level) → SoundLevel inner → Reads (spelled_as DesignatedInitializer) init_part_levels inner.most (read_part inner)
+pub sound_part : (inner : Level) → SoundLevel inner → Reads (spelled_before DesignatedInitializer) init_part_levels inner.most (read_part inner)
 unfolding read_part
 sound_part inner is context row =
     sound_first _ row _ _
@@ -185,29 +187,36 @@ sound_part inner is context row =
     (λ dot others from dotted. sound_first _ others _ _ (λ none. sound_nothing) (λ name more next named. sound_first _ more _ _ (λ none. sound_nothing) (λ mark end last marked.
     sound_then (inner.initializer context end) _ (is.initializer context end) (λ init levels behind rest read.
     made (split_first from (split_first next (split_first last read.whole))) (MemberPart dot name mark dotted named marked read.spelled)
-    (read.same ∙ sym (levels_initializer (Some name.bytes) init)) read.fits))))
+    (read.same ∙ sym (levels_initializer (Some (identifier name)) init)) read.fits))))
 
-sound_parts : (inner : Level) (count : ℕ) → SoundLevel inner → Reads (spelled_as Initializers) (levels_of_all init_part_levels) inner.most (read_list closes_braces (read_part inner) count)
+sound_parts : (inner : Level) (count : ℕ) → SoundLevel inner → Reads (spelled_before Initializers) (levels_of_all init_part_levels) inner.most (read_list closes_braces (read_part inner) count)
 sound_parts inner count is =
-    sound_list (spelled_as DesignatedInitializer) (spelled_as Initializers) init_part_levels inner.most closes_braces (read_part inner) count (sound_part inner is)
+    sound_list (spelled_before DesignatedInitializer) (spelled_before Initializers) init_part_levels inner.most closes_braces (read_part inner) count (sound_part inner is)
     (λ part before behind front rest spelled. OneInitializer spelled)
     (λ part parts comma before middle behind front others between rest spelled marked more. MoreInitializers comma spelled marked more)
 
+-- the token behind the parts in braces is a comma or the closing brace, whatever stands behind that brace
+place_behind : (last others : List Terminal) (closing : Terminal) → first_place (last ++ (closing ∷ others)) ≡ first_place (last ++ (closing ∷ []))
+place_behind [] others closing = refl
+place_behind (first ∷ more) others closing = refl
+
 sound_in_braces : (inner : Level) (context : Context) (opening : Terminal) (row whole : List Terminal) → SoundLevel inner → whole ≡ opening ∷ row → IsMark (codes "{") opening
-    → Sound (spelled_as Initializer) init_levels (inner.most + 1) context whole (in_braces inner context row)
+    → Sound (spelled_before Initializer) init_levels (inner.most + 1) context whole (in_braces inner context row)
 sound_in_braces inner context opening row whole is from marked =
     sound_first _ row _ _
     (λ some. sound_then (read_list closes_braces (read_part inner) (length row + 1) context row) _ (sound_parts inner (length row + 1) is context row) (λ parts levels behind rest read.
     let comma = comma_of_row rest in
     sound_first _ (behind_comma rest) _ _ (λ none. sound_nothing) (λ closing others next closes.
-    made (split_first from (split_more read.whole (split_more comma.split (split_last next)))) (InBraces comma.last opening closing marked read.spelled comma.is closes)
+    let place = ap first_place (comma.split.is ∙ ap (λ (more : List Terminal). comma.last ++ more) next) ∙ place_behind comma.last others closing in
+    let spelled = subst (λ (place : Place). Spells (Initializers place parts) context read.front behind) place read.spelled in
+    made (split_first from (split_more read.whole (split_more comma.split (split_last next)))) (InBraces comma.last opening closing marked spelled comma.is closes)
     (one_more read.same ∙ sym (levels_braces parts)) (one_more_fits read.fits))))
     (λ closing others next closes. made (split_first from (split_last next)) (EmptyBraces opening closing marked closes) (sym levels_empty_braces) (omega arith))
 
-pub sound_initializer : (inner : Level) → SoundLevel inner → Reads (spelled_as Initializer) init_levels (inner.most + 1) (read_initializer inner)
+pub sound_initializer : (inner : Level) → SoundLevel inner → Reads (spelled_before Initializer) init_levels (inner.most + 1) (read_initializer inner)
 unfolding read_initializer
 sound_initializer inner is context row =
     sound_first _ row _ _
     (λ none. sound_then (inner.assignment context row) _ (is.assignment context row) (λ value levels behind rest read.
-    made read.whole (InitializedTo read.spelled) (one_more read.same ∙ sym (levels_value value)) (one_more_fits read.fits)))
+    made read.whole (InitializedTo read.spelled) (one_more read.same ∙ sym (levels_value value (first_place rest))) (one_more_fits read.fits)))
     (λ opening others from marked. sound_in_braces inner context opening others row is from marked)

@@ -1,5 +1,5 @@
 -- Lists, stars, tags and commas are read as the grammar spells them.
-use Rattle.std.proofs.Common.{◌≡◌, ℕ, zero, suc, ◌≤◌, inl, inr, Bool, true, false, ◌&&◌, not, List, [], ◌∷◌, ◌++◌, take, length, refl, ap, sym, ◌∙◌, arith, codes, None, Some, map}
+use Rattle.std.proofs.Common.{◌≡◌, ℕ, zero, suc, ◌≤◌, inl, inr, Bool, true, false, ◌&&◌, not, List, [], ◌∷◌, ◌++◌, take, length, refl, ap, sym, ◌∙◌, subst, arith, codes, None, Some, map}
 use Rattle.std.specs.Prelude.{if◌then◌else◌}
 use Rattle.ctrees.specs.Levels.{depth}
 use Rattle.ctrees.specs.Weight.{joined}
@@ -15,6 +15,7 @@ use Rattle.cgrammar.specs.ReadLevels.{read_list, read_until_brace}
 use Rattle.cgrammar.specs.ReadTypes.{star_count, behind_stars, behind_comma, tag_at, behind_tag}
 use Rattle.cgrammar.specs.Scope.{Names}
 use Rattle.cgrammar.specs.Terminals.{Terminal, is_mark, IsMark, is_name, is_typedef, begins_with_typedef, IsNoType, AreStars}
+use Rattle.cgrammar.specs.Trees.{identifier}
 
 abbrev pub levels_of_all : {A : Type 0} → (A → ℕ) → List A → ℕ
 levels_of_all levels trees = joined depth (map levels trees)
@@ -23,7 +24,7 @@ pub sound_list : {A : Type 0} (says : A → Context → List Terminal → Contex
     (closes : List Terminal → Bool) (item : Reader A) (count : ℕ)
     → Reads says levels most item
     → ((tree : A) (before behind : Context) (front rest : List Terminal) → says tree before front behind rest → tells (tree ∷ []) before front behind rest)
-    → ((tree : A) (trees : List A) (comma : Terminal) (before middle behind : Context) (front others between rest : List Terminal) → says tree before front middle between → IsMark (codes ",") comma → tells trees middle others behind rest
+    → ((tree : A) (trees : List A) (comma : Terminal) (before middle behind : Context) (front others between rest : List Terminal) → says tree before front middle (comma ∷ between) → IsMark (codes ",") comma → tells trees middle others behind rest
     → tells (tree ∷ trees) before (front ++ (comma ∷ others)) behind rest)
     → Reads tells (levels_of_all levels) most (read_list closes item count)
 unfolding read_list
@@ -35,7 +36,7 @@ sound_list says tells levels most closes item (suc count) is one more context ro
     let comma = first_of (is_mark (codes ",")) rest (and-left (has_mark (codes ",") rest) (not (closes (behind_first rest))) goes) in
     sound_prepended tree deep (read_list closes item count behind (behind_first rest)) (sound_list says tells levels most closes item count is one more behind (behind_first rest)) (λ trees others last end read_others.
     made (split_more read.whole (split_first comma.1 read_others.whole))
-    (more tree trees comma.0 context behind last read.front read_others.front rest end read.spelled comma.2 read_others.spelled)
+    (more tree trees comma.0 context behind last read.front read_others.front (behind_first rest) end (subst (λ (row : List Terminal). says tree context read.front behind row) comma.1 read.spelled) comma.2 read_others.spelled)
     (larger read.same read_others.same)
     (larger_fits read.fits read_others.fits)))
     (λ ends. made read.whole (one tree context behind read.front rest read.spelled) (read.same ∙ sym (joined_one (levels tree))) read.fits))
@@ -91,7 +92,7 @@ tag_of_row (first ∷ others) =
     let found = step (is_name first) refl in
     record { tag = found.0; split = found.1; is = found.2 }
   where
-    step : (named : Bool) → is_name first ≡ named → (tag : List Terminal) × Splits (first ∷ others) tag (if named then others else first ∷ others) × IsTag tag (if named then Some first.bytes else None)
+    step : (named : Bool) → is_name first ≡ named → (tag : List Terminal) × Splits (first ∷ others) tag (if named then others else first ∷ others) × IsTag tag (if named then Some (identifier first) else None)
     step true is = (first ∷ [], split_last refl, (first, refl, is, refl))
     step false is = ([], split_none (first ∷ others), refl)
 

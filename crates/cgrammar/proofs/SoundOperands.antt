@@ -17,7 +17,7 @@ use Rattle.cgrammar.proofs.SoundBrackets.{Closes, brackets_close}
 use Rattle.cgrammar.proofs.SoundLists.{levels_of_all, sound_list, no_type, no_typedef}
 use Rattle.cgrammar.proofs.SoundOperators.{operand_cast, operand_unary, fits_tree, le_of, sound_expression_from}
 use Rattle.cgrammar.proofs.SoundSays.{spelled_as, says_operand, SoundLevel}
-use Rattle.cgrammar.proofs.SoundStatements.{sound_block}
+use Rattle.cgrammar.proofs.SoundStatements.{front_is, sound_block}
 use Rattle.cgrammar.proofs.SoundSteps.{split_none, split_last, split_first, split_more, Got, Sound, Reads, sound_nothing, sound_held, got, made, held, sound_then, sound_right, sound_else, sound_if, sound_first, sound_prepended, first_of, one_more, larger, larger_fits, one_more_fits}
 use Rattle.cgrammar.proofs.SoundTypes.{sound_type_name}
 use Rattle.cgrammar.proofs.TreeLevels.{levels_name, levels_constant, levels_assert_fail, levels_unary, levels_count, levels_cast, levels_size_of, levels_size_of_type, levels_offset_of, levels_index, levels_member, levels_call, levels_call_of_nothing, levels_inner, levels_named_part, levels_at}
@@ -37,7 +37,8 @@ use Rattle.cgrammar.specs.ReadStarts.{is_constant, counting_start, unary_start, 
 use Rattle.cgrammar.specs.ReadStatements.{read_block}
 use Rattle.cgrammar.specs.ReadTypes.{read_type_name, never}
 use Rattle.cgrammar.specs.Scope.{Names}
-use Rattle.cgrammar.specs.Terminals.{Terminal, is_mark, IsMark, is_word, IsWord, is_name, IsName, begins_with_typedef, first_word_place}
+use Rattle.cgrammar.specs.Terminals.{Terminal, is_mark, IsMark, is_word, IsWord, is_name, IsName, begins_with_typedef, first_word_place, last_place}
+use Rattle.cgrammar.specs.Trees.{identifier}
 use Rattle.cgrammar.specs.declared.reading.operand.Operand.{Operand}
 use Rattle.cgrammar.specs.declared.reading.starts.OperandStart.{OperandStart}
 use Rattle.cgrammar.specs.declared.reading.starts.OperandStart.TheVariants as start
@@ -100,9 +101,9 @@ sound_member : (go : Expr → ℕ → Reader Operand) (inner : Level) (through :
     → OperandSound (inner.most + 1) before whole (member_behind go through base levels context mark row)
 sound_member go inner through base levels before context mark row whole marked inside known next =
     sound_first _ row _ _ (λ none. stopped_there (inner.most + 1) before whole base levels context (mark ∷ row) known) (λ name more from named.
-    next (numbered context mark.place (Member base name.bytes through)) (1 + levels) (counted context) more
+    next (numbered context mark.place (Member base (identifier name) through)) (1 + levels) (counted context) more
     (got (split_more known.whole (split_first refl (split_last from))) (MemberOperator mark name known.spelled marked named)
-    (one_more known.same ∙ sym (levels_member context.expressions mark.place base name.bytes through)) (one_more_fits inside)))
+    (one_more known.same ∙ sym (levels_member context.expressions mark.place base (identifier name) through)) (one_more_fits inside)))
 
 -- what goes on with an operand behind it
 abbrev PostfixBegins : Terminal → PostfixStart → Type 0
@@ -183,8 +184,8 @@ sound_path inner (suc count) is context row =
     (λ dotted.
     let dot = first_of (is_mark (codes ".")) row dotted in
     sound_first _ (behind_first row) _ _ (λ none. sound_nothing) (λ name rest from named.
-    sound_prepended (NamedPart name.bytes) 0 (read_path inner count context rest) (sound_path inner count is context rest) (λ parts others behind more read.
-    made (split_first dot.1 (split_first from read.whole)) (PathToMember dot.0 name dot.2 named read.spelled) (larger (sym (levels_named_part name.bytes)) read.same) (larger_fits (omega arith) read.fits))))
+    sound_prepended (NamedPart (identifier name)) 0 (read_path inner count context rest) (sound_path inner count is context rest) (λ parts others behind more read.
+    made (split_first dot.1 (split_first from read.whole)) (PathToMember dot.0 name dot.2 named read.spelled) (larger (sym (levels_named_part (identifier name))) read.same) (larger_fits (omega arith) read.fits))))
     (λ no_dot. sound_if (has_mark (codes "[") row) _ _
     (λ opened.
     let opening = first_of (is_mark (codes "[")) row opened in
@@ -233,9 +234,10 @@ sound_statement_expression : (inner : Level) (context : Context) (first : Termin
 sound_statement_expression inner context first row is marked =
     sound_then (read_block inner context row) _ (sound_block inner is context row) (λ body levels behind rest read.
     sound_first _ rest _ _ (λ none. sound_nothing) (λ closing others from closes.
-    sound_from_primary inner (numbered behind first.place (Inner body)) (1 + levels) context (counted behind) others (first ∷ row) is
+    subst (λ (front : List Terminal). OperandSound (inner.most + 1) context (first ∷ row) (postfixes_from inner (first ∷ row) (numbered behind first.place (Inner body (last_place front))) (1 + levels) (counted behind) others)) (sym (front_is read.whole))
+    (sound_from_primary inner (numbered behind first.place (Inner body (last_place read.front))) (1 + levels) context (counted behind) others (first ∷ row) is
     (got (split_first refl (split_more read.whole (split_last from))) (StatementExpression first closing marked read.spelled closes)
-    (one_more read.same ∙ sym (levels_inner behind.expressions first.place body)) (one_more_fits read.fits))))
+    (one_more read.same ∙ sym (levels_inner behind.expressions first.place body (last_place read.front))) (one_more_fits read.fits)))))
 
 sound_cast_to : (inner : Level) (context : Context) (first : Terminal) (row : List Terminal) → SoundLevel inner → IsMark (codes "(") first
     → OperandSound (inner.most + 1) context (first ∷ row) (read_cast_to inner context first row)
@@ -280,10 +282,10 @@ sound_offset_of inner context word row is worded =
     sound_first _ three _ _ (λ none. sound_nothing) (λ name four third named.
     sound_then (read_path inner (length four + 1) behind four) _ (sound_path inner (length four + 1) is behind four) (λ path others last five read_parts.
     sound_first _ five _ _ (λ none. sound_nothing) (λ closing end fourth closes.
-    sound_from_primary inner (numbered last word.place (OffsetOf to (NamedPart name.bytes ∷ path))) (1 + max levels others) context (counted last) end (word ∷ row) is
+    sound_from_primary inner (numbered last word.place (OffsetOf to (NamedPart (identifier name) ∷ path))) (1 + max levels others) context (counted last) end (word ∷ row) is
     (got (split_first refl (split_first from (split_more read.whole (split_first second (split_first third (split_more read_parts.whole (split_last fourth)))))))
     (OffsetOfMember word opening comma name closing worded marked read.spelled commas named read_parts.spelled closes)
-    (one_more (larger read.same read_parts.same) ∙ sym (levels_offset_of last.expressions word.place to name.bytes path))
+    (one_more (larger read.same read_parts.same) ∙ sym (levels_offset_of last.expressions word.place to (identifier name) path))
     (one_more_fits (larger_fits read.fits read_parts.fits)))))))))
 
 sound_failed : (inner : Level) (context : Context) (word opening : Terminal) (row others : List Terminal) (rest : Option (List Terminal)) → SoundLevel inner

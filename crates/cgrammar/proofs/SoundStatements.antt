@@ -1,18 +1,18 @@
 -- Statements and blocks are read as the grammar spells them.
-use Rattle.std.proofs.Common.{◌≡◌, ℕ, ◌+◌, inl, inr, Bool, true, false, ◌&&◌, not, List, [], ◌∷◌, ◌++◌, length, refl, ap, sym, ◌∙◌, subst, arith, codes, None, Some, max}
+use Rattle.std.proofs.Common.{◌≡◌, ℕ, ◌+◌, inl, inr, Bool, true, false, ◌&&◌, not, List, [], ◌∷◌, ◌++◌, length, refl, ap, sym, ◌∙◌, subst, arith, codes, None, Some}
 use Rattle.std.specs.Prelude.{if◌then◌else◌}
 use Rattle.cbase.specs.declared.place.Place.{Place}
 use Rattle.cbase.specs.declared.tree.decl.Decl.{Decl}
 use Rattle.cbase.specs.declared.tree.expr.Expr.{Expr}
 use Rattle.cbase.specs.declared.tree.stmt.Stmt.{Stmt}
-use Rattle.cbase.specs.declared.tree.stmt.StmtForm.TheVariants.{Declare, Eval, Block, For}
+use Rattle.cbase.specs.declared.tree.stmt.StmtForm.TheVariants.{Declare, Eval, Block}
 use Rattle.ctrees.specs.Levels.{expr_levels, maybe_levels, stmt_levels}
 use Rattle.cgrammar.proofs.Contexts.{scopes_kept}
 use Rattle.cgrammar.proofs.Fronts.{front_of_both}
 use Rattle.cgrammar.proofs.Scopes.{left_entered}
 use Rattle.cgrammar.proofs.SoundDeclarations.{sound_declaration}
 use Rattle.cgrammar.proofs.SoundLists.{levels_of_all, sound_until_brace, no_type, no_typedef, no_declaration}
-use Rattle.cgrammar.proofs.SoundSays.{spelled_as, says_statement, says_item, SoundLevel}
+use Rattle.cgrammar.proofs.SoundSays.{spelled_as, says_statement, says_substatement, says_item, SoundLevel}
 use Rattle.cgrammar.proofs.SoundSteps.{Splits, split_none, split_last, split_first, split_more, Sound, Reads, sound_nothing, made, sound_then, sound_if, sound_first, first_of, one_more, larger, larger_fits, one_more_fits}
 use Rattle.cgrammar.proofs.Starting.{starts}
 use Rattle.cgrammar.proofs.TreeLevels.{levels_declare, levels_empty, levels_eval, levels_block, levels_if, levels_if_else, levels_while, levels_do, levels_for, levels_break, levels_continue, levels_of_return}
@@ -20,26 +20,34 @@ use Rattle.cgrammar.proofs.Truth.{and-left, and-right}
 use Rattle.cgrammar.specs.Firsts.{begins_declaration, Begins}
 use Rattle.cgrammar.specs.FrontOf.{front_of}
 use Rattle.cgrammar.specs.FrontReadings.{begins_with_label}
-use Rattle.cgrammar.specs.Grammar.{Spells, inside, OneBlock, NoMoreItems, NextDeclaration, NextStatement, BlockStatement, EmptyStatement, ExpressionStatement, IfStatement, IfElseStatement, WhileStatement, DoStatement, ForStatement, FirstDeclaration, FirstLeftOut, FirstExpression, NoExpression, SomeExpression, BreakStatement, ContinueStatement, ReturnStatement, LabeledStatement}
-use Rattle.cgrammar.specs.Outcomes.{Outcome, Nothing, Stopped, Read, has_first, has_mark, behind_first, after_mark}
+use Rattle.cgrammar.specs.Grammar.{Spells, inside, outside, OneBlock, NoMoreItems, NextDeclaration, NextStatement, BlockStatement, EmptyStatement, ExpressionStatement, OneSubstatement, IfStatement, IfElseStatement, WhileStatement, DoStatement, ForStatement, FirstDeclaration, FirstLeftOut, FirstExpression, NoExpression, SomeExpression, BreakStatement, ContinueStatement, ReturnStatement, LabeledStatement}
+use Rattle.cgrammar.specs.Outcomes.{Outcome, Nothing, Stopped, Read, has_first, has_mark, after_mark}
 use Rattle.cgrammar.specs.Phrases.{Context, scoped}
-use Rattle.cgrammar.specs.Phrases.{Expression, Declaration, CompoundStatement, BlockItems, Statement, FirstClause, MaybeExpression}
-use Rattle.cgrammar.specs.ReadDeclarations.{read_declaration}
+use Rattle.cgrammar.specs.Phrases.{Expression, Declaration, CompoundStatement, BlockItems, Statement, Substatement, FirstClause, MaybeExpression}
+use Rattle.cgrammar.specs.ReadDeclarations.{leaving, read_declaration}
 use Rattle.cgrammar.specs.ReadLevels.{Level, read_until_brace}
 use Rattle.cgrammar.specs.ReadStarts.{statement_start}
-use Rattle.cgrammar.specs.ReadStatements.{read_block, read_maybe, declared_statement, expression_statement, read_clause, untyped, read_if, read_while, read_do, read_for, read_return, statement_with, read_unlabeled, read_statement, read_item}
+use Rattle.cgrammar.specs.ReadStatements.{read_block, read_maybe, declared_statement, expression_statement, read_clause, untyped, substatement, read_if, read_while, read_do, read_for, read_return, statement_with, read_unlabeled, read_statement, read_item}
 use Rattle.cgrammar.specs.Scope.{Names, left}
 use Rattle.cgrammar.specs.Terminals.{Terminal, is_mark, IsMark, is_word, IsWord, is_name, is_typedef, IsNoType, begins_with_typedef, first_place, last_place}
 use Rattle.cgrammar.specs.Trees.{statement}
 use Rattle.cgrammar.specs.declared.reading.starts.StatementStart.{StatementStart}
 use Rattle.cgrammar.specs.declared.reading.starts.StatementStart.TheVariants as start
 
-front_is : {row front rest : List Terminal} → Splits row front rest → front_of row rest ≡ front
+pub front_is : {row front rest : List Terminal} → Splits row front rest → front_of row rest ≡ front
 front_is {front} {rest} split = ap (λ (row : List Terminal). front_of row rest) split.is ∙ front_of_both front rest
 
 first_place_is : (test : Terminal → Bool) (row front rest : List Terminal) → Splits row front rest → Begins test front → first_place row ≡ first_place front
 first_place_is test row [] rest split begins = absurd begins
 first_place_is test row (first ∷ others) rest split begins = ap first_place split.is
+
+-- the names in scope behind what is a scope of its own are those before it
+leaves : {A : Type 0} {says : A → Context → List Terminal → Context → List Terminal → Type 0} {levels : A → ℕ} {most count : ℕ} {row rest : List Terminal} {tree : A} (context within : Context)
+    → left within.scope ≡ context.scope
+    → Sound says levels most context row (Read tree count (outside context within) rest)
+    → Sound says levels most context row (Read tree count (leaving within) rest)
+leaves {says} {levels} {most} {count} {row} {rest} {tree} context within kept is =
+    subst (λ (scope : List Names). Sound says levels most context row (Read tree count (scoped within scope) rest)) (sym kept) is
 
 -- blocks
 abbrev pub says_body : List Stmt → Context → List Terminal → Context → List Terminal → Type 0
@@ -63,7 +71,7 @@ sound_block inner is context row =
     sound_then (read_until_brace inner.item (length others + 1) (inside context) others) _ (sound_items inner (length others + 1) is (inside context) others) (λ body levels within rest read.
     let closing = first_of (is_mark (codes "}")) rest read.spelled.1 in
     let kept : left within.scope ≡ context.scope = scopes_kept (BlockItems body) (inside context) within read.front read.spelled.0 ∙ left_entered context.scope in
-    subst (λ (scope : List Names). Sound (spelled_as CompoundStatement) (levels_of_all stmt_levels) inner.most context row (Read body levels (scoped within scope) (behind_first rest))) (sym kept)
+    leaves context within kept
     (made (split_first from (split_more read.whole (split_last closing.1))) (OneBlock opening closing.0 marked read.spelled.0 closing.2) read.same read.fits)))
 
 pub sound_maybe : (inner : Level) (ends : Terminal → Bool) → SoundLevel inner → Reads (spelled_as MaybeExpression) maybe_levels inner.most (read_maybe inner ends)
@@ -145,54 +153,73 @@ no_dangling : (dangling : Bool) (test : Terminal → Bool) (row others : List Te
 no_dangling false test row others first from holds fails = refl
 no_dangling true test row others first from holds fails = sym (sym (ap (has_first test) (sym from)) ∙ holds) ∙ fails
 
+sound_substatement : (inner : Level) → SoundLevel inner → Reads says_substatement stmt_levels inner.most (substatement inner)
+sound_substatement inner is context row =
+    sound_then (inner.statement (inside context) row) _ (is.statement (inside context) row) (λ stmt levels within rest read.
+    leaves context within (scopes_kept (Statement read.spelled.0 stmt) (inside context) within read.front read.spelled.1 ∙ left_entered context.scope)
+    (made read.whole (read.spelled.0, OneSubstatement read.spelled.1, read.spelled.2) read.same read.fits))
+
 sound_if_statement : (inner : Level) (context : Context) (word : Terminal) (row : List Terminal) → SoundLevel inner → IsWord (codes "if") word
     → Sound says_statement stmt_levels (inner.most + 1) context (word ∷ row) (read_if inner word.place context row)
 unfolding read_if
 sound_if_statement inner context word row is worded =
     sound_first _ row _ _ (λ none. sound_nothing) (λ opening others from marked.
-    sound_then (untyped inner context others) _ (sound_untyped inner is context others) (λ test tests behind rest read.
+    sound_then (untyped inner (inside context) others) _ (sound_untyped inner is (inside context) others) (λ test tests behind rest read.
     sound_first _ rest _ _ (λ none. sound_nothing) (λ closing more next closes.
-    sound_then (inner.statement behind more) _ (is.statement behind more) (λ one ones last end read_one.
+    sound_then (substatement inner behind more) _ (sound_substatement inner is behind more) (λ one ones last end read_one.
+    let kept : left last.scope ≡ context.scope =
+    ap left (scopes_kept (Substatement read_one.spelled.0 one) behind last read_one.front read_one.spelled.1)
+    ∙ (scopes_kept (Expression test) (inside context) behind read.front read.spelled.1
+    ∙ left_entered context.scope) in
     sound_first _ end _ _
-    (λ alone. made (split_first refl (split_first from (split_more read.whole (split_first next read_one.whole))))
+    (λ alone. leaves context last kept (made (split_first refl (split_first from (split_more read.whole (split_first next read_one.whole))))
     (true, IfStatement word opening closing worded marked read.spelled.0 read.spelled.1 closes read_one.spelled.1, alone)
-    (one_more (larger read.same read_one.same) ∙ sym (levels_if word.place one.after test one))
-    (one_more_fits (larger_fits read.fits read_one.fits)))
+    (one_more (larger read.same read_one.same) ∙ sym (levels_if word.place one.after test closing.place one))
+    (one_more_fits (larger_fits read.fits read_one.fits))))
     (λ otherwise further then_else elses.
-    let whole_one = subst (λ (dangling : Bool). Spells (Statement dangling one) behind read_one.front last) (no_dangling read_one.spelled.0 (is_word (codes "else")) end further otherwise then_else elses read_one.spelled.2) read_one.spelled.1 in
-    sound_then (inner.statement last further) _ (is.statement last further) (λ other twos final over read_other.
-    made (split_first refl (split_first from (split_more read.whole (split_first next (split_more read_one.whole (split_first then_else read_other.whole))))))
+    let whole_one = subst (λ (dangling : Bool). Spells (Substatement dangling one) behind read_one.front last) (no_dangling read_one.spelled.0 (is_word (codes "else")) end further otherwise then_else elses read_one.spelled.2) read_one.spelled.1 in
+    sound_then (substatement inner last further) _ (sound_substatement inner is last further) (λ other twos final over read_other.
+    leaves context final (ap left (scopes_kept (Substatement read_other.spelled.0 other) last final read_other.front read_other.spelled.1) ∙ kept)
+    (made (split_first refl (split_first from (split_more read.whole (split_first next (split_more read_one.whole (split_first then_else read_other.whole))))))
     (read_other.spelled.0, IfElseStatement word opening closing otherwise worded marked read.spelled.0 read.spelled.1 closes whole_one elses read_other.spelled.1, read_other.spelled.2)
-    (one_more (larger read.same (larger read_one.same read_other.same)) ∙ sym (levels_if_else word.place other.after test one other))
-    (one_more_fits (larger_fits read.fits (larger_fits read_one.fits read_other.fits)))))))))
+    (one_more (larger read.same (larger read_one.same read_other.same)) ∙ sym (levels_if_else word.place other.after test closing.place one other))
+    (one_more_fits (larger_fits read.fits (larger_fits read_one.fits read_other.fits))))))))))
 
 sound_while_statement : (inner : Level) (context : Context) (word : Terminal) (row : List Terminal) → SoundLevel inner → IsWord (codes "while") word
     → Sound says_statement stmt_levels (inner.most + 1) context (word ∷ row) (read_while inner word.place context row)
 unfolding read_while
 sound_while_statement inner context word row is worded =
     sound_first _ row _ _ (λ none. sound_nothing) (λ opening others from marked.
-    sound_then (untyped inner context others) _ (sound_untyped inner is context others) (λ test tests behind rest read.
+    sound_then (untyped inner (inside context) others) _ (sound_untyped inner is (inside context) others) (λ test tests behind rest read.
     sound_first _ rest _ _ (λ none. sound_nothing) (λ closing more next closes.
-    sound_then (inner.statement behind more) _ (is.statement behind more) (λ body levels last end read_body.
-    made (split_first refl (split_first from (split_more read.whole (split_first next read_body.whole))))
+    sound_then (substatement inner behind more) _ (sound_substatement inner is behind more) (λ body levels last end read_body.
+    leaves context last
+    (ap left (scopes_kept (Substatement read_body.spelled.0 body) behind last read_body.front read_body.spelled.1)
+    ∙ (scopes_kept (Expression test) (inside context) behind read.front read.spelled.1
+    ∙ left_entered context.scope))
+    (made (split_first refl (split_first from (split_more read.whole (split_first next read_body.whole))))
     (read_body.spelled.0, WhileStatement word opening closing worded marked read.spelled.0 read.spelled.1 closes read_body.spelled.1, read_body.spelled.2)
-    (one_more (larger read.same read_body.same) ∙ sym (levels_while word.place body.after test body))
-    (one_more_fits (larger_fits read.fits read_body.fits))))))
+    (one_more (larger read.same read_body.same) ∙ sym (levels_while word.place body.after test closing.place body))
+    (one_more_fits (larger_fits read.fits read_body.fits)))))))
 
 sound_do_statement : (inner : Level) (context : Context) (word : Terminal) (row : List Terminal) → SoundLevel inner → IsWord (codes "do") word
     → Sound says_statement stmt_levels (inner.most + 1) context (word ∷ row) (read_do inner word.place context row)
 unfolding read_do
 sound_do_statement inner context word row is worded =
-    sound_then (inner.statement context row) _ (is.statement context row) (λ body levels behind rest read_body.
+    sound_then (substatement inner (inside context) row) _ (sound_substatement inner is (inside context) row) (λ body levels behind rest read_body.
     sound_first _ rest _ _ (λ none. sound_nothing) (λ while others from whiles.
     sound_first _ others _ _ (λ none. sound_nothing) (λ opening more next marked.
     sound_then (untyped inner behind more) _ (sound_untyped inner is behind more) (λ test tests last end read.
     sound_first _ end _ _ (λ none. sound_nothing) (λ closing ends third closes.
     sound_first _ ends _ _ (λ none. sound_nothing) (λ semicolon final fourth ended.
-    made (split_first refl (split_more read_body.whole (split_first from (split_first next (split_more read.whole (split_first third (split_last fourth)))))))
+    leaves context last
+    (scopes_kept (Expression test) behind last read.front read.spelled.1
+    ∙ (ap left (scopes_kept (Substatement read_body.spelled.0 body) (inside context) behind read_body.front read_body.spelled.1)
+    ∙ left_entered context.scope))
+    (made (split_first refl (split_more read_body.whole (split_first from (split_first next (split_more read.whole (split_first third (split_last fourth)))))))
     (false, DoStatement word while opening closing semicolon worded read_body.spelled.1 whiles marked read.spelled.0 read.spelled.1 closes ended, refl)
-    (one_more (larger read_body.same read.same) ∙ sym (levels_do word.place semicolon.place body test))
-    (one_more_fits (larger_fits read_body.fits read.fits))))))))
+    (one_more (larger read_body.same read.same) ∙ sym (levels_do word.place semicolon.place body test closing.place))
+    (one_more_fits (larger_fits read_body.fits read.fits)))))))))
 
 sound_for_statement : (inner : Level) (context : Context) (word : Terminal) (row : List Terminal) → SoundLevel inner → IsWord (codes "for") word
     → Sound says_statement stmt_levels (inner.most + 1) context (word ∷ row) (read_for inner word.place context row)
@@ -204,17 +231,17 @@ sound_for_statement inner context word row is worded =
     sound_first _ more _ _ (λ none. sound_nothing) (λ semicolon end second ended.
     sound_then (read_maybe inner (is_mark (codes ")")) two end) _ (sound_maybe inner (is_mark (codes ")")) is two end) (λ next nexts three ends read_next.
     sound_first _ ends _ _ (λ none. sound_nothing) (λ closing final third closes.
-    sound_then (inner.statement three final) _ (is.statement three final) (λ body levels within over read_body.
+    sound_then (substatement inner three final) _ (sound_substatement inner is three final) (λ body levels within over read_body.
     let kept : left within.scope ≡ context.scope =
-    scopes_kept (Statement read_body.spelled.0 body) three within read_body.front read_body.spelled.1
+    ap left (scopes_kept (Substatement read_body.spelled.0 body) three within read_body.front read_body.spelled.1)
     ∙ (scopes_kept (MaybeExpression next) two three read_next.front read_next.spelled
     ∙ (scopes_kept (MaybeExpression test) one two read_test.front read_test.spelled
     ∙ (scopes_kept (FirstClause first) (inside context) one read_first.front read_first.spelled
     ∙ left_entered context.scope))) in
-    subst (λ (scope : List Names). Sound says_statement stmt_levels (inner.most + 1) context (word ∷ row) (Read (statement word.place body.after (For first test next body)) (1 + max (max firsts tests) (max nexts levels)) (scoped within scope) over)) (sym kept)
+    leaves context within kept
     (made (split_first refl (split_first from (split_more read_first.whole (split_more read_test.whole (split_first second (split_more read_next.whole (split_first third read_body.whole)))))))
     (read_body.spelled.0, ForStatement word opening semicolon closing worded marked read_first.spelled read_test.spelled ended read_next.spelled closes read_body.spelled.1, read_body.spelled.2)
-    (one_more (larger (larger read_first.same read_test.same) (larger read_next.same read_body.same)) ∙ sym (levels_for word.place body.after first test next body))
+    (one_more (larger (larger read_first.same read_test.same) (larger read_next.same read_body.same)) ∙ sym (levels_for word.place body.after first test semicolon.place next closing.place body))
     (one_more_fits (larger_fits (larger_fits read_first.fits read_test.fits) (larger_fits read_next.fits read_body.fits)))))))))))
 
 sound_return_statement : (inner : Level) (context : Context) (word : Terminal) (row : List Terminal) → SoundLevel inner → IsWord (codes "return") word

@@ -3,6 +3,7 @@ use Rattle.std.proofs.Common.{◌≡◌, ℕ, zero, suc, ◌+◌, ◌≤◌, Boo
 use Rattle.std.specs.Prelude.{if◌then◌else◌, is_some}
 use Rattle.std.specs.List.{list_all, prefix_len}
 use Rattle.cbase.specs.declared.tree.expr.Expr.{Expr}
+use Rattle.cbase.specs.declared.tree.identifier.Identifier.{Identifier}
 use Rattle.cbase.specs.declared.tree.spec.BasicType.{BasicType}
 use Rattle.cbase.specs.declared.tree.spec.FieldDecl.{FieldDecl}
 use Rattle.cbase.specs.declared.tree.spec.TypeSpec.{TypeSpec}
@@ -24,7 +25,7 @@ use Rattle.cgrammar.specs.ReadStarts.{type_start}
 use Rattle.cgrammar.specs.ReadTypes.{behind_stars, read_sizes, read_type_name, bits_behind, named_field, never, read_field, read_fields, read_enumerator, closes_braces, behind_comma, tag_at, behind_tag, by_tag, read_struct, read_enum, type_of, of_basic, specifier_with, read_specifier}
 use Rattle.cgrammar.specs.Scope.{Names}
 use Rattle.cgrammar.specs.Terminals.{Terminal, is_mark, is_word, IsWord, IsName, is_typedef, IsTypedef, bytes_of, AreStars}
-use Rattle.cgrammar.specs.Trees.{type_name}
+use Rattle.cgrammar.specs.Trees.{identifier, type_name}
 use Rattle.cgrammar.specs.TypeWords.{basic_rows, basic_of}
 use Rattle.cgrammar.specs.declared.reading.starts.TypeStart.{TypeStart}
 use Rattle.cgrammar.specs.declared.reading.starts.TypeStart.TheVariants as start
@@ -139,16 +140,16 @@ sound_all_fields inner count is =
     (λ before row ends. (NoMoreFields, ends))
     (λ decl others before middle behind front fronts between rest spelled more. (MoreFields spelled more.0, more.1))
 
-sound_by_tag : (type : Option (List ℕ) → TypeSpec) (most : ℕ) (before : Context) (word : Terminal) (row whole tag : List Terminal) (name : Option (List ℕ))
-    → ((token : Terminal) → IsName token → Spells (TypeSpecifier (type (Some token.bytes))) before (word ∷ (token ∷ [])) before)
-    → ((name : List ℕ) → spec_levels (type (Some name)) ≡ 1)
+sound_by_tag : (type : Option Identifier → TypeSpec) (most : ℕ) (before : Context) (word : Terminal) (row whole tag : List Terminal) (name : Option Identifier)
+    → ((token : Terminal) → IsName token → Spells (TypeSpecifier (type (Some (identifier token)))) before (word ∷ (token ∷ [])) before)
+    → ((name : Identifier) → spec_levels (type (Some name)) ≡ 1)
     → Splits whole (word ∷ tag) row → IsTag tag name
     → Sound (spelled_as TypeSpecifier) spec_levels (most + 1) before whole (by_tag type name before row)
 sound_by_tag type most before word row whole tag None one deep split is = sound_nothing
 sound_by_tag type most before word row whole tag (Some name) one deep split (token, alone, named, same) =
     let spelled : Spells (TypeSpecifier (type (Some name))) before (word ∷ tag) before =
     subst (λ (row : List Terminal). Spells (TypeSpecifier (type (Some name))) before (word ∷ row) before) (sym alone)
-    (subst (λ (n : List ℕ). Spells (TypeSpecifier (type (Some n))) before (word ∷ (token ∷ [])) before) same (one token named)) in
+    (subst (λ (n : Identifier). Spells (TypeSpecifier (type (Some n))) before (word ∷ (token ∷ [])) before) same (one token named)) in
     made split spelled (sym (deep name)) (omega arith)
 
 sound_struct : (inner : Level) (context : Context) (word : Terminal) (row : List Terminal) → SoundLevel inner → IsWord (codes "struct") word

@@ -9,6 +9,7 @@ use Rattle.cbase.specs.declared.tree.decl.Storage.{Storage}
 use Rattle.cbase.specs.declared.tree.decl.TypeName.{TypeName}
 use Rattle.cbase.specs.declared.tree.expr.Expr.{Expr}
 use Rattle.cbase.specs.declared.tree.expr.Part.{Part}
+use Rattle.cbase.specs.declared.tree.identifier.Identifier.{Identifier}
 use Rattle.cbase.specs.declared.tree.init.Init.{Init}
 use Rattle.cbase.specs.declared.tree.init.InitPart.{InitPart}
 use Rattle.cbase.specs.declared.tree.operators.BinaryOp.{BinaryOp}
@@ -133,10 +134,10 @@ form_index base index = ap form_levels (sym (rolls-Index base index)) ∙ fold-r
 pub levels_index : (number : ℕ) (place : Place) (base : Expr) (index : Expr) → expr_levels (record { number = number; place = place; form = Index base index }) ≡ 1 + max (expr_levels base) (expr_levels index)
 levels_index number place base index = levels_expr (record { number = number; place = place; form = Index base index }) ∙ ap (λ (n : ℕ). 1 + n) (form_index base index)
 
-form_member : (base : Expr) (name : List ℕ) (through : Bool) → form_levels (Member base name through) ≡ expr_levels base
+form_member : (base : Expr) (name : Identifier) (through : Bool) → form_levels (Member base name through) ≡ expr_levels base
 form_member base name through = ap form_levels (sym (rolls-Member base name through)) ∙ fold-roll-ExprForm ℕ ℕ ℕ ℕ ℕ ℕ ℕ ℕ ℕ ℕ ℕ ℕ ℕ ℕ ℕ (in_form depth) (in_part depth) (in_init depth) (in_spec depth) (in_statement_form depth) (in_decl depth) (in_declared depth) (in_param depth) (in_type_name depth) (in_expr depth) (in_init_part depth) (in_enumerator depth) (in_field_decl depth) (in_field_name depth) (in_stmt depth) (Open.ExprForm::Member base name through)
 
-pub levels_member : (number : ℕ) (place : Place) (base : Expr) (name : List ℕ) (through : Bool) → expr_levels (record { number = number; place = place; form = Member base name through }) ≡ 1 + expr_levels base
+pub levels_member : (number : ℕ) (place : Place) (base : Expr) (name : Identifier) (through : Bool) → expr_levels (record { number = number; place = place; form = Member base name through }) ≡ 1 + expr_levels base
 levels_member number place base name through = levels_expr (record { number = number; place = place; form = Member base name through }) ∙ ap (λ (n : ℕ). 1 + n) (form_member base name through)
 
 form_call : (callee : Expr) (args : List Expr) → form_levels (Call callee args) ≡ max (expr_levels callee) (joined depth (map expr_levels args))
@@ -145,30 +146,30 @@ form_call callee args = ap form_levels (sym (rolls-Call callee args)) ∙ fold-r
 pub levels_call : (number : ℕ) (place : Place) (callee : Expr) (args : List Expr) → expr_levels (record { number = number; place = place; form = Call callee args }) ≡ 1 + max (expr_levels callee) (joined depth (map expr_levels args))
 levels_call number place callee args = levels_expr (record { number = number; place = place; form = Call callee args }) ∙ ap (λ (n : ℕ). 1 + n) (form_call callee args)
 
-form_inner : (body : List Stmt) → form_levels (Inner body) ≡ joined depth (map stmt_levels body)
-form_inner body = ap form_levels (sym (rolls-Inner body)) ∙ fold-roll-ExprForm ℕ ℕ ℕ ℕ ℕ ℕ ℕ ℕ ℕ ℕ ℕ ℕ ℕ ℕ ℕ (in_form depth) (in_part depth) (in_init depth) (in_spec depth) (in_statement_form depth) (in_decl depth) (in_declared depth) (in_param depth) (in_type_name depth) (in_expr depth) (in_init_part depth) (in_enumerator depth) (in_field_decl depth) (in_field_name depth) (in_stmt depth) (Open.Inner body)
+form_inner : (body : List Stmt) (close : Place) → form_levels (Inner body close) ≡ joined depth (map stmt_levels body)
+form_inner body close = ap form_levels (sym (rolls-Inner body close)) ∙ fold-roll-ExprForm ℕ ℕ ℕ ℕ ℕ ℕ ℕ ℕ ℕ ℕ ℕ ℕ ℕ ℕ ℕ (in_form depth) (in_part depth) (in_init depth) (in_spec depth) (in_statement_form depth) (in_decl depth) (in_declared depth) (in_param depth) (in_type_name depth) (in_expr depth) (in_init_part depth) (in_enumerator depth) (in_field_decl depth) (in_field_name depth) (in_stmt depth) (Open.Inner body close)
 
-pub levels_inner : (number : ℕ) (place : Place) (body : List Stmt) → expr_levels (record { number = number; place = place; form = Inner body }) ≡ 1 + joined depth (map stmt_levels body)
-levels_inner number place body = levels_expr (record { number = number; place = place; form = Inner body }) ∙ ap (λ (n : ℕ). 1 + n) (form_inner body)
+pub levels_inner : (number : ℕ) (place : Place) (body : List Stmt) (close : Place) → expr_levels (record { number = number; place = place; form = Inner body close }) ≡ 1 + joined depth (map stmt_levels body)
+levels_inner number place body close = levels_expr (record { number = number; place = place; form = Inner body close }) ∙ ap (λ (n : ℕ). 1 + n) (form_inner body close)
 
 pub levels_call_of_nothing : (number : ℕ) (place : Place) (callee : Expr) → expr_levels (record { number = number; place = place; form = Call callee [] }) ≡ 1 + expr_levels callee
 levels_call_of_nothing number place callee = levels_call number place callee [] ∙ ap (λ (n : ℕ). 1 + n) (max_nothing (expr_levels callee))
 
 -- steps to a member
-pub levels_named_part : (name : List ℕ) → part_levels (NamedPart name) ≡ 0
+pub levels_named_part : (name : Identifier) → part_levels (NamedPart name) ≡ 0
 levels_named_part name = ap part_levels (sym (rolls-Part name)) ∙ fold-roll-Part ℕ ℕ ℕ ℕ ℕ ℕ ℕ ℕ ℕ ℕ ℕ ℕ ℕ ℕ ℕ (in_form depth) (in_part depth) (in_init depth) (in_spec depth) (in_statement_form depth) (in_decl depth) (in_declared depth) (in_param depth) (in_type_name depth) (in_expr depth) (in_init_part depth) (in_enumerator depth) (in_field_decl depth) (in_field_name depth) (in_stmt depth) (Open.Part::Member name)
 
 pub levels_at : (index : Expr) → part_levels (At index) ≡ expr_levels index
 levels_at index = ap part_levels (sym (rolls-At index)) ∙ fold-roll-Part ℕ ℕ ℕ ℕ ℕ ℕ ℕ ℕ ℕ ℕ ℕ ℕ ℕ ℕ ℕ (in_form depth) (in_part depth) (in_init depth) (in_spec depth) (in_statement_form depth) (in_decl depth) (in_declared depth) (in_param depth) (in_type_name depth) (in_expr depth) (in_init_part depth) (in_enumerator depth) (in_field_decl depth) (in_field_name depth) (in_stmt depth) (Open.At index)
 
-pub levels_offset_of : (number : ℕ) (place : Place) (to : TypeName) (name : List ℕ) (path : List Part) → expr_levels (record { number = number; place = place; form = OffsetOf to (NamedPart name ∷ path) }) ≡ 1 + max (type_name_levels to) (joined depth (map part_levels path))
+pub levels_offset_of : (number : ℕ) (place : Place) (to : TypeName) (name : Identifier) (path : List Part) → expr_levels (record { number = number; place = place; form = OffsetOf to (NamedPart name ∷ path) }) ≡ 1 + max (type_name_levels to) (joined depth (map part_levels path))
 levels_offset_of number place to name path =
     levels_offset_of_path number place to (NamedPart name ∷ path)
     ∙ ap (λ (n : ℕ). 1 + max (type_name_levels to) n) (ap (λ (n : ℕ). max n (joined depth (map part_levels path))) (levels_named_part name) ∙ nothing_max (joined depth (map part_levels path)))
 
 -- initialisers
-pub levels_value : (value : Expr) → init_levels (Value value) ≡ 1 + expr_levels value
-levels_value value = ap init_levels (sym (rolls-Value value)) ∙ fold-roll-Init ℕ ℕ ℕ ℕ ℕ ℕ ℕ ℕ ℕ ℕ ℕ ℕ ℕ ℕ ℕ (in_form depth) (in_part depth) (in_init depth) (in_spec depth) (in_statement_form depth) (in_decl depth) (in_declared depth) (in_param depth) (in_type_name depth) (in_expr depth) (in_init_part depth) (in_enumerator depth) (in_field_decl depth) (in_field_name depth) (in_stmt depth) (Open.Value value)
+pub levels_value : (value : Expr) (after : Place) → init_levels (Value value after) ≡ 1 + expr_levels value
+levels_value value after = ap init_levels (sym (rolls-Value value after)) ∙ fold-roll-Init ℕ ℕ ℕ ℕ ℕ ℕ ℕ ℕ ℕ ℕ ℕ ℕ ℕ ℕ ℕ (in_form depth) (in_part depth) (in_init depth) (in_spec depth) (in_statement_form depth) (in_decl depth) (in_declared depth) (in_param depth) (in_type_name depth) (in_expr depth) (in_init_part depth) (in_enumerator depth) (in_field_decl depth) (in_field_name depth) (in_stmt depth) (Open.Value value after)
 
 pub levels_braces : (parts : List InitPart) → init_levels (Braces parts) ≡ 1 + joined depth (map init_part_levels parts)
 levels_braces parts = ap init_levels (sym (rolls-Braces parts)) ∙ fold-roll-Init ℕ ℕ ℕ ℕ ℕ ℕ ℕ ℕ ℕ ℕ ℕ ℕ ℕ ℕ ℕ (in_form depth) (in_part depth) (in_init depth) (in_spec depth) (in_statement_form depth) (in_decl depth) (in_declared depth) (in_param depth) (in_type_name depth) (in_expr depth) (in_init_part depth) (in_enumerator depth) (in_field_decl depth) (in_field_name depth) (in_stmt depth) (Open.Braces parts)
@@ -176,7 +177,7 @@ levels_braces parts = ap init_levels (sym (rolls-Braces parts)) ∙ fold-roll-In
 pub levels_empty_braces : init_levels (Braces []) ≡ 1
 levels_empty_braces = levels_braces []
 
-pub levels_initializer : (member : Option (List ℕ)) (init : Init) → init_part_levels (initializer member init) ≡ init_levels init
+pub levels_initializer : (member : Option Identifier) (init : Init) → init_part_levels (initializer member init) ≡ init_levels init
 levels_initializer member init = fold_out-InitPart ℕ ℕ ℕ ℕ ℕ ℕ ℕ ℕ ℕ ℕ ℕ ℕ ℕ ℕ ℕ (in_form depth) (in_part depth) (in_init depth) (in_spec depth) (in_statement_form depth) (in_decl depth) (in_declared depth) (in_param depth) (in_type_name depth) (in_expr depth) (in_init_part depth) (in_enumerator depth) (in_field_decl depth) (in_field_name depth) (in_stmt depth) (initializer member init)
 
 -- the words of a type
@@ -186,16 +187,16 @@ levels_basic basic = ap spec_levels (sym (rolls-Basic basic)) ∙ fold-roll-Type
 pub levels_named : (name : List ℕ) → spec_levels (Named name) ≡ 1
 levels_named name = ap spec_levels (sym (rolls-Named name)) ∙ fold-roll-TypeSpec ℕ ℕ ℕ ℕ ℕ ℕ ℕ ℕ ℕ ℕ ℕ ℕ ℕ ℕ ℕ (in_form depth) (in_part depth) (in_init depth) (in_spec depth) (in_statement_form depth) (in_decl depth) (in_declared depth) (in_param depth) (in_type_name depth) (in_expr depth) (in_init_part depth) (in_enumerator depth) (in_field_decl depth) (in_field_name depth) (in_stmt depth) (Open.Named name)
 
-pub levels_struct_by_tag : (name : Option (List ℕ)) → spec_levels (Struct name None) ≡ 1
+pub levels_struct_by_tag : (name : Option Identifier) → spec_levels (Struct name None) ≡ 1
 levels_struct_by_tag name = ap spec_levels (sym (rolls-Struct name None)) ∙ fold-roll-TypeSpec ℕ ℕ ℕ ℕ ℕ ℕ ℕ ℕ ℕ ℕ ℕ ℕ ℕ ℕ ℕ (in_form depth) (in_part depth) (in_init depth) (in_spec depth) (in_statement_form depth) (in_decl depth) (in_declared depth) (in_param depth) (in_type_name depth) (in_expr depth) (in_init_part depth) (in_enumerator depth) (in_field_decl depth) (in_field_name depth) (in_stmt depth) (Open.Struct name None)
 
-pub levels_struct : (name : Option (List ℕ)) (fields : List FieldDecl) → spec_levels (Struct name (Some fields)) ≡ 1 + joined depth (map field_decl_levels fields)
+pub levels_struct : (name : Option Identifier) (fields : List FieldDecl) → spec_levels (Struct name (Some fields)) ≡ 1 + joined depth (map field_decl_levels fields)
 levels_struct name fields = ap spec_levels (sym (rolls-Struct name (Some fields))) ∙ fold-roll-TypeSpec ℕ ℕ ℕ ℕ ℕ ℕ ℕ ℕ ℕ ℕ ℕ ℕ ℕ ℕ ℕ (in_form depth) (in_part depth) (in_init depth) (in_spec depth) (in_statement_form depth) (in_decl depth) (in_declared depth) (in_param depth) (in_type_name depth) (in_expr depth) (in_init_part depth) (in_enumerator depth) (in_field_decl depth) (in_field_name depth) (in_stmt depth) (Open.Struct name (Some fields))
 
-pub levels_enum_by_tag : (name : Option (List ℕ)) → spec_levels (Enum name None) ≡ 1
+pub levels_enum_by_tag : (name : Option Identifier) → spec_levels (Enum name None) ≡ 1
 levels_enum_by_tag name = ap spec_levels (sym (rolls-Enum name None)) ∙ fold-roll-TypeSpec ℕ ℕ ℕ ℕ ℕ ℕ ℕ ℕ ℕ ℕ ℕ ℕ ℕ ℕ ℕ (in_form depth) (in_part depth) (in_init depth) (in_spec depth) (in_statement_form depth) (in_decl depth) (in_declared depth) (in_param depth) (in_type_name depth) (in_expr depth) (in_init_part depth) (in_enumerator depth) (in_field_decl depth) (in_field_name depth) (in_stmt depth) (Open.Enum name None)
 
-pub levels_enum : (name : Option (List ℕ)) (values : List Enumerator) → spec_levels (Enum name (Some values)) ≡ 1 + joined depth (map enumerator_levels values)
+pub levels_enum : (name : Option Identifier) (values : List Enumerator) → spec_levels (Enum name (Some values)) ≡ 1 + joined depth (map enumerator_levels values)
 levels_enum name values = ap spec_levels (sym (rolls-Enum name (Some values))) ∙ fold-roll-TypeSpec ℕ ℕ ℕ ℕ ℕ ℕ ℕ ℕ ℕ ℕ ℕ ℕ ℕ ℕ ℕ (in_form depth) (in_part depth) (in_init depth) (in_spec depth) (in_statement_form depth) (in_decl depth) (in_declared depth) (in_param depth) (in_type_name depth) (in_expr depth) (in_init_part depth) (in_enumerator depth) (in_field_decl depth) (in_field_name depth) (in_stmt depth) (Open.Enum name (Some values))
 
 pub levels_of_expr : (expr : Expr) → spec_levels (OfExpr expr) ≡ 1 + expr_levels expr
@@ -208,7 +209,7 @@ levels_of_type name = ap spec_levels (sym (rolls-OfType name)) ∙ fold-roll-Typ
 pub levels_type_name : (type : TypeSpec) (stars : ℕ) (sizes : List (Option Expr)) → type_name_levels (type_name type stars sizes) ≡ max (spec_levels type) (joined depth (map maybe_levels sizes))
 levels_type_name type stars sizes = fold-roll-TypeName ℕ ℕ ℕ ℕ ℕ ℕ ℕ ℕ ℕ ℕ ℕ ℕ ℕ ℕ ℕ (in_form depth) (in_part depth) (in_init depth) (in_spec depth) (in_statement_form depth) (in_decl depth) (in_declared depth) (in_param depth) (in_type_name depth) (in_expr depth) (in_init_part depth) (in_enumerator depth) (in_field_decl depth) (in_field_name depth) (in_stmt depth) (record { spec = type; stars = stars; sizes = sizes }) ∙ ap (λ (ns : List ℕ). max (spec_levels type) (joined depth ns)) (map_options or_nothing _ maybe_levels refl (λ e. refl) sizes)
 
-pub levels_parameter : (type : TypeSpec) (stars : ℕ) (name : Option (List ℕ)) (sizes : List (Option Expr)) → param_levels (parameter type stars name sizes) ≡ max (spec_levels type) (joined depth (map maybe_levels sizes))
+pub levels_parameter : (type : TypeSpec) (stars : ℕ) (name : Option Identifier) (sizes : List (Option Expr)) → param_levels (parameter type stars name sizes) ≡ max (spec_levels type) (joined depth (map maybe_levels sizes))
 levels_parameter type stars name sizes = fold-roll-Param ℕ ℕ ℕ ℕ ℕ ℕ ℕ ℕ ℕ ℕ ℕ ℕ ℕ ℕ ℕ (in_form depth) (in_part depth) (in_init depth) (in_spec depth) (in_statement_form depth) (in_decl depth) (in_declared depth) (in_param depth) (in_type_name depth) (in_expr depth) (in_init_part depth) (in_enumerator depth) (in_field_decl depth) (in_field_name depth) (in_stmt depth) (record { spec = type; stars = stars; name = name; sizes = sizes }) ∙ ap (λ (ns : List ℕ). max (spec_levels type) (joined depth ns)) (map_options or_nothing _ maybe_levels refl (λ e. refl) sizes)
 
 pub levels_fields : (type : TypeSpec) (names : List FieldName) → field_decl_levels (fields type names) ≡ max (spec_levels type) (joined depth (map field_name_levels names))
@@ -270,35 +271,35 @@ form_block body = ap statement_form_levels (sym (rolls-Block body)) ∙ fold-rol
 pub levels_block : (place last : Place) (body : List Stmt) → stmt_levels (statement place last (Block body)) ≡ 1 + joined depth (map stmt_levels body)
 levels_block place last body = levels_stmt (statement place last (Block body)) ∙ ap (λ (n : ℕ). 1 + n) (form_block body)
 
-form_if : (test : Expr) (one : Stmt) → statement_form_levels (If test one None) ≡ max (expr_levels test) (stmt_levels one)
-form_if test one = ap statement_form_levels (sym (rolls-If test one None)) ∙ (fold-roll-StmtForm ℕ ℕ ℕ ℕ ℕ ℕ ℕ ℕ ℕ ℕ ℕ ℕ ℕ ℕ ℕ (in_form depth) (in_part depth) (in_init depth) (in_spec depth) (in_statement_form depth) (in_decl depth) (in_declared depth) (in_param depth) (in_type_name depth) (in_expr depth) (in_init_part depth) (in_enumerator depth) (in_field_decl depth) (in_field_name depth) (in_stmt depth) (Open.If test one None) ∙ ap (max (expr_levels test)) (max_nothing (stmt_levels one)))
+form_if : (test : Expr) (close : Place) (one : Stmt) → statement_form_levels (If test close one None) ≡ max (expr_levels test) (stmt_levels one)
+form_if test close one = ap statement_form_levels (sym (rolls-If test close one None)) ∙ (fold-roll-StmtForm ℕ ℕ ℕ ℕ ℕ ℕ ℕ ℕ ℕ ℕ ℕ ℕ ℕ ℕ ℕ (in_form depth) (in_part depth) (in_init depth) (in_spec depth) (in_statement_form depth) (in_decl depth) (in_declared depth) (in_param depth) (in_type_name depth) (in_expr depth) (in_init_part depth) (in_enumerator depth) (in_field_decl depth) (in_field_name depth) (in_stmt depth) (Open.If test close one None) ∙ ap (max (expr_levels test)) (max_nothing (stmt_levels one)))
 
-pub levels_if : (place last : Place) (test : Expr) (one : Stmt) → stmt_levels (statement place last (If test one None)) ≡ 1 + max (expr_levels test) (stmt_levels one)
-levels_if place last test one = levels_stmt (statement place last (If test one None)) ∙ ap (λ (n : ℕ). 1 + n) (form_if test one)
+pub levels_if : (place last : Place) (test : Expr) (close : Place) (one : Stmt) → stmt_levels (statement place last (If test close one None)) ≡ 1 + max (expr_levels test) (stmt_levels one)
+levels_if place last test close one = levels_stmt (statement place last (If test close one None)) ∙ ap (λ (n : ℕ). 1 + n) (form_if test close one)
 
-form_if_else : (test : Expr) (one : Stmt) (other : Stmt) → statement_form_levels (If test one (Some other)) ≡ max (expr_levels test) (max (stmt_levels one) (stmt_levels other))
-form_if_else test one other = ap statement_form_levels (sym (rolls-If test one (Some other))) ∙ fold-roll-StmtForm ℕ ℕ ℕ ℕ ℕ ℕ ℕ ℕ ℕ ℕ ℕ ℕ ℕ ℕ ℕ (in_form depth) (in_part depth) (in_init depth) (in_spec depth) (in_statement_form depth) (in_decl depth) (in_declared depth) (in_param depth) (in_type_name depth) (in_expr depth) (in_init_part depth) (in_enumerator depth) (in_field_decl depth) (in_field_name depth) (in_stmt depth) (Open.If test one (Some other))
+form_if_else : (test : Expr) (close : Place) (one : Stmt) (other : Stmt) → statement_form_levels (If test close one (Some other)) ≡ max (expr_levels test) (max (stmt_levels one) (stmt_levels other))
+form_if_else test close one other = ap statement_form_levels (sym (rolls-If test close one (Some other))) ∙ fold-roll-StmtForm ℕ ℕ ℕ ℕ ℕ ℕ ℕ ℕ ℕ ℕ ℕ ℕ ℕ ℕ ℕ (in_form depth) (in_part depth) (in_init depth) (in_spec depth) (in_statement_form depth) (in_decl depth) (in_declared depth) (in_param depth) (in_type_name depth) (in_expr depth) (in_init_part depth) (in_enumerator depth) (in_field_decl depth) (in_field_name depth) (in_stmt depth) (Open.If test close one (Some other))
 
-pub levels_if_else : (place last : Place) (test : Expr) (one : Stmt) (other : Stmt) → stmt_levels (statement place last (If test one (Some other))) ≡ 1 + max (expr_levels test) (max (stmt_levels one) (stmt_levels other))
-levels_if_else place last test one other = levels_stmt (statement place last (If test one (Some other))) ∙ ap (λ (n : ℕ). 1 + n) (form_if_else test one other)
+pub levels_if_else : (place last : Place) (test : Expr) (close : Place) (one : Stmt) (other : Stmt) → stmt_levels (statement place last (If test close one (Some other))) ≡ 1 + max (expr_levels test) (max (stmt_levels one) (stmt_levels other))
+levels_if_else place last test close one other = levels_stmt (statement place last (If test close one (Some other))) ∙ ap (λ (n : ℕ). 1 + n) (form_if_else test close one other)
 
-form_while : (test : Expr) (body : Stmt) → statement_form_levels (While test body) ≡ max (expr_levels test) (stmt_levels body)
-form_while test body = ap statement_form_levels (sym (rolls-While test body)) ∙ fold-roll-StmtForm ℕ ℕ ℕ ℕ ℕ ℕ ℕ ℕ ℕ ℕ ℕ ℕ ℕ ℕ ℕ (in_form depth) (in_part depth) (in_init depth) (in_spec depth) (in_statement_form depth) (in_decl depth) (in_declared depth) (in_param depth) (in_type_name depth) (in_expr depth) (in_init_part depth) (in_enumerator depth) (in_field_decl depth) (in_field_name depth) (in_stmt depth) (Open.While test body)
+form_while : (test : Expr) (close : Place) (body : Stmt) → statement_form_levels (While test close body) ≡ max (expr_levels test) (stmt_levels body)
+form_while test close body = ap statement_form_levels (sym (rolls-While test close body)) ∙ fold-roll-StmtForm ℕ ℕ ℕ ℕ ℕ ℕ ℕ ℕ ℕ ℕ ℕ ℕ ℕ ℕ ℕ (in_form depth) (in_part depth) (in_init depth) (in_spec depth) (in_statement_form depth) (in_decl depth) (in_declared depth) (in_param depth) (in_type_name depth) (in_expr depth) (in_init_part depth) (in_enumerator depth) (in_field_decl depth) (in_field_name depth) (in_stmt depth) (Open.While test close body)
 
-pub levels_while : (place last : Place) (test : Expr) (body : Stmt) → stmt_levels (statement place last (While test body)) ≡ 1 + max (expr_levels test) (stmt_levels body)
-levels_while place last test body = levels_stmt (statement place last (While test body)) ∙ ap (λ (n : ℕ). 1 + n) (form_while test body)
+pub levels_while : (place last : Place) (test : Expr) (close : Place) (body : Stmt) → stmt_levels (statement place last (While test close body)) ≡ 1 + max (expr_levels test) (stmt_levels body)
+levels_while place last test close body = levels_stmt (statement place last (While test close body)) ∙ ap (λ (n : ℕ). 1 + n) (form_while test close body)
 
-form_do : (body : Stmt) (test : Expr) → statement_form_levels (Do body test) ≡ max (stmt_levels body) (expr_levels test)
-form_do body test = ap statement_form_levels (sym (rolls-Do body test)) ∙ fold-roll-StmtForm ℕ ℕ ℕ ℕ ℕ ℕ ℕ ℕ ℕ ℕ ℕ ℕ ℕ ℕ ℕ (in_form depth) (in_part depth) (in_init depth) (in_spec depth) (in_statement_form depth) (in_decl depth) (in_declared depth) (in_param depth) (in_type_name depth) (in_expr depth) (in_init_part depth) (in_enumerator depth) (in_field_decl depth) (in_field_name depth) (in_stmt depth) (Open.Do body test)
+form_do : (body : Stmt) (test : Expr) (close : Place) → statement_form_levels (Do body test close) ≡ max (stmt_levels body) (expr_levels test)
+form_do body test close = ap statement_form_levels (sym (rolls-Do body test close)) ∙ fold-roll-StmtForm ℕ ℕ ℕ ℕ ℕ ℕ ℕ ℕ ℕ ℕ ℕ ℕ ℕ ℕ ℕ (in_form depth) (in_part depth) (in_init depth) (in_spec depth) (in_statement_form depth) (in_decl depth) (in_declared depth) (in_param depth) (in_type_name depth) (in_expr depth) (in_init_part depth) (in_enumerator depth) (in_field_decl depth) (in_field_name depth) (in_stmt depth) (Open.Do body test close)
 
-pub levels_do : (place last : Place) (body : Stmt) (test : Expr) → stmt_levels (statement place last (Do body test)) ≡ 1 + max (stmt_levels body) (expr_levels test)
-levels_do place last body test = levels_stmt (statement place last (Do body test)) ∙ ap (λ (n : ℕ). 1 + n) (form_do body test)
+pub levels_do : (place last : Place) (body : Stmt) (test : Expr) (close : Place) → stmt_levels (statement place last (Do body test close)) ≡ 1 + max (stmt_levels body) (expr_levels test)
+levels_do place last body test close = levels_stmt (statement place last (Do body test close)) ∙ ap (λ (n : ℕ). 1 + n) (form_do body test close)
 
-form_for : (first : Stmt) (test : Option Expr) (next : Option Expr) (body : Stmt) → statement_form_levels (For first test next body) ≡ max (max (stmt_levels first) (maybe_levels test)) (max (maybe_levels next) (stmt_levels body))
-form_for first test next body = ap statement_form_levels (sym (rolls-For first test next body)) ∙ (fold-roll-StmtForm ℕ ℕ ℕ ℕ ℕ ℕ ℕ ℕ ℕ ℕ ℕ ℕ ℕ ℕ ℕ (in_form depth) (in_part depth) (in_init depth) (in_spec depth) (in_statement_form depth) (in_decl depth) (in_declared depth) (in_param depth) (in_type_name depth) (in_expr depth) (in_init_part depth) (in_enumerator depth) (in_field_decl depth) (in_field_name depth) (in_stmt depth) (Open.For first test next body) ∙ both (λ (m n : ℕ). max (max (stmt_levels first) m) (max n (stmt_levels body))) _ _ _ _ (option_cases or_nothing (former-StmtForm-Eval-0.map Expr ℕ expr_levels) maybe_levels refl (λ e. refl) test) (option_cases or_nothing (former-StmtForm-Eval-0.map Expr ℕ expr_levels) maybe_levels refl (λ e. refl) next))
+form_for : (first : Stmt) (test : Option Expr) (semicolon : Place) (next : Option Expr) (close : Place) (body : Stmt) → statement_form_levels (For first test semicolon next close body) ≡ max (max (stmt_levels first) (maybe_levels test)) (max (maybe_levels next) (stmt_levels body))
+form_for first test semicolon next close body = ap statement_form_levels (sym (rolls-For first test semicolon next close body)) ∙ (fold-roll-StmtForm ℕ ℕ ℕ ℕ ℕ ℕ ℕ ℕ ℕ ℕ ℕ ℕ ℕ ℕ ℕ (in_form depth) (in_part depth) (in_init depth) (in_spec depth) (in_statement_form depth) (in_decl depth) (in_declared depth) (in_param depth) (in_type_name depth) (in_expr depth) (in_init_part depth) (in_enumerator depth) (in_field_decl depth) (in_field_name depth) (in_stmt depth) (Open.For first test semicolon next close body) ∙ both (λ (m n : ℕ). max (max (stmt_levels first) m) (max n (stmt_levels body))) _ _ _ _ (option_cases or_nothing (former-StmtForm-Eval-0.map Expr ℕ expr_levels) maybe_levels refl (λ e. refl) test) (option_cases or_nothing (former-StmtForm-Eval-0.map Expr ℕ expr_levels) maybe_levels refl (λ e. refl) next))
 
-pub levels_for : (place last : Place) (first : Stmt) (test : Option Expr) (next : Option Expr) (body : Stmt) → stmt_levels (statement place last (For first test next body)) ≡ 1 + max (max (stmt_levels first) (maybe_levels test)) (max (maybe_levels next) (stmt_levels body))
-levels_for place last first test next body = levels_stmt (statement place last (For first test next body)) ∙ ap (λ (n : ℕ). 1 + n) (form_for first test next body)
+pub levels_for : (place last : Place) (first : Stmt) (test : Option Expr) (semicolon : Place) (next : Option Expr) (close : Place) (body : Stmt) → stmt_levels (statement place last (For first test semicolon next close body)) ≡ 1 + max (max (stmt_levels first) (maybe_levels test)) (max (maybe_levels next) (stmt_levels body))
+levels_for place last first test semicolon next close body = levels_stmt (statement place last (For first test semicolon next close body)) ∙ ap (λ (n : ℕ). 1 + n) (form_for first test semicolon next close body)
 
 form_break : statement_form_levels Break ≡ 0
 form_break = ap statement_form_levels (sym rolls-Break) ∙ fold-roll-StmtForm ℕ ℕ ℕ ℕ ℕ ℕ ℕ ℕ ℕ ℕ ℕ ℕ ℕ ℕ ℕ (in_form depth) (in_part depth) (in_init depth) (in_spec depth) (in_statement_form depth) (in_decl depth) (in_declared depth) (in_param depth) (in_type_name depth) (in_expr depth) (in_init_part depth) (in_enumerator depth) (in_field_decl depth) (in_field_name depth) (in_stmt depth) Open.Break

@@ -5,6 +5,7 @@ use Rattle.std.specs.List.{list_all, prefix_len}
 use Rattle.cbase.specs.declared.place.Place.{Place}
 use Rattle.cbase.specs.declared.tree.decl.Storage.{Storage}
 use Rattle.cbase.specs.declared.tree.expr.Expr.{Expr}
+use Rattle.cbase.specs.declared.tree.identifier.Identifier.{Identifier}
 use Rattle.cbase.specs.declared.tree.spec.BasicType.{BasicType}
 use Rattle.cbase.specs.declared.tree.spec.TypeSpec.{TypeSpec}
 use Rattle.cbase.specs.declared.tree.spec.TypeSpec.TheVariants.{Struct, Enum}
@@ -17,7 +18,7 @@ use Rattle.cgrammar.specs.Phrases.{Context}
 use Rattle.cgrammar.specs.ReadDeclarations.{storage_at, storage_behind, specifiers_with, read_specifiers, parameter_behind, read_parameter, is_void_alone, read_parameters, object_behind, read_declarator, read_declaration, read_part, in_braces, read_initializer}
 use Rattle.cgrammar.specs.ReadLevels.{Level, read_list, read_until_brace}
 use Rattle.cgrammar.specs.ReadStarts.{type_start, statement_start}
-use Rattle.cgrammar.specs.ReadStatements.{read_block, read_maybe, declared_statement, expression_statement, read_clause, untyped, otherwise_behind, read_if, read_while, read_do, read_for, read_return, statement_with, read_unlabeled, read_statement, read_item}
+use Rattle.cgrammar.specs.ReadStatements.{read_block, read_maybe, declared_statement, expression_statement, read_clause, untyped, substatement, otherwise_behind, read_if, read_while, read_do, read_for, read_return, statement_with, read_unlabeled, read_statement, read_item}
 use Rattle.cgrammar.specs.ReadTypes.{star_count, behind_stars, size_behind, read_sizes, read_type_name, bits_behind, named_field, never, read_field, read_fields, read_enumerator, closes_braces, behind_comma, tag_at, behind_tag, by_tag, read_struct, read_enum, type_of, of_basic, specifier_with, read_specifier}
 use Rattle.cgrammar.specs.Terminals.{Terminal, is_mark, is_name, begins_with_typedef, bytes_of}
 use Rattle.cgrammar.specs.TypeWords.{basic_of, basic_rows, declares_typedef}
@@ -98,7 +99,7 @@ fewer_tag most row inside = step (has_first is_name row)
     step true = fewer_behind most row inside
     step false = inside
 
-pub keep_by_tag : (type : Option (List ℕ) → TypeSpec) (name : Option (List ℕ)) → Keeps (by_tag type name)
+pub keep_by_tag : (type : Option Identifier → TypeSpec) (name : Option Identifier) → Keeps (by_tag type name)
 keep_by_tag type None most context row inside = tt
 keep_by_tag type (Some name) most context row inside = inside
 
@@ -263,31 +264,35 @@ keep_clause inner is most context row inside =
 pub keep_untyped : (inner : Level) → KeepsLevel inner → Keeps (untyped inner)
 keep_untyped inner is most context row inside = keep_if most (begins_with_typedef context.scope row) _ _ tt (is.expression most context row inside)
 
-pub keep_otherwise : (inner : Level) (place : Place) (test : Expr) (tests : ℕ) (one : Stmt) (ones : ℕ) → KeepsLevel inner → Keeps (otherwise_behind inner place test tests one ones)
-keep_otherwise inner place test tests one ones is most context row inside =
+pub keep_substatement : (inner : Level) → KeepsLevel inner → Keeps (substatement inner)
+keep_substatement inner is most context row fits =
+    keep_then most (inner.statement (inside context) row) _ (is.statement most (inside context) row fits) (λ stmt levels behind rest within. within)
+
+pub keep_otherwise : (inner : Level) (place close : Place) (test : Expr) (tests : ℕ) (one : Stmt) (ones : ℕ) → KeepsLevel inner → Keeps (otherwise_behind inner place close test tests one ones)
+keep_otherwise inner place close test tests one ones is most context row inside =
     keep_first most _ row _ _ inside inside (λ otherwise others fewer.
-    keep_then most (inner.statement context others) _ (is.statement most context others fewer) (λ other twos behind rest within. within))
+    keep_then most (substatement inner context others) _ (keep_substatement inner is most context others fewer) (λ other twos behind rest within. within))
 
 pub keep_if_statement : (inner : Level) (place : Place) → KeepsLevel inner → Keeps (read_if inner place)
 unfolding read_if
-keep_if_statement inner place is most context row inside =
-    keep_first most _ row _ _ inside tt (λ opening others fewer.
-    keep_then most (untyped inner context others) _ (keep_untyped inner is most context others fewer) (λ test tests behind rest within.
+keep_if_statement inner place is most context row fits =
+    keep_first most _ row _ _ fits tt (λ opening others fewer.
+    keep_then most (untyped inner (inside context) others) _ (keep_untyped inner is most (inside context) others fewer) (λ test tests behind rest within.
     keep_first most _ rest _ _ within tt (λ closing more less.
-    keep_then most (inner.statement behind more) _ (is.statement most behind more less) (λ one ones last end ends. keep_otherwise inner place test tests one ones is most last end ends))))
+    keep_then most (substatement inner behind more) _ (keep_substatement inner is most behind more less) (λ one ones last end ends. keep_otherwise inner place closing.place test tests one ones is most last end ends))))
 
 pub keep_while_statement : (inner : Level) (place : Place) → KeepsLevel inner → Keeps (read_while inner place)
 unfolding read_while
-keep_while_statement inner place is most context row inside =
-    keep_first most _ row _ _ inside tt (λ opening others fewer.
-    keep_then most (untyped inner context others) _ (keep_untyped inner is most context others fewer) (λ test tests behind rest within.
+keep_while_statement inner place is most context row fits =
+    keep_first most _ row _ _ fits tt (λ opening others fewer.
+    keep_then most (untyped inner (inside context) others) _ (keep_untyped inner is most (inside context) others fewer) (λ test tests behind rest within.
     keep_first most _ rest _ _ within tt (λ closing more less.
-    keep_then most (inner.statement behind more) _ (is.statement most behind more less) (λ body levels last end ends. ends))))
+    keep_then most (substatement inner behind more) _ (keep_substatement inner is most behind more less) (λ body levels last end ends. ends))))
 
 pub keep_do_statement : (inner : Level) (place : Place) → KeepsLevel inner → Keeps (read_do inner place)
 unfolding read_do
-keep_do_statement inner place is most context row inside =
-    keep_then most (inner.statement context row) _ (is.statement most context row inside) (λ body levels behind rest within.
+keep_do_statement inner place is most context row fits =
+    keep_then most (substatement inner (inside context) row) _ (keep_substatement inner is most (inside context) row fits) (λ body levels behind rest within.
     keep_first most _ rest _ _ within tt (λ while others fewer.
     keep_first most _ others _ _ fewer tt (λ opening more less.
     keep_then most (untyped inner behind more) _ (keep_untyped inner is most behind more less) (λ test tests last end ends.
@@ -303,7 +308,7 @@ keep_for_statement inner place is most context row inside =
     keep_first most _ more _ _ less tt (λ semicolon end ends.
     keep_then most (read_maybe inner (is_mark (codes ")")) two end) _ (keep_maybe inner (is_mark (codes ")")) is most two end ends) (λ next nexts three finals almost.
     keep_first most _ finals _ _ almost tt (λ closing final nearly.
-    keep_then most (inner.statement three final) _ (is.statement most three final nearly) (λ body levels last over done. done)))))))
+    keep_then most (substatement inner three final) _ (keep_substatement inner is most three final nearly) (λ body levels last over done. done)))))))
 
 pub keep_return_statement : (inner : Level) (place : Place) → KeepsLevel inner → Keeps (read_return inner place)
 unfolding read_return

@@ -3,7 +3,7 @@ use Rattle.std.proofs.Common.{refl, [], ◌∷◌, codes, lit≤, inl, inr}
 use Rattle.ctokens.specs.SymbolTables.{keyword_symbol, name_symbol, passed_symbol, mark_symbol, read_as, symbol_of}
 use Rattle.cbase.specs.declared.tree.decl.Storage.TheVariants.{Plain, Extern, Static}
 use Rattle.cgrammar.specs.Brackets.{NothingMore, NoBracket, InBrackets}
-use Rattle.cgrammar.specs.Grammar.{OneAssignment, CommaOperator, OneConditional, AssignmentOperator, OneOperation, ConditionalOperator, OneCast, BinaryOperator, OneUnary, CastOperator, OnePostfix, CountBefore, UnaryOperator, SizeOfExpression, SizeOfTypeName, OnePrimary, IndexOperator, CallOfNothing, CallOperator, MemberOperator, CountBehind, OneArgument, MoreArguments, OneName, OneConstant, Bracketed, StatementExpression, OffsetOfMember, NoMoreMembers, PathToMember, PathToItem, FailedAssertion, BasicWords, TypedefName, TypeOfExpression, TypeOfType, StructWithFields, StructByTag, NoMoreFields, MoreFields, OneFieldDeclaration, OneField, MoreFieldNames, NamedField, NamedBits, UnnamedBits, EnumWithValues, EnumByTag, LastEnumerator, MoreEnumerators, PlainEnumerator, ValuedEnumerator, OneTypeName, NoMoreSizes, SizeLeftOut, SizeGiven, TypeAlone, StorageBefore, StorageBehind, NoDeclarator, WithDeclarators, OneDeclarator, MoreDeclarators, ObjectDeclarator, InitializedDeclarator, DeclaratorOfFunction, NoParameters, VoidParameters, WithParameters, OneParameter, MoreParameters, NamedParameter, UnnamedParameter, InitializedTo, EmptyBraces, InBraces, OneInitializer, MoreInitializers, NextPart, MemberPart, OneBlock, NoMoreItems, NextDeclaration, NextStatement, BlockStatement, EmptyStatement, ExpressionStatement, IfStatement, IfElseStatement, WhileStatement, DoStatement, ForStatement, FirstDeclaration, FirstLeftOut, FirstExpression, NoExpression, SomeExpression, BreakStatement, ContinueStatement, ReturnStatement, LabeledStatement}
+use Rattle.cgrammar.specs.Grammar.{OneAssignment, CommaOperator, OneConditional, AssignmentOperator, OneOperation, ConditionalOperator, OneCast, BinaryOperator, OneUnary, CastOperator, OnePostfix, CountBefore, UnaryOperator, SizeOfExpression, SizeOfTypeName, OnePrimary, IndexOperator, CallOfNothing, CallOperator, MemberOperator, CountBehind, OneArgument, MoreArguments, OneName, OneConstant, Bracketed, StatementExpression, OffsetOfMember, NoMoreMembers, PathToMember, PathToItem, FailedAssertion, BasicWords, TypedefName, TypeOfExpression, TypeOfType, StructWithFields, StructByTag, NoMoreFields, MoreFields, OneFieldDeclaration, OneField, MoreFieldNames, NamedField, NamedBits, UnnamedBits, EnumWithValues, EnumByTag, LastEnumerator, MoreEnumerators, PlainEnumerator, ValuedEnumerator, OneTypeName, NoMoreSizes, SizeLeftOut, SizeGiven, TypeAlone, StorageBefore, StorageBehind, NoDeclarator, WithDeclarators, OneDeclarator, MoreDeclarators, ObjectDeclarator, InitializedDeclarator, DeclaratorOfFunction, NoParameters, VoidParameters, WithParameters, OneParameter, MoreParameters, NamedParameter, UnnamedParameter, InitializedTo, EmptyBraces, InBraces, OneInitializer, MoreInitializers, NextPart, MemberPart, OneBlock, NoMoreItems, NextDeclaration, NextStatement, BlockStatement, EmptyStatement, ExpressionStatement, OneSubstatement, IfStatement, IfElseStatement, WhileStatement, DoStatement, ForStatement, FirstDeclaration, FirstLeftOut, FirstExpression, NoExpression, SomeExpression, BreakStatement, ContinueStatement, ReturnStatement, LabeledStatement}
 use Rattle.cgrammar.specs.Phrases.{context_at}
 use Rattle.cgrammar.specs.Rows.{ReadsTwoSubtractions, ReadsPassedOver, ReadsBlock, ReadsLabel, word, number, quoted, mark, TwoSubtractions, Levels, Chosen, Assigned, CastOfMinus, BracketsAndMinus, SizeAndMinus, SizeOfItem, CallPlace, Container, Assertion, NearestIf, Labels, Loops, Declarations, Hidden, Rest, Structs}
 
@@ -53,7 +53,7 @@ assertion = OneAssignment (OneConditional (ConditionalOperator (mark (codes "?")
 
 pub nearest_if : NearestIf
 unfolding keyword_symbol name_symbol passed_symbol
-nearest_if = OneBlock (mark (codes "{") 0) (mark (codes "}") 13) refl (NextStatement (IfStatement (word (codes "if") 1) (mark (codes "(") 2) (mark (codes ")") 4) refl refl refl (OneAssignment (OneConditional (OneOperation (OneCast (OneUnary (OnePostfix (OnePrimary (OneName (word (codes "a") 3) refl)))))))) refl (IfElseStatement (word (codes "if") 5) (mark (codes "(") 6) (mark (codes ")") 8) (word (codes "else") 10) refl refl refl (OneAssignment (OneConditional (OneOperation (OneCast (OneUnary (OnePostfix (OnePrimary (OneName (word (codes "b") 7) refl)))))))) refl (EmptyStatement (mark (codes ";") 9) refl) refl (ExpressionStatement (mark (codes ";") 12) refl (OneAssignment (OneConditional (OneOperation (OneCast (OneUnary (OnePostfix (OnePrimary (OneName (word (codes "x") 11) refl)))))))) refl))) NoMoreItems) refl
+nearest_if = OneBlock (mark (codes "{") 0) (mark (codes "}") 13) refl (NextStatement (IfStatement (word (codes "if") 1) (mark (codes "(") 2) (mark (codes ")") 4) refl refl refl (OneAssignment (OneConditional (OneOperation (OneCast (OneUnary (OnePostfix (OnePrimary (OneName (word (codes "a") 3) refl)))))))) refl (OneSubstatement (IfElseStatement (word (codes "if") 5) (mark (codes "(") 6) (mark (codes ")") 8) (word (codes "else") 10) refl refl refl (OneAssignment (OneConditional (OneOperation (OneCast (OneUnary (OnePostfix (OnePrimary (OneName (word (codes "b") 7) refl)))))))) refl (OneSubstatement (EmptyStatement (mark (codes ";") 9) refl)) refl (OneSubstatement (ExpressionStatement (mark (codes ";") 12) refl (OneAssignment (OneConditional (OneOperation (OneCast (OneUnary (OnePostfix (OnePrimary (OneName (word (codes "x") 11) refl)))))))) refl))))) NoMoreItems) refl
 
 pub labels : Labels
 unfolding keyword_symbol name_symbol passed_symbol
@@ -61,7 +61,7 @@ labels = OneBlock (mark (codes "{") 0) (mark (codes "}") 4) refl (NextStatement 
 
 pub loops : Loops
 unfolding keyword_symbol name_symbol passed_symbol
-loops = OneBlock (mark (codes "{") 0) (mark (codes "}") 40) refl (NextStatement (WhileStatement (word (codes "while") 1) (mark (codes "(") 2) (mark (codes ")") 4) refl refl refl (OneAssignment (OneConditional (OneOperation (OneCast (OneUnary (OnePostfix (OnePrimary (OneName (word (codes "a") 3) refl)))))))) refl (BlockStatement (OneBlock (mark (codes "{") 5) (mark (codes "}") 6) refl NoMoreItems refl))) (NextStatement (DoStatement (word (codes "do") 7) (word (codes "while") 9) (mark (codes "(") 10) (mark (codes ")") 12) (mark (codes ";") 13) refl (EmptyStatement (mark (codes ";") 8) refl) refl refl refl (OneAssignment (OneConditional (OneOperation (OneCast (OneUnary (OnePostfix (OnePrimary (OneName (word (codes "b") 11) refl)))))))) refl refl) (NextStatement (ForStatement (word (codes "for") 14) (mark (codes "(") 15) (mark (codes ";") 24) (mark (codes ")") 27) refl refl (FirstDeclaration (WithDeclarators (mark (codes ";") 20) (TypeAlone (BasicWords ((word (codes "int") 16) ∷ []) (refl, refl))) (OneDeclarator (InitializedDeclarator [] (word (codes "i") 17) (mark (codes "=") 18) refl refl NoMoreSizes refl (InitializedTo (OneConditional (OneOperation (OneCast (OneUnary (OnePostfix (OnePrimary (OneConstant (number (codes "0") 19) (record { digits = codes "0"; suffix = codes ""; whole = refl; counts = refl; ends = refl }))))))))))) refl)) (SomeExpression (OneAssignment (OneConditional (OneOperation (BinaryOperator {tighter = 6} (mark (codes "<") 22) (lit≤ tt) (OneCast (OneUnary (OnePostfix (OnePrimary (OneName (word (codes "i") 21) refl))))) refl (OneCast (OneUnary (OnePostfix (OnePrimary (OneConstant (number (codes "9") 23) (record { digits = codes "9"; suffix = codes ""; whole = refl; counts = refl; ends = refl }))))))))))) refl (SomeExpression (OneAssignment (OneConditional (OneOperation (OneCast (OneUnary (OnePostfix (CountBehind (mark (codes "++") 26) (OnePrimary (OneName (word (codes "i") 25) refl)) refl)))))))) refl (BreakStatement (word (codes "break") 28) (mark (codes ";") 29) refl refl)) (NextStatement (ForStatement (word (codes "for") 30) (mark (codes "(") 31) (mark (codes ";") 33) (mark (codes ")") 34) refl refl (FirstLeftOut (mark (codes ";") 32) refl) NoExpression refl NoExpression refl (ContinueStatement (word (codes "continue") 35) (mark (codes ";") 36) refl refl)) (NextStatement (ReturnStatement (word (codes "return") 37) (mark (codes ";") 39) refl (SomeExpression (OneAssignment (OneConditional (OneOperation (OneCast (OneUnary (OnePostfix (OnePrimary (OneName (word (codes "a") 38) refl))))))))) refl) NoMoreItems))))) refl
+loops = OneBlock (mark (codes "{") 0) (mark (codes "}") 40) refl (NextStatement (WhileStatement (word (codes "while") 1) (mark (codes "(") 2) (mark (codes ")") 4) refl refl refl (OneAssignment (OneConditional (OneOperation (OneCast (OneUnary (OnePostfix (OnePrimary (OneName (word (codes "a") 3) refl)))))))) refl (OneSubstatement (BlockStatement (OneBlock (mark (codes "{") 5) (mark (codes "}") 6) refl NoMoreItems refl)))) (NextStatement (DoStatement (word (codes "do") 7) (word (codes "while") 9) (mark (codes "(") 10) (mark (codes ")") 12) (mark (codes ";") 13) refl (OneSubstatement (EmptyStatement (mark (codes ";") 8) refl)) refl refl refl (OneAssignment (OneConditional (OneOperation (OneCast (OneUnary (OnePostfix (OnePrimary (OneName (word (codes "b") 11) refl)))))))) refl refl) (NextStatement (ForStatement (word (codes "for") 14) (mark (codes "(") 15) (mark (codes ";") 24) (mark (codes ")") 27) refl refl (FirstDeclaration (WithDeclarators (mark (codes ";") 20) (TypeAlone (BasicWords ((word (codes "int") 16) ∷ []) (refl, refl))) (OneDeclarator (InitializedDeclarator [] (word (codes "i") 17) (mark (codes "=") 18) refl refl NoMoreSizes refl (InitializedTo (OneConditional (OneOperation (OneCast (OneUnary (OnePostfix (OnePrimary (OneConstant (number (codes "0") 19) (record { digits = codes "0"; suffix = codes ""; whole = refl; counts = refl; ends = refl }))))))))))) refl)) (SomeExpression (OneAssignment (OneConditional (OneOperation (BinaryOperator {tighter = 6} (mark (codes "<") 22) (lit≤ tt) (OneCast (OneUnary (OnePostfix (OnePrimary (OneName (word (codes "i") 21) refl))))) refl (OneCast (OneUnary (OnePostfix (OnePrimary (OneConstant (number (codes "9") 23) (record { digits = codes "9"; suffix = codes ""; whole = refl; counts = refl; ends = refl }))))))))))) refl (SomeExpression (OneAssignment (OneConditional (OneOperation (OneCast (OneUnary (OnePostfix (CountBehind (mark (codes "++") 26) (OnePrimary (OneName (word (codes "i") 25) refl)) refl)))))))) refl (OneSubstatement (BreakStatement (word (codes "break") 28) (mark (codes ";") 29) refl refl))) (NextStatement (ForStatement (word (codes "for") 30) (mark (codes "(") 31) (mark (codes ";") 33) (mark (codes ")") 34) refl refl (FirstLeftOut (mark (codes ";") 32) refl) NoExpression refl NoExpression refl (OneSubstatement (ContinueStatement (word (codes "continue") 35) (mark (codes ";") 36) refl refl))) (NextStatement (ReturnStatement (word (codes "return") 37) (mark (codes ";") 39) refl (SomeExpression (OneAssignment (OneConditional (OneOperation (OneCast (OneUnary (OnePostfix (OnePrimary (OneName (word (codes "a") 38) refl))))))))) refl) NoMoreItems))))) refl
 
 pub declarations : Declarations
 unfolding keyword_symbol name_symbol passed_symbol
@@ -73,7 +73,7 @@ hidden = OneBlock (mark (codes "{") 0) (mark (codes "}") 40) refl (NextStatement
 
 pub rest : Rest
 unfolding keyword_symbol name_symbol passed_symbol
-rest = OneBlock (mark (codes "{") 0) (mark (codes "}") 26) refl (NextStatement (ForStatement (word (codes "for") 1) (mark (codes "(") 2) (mark (codes ";") 6) (mark (codes ")") 7) refl refl (FirstExpression (mark (codes ";") 5) refl (OneAssignment (OneConditional (OneOperation (OneCast (OneUnary (CountBefore (mark (codes "++") 3) refl (OnePostfix (OnePrimary (OneName (word (codes "a") 4) refl))))))))) refl) NoExpression refl NoExpression refl (ExpressionStatement (mark (codes ";") 11) refl (OneAssignment (OneConditional (OneOperation (OneCast (OneUnary (OnePostfix (CallOfNothing (mark (codes "(") 9) (mark (codes ")") 10) (OnePrimary (OneName (word (codes "f") 8) refl)) refl refl))))))) refl)) (NextDeclaration (NoDeclarator (mark (codes ";") 14) (TypeAlone (EnumByTag (word (codes "enum") 12) (word (codes "e") 13) refl refl)) refl) (NextDeclaration (WithDeclarators (mark (codes ";") 25) (TypeAlone (TypeOfType (word (codes "typeof") 15) (mark (codes "(") 16) (mark (codes ")") 19) refl refl (OneTypeName ((mark (codes "*") 18) ∷ []) (BasicWords ((word (codes "int") 17) ∷ []) (refl, refl)) refl NoMoreSizes) refl)) (MoreDeclarators (mark (codes ",") 21) (ObjectDeclarator [] (word (codes "x") 20) refl refl NoMoreSizes) refl (OneDeclarator (DeclaratorOfFunction (NoParameters [] (word (codes "g") 22) (mark (codes "(") 23) (mark (codes ")") 24) refl refl refl refl)))) refl) NoMoreItems))) refl
+rest = OneBlock (mark (codes "{") 0) (mark (codes "}") 26) refl (NextStatement (ForStatement (word (codes "for") 1) (mark (codes "(") 2) (mark (codes ";") 6) (mark (codes ")") 7) refl refl (FirstExpression (mark (codes ";") 5) refl (OneAssignment (OneConditional (OneOperation (OneCast (OneUnary (CountBefore (mark (codes "++") 3) refl (OnePostfix (OnePrimary (OneName (word (codes "a") 4) refl))))))))) refl) NoExpression refl NoExpression refl (OneSubstatement (ExpressionStatement (mark (codes ";") 11) refl (OneAssignment (OneConditional (OneOperation (OneCast (OneUnary (OnePostfix (CallOfNothing (mark (codes "(") 9) (mark (codes ")") 10) (OnePrimary (OneName (word (codes "f") 8) refl)) refl refl))))))) refl))) (NextDeclaration (NoDeclarator (mark (codes ";") 14) (TypeAlone (EnumByTag (word (codes "enum") 12) (word (codes "e") 13) refl refl)) refl) (NextDeclaration (WithDeclarators (mark (codes ";") 25) (TypeAlone (TypeOfType (word (codes "typeof") 15) (mark (codes "(") 16) (mark (codes ")") 19) refl refl (OneTypeName ((mark (codes "*") 18) ∷ []) (BasicWords ((word (codes "int") 17) ∷ []) (refl, refl)) refl NoMoreSizes) refl)) (MoreDeclarators (mark (codes ",") 21) (ObjectDeclarator [] (word (codes "x") 20) refl refl NoMoreSizes) refl (OneDeclarator (DeclaratorOfFunction (NoParameters [] (word (codes "g") 22) (mark (codes "(") 23) (mark (codes ")") 24) refl refl refl refl)))) refl) NoMoreItems))) refl
 
 pub structs : Structs
 unfolding keyword_symbol name_symbol passed_symbol

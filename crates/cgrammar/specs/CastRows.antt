@@ -7,7 +7,7 @@ use Rattle.cbase.specs.declared.tree.operators.UnaryOp.TheVariants.{Address, Min
 use Rattle.cbase.specs.declared.tree.spec.BasicType.TheVariants.{Void, Integer}
 use Rattle.cbase.specs.declared.tree.spec.Rank.TheVariants.{Char, Int, Long}
 use Rattle.cbase.specs.declared.tree.spec.TypeSpec.TheVariants.{Basic, Named, Struct, Enum, OfExpr, OfType}
-use Rattle.cgrammar.specs.Rows.{node, word}
+use Rattle.cgrammar.specs.Rows.{node, word, named}
 use Rattle.cgrammar.specs.TextRows.{TextRow, taken_as, missed, HaveExpressions}
 use Rattle.cgrammar.specs.Trees.{enumerator, type_name}
 
@@ -17,7 +17,7 @@ cast_table =
     ∷ taken_as (codes "( a ) - 1") [] (node 2 3 (Binary Sub (node 0 1 (Name (codes "a"))) (node 1 4 (Constant (codes "1"))))) 5
     ∷ taken_as (codes "( T ) - 1") [] (node 2 3 (Binary Sub (node 0 1 (Name (codes "T"))) (node 1 4 (Constant (codes "1"))))) 5
     ∷ taken_as (codes "( int ) a") [] (node 1 0 (Cast (type_name (Basic (Integer Int true)) 0 []) (node 0 3 (Name (codes "a"))))) 4
-    ∷ taken_as (codes "( int ) a . b") [] (node 2 0 (Cast (type_name (Basic (Integer Int true)) 0 []) (node 1 4 (Member (node 0 3 (Name (codes "a"))) (codes "b") false)))) 6
+    ∷ taken_as (codes "( int ) a . b") [] (node 2 0 (Cast (type_name (Basic (Integer Int true)) 0 []) (node 1 4 (Member (node 0 3 (Name (codes "a"))) (named (codes "b") 5) false)))) 6
     ∷ taken_as (codes "( int ) a + b") [] (node 3 4 (Binary Add (node 1 0 (Cast (type_name (Basic (Integer Int true)) 0 []) (node 0 3 (Name (codes "a"))))) (node 2 5 (Name (codes "b"))))) 6
     ∷ taken_as (codes "( int ) ( T ) a") (codes "T" ∷ []) (node 2 0 (Cast (type_name (Basic (Integer Int true)) 0 []) (node 1 3 (Cast (type_name (Named (codes "T")) 0 []) (node 0 6 (Name (codes "a"))))))) 7
     ∷ taken_as (codes "( T ) ( a ) ( b )") (codes "T" ∷ []) (node 3 0 (Cast (type_name (Named (codes "T")) 0 []) (node 2 4 (Call (node 0 4 (Name (codes "a"))) ((node 1 7 (Name (codes "b"))) ∷ []))))) 9
@@ -35,10 +35,10 @@ cast_table =
     ∷ taken_as (codes "( void ) 0") [] (node 1 0 (Cast (type_name (Basic Void) 0 []) (node 0 3 (Constant (codes "0"))))) 4
     ∷ taken_as (codes "( unsigned char ) a") [] (node 1 0 (Cast (type_name (Basic (Integer Char false)) 0 []) (node 0 4 (Name (codes "a"))))) 5
     ∷ missed (codes "( static int ) a") []
-    ∷ taken_as (codes "( struct s ) a") [] (node 1 0 (Cast (type_name (Struct (Some (codes "s")) None) 0 []) (node 0 4 (Name (codes "a"))))) 5
-    ∷ taken_as (codes "( struct s * ) a") [] (node 1 0 (Cast (type_name (Struct (Some (codes "s")) None) 1 []) (node 0 5 (Name (codes "a"))))) 6
+    ∷ taken_as (codes "( struct s ) a") [] (node 1 0 (Cast (type_name (Struct (Some (named (codes "s") 2)) None) 0 []) (node 0 4 (Name (codes "a"))))) 5
+    ∷ taken_as (codes "( struct s * ) a") [] (node 1 0 (Cast (type_name (Struct (Some (named (codes "s") 2)) None) 1 []) (node 0 5 (Name (codes "a"))))) 6
     ∷ missed (codes "( struct ) a") []
-    ∷ taken_as (codes "( enum e ) a") [] (node 1 0 (Cast (type_name (Enum (Some (codes "e")) None) 0 []) (node 0 4 (Name (codes "a"))))) 5
+    ∷ taken_as (codes "( enum e ) a") [] (node 1 0 (Cast (type_name (Enum (Some (named (codes "e") 2)) None) 0 []) (node 0 4 (Name (codes "a"))))) 5
     ∷ taken_as (codes "( typeof ( a ) ) b") [] (node 2 0 (Cast (type_name (OfExpr (node 0 3 (Name (codes "a")))) 0 []) (node 1 6 (Name (codes "b"))))) 7
     ∷ taken_as (codes "( typeof ( int * ) ) b") [] (node 1 0 (Cast (type_name (OfType (type_name (Basic (Integer Int true)) 1 [])) 0 []) (node 0 7 (Name (codes "b"))))) 8
     ∷ taken_as (codes "( U ) a") (codes "T" ∷ []) (node 0 1 (Name (codes "U"))) 3
@@ -51,7 +51,7 @@ cast_table =
     ∷ missed (codes "( int [ 2 ] a") []
     ∷ taken_as (codes "sizeof a") [] (node 1 0 (SizeOf (node 0 1 (Name (codes "a"))))) 2
     ∷ taken_as (codes "sizeof a + b") [] (node 3 2 (Binary Add (node 1 0 (SizeOf (node 0 1 (Name (codes "a"))))) (node 2 3 (Name (codes "b"))))) 4
-    ∷ taken_as (codes "sizeof a . b") [] (node 2 0 (SizeOf (node 1 2 (Member (node 0 1 (Name (codes "a"))) (codes "b") false)))) 4
+    ∷ taken_as (codes "sizeof a . b") [] (node 2 0 (SizeOf (node 1 2 (Member (node 0 1 (Name (codes "a"))) (named (codes "b") 3) false)))) 4
     ∷ taken_as (codes "sizeof - a") [] (node 2 0 (SizeOf (node 1 1 (Unary Minus (node 0 2 (Name (codes "a"))))))) 3
     ∷ taken_as (codes "sizeof ( a )") [] (node 1 0 (SizeOf (node 0 2 (Name (codes "a"))))) 4
     ∷ taken_as (codes "sizeof ( a ) [ 0 ]") [] (node 3 0 (SizeOf (node 2 4 (Index (node 0 2 (Name (codes "a"))) (node 1 5 (Constant (codes "0"))))))) 7
@@ -69,7 +69,7 @@ cast_table =
     ∷ missed (codes "sizeof ( )") []
     ∷ taken_as (codes "sizeof ++ a") [] (node 2 0 (SizeOf (node 1 1 (Count true false (node 0 2 (Name (codes "a"))))))) 3
     ∷ taken_as (codes "sizeof ( a ) ++") [] (node 2 0 (SizeOf (node 1 4 (Count true true (node 0 2 (Name (codes "a"))))))) 5
-    ∷ taken_as (codes "sizeof ( struct s ) * 2") [] (node 2 5 (Binary Mul (node 0 0 (SizeOfType (type_name (Struct (Some (codes "s")) None) 0 []))) (node 1 6 (Constant (codes "2"))))) 7
+    ∷ taken_as (codes "sizeof ( struct s ) * 2") [] (node 2 5 (Binary Mul (node 0 0 (SizeOfType (type_name (Struct (Some (named (codes "s") 3)) None) 0 []))) (node 1 6 (Constant (codes "2"))))) 7
     ∷ taken_as (codes "sizeof ( enum { A , B } ) + A") [] (node 2 9 (Binary Add (node 0 0 (SizeOfType (type_name (Enum None (Some ((enumerator (word (codes "A") 4) None) ∷ (enumerator (word (codes "B") 6) None) ∷ []))) 0 []))) (node 1 10 (Name (codes "A"))))) 11
     ∷ taken_as (codes "& ( T ) a") (codes "T" ∷ []) (node 2 0 (Unary Address (node 1 1 (Cast (type_name (Named (codes "T")) 0 []) (node 0 4 (Name (codes "a"))))))) 5
     ∷ taken_as (codes "sizeof ( a , b )") [] (node 3 0 (SizeOf (node 2 3 (Binary Comma (node 0 2 (Name (codes "a"))) (node 1 4 (Name (codes "b"))))))) 6

@@ -1,24 +1,22 @@
--- What a row that spells a phrase does to the names in scope and to the count of expressions.
-use Rattle.std.specs.Prelude.{◌≡◌, ◌+◌, ◌≤◌, List}
+-- What a row that spells a phrase does to the names in scope, and which number an expression has.
+use Rattle.std.specs.Prelude.{◌≡◌, ◌+◌, List}
 use Rattle.cgrammar.specs.Grammar.{Spells}
-use Rattle.cgrammar.specs.Phrases.{Phrase, Context, Expression, Assignment, Conditional, Operation, CastExpression, UnaryExpression, PostfixExpression, PrimaryExpression, CompoundStatement, FunctionDeclarator}
+use Rattle.cgrammar.specs.Phrases.{Phrase, Context, Expression, Assignment, Conditional, Operation, CastExpression, UnaryExpression, PostfixExpression, PrimaryExpression, CompoundStatement, Substatement, FunctionDeclarator}
 use Rattle.cgrammar.specs.Scope.{left}
 use Rattle.cgrammar.specs.Terminals.{Terminal}
 
--- A block leaves the names in scope as they were. Behind a function's declarator the scope of its parameters is
--- entered, and outside it all is as it was. Any other phrase declares names in the innermost scope alone.
+-- A block leaves the names in scope as they were, and so does a statement in an `if` or in a loop. Behind a function's
+-- declarator the scope of its parameters is entered, and outside it all is as it was. Any other phrase declares names
+-- in the innermost scope alone.
 abbrev pub KeepsOuter : Phrase → Context → Context → Type 0
 KeepsOuter (CompoundStatement body) before after = after.scope ≡ before.scope
+KeepsOuter (Substatement dangling stmt) before after = after.scope ≡ before.scope
 KeepsOuter (FunctionDeclarator name head) before after = left after.scope ≡ before.scope
 KeepsOuter _ before after = left after.scope ≡ left before.scope
 
 -- each phrase keeps the names of outer scopes
 abbrev pub ScopesAreKept : Type 0
 ScopesAreKept = (phrase : Phrase) (before after : Context) (row : List Terminal) → Spells phrase before row after → KeepsOuter phrase before after
-
--- no fewer expressions stand behind a phrase than before it
-abbrev pub NumbersGrow : Type 0
-NumbersGrow = (phrase : Phrase) (before after : Context) (row : List Terminal) → Spells phrase before row after → before.expressions ≤ after.expressions
 
 -- an expression has the last of the numbers of its row
 abbrev pub HasLastNumber : Phrase → Context → Type 0

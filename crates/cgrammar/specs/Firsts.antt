@@ -8,7 +8,7 @@ use Rattle.cbase.specs.declared.tree.decl.TypeName.{TypeName}
 use Rattle.cbase.specs.declared.tree.expr.Expr.{Expr}
 use Rattle.cbase.specs.declared.tree.stmt.Stmt.{Stmt}
 use Rattle.ctokens.specs.declared.token.TokenKind.{TokenKind}
-use Rattle.cgrammar.specs.Phrases.{Phrase, Context, Expression, Assignment, Conditional, Operation, CastExpression, UnaryExpression, PostfixExpression, PrimaryExpression, TypeSpecifier, NameOfType, Specifiers, Declaration, CompoundStatement, Statement}
+use Rattle.cgrammar.specs.Phrases.{Phrase, Context, Expression, Assignment, Conditional, Operation, CastExpression, UnaryExpression, PostfixExpression, PrimaryExpression, TypeSpecifier, NameOfType, Specifiers, Declaration, CompoundStatement, Statement, Substatement}
 use Rattle.cgrammar.specs.Grammar.{Spells}
 use Rattle.cgrammar.specs.Scope.{Names}
 use Rattle.cgrammar.specs.Terminals.{Terminal, is_word_kind, is_typedef, IsNoType}
@@ -63,6 +63,7 @@ BeginsAs (Specifiers storage type) scopes row = Begins (begins_declaration scope
 BeginsAs (Declaration decl) scopes row = Begins (begins_declaration scopes) row
 BeginsAs (CompoundStatement body) scopes row = Begins (λ token. not (begins_declaration scopes token)) row
 BeginsAs (Statement dangling stmt) scopes row = Begins (λ token. not (begins_declaration scopes token)) row
+BeginsAs (Substatement dangling stmt) scopes row = Begins (λ token. not (begins_declaration scopes token)) row
 BeginsAs _ scopes row = Unit {0}
 
 -- each phrase begins with such a token

@@ -5,7 +5,7 @@ use Rattle.cbase.specs.declared.tree.expr.ExprForm.TheVariants.{Name, Unary, Bin
 use Rattle.cbase.specs.declared.tree.operators.BinaryOp.TheVariants.{Mul, Div, Rem, Add, Sub, Left, Right, And, Xor, Or, Both, Either, Comma}
 use Rattle.cbase.specs.declared.tree.operators.UnaryOp.TheVariants.{Address, Follow, Minus}
 use Rattle.cbase.specs.declared.tree.spec.TypeSpec.TheVariants.{Named}
-use Rattle.cgrammar.specs.Rows.{node}
+use Rattle.cgrammar.specs.Rows.{node, named}
 use Rattle.cgrammar.specs.TextRows.{TextRow, taken_as, missed, HaveExpressions}
 use Rattle.cgrammar.specs.Trees.{type_name}
 
@@ -47,7 +47,7 @@ front_table =
     ∷ taken_as (codes "sizeof a = b") [] (node 3 2 (Assign None (node 1 0 (SizeOf (node 0 1 (Name (codes "a"))))) (node 2 3 (Name (codes "b"))))) 4
     ∷ taken_as (codes "sizeof ( T ) = b") (codes "T" ∷ []) (node 2 4 (Assign None (node 0 0 (SizeOfType (type_name (Named (codes "T")) 0 []))) (node 1 5 (Name (codes "b"))))) 6
     ∷ taken_as (codes "a - ( T ) ;") (codes "T" ∷ []) (node 0 0 (Name (codes "a"))) 1
-    ∷ taken_as (codes "a -> b . 3") [] (node 1 1 (Member (node 0 0 (Name (codes "a"))) (codes "b") true)) 3
+    ∷ taken_as (codes "a -> b . 3") [] (node 1 1 (Member (node 0 0 (Name (codes "a"))) (named (codes "b") 2) true)) 3
     ∷ taken_as (codes "a ? b : c :") [] (node 3 1 (Choose (node 0 0 (Name (codes "a"))) (node 1 2 (Name (codes "b"))) (node 2 4 (Name (codes "c"))))) 5
     ∷ taken_as (codes "a | b c") [] (node 2 1 (Binary Or (node 0 0 (Name (codes "a"))) (node 1 2 (Name (codes "b"))))) 3
     ∷ taken_as (codes "a = ( b = c") [] (node 0 0 (Name (codes "a"))) 1

@@ -6,6 +6,7 @@
 -- has that of the first word in what it calls.
 use Rattle.std.specs.Prelude.{◌≡◌, ℕ, ◌+◌, ◌≤◌, Bool, true, false, not, IsTrue, ◌⊎◌, List, [], ◌∷◌, ◌++◌, length, Option, None, Some, is_some, codes}
 use Rattle.std.specs.List.{list_all}
+use Rattle.cbase.specs.declared.place.Place.{Place}
 use Rattle.cbase.specs.declared.tree.decl.Decl.{Decl}
 use Rattle.cbase.specs.declared.tree.decl.Declared.{Declared}
 use Rattle.cbase.specs.declared.tree.decl.Param.{Param}
@@ -16,6 +17,7 @@ use Rattle.cbase.specs.declared.tree.expr.Expr.{Expr}
 use Rattle.cbase.specs.declared.tree.expr.ExprForm.TheVariants.{Name, Constant, Unary, Binary, Assign, Count, Choose, Cast, SizeOf, SizeOfType, OffsetOf, Index, Member, Call, Inner, AssertFail}
 use Rattle.cbase.specs.declared.tree.expr.Part.{Part}
 use Rattle.cbase.specs.declared.tree.expr.Part.TheVariants.{Member as NamedPart, At}
+use Rattle.cbase.specs.declared.tree.identifier.Identifier.{Identifier}
 use Rattle.cbase.specs.declared.tree.init.Init.{Init}
 use Rattle.cbase.specs.declared.tree.init.Init.TheVariants.{Value, Braces}
 use Rattle.cbase.specs.declared.tree.init.InitPart.{InitPart}
@@ -34,16 +36,16 @@ use Rattle.cgrammar.specs.Brackets.{AreMatched}
 use Rattle.cgrammar.specs.Constants.{IsConstant}
 use Rattle.cgrammar.specs.Operators.{IsUnary, IsCount, IsMember, IsBinary, IsAssignment}
 use Rattle.cgrammar.specs.Phrases.{Phrase, Context, counted, numbered, scoped}
-use Rattle.cgrammar.specs.Phrases.{Expression, Assignment, Conditional, Operation, CastExpression, UnaryExpression, PostfixExpression, PrimaryExpression, Arguments, MemberPath, TypeSpecifier, NameOfType, ArraySizes, Fields, FieldDeclaration, FieldDeclarators, FieldDeclarator, Enumerators, OneEnumerator, Specifiers, Declaration, Declarators, Declarator, FunctionDeclarator, Parameters, Parameter, Initializer, Initializers, DesignatedInitializer, CompoundStatement, BlockItems, Statement, FirstClause, MaybeExpression}
+use Rattle.cgrammar.specs.Phrases.{Expression, Assignment, Conditional, Operation, CastExpression, UnaryExpression, PostfixExpression, PrimaryExpression, Arguments, MemberPath, TypeSpecifier, NameOfType, ArraySizes, Fields, FieldDeclaration, FieldDeclarators, FieldDeclarator, Enumerators, OneEnumerator, Specifiers, Declaration, Declarators, Declarator, FunctionDeclarator, Parameters, Parameter, Initializer, Initializers, DesignatedInitializer, CompoundStatement, BlockItems, Statement, Substatement, FirstClause, MaybeExpression}
 use Rattle.cgrammar.specs.Scope.{entered, declared}
 use Rattle.cgrammar.specs.Terminals.{Terminal, is_word, IsWord, IsMark, IsName, IsTypedef, IsNoType, AreStars, first_place, last_place, first_word_place}
-use Rattle.cgrammar.specs.Trees.{object, function, field, fields, enumerator, parameter, type_name, declaration, initializer, statement}
+use Rattle.cgrammar.specs.Trees.{identifier, object, function, field, fields, enumerator, parameter, type_name, declaration, initializer, statement}
 use Rattle.cgrammar.specs.TypeWords.{IsBasic, IsStorage, declares_typedef}
 
--- the name of a tag, where it stands
-abbrev pub IsTag : List Terminal → Option (List ℕ) → Type 0
+-- a tag, where there is one
+abbrev pub IsTag : List Terminal → Option Identifier → Type 0
 IsTag row None = row ≡ []
-IsTag row (Some name) = (token : Terminal) × (row ≡ token ∷ []) × IsName token × (token.bytes ≡ name)
+IsTag row (Some name) = (token : Terminal) × (row ≡ token ∷ []) × IsName token × (identifier token ≡ name)
 
 -- a comma that may stand behind the last of a list in braces
 abbrev pub IsMaybeComma : List Terminal → Type 0
@@ -166,7 +168,7 @@ pub data Spells : Phrase → Context → List Terminal → Context → Type 0 wh
       → Spells (PostfixExpression base) before xs after
       → IsMember through mark
       → IsName name
-      → Spells (PostfixExpression (numbered after mark.place (Member base name.bytes through))) before (xs ++ (mark ∷ (name ∷ []))) (counted after)
+      → Spells (PostfixExpression (numbered after mark.place (Member base (identifier name) through))) before (xs ++ (mark ∷ (name ∷ []))) (counted after)
   CountBehind : {before after : Context} {xs : List Terminal} {expr : Expr} {up : Bool} (mark : Terminal)
       → Spells (PostfixExpression expr) before xs after
       → IsCount up mark
@@ -198,7 +200,7 @@ pub data Spells : Phrase → Context → List Terminal → Context → Type 0 wh
       → IsMark (codes "(") opening
       → Spells (CompoundStatement body) before xs after
       → IsMark (codes ")") closing
-      → Spells (PrimaryExpression (numbered after opening.place (Inner body))) before (opening ∷ (xs ++ (closing ∷ []))) (counted after)
+      → Spells (PrimaryExpression (numbered after opening.place (Inner body (last_place xs)))) before (opening ∷ (xs ++ (closing ∷ []))) (counted after)
   OffsetOfMember : {before middle after : Context} {xs ys : List Terminal} {to : TypeName} {path : List Part} (word opening comma name closing : Terminal)
       → IsWord (codes "__builtin_offsetof") word
       → IsMark (codes "(") opening
@@ -207,14 +209,14 @@ pub data Spells : Phrase → Context → List Terminal → Context → Type 0 wh
       → IsName name
       → Spells (MemberPath path) middle ys after
       → IsMark (codes ")") closing
-      → Spells (PrimaryExpression (numbered after word.place (OffsetOf to (NamedPart name.bytes ∷ path)))) before (word ∷ (opening ∷ (xs ++ (comma ∷ (name ∷ (ys ++ (closing ∷ []))))))) (counted after)
+      → Spells (PrimaryExpression (numbered after word.place (OffsetOf to (NamedPart (identifier name) ∷ path)))) before (word ∷ (opening ∷ (xs ++ (comma ∷ (name ∷ (ys ++ (closing ∷ []))))))) (counted after)
   NoMoreMembers : {before : Context}
       → Spells (MemberPath []) before [] before
   PathToMember : {before after : Context} {xs : List Terminal} {path : List Part} (mark name : Terminal)
       → IsMark (codes ".") mark
       → IsName name
       → Spells (MemberPath path) before xs after
-      → Spells (MemberPath (NamedPart name.bytes ∷ path)) before (mark ∷ (name ∷ xs)) after
+      → Spells (MemberPath (NamedPart (identifier name) ∷ path)) before (mark ∷ (name ∷ xs)) after
   PathToItem : {before middle after : Context} {xs ys : List Terminal} {index : Expr} {path : List Part} (opening closing : Terminal)
       → IsMark (codes "[") opening
       → Spells (Conditional index) before xs middle
@@ -248,7 +250,7 @@ pub data Spells : Phrase → Context → List Terminal → Context → Type 0 wh
       → IsMark (codes ")") closing
       → Spells (TypeSpecifier (OfType to)) before (word ∷ (opening ∷ (xs ++ (closing ∷ [])))) after
   -- struct : 'struct' [ ID ] '{' { field } '}' | 'struct' ID (C11 6.7.2.1)
-  StructWithFields : {before after : Context} {xs : List Terminal} {name : Option (List ℕ)} {declarations : List FieldDecl} (tag : List Terminal) (word opening closing : Terminal)
+  StructWithFields : {before after : Context} {xs : List Terminal} {name : Option Identifier} {declarations : List FieldDecl} (tag : List Terminal) (word opening closing : Terminal)
       → IsWord (codes "struct") word
       → IsTag tag name
       → IsMark (codes "{") opening
@@ -258,7 +260,7 @@ pub data Spells : Phrase → Context → List Terminal → Context → Type 0 wh
   StructByTag : {before : Context} (word tag : Terminal)
       → IsWord (codes "struct") word
       → IsName tag
-      → Spells (TypeSpecifier (Struct (Some tag.bytes) None)) before (word ∷ (tag ∷ [])) before
+      → Spells (TypeSpecifier (Struct (Some (identifier tag)) None)) before (word ∷ (tag ∷ [])) before
   NoMoreFields : {before : Context}
       → Spells (Fields []) before [] before
   MoreFields : {before middle after : Context} {xs ys : List Terminal} {decl : FieldDecl} {others : List FieldDecl}
@@ -299,7 +301,7 @@ pub data Spells : Phrase → Context → List Terminal → Context → Type 0 wh
       → Spells (Conditional bits) before xs after
       → Spells (FieldDeclarator (field colon.place None 0 [] (Some bits))) before (colon ∷ xs) after
   -- enum : 'enum' [ ID ] '{' enr { ',' enr } [ ',' ] '}' | 'enum' ID (C11 6.7.2.2)
-  EnumWithValues : {before after : Context} {xs : List Terminal} {name : Option (List ℕ)} {values : List Enumerator} (tag last : List Terminal) (word opening closing : Terminal)
+  EnumWithValues : {before after : Context} {xs : List Terminal} {name : Option Identifier} {values : List Enumerator} (tag last : List Terminal) (word opening closing : Terminal)
       → IsWord (codes "enum") word
       → IsTag tag name
       → IsMark (codes "{") opening
@@ -310,7 +312,7 @@ pub data Spells : Phrase → Context → List Terminal → Context → Type 0 wh
   EnumByTag : {before : Context} (word tag : Terminal)
       → IsWord (codes "enum") word
       → IsName tag
-      → Spells (TypeSpecifier (Enum (Some tag.bytes) None)) before (word ∷ (tag ∷ [])) before
+      → Spells (TypeSpecifier (Enum (Some (identifier tag)) None)) before (word ∷ (tag ∷ [])) before
   LastEnumerator : {before after : Context} {xs : List Terminal} {value : Enumerator}
       → Spells (OneEnumerator value) before xs after
       → Spells (Enumerators (value ∷ [])) before xs after
@@ -367,33 +369,33 @@ pub data Spells : Phrase → Context → List Terminal → Context → Type 0 wh
       → Spells (Declaration (declaration storage type [])) before (xs ++ (semicolon ∷ [])) after
   WithDeclarators : {before middle after : Context} {xs ys : List Terminal} {storage : Storage} {type : TypeSpec} {names : List Declared} (semicolon : Terminal)
       → Spells (Specifiers storage type) before xs middle
-      → Spells (Declarators (declares_typedef storage) names) middle ys after
+      → Spells (Declarators (declares_typedef storage) semicolon.place names) middle ys after
       → IsMark (codes ";") semicolon
       → Spells (Declaration (declaration storage type names)) before (xs ++ (ys ++ (semicolon ∷ []))) after
-  OneDeclarator : {before after : Context} {xs : List Terminal} {typedef : Bool} {name : Declared}
-      → Spells (Declarator typedef name) before xs after
-      → Spells (Declarators typedef (name ∷ [])) before xs after
-  MoreDeclarators : {before middle after : Context} {xs ys : List Terminal} {typedef : Bool} {name : Declared} {others : List Declared} (comma : Terminal)
-      → Spells (Declarator typedef name) before xs middle
+  OneDeclarator : {before after : Context} {xs : List Terminal} {typedef : Bool} {behind : Place} {name : Declared}
+      → Spells (Declarator typedef behind name) before xs after
+      → Spells (Declarators typedef behind (name ∷ [])) before xs after
+  MoreDeclarators : {before middle after : Context} {xs ys : List Terminal} {typedef : Bool} {behind : Place} {name : Declared} {others : List Declared} (comma : Terminal)
+      → Spells (Declarator typedef comma.place name) before xs middle
       → IsMark (codes ",") comma
-      → Spells (Declarators typedef others) middle ys after
-      → Spells (Declarators typedef (name ∷ others)) before (xs ++ (comma ∷ ys)) after
+      → Spells (Declarators typedef behind others) middle ys after
+      → Spells (Declarators typedef behind (name ∷ others)) before (xs ++ (comma ∷ ys)) after
   -- named : stars ID sizes [ '=' init ] | fdecl (C11 6.7.6); a name is in scope from the end of its declarator on
-  ObjectDeclarator : {before after : Context} {xs : List Terminal} {typedef : Bool} {sizes : List (Option Expr)} (stars : List Terminal) (name : Terminal)
+  ObjectDeclarator : {before after : Context} {xs : List Terminal} {typedef : Bool} {behind : Place} {sizes : List (Option Expr)} (stars : List Terminal) (name : Terminal)
       → AreStars stars
       → IsName name
       → Spells (ArraySizes sizes) before xs after
-      → Spells (Declarator typedef (object name (length stars) sizes None)) before (stars ++ (name ∷ xs)) (declaring after name.bytes typedef)
-  InitializedDeclarator : {before middle after : Context} {xs ys : List Terminal} {typedef : Bool} {sizes : List (Option Expr)} {init : Init} (stars : List Terminal) (name mark : Terminal)
+      → Spells (Declarator typedef behind (object name (length stars) sizes None)) before (stars ++ (name ∷ xs)) (declaring after name.bytes typedef)
+  InitializedDeclarator : {before middle after : Context} {xs ys : List Terminal} {typedef : Bool} {behind : Place} {sizes : List (Option Expr)} {init : Init} (stars : List Terminal) (name mark : Terminal)
       → AreStars stars
       → IsName name
       → Spells (ArraySizes sizes) before xs middle
       → IsMark (codes "=") mark
-      → Spells (Initializer init) (declaring middle name.bytes typedef) ys after
-      → Spells (Declarator typedef (object name (length stars) sizes (Some init))) before (stars ++ (name ∷ (xs ++ (mark ∷ ys)))) after
-  DeclaratorOfFunction : {before within : Context} {xs : List Terminal} {typedef : Bool} {name : List ℕ} {head : Declared}
+      → Spells (Initializer behind init) (declaring middle name.bytes typedef) ys after
+      → Spells (Declarator typedef behind (object name (length stars) sizes (Some init))) before (stars ++ (name ∷ (xs ++ (mark ∷ ys)))) after
+  DeclaratorOfFunction : {before within : Context} {xs : List Terminal} {typedef : Bool} {behind : Place} {name : List ℕ} {head : Declared}
       → Spells (FunctionDeclarator name head) before xs within
-      → Spells (Declarator typedef head) before xs (declaring (outside before within) name typedef)
+      → Spells (Declarator typedef behind head) before xs (declaring (outside before within) name typedef)
   -- fdecl : stars ID '(' [ 'void' | param { ',' param } ] ')' (C11 6.7.6.3); behind it the scope of the parameters is still
   -- entered
   NoParameters : {before : Context} (stars : List Terminal) (name opening closing : Terminal)
@@ -431,44 +433,44 @@ pub data Spells : Phrase → Context → List Terminal → Context → Type 0 wh
       → AreStars stars
       → IsName name
       → Spells (ArraySizes sizes) middle ys after
-      → Spells (Parameter (parameter type (length stars) (Some name.bytes) sizes)) before (xs ++ (stars ++ (name ∷ ys))) (declaring after name.bytes false)
+      → Spells (Parameter (parameter type (length stars) (Some (identifier name)) sizes)) before (xs ++ (stars ++ (name ∷ ys))) (declaring after name.bytes false)
   UnnamedParameter : {before middle after : Context} {xs ys : List Terminal} {storage : Storage} {type : TypeSpec} {sizes : List (Option Expr)} (stars : List Terminal)
       → Spells (Specifiers storage type) before xs middle
       → AreStars stars
       → Spells (ArraySizes sizes) middle ys after
       → Spells (Parameter (parameter type (length stars) None sizes)) before (xs ++ (stars ++ ys)) after
-  -- init : assign | '{' [ part { ',' part } [ ',' ] ] '}' (C11 6.7.9)
-  InitializedTo : {before after : Context} {xs : List Terminal} {value : Expr}
+  -- init : assign | '{' [ part { ',' part } [ ',' ] ] '}' (C11 6.7.9); a value has the place of the token behind it
+  InitializedTo : {before after : Context} {xs : List Terminal} {behind : Place} {value : Expr}
       → Spells (Assignment value) before xs after
-      → Spells (Initializer (Value value)) before xs after
-  EmptyBraces : {before : Context} (opening closing : Terminal)
+      → Spells (Initializer behind (Value value behind)) before xs after
+  EmptyBraces : {before : Context} {behind : Place} (opening closing : Terminal)
       → IsMark (codes "{") opening
       → IsMark (codes "}") closing
-      → Spells (Initializer (Braces [])) before (opening ∷ (closing ∷ [])) before
-  InBraces : {before after : Context} {xs : List Terminal} {parts : List InitPart} (last : List Terminal) (opening closing : Terminal)
+      → Spells (Initializer behind (Braces [])) before (opening ∷ (closing ∷ [])) before
+  InBraces : {before after : Context} {xs : List Terminal} {behind : Place} {parts : List InitPart} (last : List Terminal) (opening closing : Terminal)
       → IsMark (codes "{") opening
-      → Spells (Initializers parts) before xs after
+      → Spells (Initializers (first_place (last ++ (closing ∷ []))) parts) before xs after
       → IsMaybeComma last
       → IsMark (codes "}") closing
-      → Spells (Initializer (Braces parts)) before (opening ∷ (xs ++ (last ++ (closing ∷ [])))) after
-  OneInitializer : {before after : Context} {xs : List Terminal} {part : InitPart}
-      → Spells (DesignatedInitializer part) before xs after
-      → Spells (Initializers (part ∷ [])) before xs after
-  MoreInitializers : {before middle after : Context} {xs ys : List Terminal} {part : InitPart} {others : List InitPart} (comma : Terminal)
-      → Spells (DesignatedInitializer part) before xs middle
+      → Spells (Initializer behind (Braces parts)) before (opening ∷ (xs ++ (last ++ (closing ∷ [])))) after
+  OneInitializer : {before after : Context} {xs : List Terminal} {behind : Place} {part : InitPart}
+      → Spells (DesignatedInitializer behind part) before xs after
+      → Spells (Initializers behind (part ∷ [])) before xs after
+  MoreInitializers : {before middle after : Context} {xs ys : List Terminal} {behind : Place} {part : InitPart} {others : List InitPart} (comma : Terminal)
+      → Spells (DesignatedInitializer comma.place part) before xs middle
       → IsMark (codes ",") comma
-      → Spells (Initializers others) middle ys after
-      → Spells (Initializers (part ∷ others)) before (xs ++ (comma ∷ ys)) after
+      → Spells (Initializers behind others) middle ys after
+      → Spells (Initializers behind (part ∷ others)) before (xs ++ (comma ∷ ys)) after
   -- part : [ '.' ID '=' ] init
-  NextPart : {before after : Context} {xs : List Terminal} {init : Init}
-      → Spells (Initializer init) before xs after
-      → Spells (DesignatedInitializer (initializer None init)) before xs after
-  MemberPart : {before after : Context} {xs : List Terminal} {init : Init} (dot name mark : Terminal)
+  NextPart : {before after : Context} {xs : List Terminal} {behind : Place} {init : Init}
+      → Spells (Initializer behind init) before xs after
+      → Spells (DesignatedInitializer behind (initializer None init)) before xs after
+  MemberPart : {before after : Context} {xs : List Terminal} {behind : Place} {init : Init} (dot name mark : Terminal)
       → IsMark (codes ".") dot
       → IsName name
       → IsMark (codes "=") mark
-      → Spells (Initializer init) before xs after
-      → Spells (DesignatedInitializer (initializer (Some name.bytes) init)) before (dot ∷ (name ∷ (mark ∷ xs))) after
+      → Spells (Initializer behind init) before xs after
+      → Spells (DesignatedInitializer behind (initializer (Some (identifier name)) init)) before (dot ∷ (name ∷ (mark ∷ xs))) after
   -- block : '{' { decl | stmt } '}' (C11 6.8.2); it is a scope of its own
   OneBlock : {before within : Context} {xs : List Terminal} {body : List Stmt} (opening closing : Terminal)
       → IsMark (codes "{") opening
@@ -497,44 +499,48 @@ pub data Spells : Phrase → Context → List Terminal → Context → Type 0 wh
       → Spells (Expression expr) before xs after
       → IsMark (codes ";") semicolon
       → Spells (Statement false (statement (first_place xs) semicolon.place (Eval (Some expr)))) before (xs ++ (semicolon ∷ [])) after
-  --      | 'if' '(' expr ')' stmt [ 'else' stmt ] (C11 6.8.4.1); an `else` belongs to the nearest `if`
+  -- a statement in an `if` or in a loop is a block for names, whether or not it is one by its form (C11 6.8.4p3, 6.8.5p5)
+  OneSubstatement : {before within : Context} {xs : List Terminal} {dangling : Bool} {stmt : Stmt}
+      → Spells (Statement dangling stmt) (inside before) xs within
+      → Spells (Substatement dangling stmt) before xs (outside before within)
+  --      | 'if' '(' expr ')' stmt [ 'else' stmt ] (C11 6.8.4.1); an `else` belongs to the nearest `if`. The whole is a scope of its own
   IfStatement : {before middle after : Context} {xs ys : List Terminal} {test : Expr} {dangling : Bool} {stmt : Stmt} (word opening closing : Terminal)
       → IsWord (codes "if") word
       → IsMark (codes "(") opening
-      → IsNoType before.scope xs
-      → Spells (Expression test) before xs middle
+      → IsNoType (inside before).scope xs
+      → Spells (Expression test) (inside before) xs middle
       → IsMark (codes ")") closing
-      → Spells (Statement dangling stmt) middle ys after
-      → Spells (Statement true (statement word.place stmt.after (If test stmt None))) before (word ∷ (opening ∷ (xs ++ (closing ∷ ys)))) after
+      → Spells (Substatement dangling stmt) middle ys after
+      → Spells (Statement true (statement word.place stmt.after (If test closing.place stmt None))) before (word ∷ (opening ∷ (xs ++ (closing ∷ ys)))) (outside before after)
   IfElseStatement : {before first second after : Context} {xs ys zs : List Terminal} {test : Expr} {dangling : Bool} {one other : Stmt} (word opening closing otherwise : Terminal)
       → IsWord (codes "if") word
       → IsMark (codes "(") opening
-      → IsNoType before.scope xs
-      → Spells (Expression test) before xs first
+      → IsNoType (inside before).scope xs
+      → Spells (Expression test) (inside before) xs first
       → IsMark (codes ")") closing
-      → Spells (Statement false one) first ys second
+      → Spells (Substatement false one) first ys second
       → IsWord (codes "else") otherwise
-      → Spells (Statement dangling other) second zs after
-      → Spells (Statement dangling (statement word.place other.after (If test one (Some other)))) before (word ∷ (opening ∷ (xs ++ (closing ∷ (ys ++ (otherwise ∷ zs)))))) after
-  --      | 'while' '(' expr ')' stmt | 'do' stmt 'while' '(' expr ')' ';' (C11 6.8.5)
+      → Spells (Substatement dangling other) second zs after
+      → Spells (Statement dangling (statement word.place other.after (If test closing.place one (Some other)))) before (word ∷ (opening ∷ (xs ++ (closing ∷ (ys ++ (otherwise ∷ zs)))))) (outside before after)
+  --      | 'while' '(' expr ')' stmt | 'do' stmt 'while' '(' expr ')' ';' (C11 6.8.5); each is a scope of its own
   WhileStatement : {before middle after : Context} {xs ys : List Terminal} {test : Expr} {dangling : Bool} {body : Stmt} (word opening closing : Terminal)
       → IsWord (codes "while") word
       → IsMark (codes "(") opening
-      → IsNoType before.scope xs
-      → Spells (Expression test) before xs middle
+      → IsNoType (inside before).scope xs
+      → Spells (Expression test) (inside before) xs middle
       → IsMark (codes ")") closing
-      → Spells (Statement dangling body) middle ys after
-      → Spells (Statement dangling (statement word.place body.after (While test body))) before (word ∷ (opening ∷ (xs ++ (closing ∷ ys)))) after
+      → Spells (Substatement dangling body) middle ys after
+      → Spells (Statement dangling (statement word.place body.after (While test closing.place body))) before (word ∷ (opening ∷ (xs ++ (closing ∷ ys)))) (outside before after)
   DoStatement : {before middle after : Context} {xs ys : List Terminal} {test : Expr} {dangling : Bool} {body : Stmt} (word while opening closing semicolon : Terminal)
       → IsWord (codes "do") word
-      → Spells (Statement dangling body) before xs middle
+      → Spells (Substatement dangling body) (inside before) xs middle
       → IsWord (codes "while") while
       → IsMark (codes "(") opening
       → IsNoType middle.scope ys
       → Spells (Expression test) middle ys after
       → IsMark (codes ")") closing
       → IsMark (codes ";") semicolon
-      → Spells (Statement false (statement word.place semicolon.place (Do body test))) before (word ∷ (xs ++ (while ∷ (opening ∷ (ys ++ (closing ∷ (semicolon ∷ []))))))) after
+      → Spells (Statement false (statement word.place semicolon.place (Do body test closing.place))) before (word ∷ (xs ++ (while ∷ (opening ∷ (ys ++ (closing ∷ (semicolon ∷ []))))))) (outside before after)
   --      | 'for' '(' ( decl | [ expr ] ';' ) [ expr ] ';' [ expr ] ')' stmt (C11 6.8.5.3); it is a scope of its own
   ForStatement : {before one two three after : Context} {ws xs ys zs : List Terminal} {first : Stmt} {test next : Option Expr} {dangling : Bool} {body : Stmt} (word opening semicolon closing : Terminal)
       → IsWord (codes "for") word
@@ -544,8 +550,8 @@ pub data Spells : Phrase → Context → List Terminal → Context → Type 0 wh
       → IsMark (codes ";") semicolon
       → Spells (MaybeExpression next) two ys three
       → IsMark (codes ")") closing
-      → Spells (Statement dangling body) three zs after
-      → Spells (Statement dangling (statement word.place body.after (For first test next body))) before (word ∷ (opening ∷ (ws ++ (xs ++ (semicolon ∷ (ys ++ (closing ∷ zs))))))) (outside before after)
+      → Spells (Substatement dangling body) three zs after
+      → Spells (Statement dangling (statement word.place body.after (For first test semicolon.place next closing.place body))) before (word ∷ (opening ∷ (ws ++ (xs ++ (semicolon ∷ (ys ++ (closing ∷ zs))))))) (outside before after)
   FirstDeclaration : {before after : Context} {xs : List Terminal} {decl : Decl}
       → Spells (Declaration decl) before xs after
       → Spells (FirstClause (statement (first_place xs) (last_place xs) (Declare decl))) before xs after

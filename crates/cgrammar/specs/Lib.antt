@@ -3,6 +3,7 @@ pub mod Brackets
 pub mod ConstantParts
 pub mod Constants
 pub mod Contexts
+pub mod Consecutive
 pub mod Firsts
 pub mod FrontOf
 pub mod FrontReadings

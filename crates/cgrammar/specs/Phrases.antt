@@ -19,7 +19,9 @@ use Rattle.cbase.specs.declared.tree.stmt.Stmt.{Stmt}
 use Rattle.cgrammar.specs.Scope.{Names}
 
 -- `Operation level` has no binary operator that is looser than the level. `Declarators` and `Declarator` say whether
--- they declare typedefs, and `FunctionDeclarator` says which name it declares. `Statement dangling` says whether the statement ends with an `if` that has no `else`.
+-- they declare typedefs, and `FunctionDeclarator` says which name it declares. Declarators and initialisers say where the token
+-- behind them stands. `Statement dangling` says whether the statement ends with an `if` that has no `else`, and so does
+-- `Substatement dangling`, a statement that stands in an `if` or in a loop.
 pub data Phrase : Type 0 where
   Expression : Expr → Phrase
   Assignment : Expr → Phrase
@@ -42,17 +44,18 @@ pub data Phrase : Type 0 where
   OneEnumerator : Enumerator → Phrase
   Specifiers : Storage → TypeSpec → Phrase
   Declaration : Decl → Phrase
-  Declarators : Bool → List Declared → Phrase
-  Declarator : Bool → Declared → Phrase
+  Declarators : Bool → Place → List Declared → Phrase
+  Declarator : Bool → Place → Declared → Phrase
   FunctionDeclarator : List ℕ → Declared → Phrase
   Parameters : List Param → Phrase
   Parameter : Param → Phrase
-  Initializer : Init → Phrase
-  Initializers : List InitPart → Phrase
-  DesignatedInitializer : InitPart → Phrase
+  Initializer : Place → Init → Phrase
+  Initializers : Place → List InitPart → Phrase
+  DesignatedInitializer : Place → InitPart → Phrase
   CompoundStatement : List Stmt → Phrase
   BlockItems : List Stmt → Phrase
   Statement : Bool → Stmt → Phrase
+  Substatement : Bool → Stmt → Phrase
   FirstClause : Stmt → Phrase
   MaybeExpression : Option Expr → Phrase
 

@@ -15,9 +15,9 @@ use Rattle.cgrammar.specs.Phrases.{Context, scoped}
 use Rattle.cgrammar.specs.ReadLevels.{Level, read_list}
 use Rattle.cgrammar.specs.ReadTypes.{star_count, behind_stars, read_sizes, never, closes_braces, behind_comma}
 use Rattle.cgrammar.specs.Scope.{left}
-use Rattle.cgrammar.specs.Terminals.{Terminal, is_word, is_name}
+use Rattle.cgrammar.specs.Terminals.{Terminal, is_word, is_name, first_place}
 use Rattle.cgrammar.specs.TokenReadings.{storage_of}
-use Rattle.cgrammar.specs.Trees.{object, function, parameter, declaration, initializer}
+use Rattle.cgrammar.specs.Trees.{identifier, object, function, parameter, declaration, initializer}
 use Rattle.cgrammar.specs.TypeWords.{declares_typedef}
 use Rattle.cgrammar.specs.declared.reading.specifiers.Specifiers.{Specifiers}
 
@@ -54,7 +54,7 @@ parameter_behind level type levels stars context row =
     (then_read (read_sizes level (length row + 1) context row) (λ sizes others behind rest.
     Read (parameter type stars None sizes) (max levels others) behind rest))
     (λ name more. then_read (read_sizes level (length more + 1) context more) (λ sizes others behind rest.
-    Read (parameter type stars (Some name.bytes) sizes) (max levels others) (declaring behind name.bytes false) rest))
+    Read (parameter type stars (Some (identifier name)) sizes) (max levels others) (declaring behind name.bytes false) rest))
 
 unfoldable pub read_parameter : Level → Reader Param
 read_parameter level context row =
@@ -103,7 +103,7 @@ read_part inner context row =
     after_mark (codes ".") row
     (then_read (inner.initializer context row) (λ init levels behind rest. Read (initializer None init) levels behind rest))
     (λ dot others. after_first is_name others Nothing (λ name more. after_mark (codes "=") more Nothing (λ mark end.
-    then_read (inner.initializer context end) (λ init levels behind rest. Read (initializer (Some name.bytes) init) levels behind rest))))
+    then_read (inner.initializer context end) (λ init levels behind rest. Read (initializer (Some (identifier name)) init) levels behind rest))))
 
 abbrev pub in_braces : Level → Reader Init
 in_braces inner context row =
@@ -115,5 +115,5 @@ in_braces inner context row =
 unfoldable pub read_initializer : Level → Reader Init
 read_initializer inner context row =
     after_mark (codes "{") row
-    (then_read (inner.assignment context row) (λ value levels behind rest. Read (Value value) (1 + levels) behind rest))
+    (then_read (inner.assignment context row) (λ value levels behind rest. Read (Value value (first_place rest)) (1 + levels) behind rest))
     (λ opening others. in_braces inner context others)

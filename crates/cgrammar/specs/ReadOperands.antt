@@ -18,7 +18,8 @@ use Rattle.cgrammar.specs.ReadStarts.{operand_start, postfix_start}
 use Rattle.cgrammar.specs.ReadStatements.{read_block}
 use Rattle.cgrammar.specs.ReadTypes.{read_type_name, never}
 use Rattle.cgrammar.specs.Scope.{Names}
-use Rattle.cgrammar.specs.Terminals.{Terminal, is_mark, is_name, begins_with_typedef, first_word_place}
+use Rattle.cgrammar.specs.Terminals.{Terminal, is_mark, is_name, begins_with_typedef, first_word_place, last_place}
+use Rattle.cgrammar.specs.Trees.{identifier}
 use Rattle.cgrammar.specs.declared.reading.operand.Operand.{Operand}
 use Rattle.cgrammar.specs.declared.reading.starts.OperandStart.{OperandStart}
 use Rattle.cgrammar.specs.declared.reading.starts.OperandStart.TheVariants as start
@@ -67,7 +68,7 @@ call_behind go inner place base levels context mark row =
 abbrev pub member_behind : (Expr → ℕ → Reader Operand) → Bool → Expr → ℕ → Context → Terminal → List Terminal → Outcome Operand
 member_behind go through base levels context mark row =
     after_first is_name row (stopped_operand base context mark row) (λ name more.
-    go (numbered context mark.place (Member base name.bytes through)) (1 + levels) (counted context) more)
+    go (numbered context mark.place (Member base (identifier name) through)) (1 + levels) (counted context) more)
 
 abbrev pub postfix_with : (Expr → ℕ → Reader Operand) → Level → List Terminal → Expr → ℕ → Context → Terminal → List Terminal → PostfixStart → Outcome Operand
 postfix_with go inner start base levels context mark row postfix.Index = index_behind go inner base levels context mark row
@@ -99,7 +100,7 @@ unfoldable pub read_path : Level → ℕ → Reader (List Part)
 read_path inner zero context row = Nothing
 read_path inner (suc count) context row =
     if has_mark (codes ".") row
-    then after_first is_name (behind_first row) Nothing (λ name rest. prepended (NamedPart name.bytes) 0 (read_path inner count context rest))
+    then after_first is_name (behind_first row) Nothing (λ name rest. prepended (NamedPart (identifier name)) 0 (read_path inner count context rest))
     else (if has_mark (codes "[") row
     then then_read (inner.conditional context (behind_first row)) (λ index levels behind rest.
     after_mark (codes "]") rest Nothing (λ closing others. prepended (At index) levels (read_path inner count behind others)))
@@ -130,7 +131,7 @@ abbrev pub statement_expression : Level → Context → Terminal → List Termin
 statement_expression inner context opening row =
     then_read (read_block inner context row) (λ body levels behind rest.
     after_mark (codes ")") rest Nothing (λ closing others.
-    postfixes_from inner (opening ∷ row) (numbered behind opening.place (Inner body)) (1 + levels) (counted behind) others))
+    postfixes_from inner (opening ∷ row) (numbered behind opening.place (Inner body (last_place (front_of row rest)))) (1 + levels) (counted behind) others))
 
 abbrev pub read_cast_to : Level → Context → Terminal → List Terminal → Outcome Operand
 read_cast_to inner context opening row =
@@ -164,7 +165,7 @@ read_offset_of inner context word row =
     after_first is_name three Nothing (λ name four.
     then_read (read_path inner (length four + 1) behind four) (λ path others last five.
     after_mark (codes ")") five Nothing (λ closing end.
-    postfixes_from inner (word ∷ row) (numbered last word.place (OffsetOf to (NamedPart name.bytes ∷ path))) (1 + max levels others) (counted last) end))))))
+    postfixes_from inner (word ∷ row) (numbered last word.place (OffsetOf to (NamedPart (identifier name) ∷ path))) (1 + max levels others) (counted last) end))))))
 
 abbrev pub failed_assertion : Level → Context → Terminal → List Terminal → Option (List Terminal) → Outcome Operand
 failed_assertion inner context word start None = Nothing

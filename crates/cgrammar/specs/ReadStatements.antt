@@ -54,37 +54,42 @@ read_clause inner context row =
 abbrev pub untyped : Level → Reader Expr
 untyped inner context row = if begins_with_typedef context.scope row then Nothing else inner.expression context row
 
+-- a statement in an `if` or in a loop, a block for names (C11 6.8.4p3, 6.8.5p5)
+abbrev pub substatement : Level → Reader Stmt
+substatement inner context row =
+    then_read (inner.statement (inside context) row) (λ stmt levels within rest. Read stmt levels (leaving within) rest)
+
 -- `if` (C11 6.8.4.1): an `else` belongs to the nearest
-abbrev pub otherwise_behind : Level → Place → Expr → ℕ → Stmt → ℕ → Reader Stmt
-otherwise_behind inner place test tests one ones context row =
-    after_first (is_word (codes "else")) row (Read (statement place one.after (If test one None)) (1 + max tests ones) context row)
-    (λ otherwise others. then_read (inner.statement context others) (λ other twos behind rest.
-    Read (statement place other.after (If test one (Some other))) (1 + max tests (max ones twos)) behind rest))
+abbrev pub otherwise_behind : Level → Place → Place → Expr → ℕ → Stmt → ℕ → Reader Stmt
+otherwise_behind inner place close test tests one ones context row =
+    after_first (is_word (codes "else")) row (Read (statement place one.after (If test close one None)) (1 + max tests ones) (leaving context) row)
+    (λ otherwise others. then_read (substatement inner context others) (λ other twos behind rest.
+    Read (statement place other.after (If test close one (Some other))) (1 + max tests (max ones twos)) (leaving behind) rest))
 
 unfoldable pub read_if : Level → Place → Reader Stmt
 read_if inner place context row =
     after_mark (codes "(") row Nothing (λ opening others.
-    then_read (untyped inner context others) (λ test tests behind rest.
+    then_read (untyped inner (inside context) others) (λ test tests behind rest.
     after_mark (codes ")") rest Nothing (λ closing more.
-    then_read (inner.statement behind more) (λ one ones last end. otherwise_behind inner place test tests one ones last end))))
+    then_read (substatement inner behind more) (λ one ones last end. otherwise_behind inner place closing.place test tests one ones last end))))
 
 unfoldable pub read_while : Level → Place → Reader Stmt
 read_while inner place context row =
     after_mark (codes "(") row Nothing (λ opening others.
-    then_read (untyped inner context others) (λ test tests behind rest.
+    then_read (untyped inner (inside context) others) (λ test tests behind rest.
     after_mark (codes ")") rest Nothing (λ closing more.
-    then_read (inner.statement behind more) (λ body levels last end.
-    Read (statement place body.after (While test body)) (1 + max tests levels) last end))))
+    then_read (substatement inner behind more) (λ body levels last end.
+    Read (statement place body.after (While test closing.place body)) (1 + max tests levels) (leaving last) end))))
 
 unfoldable pub read_do : Level → Place → Reader Stmt
 read_do inner place context row =
-    then_read (inner.statement context row) (λ body levels behind rest.
+    then_read (substatement inner (inside context) row) (λ body levels behind rest.
     after_first (is_word (codes "while")) rest Nothing (λ while others.
     after_mark (codes "(") others Nothing (λ opening more.
     then_read (untyped inner behind more) (λ test tests last end.
     after_mark (codes ")") end Nothing (λ closing ends.
     after_mark (codes ";") ends Nothing (λ semicolon final.
-    Read (statement place semicolon.place (Do body test)) (1 + max levels tests) last final))))))
+    Read (statement place semicolon.place (Do body test closing.place)) (1 + max levels tests) (leaving last) final))))))
 
 unfoldable pub read_for : Level → Place → Reader Stmt
 read_for inner place context row =
@@ -94,8 +99,8 @@ read_for inner place context row =
     after_mark (codes ";") more Nothing (λ semicolon end.
     then_read (read_maybe inner (is_mark (codes ")")) two end) (λ next nexts three ends.
     after_mark (codes ")") ends Nothing (λ closing final.
-    then_read (inner.statement three final) (λ body levels within over.
-    Read (statement place body.after (For first test next body)) (1 + max (max firsts tests) (max nexts levels)) (leaving within) over)))))))
+    then_read (substatement inner three final) (λ body levels within over.
+    Read (statement place body.after (For first test semicolon.place next closing.place body)) (1 + max (max firsts tests) (max nexts levels)) (leaving within) over)))))))
 
 unfoldable pub read_return : Level → Place → Reader Stmt
 read_return inner place context row =

@@ -3,6 +3,7 @@ use Rattle.std.specs.Prelude.{ℕ, zero, suc, ◌+◌, max, Bool, false, if◌th
 use Rattle.std.specs.List.{list_all, prefix_len}
 use Rattle.cbase.specs.declared.tree.decl.TypeName.{TypeName}
 use Rattle.cbase.specs.declared.tree.expr.Expr.{Expr}
+use Rattle.cbase.specs.declared.tree.identifier.Identifier.{Identifier}
 use Rattle.cbase.specs.declared.tree.spec.BasicType.{BasicType}
 use Rattle.cbase.specs.declared.tree.spec.Enumerator.{Enumerator}
 use Rattle.cbase.specs.declared.tree.spec.FieldDecl.{FieldDecl}
@@ -17,7 +18,7 @@ use Rattle.cgrammar.specs.Phrases.{Context}
 use Rattle.cgrammar.specs.ReadLevels.{Level, prepended, read_list, read_until_brace}
 use Rattle.cgrammar.specs.ReadStarts.{type_start}
 use Rattle.cgrammar.specs.Terminals.{Terminal, is_mark, is_name, bytes_of}
-use Rattle.cgrammar.specs.Trees.{field, fields, enumerator, type_name}
+use Rattle.cgrammar.specs.Trees.{identifier, field, fields, enumerator, type_name}
 use Rattle.cgrammar.specs.TypeWords.{basic_rows, basic_of}
 use Rattle.cgrammar.specs.declared.reading.starts.TypeStart.{TypeStart}
 use Rattle.cgrammar.specs.declared.reading.starts.TypeStart.TheVariants as start
@@ -93,14 +94,14 @@ abbrev pub behind_comma : List Terminal → List Terminal
 behind_comma row = if has_mark (codes ",") row then behind_first row else row
 
 -- a tag, which may be left out
-abbrev pub tag_at : List Terminal → Option (List ℕ)
+abbrev pub tag_at : List Terminal → Option Identifier
 tag_at [] = None
-tag_at (first ∷ others) = if is_name first then Some first.bytes else None
+tag_at (first ∷ others) = if is_name first then Some (identifier first) else None
 
 abbrev pub behind_tag : List Terminal → List Terminal
 behind_tag row = if has_first is_name row then behind_first row else row
 
-abbrev pub by_tag : (Option (List ℕ) → TypeSpec) → Option (List ℕ) → Reader TypeSpec
+abbrev pub by_tag : (Option Identifier → TypeSpec) → Option Identifier → Reader TypeSpec
 by_tag type None context row = Nothing
 by_tag type (Some name) context row = Read (type (Some name)) 1 context row
 

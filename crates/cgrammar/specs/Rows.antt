@@ -5,6 +5,7 @@ use Rattle.cbase.specs.declared.tree.expr.Expr.{Expr}
 use Rattle.cbase.specs.declared.tree.expr.ExprForm.TheVariants.{Name, Constant, Unary, Binary, Assign, Count, Choose, Cast, SizeOf, SizeOfType, OffsetOf, Index, Member, Call, Inner, AssertFail}
 use Rattle.cbase.specs.declared.tree.expr.ExprForm.{ExprForm}
 use Rattle.cbase.specs.declared.tree.expr.Part.TheVariants.{Member as NamedPart, At}
+use Rattle.cbase.specs.declared.tree.identifier.Identifier.{Identifier}
 use Rattle.cbase.specs.declared.tree.init.Init.TheVariants.{Value, Braces}
 use Rattle.cbase.specs.declared.tree.operators.BinaryOp.TheVariants.{Mul, Add, Sub, Less, Greater, Equal, Both, Either, Comma}
 use Rattle.cbase.specs.declared.tree.operators.UnaryOp.TheVariants.{Follow, Minus}
@@ -20,7 +21,7 @@ use Rattle.cgrammar.specs.Readings.{IsReadAt}
 use Rattle.cgrammar.specs.Phrases.{Expression, CompoundStatement, context_at}
 use Rattle.cgrammar.specs.Scope.{file_scope}
 use Rattle.cgrammar.specs.Terminals.{Terminal}
-use Rattle.cgrammar.specs.Trees.{object, function, field, fields, enumerator, parameter, type_name, declaration, initializer, statement}
+use Rattle.cgrammar.specs.Trees.{identifier, object, function, field, fields, enumerator, parameter, type_name, declaration, initializer, statement}
 use Rattle.ctokens.specs.declared.token.TokenKind.TheVariants.{Word, Number, Quoted, Mark}
 use Rattle.std.specs.Prelude.{ℕ, ◌+◌, true, false, List, [], ◌∷◌, None, Some, codes}
 
@@ -40,6 +41,10 @@ quoted bytes number = record { kind = Quoted; bytes = bytes; place = at number }
 
 abbrev pub mark : List ℕ → ℕ → Terminal
 mark bytes number = record { kind = Mark; bytes = bytes; place = at number }
+
+-- an identifier, with the place of the token of that number
+abbrev pub named : List ℕ → ℕ → Identifier
+named name number = identifier (word name number)
 
 -- tokens that follow one another
 abbrev pub numbered_from : ℕ → List (ℕ → Terminal) → List Terminal
@@ -121,7 +126,7 @@ SizeOfItem = Spells
 -- a call has the place of the first word in what it calls
 abbrev pub CallPlace : Type 0
 CallPlace = Spells
-    (Expression (node 7 13 (Count true true (node 6 11 (Member (node 5 9 (Member (node 4 2 (Call (node 1 1 (Unary Follow (node 0 2 (Name (codes "f"))))) ((node 2 5 (Constant (codes "1"))) ∷ (node 3 7 (Name (codes "x"))) ∷ []))) (codes "m") false)) (codes "n") true)))))
+    (Expression (node 7 13 (Count true true (node 6 11 (Member (node 5 9 (Member (node 4 2 (Call (node 1 1 (Unary Follow (node 0 2 (Name (codes "f"))))) ((node 2 5 (Constant (codes "1"))) ∷ (node 3 7 (Name (codes "x"))) ∷ []))) (named (codes "m") 10) false)) (named (codes "n") 12) true)))))
     (context_at ([] ∷ []) 0)
     (row (mark (codes "(") ∷ mark (codes "*") ∷ word (codes "f") ∷ mark (codes ")") ∷ mark (codes "(") ∷ number (codes "1") ∷ mark (codes ",") ∷ word (codes "x") ∷ mark (codes ")") ∷ mark (codes ".") ∷ word (codes "m") ∷ mark (codes "->") ∷ word (codes "n") ∷ mark (codes "++") ∷ []))
     (context_at ([] ∷ []) 8)
@@ -129,7 +134,7 @@ CallPlace = Spells
 -- the kernel's `container_of`
 abbrev pub Container : Type 0
 Container = Spells
-    (Expression (node 10 0 (Inner ((statement (at 2) (at 19) (Declare (declaration Plain (OfExpr (node 2 12 (Member (node 1 5 (Cast (type_name (Struct (Some (codes "s")) None) 1 []) (node 0 10 (Constant (codes "0"))))) (codes "m") true))) ((object (word (codes "p") 16) 1 [] (Some (Value (node 3 18 (Name (codes "q")))))) ∷ [])))) ∷ ((statement (at 20) (at 45) (Eval (Some (node 9 20 (Cast (type_name (Struct (Some (codes "s")) None) 1 []) (node 8 31 (Binary Sub (node 5 26 (Cast (type_name (Basic (Integer Char true)) 1 []) (node 4 30 (Name (codes "p"))))) (node 7 32 (OffsetOf (type_name (Struct (Some (codes "s")) None) 0 []) (NamedPart (codes "m") ∷ (NamedPart (codes "k") ∷ (At (node 6 41 (Constant (codes "2"))) ∷ [])))))))))))) ∷ [])))))
+    (Expression (node 10 0 (Inner ((statement (at 2) (at 19) (Declare (declaration Plain (OfExpr (node 2 12 (Member (node 1 5 (Cast (type_name (Struct (Some (named (codes "s") 7)) None) 1 []) (node 0 10 (Constant (codes "0"))))) (named (codes "m") 13) true))) ((object (word (codes "p") 16) 1 [] (Some (Value (node 3 18 (Name (codes "q"))) (at 19)))) ∷ [])))) ∷ (statement (at 20) (at 45) (Eval (Some (node 9 20 (Cast (type_name (Struct (Some (named (codes "s") 22)) None) 1 []) (node 8 31 (Binary Sub (node 5 26 (Cast (type_name (Basic (Integer Char true)) 1 []) (node 4 30 (Name (codes "p"))))) (node 7 32 (OffsetOf (type_name (Struct (Some (named (codes "s") 35)) None) 0 []) ((NamedPart (named (codes "m") 37)) ∷ (NamedPart (named (codes "k") 39)) ∷ (At (node 6 41 (Constant (codes "2")))) ∷ [])))))))))) ∷ []) (at 46))))
     (context_at ([] ∷ []) 0)
     (row (mark (codes "(") ∷ mark (codes "{") ∷ word (codes "typeof") ∷ mark (codes "(") ∷ mark (codes "(") ∷ mark (codes "(") ∷ word (codes "struct") ∷ word (codes "s") ∷ mark (codes "*") ∷ mark (codes ")") ∷ number (codes "0") ∷ mark (codes ")") ∷ mark (codes "->") ∷ word (codes "m") ∷ mark (codes ")") ∷ mark (codes "*") ∷ word (codes "p") ∷ mark (codes "=") ∷ word (codes "q") ∷ mark (codes ";") ∷ mark (codes "(") ∷ word (codes "struct") ∷ word (codes "s") ∷ mark (codes "*") ∷ mark (codes ")") ∷ mark (codes "(") ∷ mark (codes "(") ∷ word (codes "char") ∷ mark (codes "*") ∷ mark (codes ")") ∷ word (codes "p") ∷ mark (codes "-") ∷ word (codes "__builtin_offsetof") ∷ mark (codes "(") ∷ word (codes "struct") ∷ word (codes "s") ∷ mark (codes ",") ∷ word (codes "m") ∷ mark (codes ".") ∷ word (codes "k") ∷ mark (codes "[") ∷ number (codes "2") ∷ mark (codes "]") ∷ mark (codes ")") ∷ mark (codes ")") ∷ mark (codes ";") ∷ mark (codes "}") ∷ mark (codes ")") ∷ []))
     (context_at ([] ∷ []) 11)
@@ -145,7 +150,7 @@ Assertion = Spells
 -- an `else` belongs to the nearest `if`
 abbrev pub NearestIf : Type 0
 NearestIf = Spells
-    (CompoundStatement ((statement (at 1) (at 12) (If (node 0 3 (Name (codes "a"))) (statement (at 5) (at 12) (If (node 1 7 (Name (codes "b"))) (statement (at 9) (at 9) (Eval None)) (Some (statement (at 11) (at 12) (Eval (Some (node 2 11 (Name (codes "x"))))))))) None)) ∷ []))
+    (CompoundStatement ((statement (at 1) (at 12) (If (node 0 3 (Name (codes "a"))) (at 4) (statement (at 5) (at 12) (If (node 1 7 (Name (codes "b"))) (at 8) (statement (at 9) (at 9) (Eval None)) (Some (statement (at 11) (at 12) (Eval (Some (node 2 11 (Name (codes "x"))))))))) None)) ∷ []))
     (context_at ([] ∷ []) 0)
     (row (mark (codes "{") ∷ word (codes "if") ∷ mark (codes "(") ∷ word (codes "a") ∷ mark (codes ")") ∷ word (codes "if") ∷ mark (codes "(") ∷ word (codes "b") ∷ mark (codes ")") ∷ mark (codes ";") ∷ word (codes "else") ∷ word (codes "x") ∷ mark (codes ";") ∷ mark (codes "}") ∷ []))
     (context_at ([] ∷ []) 3)
@@ -161,7 +166,7 @@ Labels = Spells
 -- each loop
 abbrev pub Loops : Type 0
 Loops = Spells
-    (CompoundStatement ((statement (at 1) (at 6) (While (node 0 3 (Name (codes "a"))) (statement (at 5) (at 6) (Block [])))) ∷ ((statement (at 7) (at 13) (Do (statement (at 8) (at 8) (Eval None)) (node 1 11 (Name (codes "b"))))) ∷ ((statement (at 14) (at 29) (For (statement (at 16) (at 20) (Declare (declaration Plain (Basic (Integer Int true)) ((object (word (codes "i") 17) 0 [] (Some (Value (node 2 19 (Constant (codes "0")))))) ∷ [])))) (Some (node 5 22 (Binary Less (node 3 21 (Name (codes "i"))) (node 4 23 (Constant (codes "9")))))) (Some (node 7 26 (Count true true (node 6 25 (Name (codes "i")))))) (statement (at 28) (at 29) (Break)))) ∷ ((statement (at 30) (at 36) (For (statement (at 32) (at 32) (Eval None)) None None (statement (at 35) (at 36) (Continue)))) ∷ ((statement (at 37) (at 39) (Return (Some (node 8 38 (Name (codes "a")))))) ∷ []))))))
+    (CompoundStatement ((statement (at 1) (at 6) (While (node 0 3 (Name (codes "a"))) (at 4) (statement (at 5) (at 6) (Block [])))) ∷ (statement (at 7) (at 13) (Do (statement (at 8) (at 8) (Eval None)) (node 1 11 (Name (codes "b"))) (at 12))) ∷ (statement (at 14) (at 29) (For (statement (at 16) (at 20) (Declare (declaration Plain (Basic (Integer Int true)) ((object (word (codes "i") 17) 0 [] (Some (Value (node 2 19 (Constant (codes "0"))) (at 20)))) ∷ [])))) (Some (node 5 22 (Binary Less (node 3 21 (Name (codes "i"))) (node 4 23 (Constant (codes "9")))))) (at 24) (Some (node 7 26 (Count true true (node 6 25 (Name (codes "i")))))) (at 27) (statement (at 28) (at 29) Break))) ∷ (statement (at 30) (at 36) (For (statement (at 32) (at 32) (Eval None)) None (at 33) None (at 34) (statement (at 35) (at 36) Continue))) ∷ (statement (at 37) (at 39) (Return (Some (node 8 38 (Name (codes "a")))))) ∷ []))
     (context_at ([] ∷ []) 0)
     (row (mark (codes "{") ∷ word (codes "while") ∷ mark (codes "(") ∷ word (codes "a") ∷ mark (codes ")") ∷ mark (codes "{") ∷ mark (codes "}") ∷ word (codes "do") ∷ mark (codes ";") ∷ word (codes "while") ∷ mark (codes "(") ∷ word (codes "b") ∷ mark (codes ")") ∷ mark (codes ";") ∷ word (codes "for") ∷ mark (codes "(") ∷ word (codes "int") ∷ word (codes "i") ∷ mark (codes "=") ∷ number (codes "0") ∷ mark (codes ";") ∷ word (codes "i") ∷ mark (codes "<") ∷ number (codes "9") ∷ mark (codes ";") ∷ word (codes "i") ∷ mark (codes "++") ∷ mark (codes ")") ∷ word (codes "break") ∷ mark (codes ";") ∷ word (codes "for") ∷ mark (codes "(") ∷ mark (codes ";") ∷ mark (codes ";") ∷ mark (codes ")") ∷ word (codes "continue") ∷ mark (codes ";") ∷ word (codes "return") ∷ word (codes "a") ∷ mark (codes ";") ∷ mark (codes "}") ∷ []))
     (context_at ([] ∷ []) 9)
@@ -169,7 +174,7 @@ Loops = Spells
 -- a statement that begins with a type is a declaration
 abbrev pub Declarations : Type 0
 Declarations = Spells
-    (CompoundStatement ((statement (at 1) (at 18) (Declare (declaration Plain (Named (codes "T")) ((object (word (codes "x") 3) 1 [] None) ∷ (object (word (codes "y") 5) 0 (Some (node 0 7 (Constant (codes "2"))) ∷ []) (Some (Braces (initializer None (Value (node 1 11 (Constant (codes "1")))) ∷ initializer None (Braces (initializer None (Value (node 2 14 (Constant (codes "2")))) ∷ [])) ∷ [])))) ∷ [])))) ∷ ((statement (at 19) (at 37) (Declare (declaration Extern (Basic (Integer Long false)) ((function (word (codes "g") 23) 1 []) ∷ (function (word (codes "h") 28) 0 ((parameter (Named (codes "T")) 0 (Some (codes "T")) []) ∷ (parameter (Basic (Integer Int true)) 0 None (None ∷ [])) ∷ [])) ∷ [])))) ∷ ((statement (at 38) (at 41) (Eval (Some (node 5 39 (Binary Mul (node 3 38 (Name (codes "x"))) (node 4 40 (Name (codes "y")))))))) ∷ []))))
+    (CompoundStatement ((statement (at 1) (at 18) (Declare (declaration Plain (Named (codes "T")) ((object (word (codes "x") 3) 1 [] None) ∷ (object (word (codes "y") 5) 0 ((Some (node 0 7 (Constant (codes "2")))) ∷ []) (Some (Braces ((initializer None (Value (node 1 11 (Constant (codes "1"))) (at 12))) ∷ (initializer None (Braces ((initializer None (Value (node 2 14 (Constant (codes "2"))) (at 15))) ∷ []))) ∷ [])))) ∷ [])))) ∷ (statement (at 19) (at 37) (Declare (declaration Extern (Basic (Integer Long false)) ((function (word (codes "g") 23) 1 []) ∷ (function (word (codes "h") 28) 0 ((parameter (Named (codes "T")) 0 (Some (named (codes "T") 31)) []) ∷ (parameter (Basic (Integer Int true)) 0 None (None ∷ [])) ∷ [])) ∷ [])))) ∷ (statement (at 38) (at 41) (Eval (Some (node 5 39 (Binary Mul (node 3 38 (Name (codes "x"))) (node 4 40 (Name (codes "y")))))))) ∷ []))
     (context_at (((codes "T", true) ∷ []) ∷ []) 0)
     (row (mark (codes "{") ∷ word (codes "T") ∷ mark (codes "*") ∷ word (codes "x") ∷ mark (codes ",") ∷ word (codes "y") ∷ mark (codes "[") ∷ number (codes "2") ∷ mark (codes "]") ∷ mark (codes "=") ∷ mark (codes "{") ∷ number (codes "1") ∷ mark (codes ",") ∷ mark (codes "{") ∷ number (codes "2") ∷ mark (codes "}") ∷ mark (codes ",") ∷ mark (codes "}") ∷ mark (codes ";") ∷ word (codes "unsigned") ∷ word (codes "long") ∷ word (codes "extern") ∷ mark (codes "*") ∷ word (codes "g") ∷ mark (codes "(") ∷ word (codes "void") ∷ mark (codes ")") ∷ mark (codes ",") ∷ word (codes "h") ∷ mark (codes "(") ∷ word (codes "T") ∷ word (codes "T") ∷ mark (codes ",") ∷ word (codes "int") ∷ mark (codes "[") ∷ mark (codes "]") ∷ mark (codes ")") ∷ mark (codes ";") ∷ word (codes "x") ∷ mark (codes "*") ∷ word (codes "y") ∷ mark (codes ";") ∷ mark (codes "}") ∷ []))
     (context_at (((codes "T", true) ∷ []) ∷ []) 6)
@@ -177,7 +182,7 @@ Declarations = Spells
 -- a variable hides a typedef up to the end of its block, and an enumerator too
 abbrev pub Hidden : Type 0
 Hidden = Spells
-    (CompoundStatement ((statement (at 1) (at 13) (Block ((statement (at 2) (at 6) (Declare (declaration Plain (Basic (Integer Int true)) ((object (word (codes "T") 3) 0 [] (Some (Value (node 0 5 (Constant (codes "1")))))) ∷ [])))) ∷ ((statement (at 7) (at 12) (Eval (Some (node 3 10 (Binary Sub (node 1 8 (Name (codes "T"))) (node 2 11 (Constant (codes "1")))))))) ∷ [])))) ∷ ((statement (at 14) (at 19) (Eval (Some (node 6 14 (Cast (type_name (Named (codes "T")) 0 []) (node 5 17 (Unary Minus (node 4 18 (Constant (codes "1")))))))))) ∷ ((statement (at 20) (at 35) (Eval (Some (node 9 20 (Cast (type_name (Basic Void) 0 []) (node 8 23 (SizeOfType (type_name (Enum (Some (codes "e")) (Some ((enumerator (word (codes "T") 28) (Some (node 7 30 (Constant (codes "3"))))) ∷ (enumerator (word (codes "U") 32) None) ∷ []))) 0 [])))))))) ∷ ((statement (at 36) (at 39) (Eval (Some (node 12 37 (Assign None (node 10 36 (Name (codes "T"))) (node 11 38 (Name (codes "U")))))))) ∷ [])))))
+    (CompoundStatement ((statement (at 1) (at 13) (Block ((statement (at 2) (at 6) (Declare (declaration Plain (Basic (Integer Int true)) ((object (word (codes "T") 3) 0 [] (Some (Value (node 0 5 (Constant (codes "1"))) (at 6)))) ∷ [])))) ∷ (statement (at 7) (at 12) (Eval (Some (node 3 10 (Binary Sub (node 1 8 (Name (codes "T"))) (node 2 11 (Constant (codes "1")))))))) ∷ []))) ∷ (statement (at 14) (at 19) (Eval (Some (node 6 14 (Cast (type_name (Named (codes "T")) 0 []) (node 5 17 (Unary Minus (node 4 18 (Constant (codes "1")))))))))) ∷ (statement (at 20) (at 35) (Eval (Some (node 9 20 (Cast (type_name (Basic Void) 0 []) (node 8 23 (SizeOfType (type_name (Enum (Some (named (codes "e") 26)) (Some ((enumerator (word (codes "T") 28) (Some (node 7 30 (Constant (codes "3"))))) ∷ (enumerator (word (codes "U") 32) None) ∷ []))) 0 [])))))))) ∷ (statement (at 36) (at 39) (Eval (Some (node 12 37 (Assign None (node 10 36 (Name (codes "T"))) (node 11 38 (Name (codes "U")))))))) ∷ []))
     (context_at (((codes "T", true) ∷ []) ∷ []) 0)
     (row (mark (codes "{") ∷ mark (codes "{") ∷ word (codes "int") ∷ word (codes "T") ∷ mark (codes "=") ∷ number (codes "1") ∷ mark (codes ";") ∷ mark (codes "(") ∷ word (codes "T") ∷ mark (codes ")") ∷ mark (codes "-") ∷ number (codes "1") ∷ mark (codes ";") ∷ mark (codes "}") ∷ mark (codes "(") ∷ word (codes "T") ∷ mark (codes ")") ∷ mark (codes "-") ∷ number (codes "1") ∷ mark (codes ";") ∷ mark (codes "(") ∷ word (codes "void") ∷ mark (codes ")") ∷ word (codes "sizeof") ∷ mark (codes "(") ∷ word (codes "enum") ∷ word (codes "e") ∷ mark (codes "{") ∷ word (codes "T") ∷ mark (codes "=") ∷ number (codes "3") ∷ mark (codes ",") ∷ word (codes "U") ∷ mark (codes "}") ∷ mark (codes ")") ∷ mark (codes ";") ∷ word (codes "T") ∷ mark (codes "=") ∷ word (codes "U") ∷ mark (codes ";") ∷ mark (codes "}") ∷ []))
     (context_at (((codes "T", true) ∷ []) ∷ []) 13)
@@ -185,7 +190,7 @@ Hidden = Spells
 -- forms that no other row has
 abbrev pub Rest : Type 0
 Rest = Spells
-    (CompoundStatement ((statement (at 1) (at 11) (For (statement (at 3) (at 5) (Eval (Some (node 1 3 (Count true false (node 0 4 (Name (codes "a")))))))) None None (statement (at 8) (at 11) (Eval (Some (node 3 8 (Call (node 2 8 (Name (codes "f"))) []))))))) ∷ ((statement (at 12) (at 14) (Declare (declaration Plain (Enum (Some (codes "e")) None) []))) ∷ ((statement (at 15) (at 25) (Declare (declaration Plain (OfType (type_name (Basic (Integer Int true)) 1 [])) ((object (word (codes "x") 20) 0 [] None) ∷ (function (word (codes "g") 22) 0 []) ∷ [])))) ∷ []))))
+    (CompoundStatement ((statement (at 1) (at 11) (For (statement (at 3) (at 5) (Eval (Some (node 1 3 (Count true false (node 0 4 (Name (codes "a")))))))) None (at 6) None (at 7) (statement (at 8) (at 11) (Eval (Some (node 3 8 (Call (node 2 8 (Name (codes "f"))) []))))))) ∷ (statement (at 12) (at 14) (Declare (declaration Plain (Enum (Some (named (codes "e") 13)) None) []))) ∷ (statement (at 15) (at 25) (Declare (declaration Plain (OfType (type_name (Basic (Integer Int true)) 1 [])) ((object (word (codes "x") 20) 0 [] None) ∷ (function (word (codes "g") 22) 0 []) ∷ [])))) ∷ []))
     (context_at ([] ∷ []) 0)
     (row (mark (codes "{") ∷ word (codes "for") ∷ mark (codes "(") ∷ mark (codes "++") ∷ word (codes "a") ∷ mark (codes ";") ∷ mark (codes ";") ∷ mark (codes ")") ∷ word (codes "f") ∷ mark (codes "(") ∷ mark (codes ")") ∷ mark (codes ";") ∷ word (codes "enum") ∷ word (codes "e") ∷ mark (codes ";") ∷ word (codes "typeof") ∷ mark (codes "(") ∷ word (codes "int") ∷ mark (codes "*") ∷ mark (codes ")") ∷ word (codes "x") ∷ mark (codes ",") ∷ word (codes "g") ∷ mark (codes "(") ∷ mark (codes ")") ∷ mark (codes ";") ∷ mark (codes "}") ∷ []))
     (context_at ([] ∷ []) 4)
@@ -193,7 +198,7 @@ Rest = Spells
 -- the fields of a struct are no names of the scope
 abbrev pub Structs : Type 0
 Structs = Spells
-    (CompoundStatement ((statement (at 1) (at 32) (Declare (declaration Static (Struct (Some (codes "s")) (Some (fields (Named (codes "T")) ((field (at 7) (Some (codes "T")) 1 [] None) ∷ (field (at 9) (Some (codes "b")) 0 (Some (node 0 11 (Constant (codes "3"))) ∷ []) None) ∷ []) ∷ (fields (Basic (Integer Int true)) ((field (at 15) None 0 [] (Some (node 1 16 (Constant (codes "3"))))) ∷ (field (at 18) (Some (codes "c")) 0 [] (Some (node 2 20 (Constant (codes "4"))))) ∷ []) ∷ [])))) ((object (word (codes "s") 23) 0 [] (Some (Braces (initializer (Some (codes "b")) (Braces []) ∷ [])))) ∷ [])))) ∷ ((statement (at 33) (at 35) (Declare (declaration Plain (Named (codes "T")) ((object (word (codes "z") 34) 0 [] None) ∷ [])))) ∷ [])))
+    (CompoundStatement ((statement (at 1) (at 32) (Declare (declaration Static (Struct (Some (named (codes "s") 3)) (Some ((fields (Named (codes "T")) ((field (at 7) (Some (codes "T")) 1 [] None) ∷ (field (at 9) (Some (codes "b")) 0 ((Some (node 0 11 (Constant (codes "3")))) ∷ []) None) ∷ [])) ∷ (fields (Basic (Integer Int true)) ((field (at 15) None 0 [] (Some (node 1 16 (Constant (codes "3"))))) ∷ (field (at 18) (Some (codes "c")) 0 [] (Some (node 2 20 (Constant (codes "4"))))) ∷ [])) ∷ []))) ((object (word (codes "s") 23) 0 [] (Some (Braces ((initializer (Some (named (codes "b") 27)) (Braces [])) ∷ [])))) ∷ [])))) ∷ (statement (at 33) (at 35) (Declare (declaration Plain (Named (codes "T")) ((object (word (codes "z") 34) 0 [] None) ∷ [])))) ∷ []))
     (context_at (((codes "T", true) ∷ []) ∷ []) 0)
     (row (mark (codes "{") ∷ word (codes "static") ∷ word (codes "struct") ∷ word (codes "s") ∷ mark (codes "{") ∷ word (codes "T") ∷ mark (codes "*") ∷ word (codes "T") ∷ mark (codes ",") ∷ word (codes "b") ∷ mark (codes "[") ∷ number (codes "3") ∷ mark (codes "]") ∷ mark (codes ";") ∷ word (codes "int") ∷ mark (codes ":") ∷ number (codes "3") ∷ mark (codes ",") ∷ word (codes "c") ∷ mark (codes ":") ∷ number (codes "4") ∷ mark (codes ";") ∷ mark (codes "}") ∷ word (codes "s") ∷ mark (codes "=") ∷ mark (codes "{") ∷ mark (codes ".") ∷ word (codes "b") ∷ mark (codes "=") ∷ mark (codes "{") ∷ mark (codes "}") ∷ mark (codes "}") ∷ mark (codes ";") ∷ word (codes "T") ∷ word (codes "z") ∷ mark (codes ";") ∷ mark (codes "}") ∷ []))
     (context_at (((codes "T", true) ∷ []) ∷ []) 3)

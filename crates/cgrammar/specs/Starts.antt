@@ -4,7 +4,7 @@ use Rattle.std.specs.Prelude.{ℕ, Bool, true, false, ◌||◌, not, List, [], �
 use Rattle.ctokens.specs.declared.token.TokenKind.{TokenKind}
 use Rattle.ctokens.specs.declared.token.TokenKind.TheVariants.{Number, Letter}
 use Rattle.cgrammar.specs.Firsts.{is_one_among, is_among, Begins}
-use Rattle.cgrammar.specs.Phrases.{Phrase, Expression, Assignment, Conditional, Operation, CastExpression, UnaryExpression, PostfixExpression, PrimaryExpression, Arguments, TypeSpecifier, NameOfType, FieldDeclaration, FieldDeclarators, FieldDeclarator, Enumerators, OneEnumerator, Specifiers, Declaration, Declarators, Declarator, FunctionDeclarator, Parameters, Parameter, Initializer, Initializers, DesignatedInitializer, CompoundStatement, Statement}
+use Rattle.cgrammar.specs.Phrases.{Phrase, Expression, Assignment, Conditional, Operation, CastExpression, UnaryExpression, PostfixExpression, PrimaryExpression, Arguments, TypeSpecifier, NameOfType, FieldDeclaration, FieldDeclarators, FieldDeclarator, Enumerators, OneEnumerator, Specifiers, Declaration, Declarators, Declarator, FunctionDeclarator, Parameters, Parameter, Initializer, Initializers, DesignatedInitializer, CompoundStatement, Statement, Substatement}
 use Rattle.cgrammar.specs.Terminals.{Terminal, is_mark_kind, is_mark, is_name}
 
 -- the token is one of these marks
@@ -60,10 +60,11 @@ StartsAs (PostfixExpression expr) row = Begins begins_operand row
 StartsAs (PrimaryExpression expr) row = Begins begins_operand row
 StartsAs (Arguments exprs) row = Begins begins_operand row
 StartsAs (Statement dangling stmt) row = Begins begins_statement row
+StartsAs (Substatement dangling stmt) row = Begins begins_statement row
 StartsAs (CompoundStatement body) row = Begins (is_mark (codes "{")) row
-StartsAs (Initializer init) row = Begins (λ token. not (is_mark (codes "}") token)) row
-StartsAs (DesignatedInitializer part) row = Begins (λ token. not (is_mark (codes "}") token)) row
-StartsAs (Initializers parts) row = Begins (λ token. not (is_mark (codes "}") token)) row
+StartsAs (Initializer behind init) row = Begins (λ token. not (is_mark (codes "}") token)) row
+StartsAs (DesignatedInitializer behind part) row = Begins (λ token. not (is_mark (codes "}") token)) row
+StartsAs (Initializers behind parts) row = Begins (λ token. not (is_mark (codes "}") token)) row
 StartsAs (TypeSpecifier type) row = HasFirst row
 StartsAs (NameOfType name) row = HasFirst row
 StartsAs (FieldDeclaration decl) row = HasFirst row
@@ -73,8 +74,8 @@ StartsAs (Enumerators values) row = HasFirst row
 StartsAs (OneEnumerator value) row = HasFirst row
 StartsAs (Specifiers storage type) row = HasFirst row
 StartsAs (Declaration decl) row = HasFirst row
-StartsAs (Declarators typedef names) row = HasFirst row
-StartsAs (Declarator typedef name) row = HasFirst row
+StartsAs (Declarators typedef behind names) row = HasFirst row
+StartsAs (Declarator typedef behind name) row = HasFirst row
 StartsAs (FunctionDeclarator name head) row = HasFirst row
 StartsAs (Parameters params) row = HasFirst row
 StartsAs (Parameter param) row = HasFirst row

@@ -8,6 +8,7 @@ use Rattle.cbase.specs.declared.tree.decl.Storage.{Storage}
 use Rattle.cbase.specs.declared.tree.decl.TypeName.{TypeName}
 use Rattle.cbase.specs.declared.tree.expr.Expr.{Expr}
 use Rattle.cbase.specs.declared.tree.expr.ExprForm.TheViews.{roll-Decl, roll-Declared, roll-Enumerator, roll-FieldDecl, roll-FieldName, roll-Param, roll-TypeName}
+use Rattle.cbase.specs.declared.tree.identifier.Identifier.{Identifier}
 use Rattle.cbase.specs.declared.tree.init.Init.{Init}
 use Rattle.cbase.specs.declared.tree.init.InitPart.{InitPart}
 use Rattle.cbase.specs.declared.tree.spec.Enumerator.{Enumerator}
@@ -17,6 +18,10 @@ use Rattle.cbase.specs.declared.tree.spec.TypeSpec.{TypeSpec}
 use Rattle.cbase.specs.declared.tree.stmt.Stmt.{Stmt}
 use Rattle.cbase.specs.declared.tree.stmt.StmtForm.{StmtForm}
 use Rattle.cgrammar.specs.Terminals.{Terminal}
+
+-- the identifier that a token is, with its place
+abbrev pub identifier : Terminal → Identifier
+identifier token = record { place = token.place; name = token.bytes }
 
 -- a declared object and a declared function
 abbrev pub object : Terminal → ℕ → List (Option Expr) → Option Init → Declared
@@ -28,7 +33,7 @@ function token stars params = roll-Declared (record { place = token.place; name 
 abbrev pub field : Place → Option (List ℕ) → ℕ → List (Option Expr) → Option Expr → FieldName
 field place name stars sizes bits = roll-FieldName (record { place = place; name = name; stars = stars; sizes = sizes; bits = bits })
 
-abbrev pub parameter : TypeSpec → ℕ → Option (List ℕ) → List (Option Expr) → Param
+abbrev pub parameter : TypeSpec → ℕ → Option Identifier → List (Option Expr) → Param
 parameter type stars name sizes = roll-Param (record { spec = type; stars = stars; name = name; sizes = sizes })
 
 abbrev pub type_name : TypeSpec → ℕ → List (Option Expr) → TypeName
@@ -43,7 +48,7 @@ enumerator token value = roll-Enumerator (record { place = token.place; name = t
 abbrev pub declaration : Storage → TypeSpec → List Declared → Decl
 declaration storage type names = roll-Decl (record { storage = storage; spec = type; names = names })
 
-abbrev pub initializer : Option (List ℕ) → Init → InitPart
+abbrev pub initializer : Option Identifier → Init → InitPart
 initializer member init = record { member = member; init = init }
 
 -- a statement with the places of its first and its last token

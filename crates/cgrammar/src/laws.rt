@@ -3,22 +3,24 @@ ghost use Rattle.cgrammar.specs.OneTree.{EachHasOneTree};
 ghost use Rattle.std.specs.Prelude.{◌≡◌, ◌<◌, ℕ, Bool, false, List, Some, length};
 ghost use Rattle.std.specs.Str.{bytes_eq};
 ghost use Rattle.cgrammar.specs.Scope.{Names, found, declared, entered, left};
-ghost use Rattle.cgrammar.specs.Contexts.{ScopesAreKept, NumbersGrow, NumbersAreLast};
+ghost use Rattle.cgrammar.specs.Consecutive.{NumbersAreConsecutive};
+ghost use Rattle.cgrammar.specs.Contexts.{ScopesAreKept, NumbersAreLast};
 ghost use Rattle.cgrammar.specs.Labels.{LabelsAreNoExpressions};
 ghost use Rattle.cgrammar.specs.Firsts.{FirstTokens, DeclarationsAreNoStatements, TypesAreNoExpressions};
 
-/// A block leaves the names in scope as they were, and whatever is read changes no scope but the innermost (C11
-/// 6.2.1p4).
+/// A block leaves the names in scope as they were, and so does a statement in an `if` or in a loop; whatever is read
+/// changes no scope but the innermost (C11 6.2.1p4, 6.8.4p3, 6.8.5p5).
 #[tactic(auto, using(crate::proofs::Contexts::scopes_kept))]
 pub fn scopes_are_kept()
     ensures { ScopesAreKept }
 {}
 
-/// The numbers of expressions go up along a row, and an expression has the last of those of its row: its parts come
-/// before it.
-#[tactic(auto, using(crate::proofs::Contexts::numbers_grow, crate::proofs::Contexts::numbers_last))]
-pub fn numbers_go_up()
-    ensures grow { NumbersGrow }
+/// The expressions of a row are numbered one by one in the order of the text, from the count of those before it up to the count
+/// behind it: none is left out, and none has the number of another. An expression has the last of the numbers of its row, its
+/// parts have those before it.
+#[tactic(auto, using(crate::proofs::Consecutive::numbers_consecutive, crate::proofs::Contexts::numbers_last))]
+pub fn numbers_are_consecutive()
+    ensures consecutive { NumbersAreConsecutive }
     ensures last { NumbersAreLast }
 {}
 

@@ -29,7 +29,7 @@ pub use closers::matched_length;
 pub use label::begins_with_label;
 pub use laws::{
     declared_names_are_found, each_row_has_one_tree, first_tokens, labels_are_told_apart,
-    numbers_go_up, scopes_are_kept, types_are_told_apart,
+    numbers_are_consecutive, scopes_are_kept, types_are_told_apart,
 };
 pub use reading::operand::Operand;
 pub use reading::specifiers::Specifiers;

@@ -36,12 +36,12 @@ use Rattle.creader.specs.StatementSteps.{block_item, block_items}
 use Rattle.creader.specs.Steps.{Inner, write, mark, until_brace}
 use Rattle.creader.specs.declared.status.Status.TheVariants.{Nothing}
 use Rattle.cread_expr.proofs.Agreed.{Pieces, none, shop, Ended, Agreed, Follows, ends, context_of, LevelAgrees, statements_piece}
-use Rattle.cread_expr.proofs.AgreedDeclarations.{declaration_piece, declaration_agrees}
+use Rattle.cread_expr.proofs.AgreedDeclarations.{declaration_agrees}
 use Rattle.cread_expr.proofs.AgreedDeclarationsParameters.{then_both, then_specifiers, still_parameters, parameters_agree}
 use Rattle.cread_expr.proofs.AgreedLists.{behind_brace, over_brace, until_brace_follows, still_braces}
 use Rattle.cread_expr.proofs.AgreedPlaces.{place_here}
 use Rattle.cread_expr.proofs.AgreedRules.{agreed_at, agreed_outcome, agreed_goes, agreed_test, if_first, then_ends, then_mark}
-use Rattle.cread_expr.proofs.AgreedStatements.{as_ends, block_item_agrees}
+use Rattle.cread_expr.proofs.AgreedStatements.{then_passes, block_item_agrees}
 use Rattle.cread_expr.proofs.AgreedSteps.{if_going, Still, still_lost, still_goes, still_mark, still_write, still_leave, ended_at, ended_levels, ended_part, ended_token, ended_write, ended_leave}
 use Rattle.cread_expr.proofs.AgreedTypesSizes.{read_ends, lost_here, ended_stars, if_behind}
 use Rattle.cread.specs.Items.{in_body}
@@ -242,9 +242,6 @@ definition_agrees {level} {inner} sound agrees s before is =
     (definition_behind_agrees type storage others sound agrees (ended_levels (omega arith) far)))
 
 -- a declaration, or a function, or nothing but a `;`
-declares : {level : Level} {inner : Inner} → LevelAgrees level inner → Follows declaration_piece ends (read_declaration level) (declaration inner)
-declares agrees s before is = as_ends _ (declaration_agrees agrees s before is)
-
 pub external_agrees : {level : Level} {inner : Inner} → SoundLevel level → LevelAgrees level inner → Follows item_piece ends (read_external level) (external inner)
 unfolding read_external external
 external_agrees {level} {inner} sound agrees s before is =
@@ -253,6 +250,6 @@ external_agrees {level} {inner} sound agrees s before is =
     (if_behind (is_mark (codes ";")) (rest s) (λ others. outcome.Read item.Empty 0 (context_of s before) others) _ far
     (λ some. agreed_test (ends_with_brace (rest s)) (ends_with_brace (rest s)) _ _ refl
     (λ brace. definition_agrees sound agrees s before is)
-    (λ plain. then_ends none (read_declaration level) (declaration inner) _ far (declares agrees) (still_write _ still_lost) (λ decl levels behind others further.
+    (λ plain. then_passes none (read_declaration level) (declaration inner) _ far (declaration_agrees agrees) (still_write _ still_lost) (λ decl levels behind others further passed.
     read_ends (ended_levels (omega arith) (ended_write event.DeclareItem (λ pieces. refl) further)))))
     (λ semicolon others is at_semicolon behind_semicolon. read_ends (ended_write event.EmptyItem (λ pieces. refl) behind_semicolon)))

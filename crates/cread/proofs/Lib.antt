@@ -13,3 +13,4 @@ pub mod Turns
 pub mod NamesOfParts
 pub mod NamesOfTrees
 pub mod NamesSpelled
+pub mod Numbered

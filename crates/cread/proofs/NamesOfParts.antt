@@ -1,5 +1,5 @@
 -- Trees with array sizes or options in them: what they leave in scope, and how deep they are, from their parts.
-use Rattle.std.proofs.Common.{◌≡◌, false, refl, ap, ◌∙◌, map, List, [], ◌∷◌, ◌++◌, Option, Some, None}
+use Rattle.std.proofs.Common.{◌≡◌, false, refl, ap, ◌∙◌, map, List, [], ◌∷◌, ◌++◌}
 use Rattle.std.specs.Prelude.{max}
 use Rattle.cbase.specs.declared.tree.decl.TypeName.{TypeName}
 use Rattle.cbase.specs.declared.tree.expr.Expr.{Expr}

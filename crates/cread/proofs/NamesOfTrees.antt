@@ -16,6 +16,7 @@ use Rattle.cbase.specs.declared.tree.expr.ExprForm.TheVariants.{Name, Constant, 
 use Rattle.cbase.specs.declared.tree.expr.ExprForm.TheViews.{out-roll-Decl, out-roll-Declared}
 use Rattle.cbase.specs.declared.tree.expr.Part.{Part}
 use Rattle.cbase.specs.declared.tree.expr.Part.TheVariants.{Member as NamedPart, At, rolls-Member as rolls-Part, rolls-At}
+use Rattle.cbase.specs.declared.tree.identifier.Identifier.{Identifier}
 use Rattle.cbase.specs.declared.tree.init.Init.{Init}
 use Rattle.cbase.specs.declared.tree.init.Init.TheVariants.{Value, Braces, rolls-Value, rolls-Braces}
 use Rattle.cbase.specs.declared.tree.init.InitPart.{InitPart}
@@ -81,30 +82,30 @@ names_offset_of to path = ap form_names (sym (rolls-OffsetOf to path)) ∙ fold-
 pub names_index : (base : Expr) (index : Expr) → form_names (Index base index) ≡ expr_names base ++ expr_names index
 names_index base index = ap form_names (sym (rolls-Index base index)) ∙ fold-roll-ExprForm Names Names Names Names Names Names Names Names Names Names Names Names Names Names Names in_form in_part in_init in_spec no_names no_names no_names no_names in_type_name in_expr in_init_part in_enumerator in_field_decl in_field_name no_names (Open.Index base index)
 
-pub names_member : (base : Expr) (name : List ℕ) (through : Bool) → form_names (Member base name through) ≡ expr_names base
+pub names_member : (base : Expr) (name : Identifier) (through : Bool) → form_names (Member base name through) ≡ expr_names base
 names_member base name through = ap form_names (sym (rolls-Member base name through)) ∙ fold-roll-ExprForm Names Names Names Names Names Names Names Names Names Names Names Names Names Names Names in_form in_part in_init in_spec no_names no_names no_names no_names in_type_name in_expr in_init_part in_enumerator in_field_decl in_field_name no_names (Open.ExprForm::Member base name through)
 
 pub names_call : (callee : Expr) (arguments : List Expr) → form_names (Call callee arguments) ≡ expr_names callee ++ joined (map expr_names arguments)
 names_call callee arguments = ap form_names (sym (rolls-Call callee arguments)) ∙ fold-roll-ExprForm Names Names Names Names Names Names Names Names Names Names Names Names Names Names Names in_form in_part in_init in_spec no_names no_names no_names no_names in_type_name in_expr in_init_part in_enumerator in_field_decl in_field_name no_names (Open.Call callee arguments)
 
-pub names_inner : (body : List Stmt) → form_names (Inner body) ≡ []
-names_inner body = ap form_names (sym (rolls-Inner body)) ∙ fold-roll-ExprForm Names Names Names Names Names Names Names Names Names Names Names Names Names Names Names in_form in_part in_init in_spec no_names no_names no_names no_names in_type_name in_expr in_init_part in_enumerator in_field_decl in_field_name no_names (Open.Inner body)
+pub names_inner : (body : List Stmt) (close : Place) → form_names (Inner body close) ≡ []
+names_inner body close = ap form_names (sym (rolls-Inner body close)) ∙ fold-roll-ExprForm Names Names Names Names Names Names Names Names Names Names Names Names Names Names Names in_form in_part in_init in_spec no_names no_names no_names no_names in_type_name in_expr in_init_part in_enumerator in_field_decl in_field_name no_names (Open.Inner body close)
 
 -- steps to a member
-pub names_named_part : (name : List ℕ) → part_names (NamedPart name) ≡ []
+pub names_named_part : (name : Identifier) → part_names (NamedPart name) ≡ []
 names_named_part name = ap part_names (sym (rolls-Part name)) ∙ fold-roll-Part Names Names Names Names Names Names Names Names Names Names Names Names Names Names Names in_form in_part in_init in_spec no_names no_names no_names no_names in_type_name in_expr in_init_part in_enumerator in_field_decl in_field_name no_names (Open.Part::Member name)
 
 pub names_at : (index : Expr) → part_names (At index) ≡ expr_names index
 names_at index = ap part_names (sym (rolls-At index)) ∙ fold-roll-Part Names Names Names Names Names Names Names Names Names Names Names Names Names Names Names in_form in_part in_init in_spec no_names no_names no_names no_names in_type_name in_expr in_init_part in_enumerator in_field_decl in_field_name no_names (Open.At index)
 
 -- initialisers
-pub names_value : (value : Expr) → init_names (Value value) ≡ expr_names value
-names_value value = ap init_names (sym (rolls-Value value)) ∙ fold-roll-Init Names Names Names Names Names Names Names Names Names Names Names Names Names Names Names in_form in_part in_init in_spec no_names no_names no_names no_names in_type_name in_expr in_init_part in_enumerator in_field_decl in_field_name no_names (Open.Value value)
+pub names_value : (value : Expr) (behind : Place) → init_names (Value value behind) ≡ expr_names value
+names_value value behind = ap init_names (sym (rolls-Value value behind)) ∙ fold-roll-Init Names Names Names Names Names Names Names Names Names Names Names Names Names Names Names in_form in_part in_init in_spec no_names no_names no_names no_names in_type_name in_expr in_init_part in_enumerator in_field_decl in_field_name no_names (Open.Value value behind)
 
 pub names_braces : (parts : List InitPart) → init_names (Braces parts) ≡ joined (map init_part_names parts)
 names_braces parts = ap init_names (sym (rolls-Braces parts)) ∙ fold-roll-Init Names Names Names Names Names Names Names Names Names Names Names Names Names Names Names in_form in_part in_init in_spec no_names no_names no_names no_names in_type_name in_expr in_init_part in_enumerator in_field_decl in_field_name no_names (Open.Braces parts)
 
-pub names_initializer : (member : Option (List ℕ)) (init : Init) → init_part_names (initializer member init) ≡ init_names init
+pub names_initializer : (member : Option Identifier) (init : Init) → init_part_names (initializer member init) ≡ init_names init
 names_initializer member init = init_part_parts (initializer member init)
 
 -- the words of a type
@@ -114,16 +115,16 @@ names_basic basic = ap spec_names (sym (rolls-Basic basic)) ∙ fold-roll-TypeSp
 pub names_named : (name : List ℕ) → spec_names (Named name) ≡ []
 names_named name = ap spec_names (sym (rolls-Named name)) ∙ fold-roll-TypeSpec Names Names Names Names Names Names Names Names Names Names Names Names Names Names Names in_form in_part in_init in_spec no_names no_names no_names no_names in_type_name in_expr in_init_part in_enumerator in_field_decl in_field_name no_names (Open.Named name)
 
-pub names_struct_by_tag : (name : Option (List ℕ)) → spec_names (Struct name None) ≡ []
+pub names_struct_by_tag : (name : Option Identifier) → spec_names (Struct name None) ≡ []
 names_struct_by_tag name = ap spec_names (sym (rolls-Struct name None)) ∙ fold-roll-TypeSpec Names Names Names Names Names Names Names Names Names Names Names Names Names Names Names in_form in_part in_init in_spec no_names no_names no_names no_names in_type_name in_expr in_init_part in_enumerator in_field_decl in_field_name no_names (Open.Struct name None)
 
-pub names_struct : (name : Option (List ℕ)) (fields : List FieldDecl) → spec_names (Struct name (Some fields)) ≡ joined (map field_decl_names fields)
+pub names_struct : (name : Option Identifier) (fields : List FieldDecl) → spec_names (Struct name (Some fields)) ≡ joined (map field_decl_names fields)
 names_struct name fields = ap spec_names (sym (rolls-Struct name (Some fields))) ∙ fold-roll-TypeSpec Names Names Names Names Names Names Names Names Names Names Names Names Names Names Names in_form in_part in_init in_spec no_names no_names no_names no_names in_type_name in_expr in_init_part in_enumerator in_field_decl in_field_name no_names (Open.Struct name (Some fields))
 
-pub names_enum_by_tag : (name : Option (List ℕ)) → spec_names (Enum name None) ≡ []
+pub names_enum_by_tag : (name : Option Identifier) → spec_names (Enum name None) ≡ []
 names_enum_by_tag name = ap spec_names (sym (rolls-Enum name None)) ∙ fold-roll-TypeSpec Names Names Names Names Names Names Names Names Names Names Names Names Names Names Names in_form in_part in_init in_spec no_names no_names no_names no_names in_type_name in_expr in_init_part in_enumerator in_field_decl in_field_name no_names (Open.Enum name None)
 
-pub names_enum : (name : Option (List ℕ)) (values : List Enumerator) → spec_names (Enum name (Some values)) ≡ joined (map enumerator_names values)
+pub names_enum : (name : Option Identifier) (values : List Enumerator) → spec_names (Enum name (Some values)) ≡ joined (map enumerator_names values)
 names_enum name values = ap spec_names (sym (rolls-Enum name (Some values))) ∙ fold-roll-TypeSpec Names Names Names Names Names Names Names Names Names Names Names Names Names Names Names in_form in_part in_init in_spec no_names no_names no_names no_names in_type_name in_expr in_init_part in_enumerator in_field_decl in_field_name no_names (Open.Enum name (Some values))
 
 pub names_of_expr : (expr : Expr) → spec_names (OfExpr expr) ≡ expr_names expr

@@ -3,11 +3,12 @@ use Rattle.std.proofs.Common.{◌≡◌, ℕ, Bool, true, false, refl, ap, sym, 
 use Rattle.cbase.specs.declared.tree.operators.BinaryOp.TheVariants.{Comma}
 use Rattle.cbase.specs.declared.tree.expr.Part.TheVariants.{Member as NamedPart, At}
 use Rattle.cgrammar.proofs.Contexts.{scopes_kept}
-use Rattle.cgrammar.specs.Grammar.{Spells, OneAssignment, CommaOperator, OneConditional, AssignmentOperator, OneOperation, ConditionalOperator, OneCast, BinaryOperator, OneUnary, CastOperator, OnePostfix, CountBefore, UnaryOperator, SizeOfExpression, SizeOfTypeName, OnePrimary, IndexOperator, CallOfNothing, CallOperator, MemberOperator, CountBehind, OneArgument, MoreArguments, OneName, OneConstant, Bracketed, StatementExpression, OffsetOfMember, NoMoreMembers, PathToMember, PathToItem, FailedAssertion, BasicWords, TypedefName, TypeOfExpression, TypeOfType, StructWithFields, StructByTag, NoMoreFields, MoreFields, OneFieldDeclaration, OneField, MoreFieldNames, NamedField, NamedBits, UnnamedBits, EnumWithValues, EnumByTag, LastEnumerator, MoreEnumerators, PlainEnumerator, ValuedEnumerator, OneTypeName, NoMoreSizes, SizeLeftOut, SizeGiven, TypeAlone, StorageBefore, StorageBehind, NoDeclarator, WithDeclarators, OneDeclarator, MoreDeclarators, ObjectDeclarator, InitializedDeclarator, DeclaratorOfFunction, NoParameters, VoidParameters, WithParameters, OneParameter, MoreParameters, NamedParameter, UnnamedParameter, InitializedTo, EmptyBraces, InBraces, OneInitializer, MoreInitializers, NextPart, MemberPart, OneBlock, NoMoreItems, NextDeclaration, NextStatement, BlockStatement, EmptyStatement, ExpressionStatement, IfStatement, IfElseStatement, WhileStatement, DoStatement, ForStatement, FirstDeclaration, FirstLeftOut, FirstExpression, NoExpression, SomeExpression, BreakStatement, ContinueStatement, ReturnStatement, LabeledStatement}
+use Rattle.cgrammar.specs.Grammar.{Spells, OneAssignment, CommaOperator, OneConditional, AssignmentOperator, OneOperation, ConditionalOperator, OneCast, BinaryOperator, OneUnary, CastOperator, OnePostfix, CountBefore, UnaryOperator, SizeOfExpression, SizeOfTypeName, OnePrimary, IndexOperator, CallOfNothing, CallOperator, MemberOperator, CountBehind, OneArgument, MoreArguments, OneName, OneConstant, Bracketed, StatementExpression, OffsetOfMember, NoMoreMembers, PathToMember, PathToItem, FailedAssertion, BasicWords, TypedefName, TypeOfExpression, TypeOfType, StructWithFields, StructByTag, NoMoreFields, MoreFields, OneFieldDeclaration, OneField, MoreFieldNames, NamedField, NamedBits, UnnamedBits, EnumWithValues, EnumByTag, LastEnumerator, MoreEnumerators, PlainEnumerator, ValuedEnumerator, OneTypeName, NoMoreSizes, SizeLeftOut, SizeGiven, TypeAlone, StorageBefore, StorageBehind, NoDeclarator, WithDeclarators, OneDeclarator, MoreDeclarators, ObjectDeclarator, InitializedDeclarator, DeclaratorOfFunction, NoParameters, VoidParameters, WithParameters, OneParameter, MoreParameters, NamedParameter, UnnamedParameter, InitializedTo, EmptyBraces, InBraces, OneInitializer, MoreInitializers, NextPart, MemberPart, OneBlock, NoMoreItems, NextDeclaration, NextStatement, BlockStatement, EmptyStatement, ExpressionStatement, OneSubstatement, IfStatement, IfElseStatement, WhileStatement, DoStatement, ForStatement, FirstDeclaration, FirstLeftOut, FirstExpression, NoExpression, SomeExpression, BreakStatement, ContinueStatement, ReturnStatement, LabeledStatement}
 use Rattle.cgrammar.specs.Phrases.{Phrase, Context}
 use Rattle.cgrammar.specs.Phrases.{Expression, Assignment, Conditional, Operation, CastExpression, UnaryExpression, PostfixExpression, PrimaryExpression, Arguments, MemberPath, TypeSpecifier, NameOfType, ArraySizes, Fields, FieldDeclaration, FieldDeclarators, FieldDeclarator, Enumerators, OneEnumerator, Specifiers, Declaration, Declarators, Declarator, FunctionDeclarator, Initializer, Initializers, DesignatedInitializer, CompoundStatement, BlockItems}
 use Rattle.cgrammar.specs.Scope.{Names, declared, declared_around, left}
-use Rattle.cgrammar.specs.Terminals.{Terminal}
+use Rattle.cgrammar.specs.Terminals.{Terminal, last_place}
+use Rattle.cgrammar.specs.Trees.{identifier}
 use Rattle.cgrammar.specs.TypeWords.{declares_typedef}
 use Rattle.cread.proofs.NamesOfTrees.{names_of, names_name, names_constant, names_assert_fail, names_unary, names_binary, names_assign, names_count, names_choose, names_cast, names_size_of, names_size_of_type, names_offset_of, names_index, names_member, names_call, names_inner, names_named_part, names_at, names_value, names_braces, names_initializer, names_basic, names_named, names_struct_by_tag, names_struct, names_enum_by_tag, names_enum, names_of_expr, names_of_type, names_type_name, names_fields, names_field, names_bits, names_enumerator, names_valued_enumerator, names_declaration, names_object, names_initialized, names_function}
 use Rattle.cread.proofs.WithNames.{with_two, left_around}
@@ -71,12 +72,12 @@ LeavesNames (Enumerators values) before after = Leaves (joined (map enumerator_n
 LeavesNames (OneEnumerator value) before after = Leaves (enumerator_names value) before after
 LeavesNames (Specifiers storage type) before after = Leaves (spec_names type) before after
 LeavesNames (Declaration decl) before after = Leaves (decl_names decl) before after
-LeavesNames (Declarators typedef names) before after = Leaves (joined (map (declared_names typedef) names)) before after
-LeavesNames (Declarator typedef name) before after = Leaves (declared_names typedef name) before after
+LeavesNames (Declarators typedef place names) before after = Leaves (joined (map (declared_names typedef) names)) before after
+LeavesNames (Declarator typedef place name) before after = Leaves (declared_names typedef name) before after
 LeavesNames (FunctionDeclarator name head) before after = (typedef : Bool) → declared_names typedef head ≡ (name, typedef) ∷ []
-LeavesNames (Initializer init) before after = Leaves (init_names init) before after
-LeavesNames (Initializers parts) before after = Leaves (joined (map init_part_names parts)) before after
-LeavesNames (DesignatedInitializer part) before after = Leaves (init_part_names part) before after
+LeavesNames (Initializer place init) before after = Leaves (init_names init) before after
+LeavesNames (Initializers place parts) before after = Leaves (joined (map init_part_names parts)) before after
+LeavesNames (DesignatedInitializer place part) before after = Leaves (init_part_names part) before after
 LeavesNames (CompoundStatement body) before after = Leaves [] before after
 LeavesNames _ before after = Unit {0}
 
@@ -100,17 +101,17 @@ leaves (OnePrimary d1) = leaves d1
 leaves (IndexOperator {base} {index} _ _ d1 _ d2 _) = two (names_of _ _ (names_index base index)) (leaves d1) (leaves d2)
 leaves (CallOfNothing {callee} _ _ d1 _ _) = two (names_of _ _ (names_call callee [])) (leaves d1) nothing
 leaves (CallOperator {callee} {arguments} _ _ d1 _ _ d2 _) = two (names_of _ _ (names_call callee arguments)) (leaves d1) (leaves d2)
-leaves (MemberOperator {base} {through} _ name d1 _ _) = same (names_of _ _ (names_member base name.bytes through)) (leaves d1)
+leaves (MemberOperator {base} {through} _ name d1 _ _) = same (names_of _ _ (names_member base (identifier name) through)) (leaves d1)
 leaves (CountBehind {expr} {up} _ d1 _) = same (names_of _ _ (names_count up true expr)) (leaves d1)
 leaves (OneArgument {expr} d1) = alone expr_names expr (leaves d1)
 leaves (MoreArguments {expr} {others} _ d1 _ d2) = more expr_names expr others (leaves d1) (leaves d2)
 leaves (OneName name _) = same (names_of _ _ (names_name name.bytes)) nothing
 leaves (OneConstant token _) = same (names_of _ _ (names_constant token.bytes)) nothing
 leaves (Bracketed _ _ _ _ d1 _) = leaves d1
-leaves (StatementExpression {body} _ _ _ d1 _) = same (names_of _ _ (names_inner body)) (leaves d1)
-leaves (OffsetOfMember {to} {path} _ _ _ name _ _ _ d1 _ _ d2 _) = two (names_of _ _ (names_offset_of to (NamedPart name.bytes ∷ path))) (leaves d1) (more part_names (NamedPart name.bytes) path (same (names_named_part name.bytes) nothing) (leaves d2))
+leaves (StatementExpression {xs} {body} _ _ _ d1 _) = same (names_of _ _ (names_inner body (last_place xs))) (leaves d1)
+leaves (OffsetOfMember {to} {path} _ _ _ name _ _ _ d1 _ _ d2 _) = two (names_of _ _ (names_offset_of to (NamedPart (identifier name) ∷ path))) (leaves d1) (more part_names (NamedPart (identifier name)) path (same (names_named_part (identifier name)) nothing) (leaves d2))
 leaves NoMoreMembers = nothing
-leaves (PathToMember {path} _ name _ _ d1) = more part_names (NamedPart name.bytes) path (same (names_named_part name.bytes) nothing) (leaves d1)
+leaves (PathToMember {path} _ name _ _ d1) = more part_names (NamedPart (identifier name)) path (same (names_named_part (identifier name)) nothing) (leaves d1)
 leaves (PathToItem {index} {path} _ _ _ d1 _ d2) = more part_names (At index) path (same (names_at index) (leaves d1)) (leaves d2)
 leaves (FailedAssertion _ _ _ _ _ _ _) = same (names_of _ _ names_assert_fail) nothing
 leaves (BasicWords {type} _ _) = same (names_basic type) nothing
@@ -118,7 +119,7 @@ leaves (TypedefName name _) = same (names_named name.bytes) nothing
 leaves (TypeOfExpression {expr} _ _ _ _ _ _ d1 _) = same (names_of_expr expr) (leaves d1)
 leaves (TypeOfType {to} _ _ _ _ _ d1 _) = same (names_of_type to) (leaves d1)
 leaves (StructWithFields {name} {declarations} _ _ _ _ _ _ _ d1 _) = same (names_struct name declarations) (leaves d1)
-leaves (StructByTag _ tag _ _) = same (names_struct_by_tag (Some tag.bytes)) nothing
+leaves (StructByTag _ tag _ _) = same (names_struct_by_tag (Some (identifier tag))) nothing
 leaves NoMoreFields = nothing
 leaves (MoreFields {decl} {others} d1 d2) = more field_decl_names decl others (leaves d1) (leaves d2)
 leaves (OneFieldDeclaration {type} {names} _ d1 d2 _) = two (names_fields type names) (leaves d1) (leaves d2)
@@ -128,7 +129,7 @@ leaves (NamedField {sizes} stars name _ _ d1 _) = two (names_field name.place (S
 leaves (NamedBits {sizes} {bits} stars name _ _ _ d1 _ _ d2) = two (names_bits name.place (Some name.bytes) (length stars) sizes bits) (leaves d1) (leaves d2)
 leaves (UnnamedBits {bits} colon _ d1) = same (names_bits colon.place None 0 [] bits) (leaves d1)
 leaves (EnumWithValues {name} {values} _ _ _ _ _ _ _ _ d1 _ _) = same (names_enum name values) (leaves d1)
-leaves (EnumByTag _ tag _ _) = same (names_enum_by_tag (Some tag.bytes)) nothing
+leaves (EnumByTag _ tag _ _) = same (names_enum_by_tag (Some (identifier tag))) nothing
 leaves (LastEnumerator {value} d1) = alone enumerator_names value (leaves d1)
 leaves (MoreEnumerators {value} {others} _ d1 _ d2) = more enumerator_names value others (leaves d1) (leaves d2)
 leaves (PlainEnumerator name _) = same (names_enumerator name) one_name
@@ -154,13 +155,13 @@ leaves (OneParameter _) = tt
 leaves (MoreParameters _ _ _ _) = tt
 leaves (NamedParameter _ _ _ _ _ _) = tt
 leaves (UnnamedParameter _ _ _ _) = tt
-leaves (InitializedTo {value} d1) = same (names_value value) (leaves d1)
+leaves (InitializedTo {behind} {value} d1) = same (names_value value behind) (leaves d1)
 leaves (EmptyBraces _ _ _ _) = same (names_braces []) nothing
 leaves (InBraces {parts} _ _ _ _ d1 _ _) = same (names_braces parts) (leaves d1)
 leaves (OneInitializer {part} d1) = alone init_part_names part (leaves d1)
 leaves (MoreInitializers {part} {others} _ d1 _ d2) = more init_part_names part others (leaves d1) (leaves d2)
 leaves (NextPart {init} d1) = same (names_initializer None init) (leaves d1)
-leaves (MemberPart {init} _ name _ _ _ _ d1) = same (names_initializer (Some name.bytes) init) (leaves d1)
+leaves (MemberPart {init} _ name _ _ _ _ d1) = same (names_initializer (Some (identifier name)) init) (leaves d1)
 leaves (OneBlock _ _ _ _ _) = nothing
 leaves NoMoreItems = tt
 leaves (NextDeclaration _ _) = tt
@@ -168,6 +169,7 @@ leaves (NextStatement _ _) = tt
 leaves (BlockStatement _) = tt
 leaves (EmptyStatement _ _) = tt
 leaves (ExpressionStatement _ _ _ _) = tt
+leaves (OneSubstatement _) = tt
 leaves (IfStatement _ _ _ _ _ _ _ _ _) = tt
 leaves (IfElseStatement _ _ _ _ _ _ _ _ _ _ _ _) = tt
 leaves (WhileStatement _ _ _ _ _ _ _ _ _) = tt

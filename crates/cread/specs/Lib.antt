@@ -11,3 +11,4 @@ pub mod Named
 pub mod InOrder
 pub mod NamesAfter
 pub mod SpelledNames
+pub mod Numbered

@@ -62,7 +62,7 @@ in_form (OffsetOf to path) = to ++ joined path
 in_form (Index base index) = base ++ index
 in_form (ExprForm::Member base name through) = base
 in_form (Call callee arguments) = callee ++ joined arguments
-in_form (Inner body) = []
+in_form (Inner body close) = []
 in_form AssertFail = []
 
 abbrev pub in_expr : Expr-F Names Names Names Names Names Names Names Names Names Names Names Names Names Names Names → Names
@@ -99,7 +99,7 @@ in_type_name name = name.spec ++ joined (map or_nothing name.sizes)
 
 -- initialisers (C11 6.7.9)
 abbrev pub in_init : Init-F Names Names Names Names Names Names Names Names Names Names Names Names Names Names Names → Names
-in_init (Value value) = value
+in_init (Value value behind) = value
 in_init (Braces parts) = joined parts
 
 abbrev pub in_init_part : InitPart-F Names Names Names Names Names Names Names Names Names Names Names Names Names Names Names → Names

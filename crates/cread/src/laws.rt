@@ -2,6 +2,7 @@
 
 ghost use Rattle.cread.specs.ItemAnswers.{HasOneAnswer};
 ghost use Rattle.cread.specs.InOrder.{HaveOneReading};
+ghost use Rattle.cread.specs.Numbered.{ItemsAreNumbered, ReadItemsAreNumbered};
 ghost use Rattle.cread.specs.OneItem.{IsOneItem};
 ghost use Rattle.cread.specs.SpelledNames.{AreNamesSpelled};
 
@@ -17,6 +18,15 @@ pub fn each_row_is_one_item()
 #[tactic(auto, using(crate::proofs::NamesSpelled::names_spelled))]
 pub fn names_after_are_spelled()
     ensures { AreNamesSpelled }
+{}
+
+/// The expressions of an item are numbered one by one in the order of the text, from the count of those before it up to the count
+/// behind it, and so are those of items that are read one behind the other: the numbers of a program are 0, 1, 2 and so on,
+/// each once.
+#[tactic(auto, using(crate::proofs::Numbered::items_numbered, crate::proofs::Numbered::read_items_numbered))]
+pub fn expressions_are_numbered()
+    ensures item { ItemsAreNumbered }
+    ensures items { ReadItemsAreNumbered }
 {}
 
 /// Of an item at most one answer is true: one tree with what stands behind it, or one way in which it is not read.

@@ -11,7 +11,8 @@ mod tables;
 mod unread;
 
 pub use laws::{
-    each_row_is_one_item, items_have_one_reading, names_after_are_spelled, one_item_answer,
+    each_row_is_one_item, expressions_are_numbered, items_have_one_reading,
+    names_after_are_spelled, one_item_answer,
 };
 pub use names_after::scope_after;
 pub use reading_item::{ItemBehind, ItemRead, read_item};

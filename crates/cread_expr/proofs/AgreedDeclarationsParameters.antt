@@ -133,7 +133,7 @@ parameter_named_agrees {level} {inner} {s} {t} done type stars row agrees far =
     (λ name others named at_name behind_name.
     then_sizes _ agrees behind_name (still_declare _ _ (still_write _ still_lost)) (λ sizes levels behind end further.
     read_ends (ended_declare t.at name.bytes false (λ i. (ended_token at_name i).bytes)
-    (ended_write (event.Parameter (Some t.at) stars) (λ pieces i. shop behind.expressions (piece.Parameters (done ++ tree.parameter type stars (Some (ended_token at_name i).bytes) sizes ∷ []) ∷ pieces)) further))))
+    (ended_write (event.Parameter (Some t.at) stars) (λ pieces i. shop behind.expressions (piece.Parameters (done ++ tree.parameter type stars (Some (tree.identifier (ended_token at_name i))) sizes ∷ []) ∷ pieces)) further))))
 
 pub parameter_agrees : {level : Level} {inner : Inner} (done : List Param) → LevelAgrees level inner
     → Continues (params_piece done) (λ param. params_piece (done ++ param ∷ [])) ends (read_parameter level) (parameter inner)

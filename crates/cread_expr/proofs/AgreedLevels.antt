@@ -10,7 +10,7 @@ use Rattle.cread_expr.proofs.AgreedInitializers.{initializer_agrees}
 use Rattle.cread_expr.proofs.AgreedLists.{failed_lost}
 use Rattle.cread_expr.proofs.AgreedOperands.{PartsAgree}
 use Rattle.cread_expr.proofs.AgreedRules.{agreed_failed}
-use Rattle.cread_expr.proofs.AgreedStatements.{as_ends, as_anyhow, block_agrees, clause_agrees}
+use Rattle.cread_expr.proofs.AgreedStatements.{as_anyhow, block_agrees, clause_agrees}
 use Rattle.cread_expr.proofs.AgreedStatementsLabels.{statement_agrees, item_agrees}
 use Rattle.cread_expr.proofs.AgreedTypesSizes.{type_name_agrees}
 use Rattle.cread_expr.proofs.AgreedTypesSpecifiers.{specifier_agrees}
@@ -36,7 +36,7 @@ none_agrees = record {
 operands_agree : {level : Level} {inner : Inner} → LevelAgrees level inner → PartsAgree level inner
 operands_agree below = record {
   deeper = below;
-  blocks = λ s before is. as_ends _ (block_agrees below s before is);
+  blocks = block_agrees below;
   types = type_name_agrees below;
 }
 

@@ -14,6 +14,7 @@ use Rattle.cevents.specs.declared.event.Event.TheVariants as event
 use Rattle.cevents.specs.declared.piece.Piece.{Piece}
 use Rattle.cevents.specs.declared.piece.Piece.TheVariants as piece
 use Rattle.cgrammar.specs.Firsts.{begins_type}
+use Rattle.cgrammar.specs.FrontOf.{front_of}
 use Rattle.cgrammar.specs.Outcomes.{Outcome, Reader, with_right, then_read, after_first, after_mark, has_mark, has_first, behind_first}
 use Rattle.cgrammar.specs.Outcomes as outcome
 use Rattle.cgrammar.specs.Phrases.{Context, counted, numbered}
@@ -23,11 +24,12 @@ use Rattle.cgrammar.specs.ReadOperands as reader
 use Rattle.cgrammar.specs.ReadOperators.{expression_of}
 use Rattle.cgrammar.specs.ReadStatements.{read_block}
 use Rattle.cgrammar.specs.ReadTypes.{read_type_name}
-use Rattle.cgrammar.specs.Terminals.{Terminal, is_mark, is_name}
+use Rattle.cgrammar.specs.Terminals.{Terminal, is_mark, is_name, last_place}
+use Rattle.cgrammar.specs.Trees.{identifier}
 use Rattle.cgrammar.specs.declared.reading.operand.Operand.{Operand}
 use Rattle.cgrammar.specs.declared.reading.starts.OperandStart.{OperandStart}
 use Rattle.cgrammar.specs.declared.reading.starts.OperandStart.TheVariants as start
-use Rattle.creader.specs.OperandSteps.{as_operand, path, offset_path, offset_of, over_to, assert_fail, cast_to, bracket, size_of}
+use Rattle.creader.specs.OperandSteps.{as_operand, path, offset_path, offset_of, over_to, assert_fail, inner_closed, cast_to, bracket, size_of}
 use Rattle.creader.specs.OperandSteps as steps
 use Rattle.creader.specs.State.{State, rest, is_nothing, with_levels, with_event, skipped, lost}
 use Rattle.creader.specs.StatementSteps.{block}
@@ -40,6 +42,7 @@ use Rattle.cread_expr.proofs.Agreed.{shop, Pieces, none, Kept, Failed, Ended, Ag
 use Rattle.cread_expr.proofs.AgreedPaths.{path_piece, agreed_losing, path_agrees, still_matched, over_matched_to, ended_matched}
 use Rattle.cread_expr.proofs.AgreedPostfixes.{Begins, unary_is, agreed_operand, still_operand, still_postfixes_from, postfixes_from_agree}
 use Rattle.cread_expr.proofs.AgreedRules.{agreed_read, agreed_failed, agreed_halted, agreed_at, agreed_goes, agreed_test, same_first, if_first, from_here, ask_follows, then_ends, then_mark}
+use Rattle.cread_expr.proofs.AgreedStatements.{Passes, place_last, then_passes}
 use Rattle.cread_expr.proofs.AgreedSteps.{kept_ended, failed_then, went_event, Still, still_lost, still_goes, still_ask, still_make, still_mark, still_wrap, ended_at, ended_levels, ended_then, halted_then, ended_skip, ended_token, ended_write, ended_make}
 use Rattle.cread_expr.proofs.AgreedTypesSizes.{still_type_name}
 
@@ -50,7 +53,7 @@ type_name_piece name pieces = piece.TypeName name ∷ pieces
 pub record PartsAgree (level : Level) (inner : Inner) : Type 0 where
   pub deeper : LevelAgrees level inner
   pub types : Follows type_name_piece ends (read_type_name level) (type_name inner)
-  pub blocks : Follows statements_piece ends (read_block level) (block inner)
+  pub blocks : Passes statements_piece (read_block level) (block inner)
 
 -- A tree of an operand that is read, or that the reading stopped in.
 wrap_agrees : {A : Type 0} {s t : State} {under : Pieces} {upper : A → Pieces} {holds : A → State → Type 0} {levels before : ℕ} {context : Context} {row : List Terminal}
@@ -137,12 +140,13 @@ statement_expression_agrees : {level : Level} {inner : Inner} {s : State} {befor
     → PartsAgree level inner → Begins s at first row
     → Ended s s none none 0 0 before context row
     → Agreed none operand_piece operand_fits 0 before (statement_expression level context first row) s (steps.statement_expression inner at s)
-unfolding steps.statement_expression
+unfolding steps.statement_expression inner_closed
 statement_expression_agrees {level} {inner} at first row agrees begins far =
-    then_ends none (read_block level) (block inner) _ far agrees.blocks (still_postfixes_from inner at (still_make _ (still_mark _ still_lost))) (λ body more behind others behind_body.
+    then_passes none (read_block level) (block inner) _ far agrees.blocks (still_postfixes_from inner at (still_make _ (still_mark _ still_lost))) (λ body more behind others behind_body further.
+    let last = place_last far behind_body further in
     then_mark (codes ")") others _ behind_body (still_postfixes_from inner at (still_make _ still_lost)) (λ closing end is there behind_closing.
-    postfixes_from_agree at (numbered behind first.place (Statements body)) end agrees.deeper begins
-    (ended_levels (omega arith) (ended_make (event.Inner at) (λ pieces i. shop (behind.expressions + 1) (piece.Expr (numbered behind (begins.found i).place (Statements body)) ∷ pieces)) behind_closing))))
+    postfixes_from_agree at (numbered behind first.place (Statements body (last_place (front_of row others)))) end agrees.deeper begins
+    (ended_levels (omega arith) (ended_make _ (λ pieces i. shop (behind.expressions + 1) (piece.Expr (numbered behind (begins.found i).place (Statements body (last i))) ∷ pieces)) behind_closing))))
 
 cast_to_agrees : {level : Level} {inner : Inner} {s : State} {before : ℕ} {context : Context} (at : ℕ) (first : Terminal) (row : List Terminal)
     → PartsAgree level inner → Begins s at first row
@@ -213,19 +217,19 @@ offset_path_agrees : {level : Level} {inner : Inner} {s t : State} {levels befor
     (after_first is_name row outcome.Nothing (λ name four.
     then_read (read_path level (length four + 1) context four) (λ path others last five.
     after_mark (codes ")") five outcome.Nothing (λ closing end.
-    reader.postfixes_from level (first ∷ start) (numbered last first.place (OffsetOf to (NamedPart name.bytes ∷ path))) (1 + max levels others) (counted last) end))))
+    reader.postfixes_from level (first ∷ start) (numbered last first.place (OffsetOf to (NamedPart (identifier name) ∷ path))) (1 + max levels others) (counted last) end))))
     s (offset_path inner at t)
 unfolding offset_path
 offset_path_agrees {level} {inner} {s} {t} {context} at first start row to agrees begins far =
     agreed_goes t t far.status
     (if_first is_name row _ _ far (λ is. agreed_losing far still_lost) (λ name four is there behind.
-    let named = ended_write {above = λ pieces. path_piece (NamedPart name.bytes ∷ []) (type_name_piece to pieces)} (event.Path t.at) (λ pieces i. shop context.expressions (piece.Path (NamedPart (ended_token there i).bytes ∷ []) ∷ type_name_piece to pieces)) behind in
+    let named = ended_write {above = λ pieces. path_piece (NamedPart (identifier name) ∷ []) (type_name_piece to pieces)} (event.Path t.at) (λ pieces i. shop context.expressions (piece.Path (NamedPart (identifier (ended_token there i)) ∷ []) ∷ type_name_piece to pieces)) behind in
     agreed_at (ap (λ (row : List Terminal). steps.postfixes_from inner at (make (event.OffsetOf at) (mark (codes ")") (path inner (length row + 1) (write (event.Path t.at) (skipped 1 t)))))) named.left)
-    (then_ends (type_name_piece to) (read_path level (length four + 1)) (path inner (length four + 1)) _ named (path_agrees agrees.deeper (length four + 1) (NamedPart name.bytes ∷ []))
+    (then_ends (type_name_piece to) (read_path level (length four + 1)) (path inner (length four + 1)) _ named (path_agrees agrees.deeper (length four + 1) (NamedPart (identifier name) ∷ []))
     (still_postfixes_from inner at (still_make _ (still_mark _ still_lost))) (λ parts more last five behind_parts.
     then_mark (codes ")") five _ behind_parts (still_postfixes_from inner at (still_make _ still_lost)) (λ closing end closes here behind_closing.
-    postfixes_from_agree at (numbered last first.place (OffsetOf to (NamedPart name.bytes ∷ parts))) end agrees.deeper begins
-    (ended_make (event.OffsetOf at) (λ pieces i. shop (last.expressions + 1) (piece.Expr (numbered last (begins.found i).place (OffsetOf to (NamedPart name.bytes ∷ parts))) ∷ pieces)) behind_closing))))))
+    postfixes_from_agree at (numbered last first.place (OffsetOf to (NamedPart (identifier name) ∷ parts))) end agrees.deeper begins
+    (ended_make (event.OffsetOf at) (λ pieces i. shop (last.expressions + 1) (piece.Expr (numbered last (begins.found i).place (OffsetOf to (NamedPart (identifier name) ∷ parts))) ∷ pieces)) behind_closing))))))
 
 offset_of_agrees : {level : Level} {inner : Inner} {s : State} {before : ℕ} {context : Context} (at : ℕ) (first : Terminal) (row : List Terminal)
     → PartsAgree level inner → Begins s at first row

@@ -13,6 +13,7 @@ use Rattle.cgrammar.specs.Phrases.{Context}
 use Rattle.cgrammar.specs.ReadLevels.{Level, prepended}
 use Rattle.cgrammar.specs.ReadOperands.{behind_matched, read_path}
 use Rattle.cgrammar.specs.Terminals.{Terminal, is_mark, is_name}
+use Rattle.cgrammar.specs.Trees.{identifier}
 use Rattle.creader.specs.OperandSteps.{path_member, path_index, path_with, path, over_to, over_matched}
 use Rattle.creader.specs.State.{State, rest, skipped, lost}
 use Rattle.creader.specs.Steps.{Inner}
@@ -43,7 +44,7 @@ path_member_agrees : {s t : State} {base before : ℕ} {context : Context} (leve
     → ((more : List Part) → Continues (path_piece more) (λ parts. path_piece (more ++ parts)) ends (read_path level count) (path inner count))
     → Ended s t (path_piece done) (path_piece done) base 0 before context row
     → Agreed (path_piece done) (λ parts. path_piece (done ++ parts)) ends base before
-    (after_first is_name row outcome.Nothing (λ name others. prepended (NamedPart name.bytes) 0 (read_path level count context others)))
+    (after_first is_name row outcome.Nothing (λ name others. prepended (NamedPart (identifier name)) 0 (read_path level count context others)))
     s (path inner count (path_member t))
 unfolding path_member
 path_member_agrees {s} {t} {base} {before} {context} level inner count done row again far =
@@ -51,9 +52,9 @@ path_member_agrees {s} {t} {base} {before} {context} level inner count done row 
     (if_first is_name row _ _ far
     (λ is. agreed_losing far (still_path inner count still_lost))
     (λ name others is there behind.
-    then_prepended path_piece none done (NamedPart name.bytes) (read_path level count) (path inner count)
-    (ended_write {above = path_piece (done ++ NamedPart name.bytes ∷ [])} (event.PathMember t.at) (λ pieces i. shop context.expressions (piece.Path (done ++ NamedPart (ended_token there i).bytes ∷ []) ∷ pieces)) behind)
-    (again (done ++ NamedPart name.bytes ∷ []))))
+    then_prepended path_piece none done (NamedPart (identifier name)) (read_path level count) (path inner count)
+    (ended_write {above = path_piece (done ++ NamedPart (identifier name) ∷ [])} (event.PathMember t.at) (λ pieces i. shop context.expressions (piece.Path (done ++ NamedPart (identifier (ended_token there i)) ∷ []) ∷ pieces)) behind)
+    (again (done ++ NamedPart (identifier name) ∷ []))))
 
 -- one more index, behind a `[`
 path_index_agrees : {level : Level} {inner : Inner} {s t : State} {base before : ℕ} {context : Context} (count : ℕ) (done : List Part) (row : List Terminal)
@@ -82,7 +83,7 @@ path_row_agrees : {level : Level} {inner : Inner} {s t : State} {base before : �
     → Ended s t (path_piece done) (path_piece done) base 0 before context row
     → Agreed (path_piece done) (λ parts. path_piece (done ++ parts)) ends base before
     (if has_mark (codes ".") row
-    then after_first is_name (behind_first row) outcome.Nothing (λ name others. prepended (NamedPart name.bytes) 0 (read_path level count context others))
+    then after_first is_name (behind_first row) outcome.Nothing (λ name others. prepended (NamedPart (identifier name)) 0 (read_path level count context others))
     else (if has_mark (codes "[") row
     then then_read (level.conditional context (behind_first row)) (λ index levels behind others.
     after_mark (codes "]") others outcome.Nothing (λ closing more. prepended (At index) levels (read_path level count behind more)))

@@ -16,6 +16,7 @@ use Rattle.cgrammar.specs.ReadOperands.{unary_operand, stopped_operand, index_be
 use Rattle.cgrammar.specs.ReadStarts.{postfix_start}
 use Rattle.cgrammar.specs.ReadTypes.{never}
 use Rattle.cgrammar.specs.Terminals.{Terminal, is_mark, is_name, begins_with_typedef, first_word_place}
+use Rattle.cgrammar.specs.Trees.{identifier}
 use Rattle.cgrammar.specs.declared.reading.operand.Operand.{Operand}
 use Rattle.cgrammar.specs.declared.reading.starts.PostfixStart.{PostfixStart}
 use Rattle.cgrammar.specs.declared.reading.starts.PostfixStart.TheVariants as postfix
@@ -148,8 +149,8 @@ member_agrees {t} {levels} {context} {mark} {row} go on base arrow through next 
     (if_first is_name row _ _ (ended_skip far)
     (λ is. agreed_at ((through _ _ still_stopped).same refl) (agreed_back (unary_operand base) far (kept_over t 1) refl))
     (λ name more is there behind.
-    next (numbered context mark.place (Member base name.bytes arrow)) (1 + levels) _ (counted context) more
-    (ended_make (event.Member arrow t.at (t.at + 1)) (λ pieces i. shop (context.expressions + 1) (piece.Expr (numbered context (ended_token far i).place (Member base (ended_token there i).bytes arrow)) ∷ pieces)) behind)))
+    next (numbered context mark.place (Member base (identifier name) arrow)) (1 + levels) _ (counted context) more
+    (ended_make (event.Member arrow t.at (t.at + 1)) (λ pieces i. shop (context.expressions + 1) (piece.Expr (numbered context (ended_token far i).place (Member base (identifier (ended_token there i)) arrow)) ∷ pieces)) behind)))
 
 call_placed : {s t : State} {below above : Pieces} {base levels before : ℕ} {behind : Context} {others start : List Terminal} (first : ℕ)
     → Ended s t below above base levels before behind others → first < s.at → drop first s.row ≡ start

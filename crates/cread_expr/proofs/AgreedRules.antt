@@ -60,13 +60,19 @@ pub same_first : {s t : State} {below above : Pieces} {base levels before : ℕ}
 same_first test far = ap (λ (row : List Terminal). has_first test row) far.left
 
 -- A part that is read from there on.
+pub from_there : {A : Type 0} {s t u : State} {below middle lower : Pieces} {above : A → Pieces} {fits : A → State → Type 0} {base levels before : ℕ} {context : Context} {row : List Terminal} (reader : Reader A)
+    → Ended s t below middle base levels before context row
+    → Agreed lower above fits t.levels context.expressions (reader (context_of t context.expressions) (rest t)) t u
+    → Agreed lower above fits t.levels context.expressions (reader context row) t u
+from_there {t} {u} {lower} {above} {fits} {context} reader far agreed =
+    subst (λ (left : List Terminal). Agreed lower above fits t.levels context.expressions (reader context left) t u) far.left
+    (subst (λ (scope : List Names). Agreed lower above fits t.levels context.expressions (reader (record { scope = scope; expressions = context.expressions }) (rest t)) t u) far.scope
+    agreed)
+
 pub from_here : {A : Type 0} {s t : State} {below middle lower : Pieces} {above : A → Pieces} {fits : A → State → Type 0} {base levels before : ℕ} {context : Context} {row : List Terminal} (reader : Reader A) (steps : State → State)
     → Ended s t below middle base levels before context row → Continues lower above fits reader steps
     → Agreed lower above fits t.levels context.expressions (reader context row) t (steps t)
-from_here {t} {lower} {above} {fits} {context} {row} reader steps far agrees =
-    subst (λ (left : List Terminal). Agreed lower above fits t.levels context.expressions (reader context left) t (steps t)) far.left
-    (subst (λ (scope : List Names). Agreed lower above fits t.levels context.expressions (reader (record { scope = scope; expressions = context.expressions }) (rest t)) t (steps t)) far.scope
-    (agrees t context.expressions (ready far)))
+from_here {t} {context} reader steps far agrees = from_there reader far (agrees t context.expressions (ready far))
 
 -- what stands in a tree: its levels count among those of the other parts
 pub ask_follows : {A : Type 0} {above : A → Pieces} {fits : A → State → Type 0} (reader : Reader A) (inner : Inner) (wanted : Wanted)

@@ -1,8 +1,7 @@
 -- Blocks, expressions that may be left out, and clauses: the steps come to what the reader function gives (C11 6.8).
-use Rattle.std.proofs.Common.{◌≡◌, ℕ, suc, ◌+◌, ◌-◌, ◌≤◌, ◌<◌, Bool, true, false, List, [], ◌∷◌, ◌++◌, length, drop, Option, None, Some, codes, refl, ap, sym, ◌∙◌, subst, arith}
+use Rattle.std.proofs.Common.{◌≡◌, ℕ, suc, ◌+◌, ◌-◌, ◌≤◌, ◌<◌, max, Bool, true, false, List, [], ◌∷◌, ◌++◌, length, drop, Option, None, Some, codes, refl, ap, sym, ◌∙◌, subst, arith}
 use Rattle.std.proofs.lemmas.List.{length-drop}
 use Rattle.std.specs.Prelude.{if◌then◌else◌}
-use Rattle.cbase.specs.declared.tree.decl.Decl.{Decl}
 use Rattle.cbase.specs.declared.tree.expr.Expr.{Expr}
 use Rattle.cbase.specs.declared.tree.stmt.Stmt.{Stmt}
 use Rattle.cbase.specs.declared.tree.stmt.StmtForm.TheVariants.{Declare, Eval}
@@ -24,16 +23,16 @@ use Rattle.cgrammar.specs.Trees.{statement as statement_of}
 use Rattle.creader.specs.DeclarationSteps.{declaration}
 use Rattle.creader.specs.State.{State, rest, goes, with_scope}
 use Rattle.creader.specs.StatementSteps.{block_item, block_items, block, maybe, declared, declared_statement, evaluated, expression_statement, clause}
-use Rattle.creader.specs.Steps.{Inner, make, leave, parts_until_brace}
-use Rattle.creader.specs.declared.status.Status.TheVariants.{Going, Stopped}
+use Rattle.creader.specs.Steps.{Inner, leave, parts_until_brace}
+use Rattle.creader.specs.declared.status.Status.TheVariants.{Going, Stopped, Nothing}
 use Rattle.creader.specs.declared.wanted.Wanted.TheVariants as wanted
 use Rattle.cread_expr.proofs.Agreed.{Pieces, none, shop, Ended, Agreed, Ready, Reads, Follows, Continues, ends, anyhow, context_of, statement_piece, statements_piece, LevelAgrees}
-use Rattle.cread_expr.proofs.AgreedDeclarations.{declaration_piece, declaration_agrees}
+use Rattle.cread_expr.proofs.AgreedDeclarations.{declaration_agrees}
 use Rattle.cread_expr.proofs.AgreedEntire.{entirely, entirely_asked, agreed_then, agreed_write}
 use Rattle.cread_expr.proofs.AgreedLists.{over_brace, then_brace, still_braces, braced_agree}
 use Rattle.cread_expr.proofs.AgreedPlaces.{first_of_front, last_of_front, place_first}
-use Rattle.cread_expr.proofs.AgreedRules.{agreed_read, agreed_outcome, agreed_goes, agreed_lost, agreed_test, from_here, then_asked, then_mark, if_first}
-use Rattle.cread_expr.proofs.AgreedSteps.{kept_ended, failed_then, still_lost, still_mark, still_write, still_make, still_leave, still_enter, ended_part, ended_none, ended_then, ended_levels, ended_token, ended_write, ended_make, ended_enter, ended_leave}
+use Rattle.cread_expr.proofs.AgreedRules.{agreed_read, agreed_outcome, agreed_goes, agreed_lost, agreed_test, from_there, from_here, then_asked, then_mark, if_first}
+use Rattle.cread_expr.proofs.AgreedSteps.{kept_ended, failed_then, Still, still_lost, still_mark, still_write, still_make, still_leave, still_enter, ready, ended_part, ended_none, ended_then, ended_levels, ended_token, ended_write, ended_make, ended_enter, ended_leave}
 use Rattle.cread_expr.proofs.AgreedTypesSizes.{read_ends}
 
 abbrev pub maybe_piece : Option Expr → Pieces
@@ -46,12 +45,6 @@ passes s tree t = (t.status ≡ Going) × (s.at < t.at)
 abbrev pub Passes : {A : Type 0} → (A → Pieces) → Reader A → (State → State) → Type 0
 Passes above reader steps =
     (s : State) (before : ℕ) → Ready s → Agreed none above (passes s) s.levels before (reader (context_of s before) (rest s)) s (steps s)
-
-pub as_ends : {A : Type 0} {s t : State} {below : Pieces} {above : A → Pieces} {base before : ℕ} (outcome : Outcome A)
-    → Agreed below above (passes s) base before outcome s t → Agreed below above ends base before outcome s t
-as_ends outcome.Nothing is = record { is = is.is }
-as_ends (outcome.Stopped tree expressions others) is = record { is = (is.is.0, is.is.1.0) }
-as_ends (outcome.Read tree levels behind others) is = record { is = (is.is.0, is.is.1.0) }
 
 pub as_anyhow : {A : Type 0} {s t : State} {below : Pieces} {above : A → Pieces} {fits : A → State → Type 0} {base before : ℕ} (outcome : Outcome A)
     → Agreed below above fits base before outcome s t → Agreed below above anyhow base before outcome s t
@@ -80,6 +73,43 @@ place_taken {s} {t} {u} {first} {others} far there =
   where
     next : (one other left whole : ℕ) → suc left + one ≡ whole → left + other ≡ whole → other - 1 ≡ one
     next one other left whole first second = omega (arith, first, second)
+
+-- the token before a state is the last of those that a part took
+pub place_last : {s t u : State} {below above lower upper : Pieces} {base levels more before : ℕ} {behind last : Context} {row others : List Terminal}
+    → Ended s t below above base levels before behind row → Ended s u lower upper base more before last others → t.at < u.at
+    → place_at s.row (u.at - 1) ≡ last_place (front_of row others)
+place_last {s} {t} {u} {others} far there further =
+    let within : u.at ≤ length s.row = subst (λ (row : List Terminal). u.at ≤ length row) there.went.row there.inside in
+    let left : drop u.at s.row ≡ others = ap (λ (row : List Terminal). drop u.at row) (sym there.went.row) ∙ there.left in
+    sym (last_of_front t.at u.at s.row others further within left)
+    ∙ ap (λ (row : List Terminal). last_place (front_of row others)) (ap (λ (row : List Terminal). drop t.at row) (sym far.went.row) ∙ far.left)
+
+-- and the one at the place of the first of these states is their first
+pub place_front : {s t u : State} {below above lower upper : Pieces} {base levels more before : ℕ} {behind last : Context} {row others : List Terminal}
+    → Ended s t below above base levels before behind row → Ended s u lower upper base more before last others → t.at < u.at
+    → place_at s.row t.at ≡ first_place (front_of row others)
+place_front {s} {t} {u} {others} far there further =
+    let within : u.at ≤ length s.row = subst (λ (row : List Terminal). u.at ≤ length row) there.went.row there.inside in
+    let left : drop u.at s.row ≡ others = ap (λ (row : List Terminal). drop u.at row) (sym there.went.row) ∙ there.left in
+    sym (first_of_front t.at u.at s.row others further within left)
+    ∙ ap (λ (row : List Terminal). first_place (front_of row others)) (ap (λ (row : List Terminal). drop t.at row) (sym far.went.row) ∙ far.left)
+
+-- a part of at least one token, behind which more has to follow
+pub then_passes : {A B : Type 0} {s t v : State} {below : Pieces} {upper : A → Pieces} {above : B → Pieces} {fits : B → State → Type 0} {base levels before : ℕ} {context : Context} {row : List Terminal}
+    (under : Pieces) (reader : Reader A) (steps : State → State) (go : A → ℕ → Context → List Terminal → Outcome B)
+    → Ended s t below under base levels before context row
+    → Passes upper reader steps
+    → Still Nothing (steps t) v
+    → ((tree : A) (more : ℕ) (behind : Context) (others : List Terminal) → Ended s (steps t) below (λ pieces. upper tree (under pieces)) base (max levels more) before behind others → t.at < (steps t).at
+    → Agreed below above fits base before (go tree more behind others) s v)
+    → Agreed below above fits base before (then_read (reader context row) go) s v
+then_passes {A} {s} {t} {v} {below} {upper} {above} {fits} {base} {before} {context} {row} under reader steps go far agrees still next =
+    case (reader context row) (from_there reader far (agrees t context.expressions (ready far)))
+  where
+    case : (outcome : Outcome A) → Agreed none upper (passes t) t.levels context.expressions outcome t (steps t) → Agreed below above fits base before (then_read outcome go) s v
+    case outcome.Nothing is = agreed_lost (failed_then (kept_ended far) is.is) still
+    case (outcome.Stopped tree expressions others) is = let wrong : Stopped ≡ Going = sym is.is.0.status ∙ is.is.1.0 in cc wrong
+    case (outcome.Read tree more behind others) is = next tree more behind others (ended_then under far is.is.0) is.is.1.1
 
 -- A block.
 at_left : (s : State) → (leave s).at ≡ s.at
@@ -143,22 +173,11 @@ maybe_agrees {level} {inner} agrees test s before is =
 pub declared_agrees : {level : Level} {inner : Inner} → LevelAgrees level inner → Reads statement_piece ends (read_declared level) (declared_statement inner)
 unfolding declared_statement declared
 declared_agrees {level} {inner} agrees s before is none_before =
-    case (declaration inner s) (read_declaration level (context_of s before) (rest s)) (declaration_agrees agrees s before is)
-  where
-    case : (t : State) (found : Outcome Decl) → Agreed none declaration_piece (passes s) s.levels before found s t
-        → Agreed none statement_piece ends 0 before
-        (then_read found (λ decl levels behind others. outcome.Read (statement_of (first_place (front_of (rest s) others)) (last_place (front_of (rest s) others)) (Declare decl)) (1 + levels) behind others))
-        s (make (event.Declare s.at (t.at - 1)) t)
-    case t outcome.Nothing is = agreed_lost is.is (still_make _ still_lost)
-    case t (outcome.Stopped decl expressions others) is = let wrong : Stopped ≡ Going = sym is.is.0.status ∙ is.is.1.0 in cc wrong
-    case t (outcome.Read decl levels behind others) is =
-        let far : Ended s t none (declaration_piece decl) 0 levels before behind others =
-        subst (λ (base : ℕ). Ended s t none (declaration_piece decl) base levels before behind others) none_before is.is.0 in
-        let within : t.at ≤ length s.row = subst (λ (row : List Terminal). t.at ≤ length row) far.went.row far.inside in
-        let left : drop t.at s.row ≡ others = ap (λ (row : List Terminal). drop t.at row) (sym far.went.row) ∙ far.left in
-        let first : place_at s.row s.at ≡ first_place (front_of (rest s) others) = sym (first_of_front s.at t.at s.row others is.is.1.1 within left) in
-        let last : place_at s.row (t.at - 1) ≡ last_place (front_of (rest s) others) = sym (last_of_front s.at t.at s.row others is.is.1.1 within left) in
-        read_ends (ended_make (event.Declare s.at (t.at - 1)) (λ pieces i. shop behind.expressions (piece.Statement (statement_of (first i) (last i) (Declare decl)) ∷ pieces)) far)
+    let start = ended_none s none before is none_before in
+    then_passes none (read_declaration level) (declaration inner) _ start (declaration_agrees agrees) (still_make _ still_lost) (λ decl levels behind others far further.
+    let first = place_front start far further in
+    let last = place_last start far further in
+    read_ends (ended_levels (omega arith) (ended_make _ (λ pieces i. shop behind.expressions (piece.Statement (statement_of (first i) (last i) (Declare decl)) ∷ pieces)) far)))
 
 -- An expression with its `;`.
 pub evaluated_agrees : {level : Level} {inner : Inner} → LevelAgrees level inner → Reads statement_piece ends (read_evaluated level) (expression_statement inner)

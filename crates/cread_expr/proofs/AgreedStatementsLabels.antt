@@ -6,7 +6,6 @@ use Rattle.cbase.specs.declared.place.Place.{Place}
 use Rattle.cbase.specs.declared.tree.stmt.Stmt.{Stmt}
 use Rattle.cbase.specs.declared.tree.stmt.StmtForm.TheVariants.{Block, Break, Continue}
 use Rattle.cevents.specs.Workshop.{place_at}
-use Rattle.cevents.specs.declared.event.Event.TheVariants as event
 use Rattle.cevents.specs.declared.piece.Piece.TheVariants as piece
 use Rattle.cgrammar.specs.Firsts.{begins_declaration}
 use Rattle.cgrammar.specs.FrontOf.{front_of}
@@ -24,16 +23,14 @@ use Rattle.cgrammar.specs.declared.reading.starts.StatementStart.{StatementStart
 use Rattle.cgrammar.specs.declared.reading.starts.StatementStart.TheVariants as start
 use Rattle.creader.specs.State.{State, rest, skipped}
 use Rattle.creader.specs.StatementSteps.{block, blocked, block_statement, other_statement, statement_with, statement_first, unlabeled_with, unlabeled, labels_length, statement, item}
-use Rattle.creader.specs.Steps.{Inner, make}
-use Rattle.creader.specs.declared.status.Status.TheVariants.{Going, Stopped}
-use Rattle.cread_expr.proofs.Agreed.{none, shop, Ended, Agreed, Ready, Reads, ends, context_of, statement_piece, LevelAgrees, statements_piece}
+use Rattle.creader.specs.Steps.{Inner}
+use Rattle.cread_expr.proofs.Agreed.{none, shop, Ended, Agreed, Ready, Reads, ends, context_of, statement_piece, LevelAgrees}
 use Rattle.cread_expr.proofs.AgreedEntire.{agreed_then}
 use Rattle.cread_expr.proofs.AgreedLists.{failed_lost}
-use Rattle.cread_expr.proofs.AgreedPlaces.{place_first, last_of_front}
-use Rattle.cread_expr.proofs.AgreedRules.{agreed_failed, agreed_outcome, agreed_goes, agreed_lost, agreed_test, same_first}
-use Rattle.cread_expr.proofs.AgreedStatements.{passes, block_agrees, clause_agrees}
+use Rattle.cread_expr.proofs.AgreedRules.{agreed_failed, agreed_outcome, agreed_goes, agreed_test, same_first}
+use Rattle.cread_expr.proofs.AgreedStatements.{place_last, then_passes, block_agrees, clause_agrees}
 use Rattle.cread_expr.proofs.AgreedStatementsRules.{if_agrees, while_agrees, do_agrees, for_agrees, break_agrees, continue_agrees, return_agrees}
-use Rattle.cread_expr.proofs.AgreedSteps.{still_lost, still_make, ready, ended_none, ended_token, ended_make, ended_skip}
+use Rattle.cread_expr.proofs.AgreedSteps.{still_lost, still_make, ready, ended_levels, ended_none, ended_token, place_next, ended_make, ended_skip}
 use Rattle.cread_expr.proofs.AgreedTypesSizes.{read_ends}
 
 -- A block as a statement.
@@ -42,24 +39,15 @@ block_statement_agrees : {level : Level} {inner : Inner} → LevelAgrees level i
     → Agreed none statement_piece ends 0 before (read_with level (context_of s before) first row start.Block) s (block_statement inner s)
 unfolding block_statement blocked
 block_statement_agrees {level} {inner} agrees s before is none_before first row left =
-    subst (λ (row : List Terminal). Agreed none statement_piece ends 0 before (blocks row (read_block level (context_of s before) row)) s (block_statement inner s)) left
-    (case (block inner s) (read_block level (context_of s before) (rest s)) (block_agrees agrees s before is))
+    subst (λ (row : List Terminal). Agreed none statement_piece ends 0 before (blocks row) s (block_statement inner s)) left
+    (let start = ended_none s none before is none_before in
+    let one = place_next start in
+    then_passes none (read_block level) (block inner) _ start (block_agrees agrees) (still_make _ still_lost) (λ body levels behind others far further.
+    let last = place_last start far further in
+    read_ends (ended_levels (omega arith) (ended_make _ (λ pieces i. shop behind.expressions (piece.Statement (statement_of (one i) (last i) (Block body)) ∷ pieces)) far))))
   where
-    blocks : List Terminal → Outcome (List Stmt) → Outcome Stmt
-    blocks row found = then_read found (λ body levels behind others. outcome.Read (statement_of (first_place row) (last_place (front_of row others)) (Block body)) (1 + levels) behind others)
-
-    case : (t : State) (found : Outcome (List Stmt)) → Agreed none statements_piece (passes s) s.levels before found s t
-        → Agreed none statement_piece ends 0 before (blocks (rest s) found) s (make (event.Block s.at (t.at - 1)) t)
-    case t outcome.Nothing is = agreed_lost is.is (still_make _ still_lost)
-    case t (outcome.Stopped body expressions others) is = let wrong : Stopped ≡ Going = sym is.is.0.status ∙ is.is.1.0 in cc wrong
-    case t (outcome.Read body levels behind others) is =
-        let far : Ended s t none (statements_piece body) 0 levels before behind others =
-        subst (λ (base : ℕ). Ended s t none (statements_piece body) base levels before behind others) none_before is.is.0 in
-        let within : t.at ≤ length s.row = subst (λ (row : List Terminal). t.at ≤ length row) far.went.row far.inside in
-        let left : drop t.at s.row ≡ others = ap (λ (row : List Terminal). drop t.at row) (sym far.went.row) ∙ far.left in
-        let one : place_at s.row s.at ≡ first_place (rest s) = place_first s.at s.row in
-        let last : place_at s.row (t.at - 1) ≡ last_place (front_of (rest s) others) = sym (last_of_front s.at t.at s.row others is.is.1.1 within left) in
-        read_ends (ended_make (event.Block s.at (t.at - 1)) (λ pieces i. shop behind.expressions (piece.Statement (statement_of (one i) (last i) (Block body)) ∷ pieces)) far)
+    blocks : List Terminal → Outcome Stmt
+    blocks row = then_read (read_block level (context_of s before) row) (λ body levels behind others. outcome.Read (statement_of (first_place row) (last_place (front_of row others)) (Block body)) (1 + levels) behind others)
 
 -- A statement without its labels.
 unlabeled_agrees : {level : Level} {inner : Inner} → LevelAgrees level inner → Reads statement_piece ends (read_unlabeled level) (unlabeled inner)

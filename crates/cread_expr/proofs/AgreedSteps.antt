@@ -3,19 +3,20 @@ use Rattle.std.proofs.Common.{◌≡◌, ℕ, zero, suc, ◌+◌, ◌≤◌, max
 use Rattle.std.proofs.lemmas.List.{length-drop, drop-drop}
 use Rattle.std.specs.Prelude.{if◌then◌else◌, slice_index_or}
 use Rattle.cevents.specs.Building.{built, built_next, built_all}
-use Rattle.cevents.specs.Workshop.{Workshop, token_at, bytes_at, no_token}
+use Rattle.cevents.specs.Workshop.{Workshop, token_at, place_at, bytes_at, no_token}
 use Rattle.cevents.specs.declared.event.Event.{Event}
 use Rattle.cevents.specs.declared.piece.Piece.{Piece}
 use Rattle.cgrammar.specs.Phrases.{Context, scoped}
 use Rattle.cgrammar.specs.Scope.{Names, entered, left, declared}
-use Rattle.cgrammar.specs.Terminals.{Terminal}
+use Rattle.cgrammar.specs.Terminals.{Terminal, first_place}
 use Rattle.creader.specs.State.{State, rest, is_going, goes, with_levels, with_scope, with_event, skipped, lost}
-use Rattle.creader.specs.Steps.{Inner, over, mark, word, name, mark_or_back, whole, write, make, wrap, wrapped, declare, enter, leave, ask, ask_whole, ask_right}
+use Rattle.creader.specs.Steps.{Inner, mark, word, mark_or_back, whole, write, make, wrap, wrapped, declare, enter, leave, ask, ask_whole, ask_right}
 use Rattle.creader.specs.declared.point.Point.{Point}
 use Rattle.creader.specs.declared.status.Status.{Status}
 use Rattle.creader.specs.declared.status.Status.TheVariants.{Going, Stopped, Nothing}
 use Rattle.creader.specs.declared.wanted.Wanted.{Wanted}
 use Rattle.cread_expr.proofs.Agreed.{shop, Pieces, none, Kept, Went, Failed, Halted, Ended, Ready, context_of}
+use Rattle.cread_expr.proofs.AgreedPlaces.{place_first}
 
 -- Rows.
 pub row_more : {A : Type 0} (at : ℕ) (row others : List A) (first : A) → drop at row ≡ first ∷ others → drop (at + 1) row ≡ others
@@ -121,6 +122,9 @@ still_lost = record { idle = refl; same = λ is. refl }
 
 pub still_stopped : {u : State} → Still Stopped u u
 still_stopped = record { idle = refl; same = λ is. refl }
+
+pub still_through : {u v w : State} → Still Nothing u v → Still Nothing v w → Still Nothing u w
+still_through {u} {v} first second = record { idle = refl; same = λ is. second.same (ap (λ (s : State). s.status) (first.same is) ∙ is) ∙ first.same is }
 
 pub still_goes : {status : Status} {u v : State} (one : State) → Still status u v → Still status u (if goes v then one else v)
 still_goes {status} {u} {v} one still = record {
@@ -283,6 +287,11 @@ pub ended_token : {s t : State} {below above : Pieces} {base levels before : ℕ
     → Ended s t below above base levels before behind (first ∷ others) → token_at s.row t.at ≡ first
 ended_token {s} {t} {first} {others} far =
     ap (λ (row : List Terminal). token_at row t.at) (sym far.went.row) ∙ row_at t.at t.row others first no_token far.left
+
+-- the place of the token there, or that of none behind the last
+pub place_next : {s t : State} {below above : Pieces} {base levels before : ℕ} {behind : Context} {others : List Terminal}
+    → Ended s t below above base levels before behind others → place_at s.row t.at ≡ first_place others
+place_next {s} {t} far = place_first t.at s.row ∙ ap first_place (ap (λ (row : List Terminal). drop t.at row) (sym far.went.row) ∙ far.left)
 
 -- a part is written: what it makes is known by computation, mostly
 pub ended_write : {s t : State} {below middle above : Pieces} {base levels before after : ℕ} {behind : Context} {others : List Terminal} (event : Event)

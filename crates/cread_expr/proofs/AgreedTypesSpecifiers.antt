@@ -3,10 +3,11 @@ use Rattle.std.proofs.Common.{◌≡◌, ℕ, suc, ◌+◌, Bool, true, false, �
 use Rattle.std.proofs.lemmas.List.Sums.{prefix_len-le-length}
 use Rattle.std.specs.List.{prefix_len}
 use Rattle.std.specs.Prelude.{if◌then◌else◌}
+use Rattle.cbase.specs.declared.tree.identifier.Identifier.{Identifier}
 use Rattle.cbase.specs.declared.tree.spec.BasicType.{BasicType}
 use Rattle.cbase.specs.declared.tree.spec.TypeSpec.{TypeSpec}
 use Rattle.cbase.specs.declared.tree.spec.TypeSpec.TheVariants.{Named, Struct, Enum}
-use Rattle.cevents.specs.Workshop.{maybe_bytes_at}
+use Rattle.cevents.specs.Workshop.{maybe_identifier_at}
 use Rattle.cevents.specs.declared.event.Event.TheVariants as event
 use Rattle.cevents.specs.declared.piece.Piece.TheVariants as piece
 use Rattle.cgrammar.specs.Firsts.{begins_type}
@@ -19,6 +20,7 @@ use Rattle.cgrammar.specs.ReadStarts.{type_start}
 use Rattle.cgrammar.specs.ReadTypes.{closes_braces, behind_comma, tag_at, by_tag, read_type_name, read_fields, read_enumerator, read_struct, read_enum, of_basic, read_specifier}
 use Rattle.cgrammar.specs.ReadTypes as reader
 use Rattle.cgrammar.specs.Terminals.{Terminal, is_mark, is_name, bytes_of}
+use Rattle.cgrammar.specs.Trees.{identifier}
 use Rattle.cgrammar.specs.TypeWords.{basic_rows, basic_of}
 use Rattle.cgrammar.specs.declared.reading.starts.TypeStart.{TypeStart}
 use Rattle.cgrammar.specs.declared.reading.starts.TypeStart.TheVariants as start
@@ -66,9 +68,9 @@ one_more : (n : ℕ) → suc n ≡ n + 1
 one_more n = omega arith
 
 -- a tag, which may be left out
-tag_agrees : {s t : State} {before : ℕ} {context : Context} (from : Option (List ℕ) → Reader TypeSpec) (go : Option ℕ → State → State)
+tag_agrees : {s t : State} {before : ℕ} {context : Context} (from : Option Identifier → Reader TypeSpec) (go : Option ℕ → State → State)
     → ((number : Option ℕ) (u : State) (row : List Terminal) → Ended s u none none 0 0 before context row
-    → Makes type_piece (from (maybe_bytes_at s.row number) context row) s (go number u) before)
+    → Makes type_piece (from (maybe_identifier_at s.row number) context row) s (go number u) before)
     → (row : List Terminal) → Ended s t none none 0 0 before context row
     → Makes type_piece (from (tag_at row) context (reader.behind_tag row)) s (go (tag_number t) (steps.behind_tag t)) before
 tag_agrees {s} {t} {before} {context} from go next [] far =
@@ -76,16 +78,16 @@ tag_agrees {s} {t} {before} {context} from go next [] far =
 tag_agrees {s} {t} {before} {context} from go next (first ∷ others) far = case (is_name first) refl
   where
     case : (named : Bool) → is_name first ≡ named
-        → Makes type_piece (from (if named then Some first.bytes else None) context (if named then others else first ∷ others)) s (go (tag_number t) (steps.behind_tag t)) before
+        → Makes type_piece (from (if named then Some (identifier first) else None) context (if named then others else first ∷ others)) s (go (tag_number t) (steps.behind_tag t)) before
     case true is =
         agreed_at (ap (λ (test : Bool). go (if test then Some t.at else None) (if test then skipped 1 t else t)) (same_first is_name far ∙ is))
-        (agreed_outcome (λ i. from (Some (sym (ended_token far) i).bytes) context others) (next (Some t.at) (skipped 1 t) others (ended_skip far)))
+        (agreed_outcome (λ i. from (Some (identifier (sym (ended_token far) i))) context others) (next (Some t.at) (skipped 1 t) others (ended_skip far)))
     case false is =
         agreed_at (ap (λ (test : Bool). go (if test then Some t.at else None) (if test then skipped 1 t else t)) (same_first is_name far ∙ is))
         (next None t (first ∷ others) far)
 
 -- a struct behind its tag
-struct_from : Level → Option (List ℕ) → Reader TypeSpec
+struct_from : Level → Option Identifier → Reader TypeSpec
 struct_from level tag context row =
     if has_mark (codes "{") row
     then then_read (read_until_brace (read_fields level) (length row) context (behind_first row)) (λ declarations levels behind others.
@@ -93,18 +95,18 @@ struct_from level tag context row =
     else by_tag (λ name. Struct name None) tag context row
 
 struct_by_tag : {s t : State} {before : ℕ} {context : Context} {row : List Terminal} (number : Option ℕ) → Ended s t none none 0 0 before context row
-    → Makes type_piece (by_tag (λ name. Struct name None) (maybe_bytes_at s.row number) context row) s (steps.struct_by_tag number t) before
+    → Makes type_piece (by_tag (λ name. Struct name None) (maybe_identifier_at s.row number) context row) s (steps.struct_by_tag number t) before
 struct_by_tag None far = lost_here far still_lost
 struct_by_tag (Some at) far = read_ends (ended_levels (omega arith) (ended_make (event.StructTag at) (λ pieces. refl) far))
 
 struct_with_agrees : {level : Level} {inner : Inner} {s : State} {before : ℕ} {context : Context} → LevelAgrees level inner → (number : Option ℕ) (t : State) (row : List Terminal) → Ended s t none none 0 0 before context row
-    → Makes type_piece (struct_from level (maybe_bytes_at s.row number) context row) s (struct_with inner number t) before
+    → Makes type_piece (struct_from level (maybe_identifier_at s.row number) context row) s (struct_with inner number t) before
 unfolding struct_from struct_with all_fields
 struct_with_agrees agrees number t [] far = agreed_at (chosen_no _ _ _ (same_first (is_mark (codes "{")) far)) (struct_by_tag number far)
 struct_with_agrees {level} {inner} {s} {before} {context} agrees number t (first ∷ others) far =
     agreed_test (is_mark (codes "{") first) (has_mark (codes "{") (rest t)) _ _ (same_first (is_mark (codes "{")) far)
-    (λ opens. agreed_outcome (ap (λ (count : ℕ). then_read (read_until_brace (read_fields level) count context others) (λ declarations levels behind more. outcome.Read (Struct (maybe_bytes_at s.row number) (Some declarations)) (1 + levels) behind (behind_first more))) (one_more (length others)))
-    (agreed_outcome (then_brace (read_until_brace (read_fields level) (length others + 1) context others) (λ declarations levels behind more. outcome.Read (Struct (maybe_bytes_at s.row number) (Some declarations)) (1 + levels) behind more))
+    (λ opens. agreed_outcome (ap (λ (count : ℕ). then_read (read_until_brace (read_fields level) count context others) (λ declarations levels behind more. outcome.Read (Struct (maybe_identifier_at s.row number) (Some declarations)) (1 + levels) behind (behind_first more))) (one_more (length others)))
+    (agreed_outcome (then_brace (read_until_brace (read_fields level) (length others + 1) context others) (λ declarations levels behind more. outcome.Read (Struct (maybe_identifier_at s.row number) (Some declarations)) (1 + levels) behind more))
     (then_ends none (λ context row. over_brace (read_until_brace (read_fields level) (length row + 1)) context row) (until_brace (fields inner)) _ (ended_write event.NoFields (λ pieces. refl) (ended_skip far))
     (until_brace_agrees fields_piece (read_fields level) (fields inner) (λ done. fields_agree done agrees)) (still_make _ still_lost) (λ declarations levels behind more further.
     read_ends (ended_levels (omega arith) (ended_make (event.Struct number) (λ pieces. refl) further))))))
@@ -116,7 +118,7 @@ unfolding read_struct struct_behind struct_from
 struct_agrees {level} {inner} agrees row far = tag_agrees (struct_from level) (struct_with inner) (λ number u row far. struct_with_agrees agrees number u row far) row far
 
 -- an enum behind its tag
-enum_from : Level → Option (List ℕ) → Reader TypeSpec
+enum_from : Level → Option Identifier → Reader TypeSpec
 enum_from level tag context row =
     if has_mark (codes "{") row
     then then_read (read_list closes_braces (read_enumerator level) (length row) context (behind_first row)) (λ values levels behind more.
@@ -124,17 +126,17 @@ enum_from level tag context row =
     else by_tag (λ name. Enum name None) tag context row
 
 enum_by_tag : {s t : State} {before : ℕ} {context : Context} {row : List Terminal} (number : Option ℕ) → Ended s t none none 0 0 before context row
-    → Makes type_piece (by_tag (λ name. Enum name None) (maybe_bytes_at s.row number) context row) s (steps.enum_by_tag number t) before
+    → Makes type_piece (by_tag (λ name. Enum name None) (maybe_identifier_at s.row number) context row) s (steps.enum_by_tag number t) before
 enum_by_tag None far = lost_here far still_lost
 enum_by_tag (Some at) far = read_ends (ended_levels (omega arith) (ended_make (event.EnumTag at) (λ pieces. refl) far))
 
 enum_with_agrees : {level : Level} {inner : Inner} {s : State} {before : ℕ} {context : Context} → LevelAgrees level inner → (number : Option ℕ) (t : State) (row : List Terminal) → Ended s t none none 0 0 before context row
-    → Makes type_piece (enum_from level (maybe_bytes_at s.row number) context row) s (enum_with inner number t) before
+    → Makes type_piece (enum_from level (maybe_identifier_at s.row number) context row) s (enum_with inner number t) before
 unfolding enum_from enum_with all_enumerators
 enum_with_agrees agrees number t [] far = agreed_at (chosen_no _ _ _ (same_first (is_mark (codes "{")) far)) (enum_by_tag number far)
 enum_with_agrees {level} {inner} {s} {before} {context} agrees number t (first ∷ others) far =
     agreed_test (is_mark (codes "{") first) (has_mark (codes "{") (rest t)) _ _ (same_first (is_mark (codes "{")) far)
-    (λ opens. agreed_outcome (ap (λ (count : ℕ). then_read (read_list closes_braces (read_enumerator level) count context others) (λ values levels behind more. after_mark (codes "}") (behind_comma more) outcome.Nothing (λ closing end. outcome.Read (Enum (maybe_bytes_at s.row number) (Some values)) (1 + levels) behind end))) (one_more (length others)))
+    (λ opens. agreed_outcome (ap (λ (count : ℕ). then_read (read_list closes_braces (read_enumerator level) count context others) (λ values levels behind more. after_mark (codes "}") (behind_comma more) outcome.Nothing (λ closing end. outcome.Read (Enum (maybe_identifier_at s.row number) (Some values)) (1 + levels) behind end))) (one_more (length others)))
     (then_ends none (λ context row. read_list closes_braces (read_enumerator level) (length row + 1) context row) (all_parts closes_braces (enumerator inner)) _ (ended_write event.NoEnumerators (λ pieces. refl) (ended_skip far))
     (all_parts_agree enumerators_piece closes_braces (read_enumerator level) (enumerator inner) (λ done. enumerator_agrees done agrees)) (still_make _ (still_mark _ (still_over_comma still_lost))) (λ values levels behind more further.
     then_mark (codes "}") (behind_comma more) _ (ended_comma further) (still_make _ still_lost) (λ closing end is at beyond.

@@ -5,7 +5,7 @@ use Rattle.cgrammar.specs.ReadTypes.{never, closes_braces}
 use Rattle.creader.proofs.KeptRows.{KeepRow}
 use Rattle.creader.proofs.KeptBySteps.{parts_row, step_rows}
 use Rattle.creader.proofs.KeptByTypes.{all_sizes_row, over_comma_row}
-use Rattle.creader.specs.DeclarationSteps.{over_storage, specifiers_with, specifiers, parameter_behind, parameter, parameters_inside, parameters, object_behind, declarator_behind, declarator, declarators, declaration_behind, declaration, member_part, init_part, init_parts, in_braces, initializer}
+use Rattle.creader.specs.DeclarationSteps.{over_storage, specifiers_with, specifiers, parameter_behind, parameter, parameters_inside, parameters, object_behind, declarator_behind, declarator, declarators, declaration_behind, declaration, member_part, init_part, init_parts, in_braces, valued, initializer}
 use Rattle.creader.specs.State.{State}
 use Rattle.creader.specs.Steps.{Inner}
 
@@ -79,5 +79,5 @@ unfolding in_braces
 in_braces_row inner s kept = simp (step_rows, init_parts_row, over_comma_row)
 
 pub initializer_row : (inner : Inner) (s : State) → KeepRow inner → (initializer inner s).row ≡ s.row
-unfolding initializer
+unfolding initializer valued
 initializer_row inner s kept = simp (step_rows, in_braces_row)

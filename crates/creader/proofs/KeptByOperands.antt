@@ -9,7 +9,7 @@ use Rattle.creader.proofs.KeptByOperators.{expression_from_row}
 use Rattle.creader.proofs.KeptByPostfixes.{as_operand_row, postfixes_from_row}
 use Rattle.creader.proofs.KeptByStatements.{block_row}
 use Rattle.creader.proofs.KeptByTypes.{type_name_row}
-use Rattle.creader.specs.OperandSteps.{unary_alone, path_member, path_index, path, offset_path, offset_of, over_to, over_matched, assert_fail, statement_expression, cast_to, bracket, size_of, plain_with, plain, closed, all_closed, cast}
+use Rattle.creader.specs.OperandSteps.{unary_alone, path_member, path_index, path, offset_path, offset_of, over_to, over_matched, assert_fail, inner_closed, statement_expression, cast_to, bracket, size_of, plain_with, plain, closed, all_closed, cast}
 use Rattle.creader.specs.State.{State}
 use Rattle.creader.specs.Steps.{Inner}
 
@@ -51,7 +51,7 @@ unfolding assert_fail
 assert_fail_row inner at s kept = simp (step_rows, postfixes_from_row, over_matched_row)
 
 statement_expression_row : (inner : Inner) (at : ℕ) (s : State) → KeepRow inner → (statement_expression inner at s).row ≡ s.row
-unfolding statement_expression
+unfolding statement_expression inner_closed
 statement_expression_row inner at s kept = simp (step_rows, postfixes_from_row, block_row)
 
 cast_to_row : (inner : Inner) (at : ℕ) (s : State) → KeepRow inner → (cast_to inner at s).row ≡ s.row

@@ -7,7 +7,7 @@ use Rattle.creader.proofs.KeptRows.{KeepRow}
 use Rattle.creader.proofs.KeptBySteps.{parts_until_brace_row, step_rows}
 use Rattle.creader.proofs.KeptByDeclarations.{declaration_row}
 use Rattle.creader.specs.State.{State}
-use Rattle.creader.specs.StatementSteps.{block_item, block_items, block, maybe, declared, declared_statement, evaluated, expression_statement, clause, untyped, tested, otherwise_behind, if_behind, while_behind, done, do_behind, for_behind, broken, break_behind, continued, continue_behind, returned, return_behind, blocked, block_statement, other_statement, statement_with, unlabeled_with, unlabeled, statement, item}
+use Rattle.creader.specs.StatementSteps.{block_item, block_items, block, maybe, declared, declared_statement, evaluated, expression_statement, clause, untyped, tested, substatement, otherwise_behind, if_tested, if_behind, while_tested, while_behind, done, do_tested, do_behind, for_closed, for_next, for_behind, broken, break_behind, continued, continue_behind, returned, return_behind, blocked, block_statement, other_statement, statement_with, unlabeled_with, unlabeled, statement, item}
 use Rattle.creader.specs.Steps.{Inner}
 
 block_item_row : (inner : Inner) (s : State) → KeepRow inner → (block_item inner s).row ≡ s.row
@@ -46,25 +46,29 @@ tested_row : (inner : Inner) (s : State) → KeepRow inner → (tested inner s).
 unfolding tested
 tested_row inner s kept = simp (step_rows, untyped_row)
 
-otherwise_behind_row : (inner : Inner) (first : ℕ) (s : State) → KeepRow inner → (otherwise_behind inner first s).row ≡ s.row
+substatement_row : (inner : Inner) (s : State) → KeepRow inner → (substatement inner s).row ≡ s.row
+unfolding substatement
+substatement_row inner s kept = simp step_rows
+
+otherwise_behind_row : (inner : Inner) (first close : ℕ) (s : State) → KeepRow inner → (otherwise_behind inner first close s).row ≡ s.row
 unfolding otherwise_behind
-otherwise_behind_row inner first s kept = simp step_rows
+otherwise_behind_row inner first close s kept = simp (step_rows, substatement_row)
 
 if_behind_row : (inner : Inner) (first : ℕ) (s : State) → KeepRow inner → (if_behind inner first s).row ≡ s.row
-unfolding if_behind
-if_behind_row inner first s kept = simp (step_rows, otherwise_behind_row, tested_row)
+unfolding if_behind if_tested
+if_behind_row inner first s kept = simp (step_rows, otherwise_behind_row, substatement_row, tested_row)
 
 while_behind_row : (inner : Inner) (first : ℕ) (s : State) → KeepRow inner → (while_behind inner first s).row ≡ s.row
-unfolding while_behind
-while_behind_row inner first s kept = simp (step_rows, tested_row)
+unfolding while_behind while_tested
+while_behind_row inner first s kept = simp (step_rows, substatement_row, tested_row)
 
 do_behind_row : (inner : Inner) (first : ℕ) (s : State) → KeepRow inner → (do_behind inner first s).row ≡ s.row
-unfolding do_behind done
-do_behind_row inner first s kept = simp (step_rows, tested_row)
+unfolding do_behind do_tested done
+do_behind_row inner first s kept = simp (step_rows, substatement_row, tested_row)
 
 for_behind_row : (inner : Inner) (first : ℕ) (s : State) → KeepRow inner → (for_behind inner first s).row ≡ s.row
-unfolding for_behind
-for_behind_row inner first s kept = simp (step_rows, maybe_row)
+unfolding for_behind for_next for_closed
+for_behind_row inner first s kept = simp (step_rows, substatement_row, maybe_row)
 
 break_behind_row : (first : ℕ) (s : State) → (break_behind first s).row ≡ s.row
 unfolding break_behind broken

@@ -151,8 +151,11 @@ listed_braces inner s = make event.Braces (mark (codes "}") (over_comma (init_pa
 unfoldable pub in_braces : Inner → State → State
 in_braces inner s = if has_mark (codes "}") (rest s) then empty_braces s else listed_braces inner s
 
+unfoldable pub valued : State → State
+valued s = make (event.Value s.at) s
+
 abbrev pub value_initializer : Inner → State → State
-value_initializer inner s = make event.Value (ask_whole inner wanted.Assignment s)
+value_initializer inner s = valued (ask_whole inner wanted.Assignment s)
 
 unfoldable pub initializer : Inner → State → State
 initializer inner s =

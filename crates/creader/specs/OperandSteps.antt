@@ -135,8 +135,11 @@ unfoldable pub assert_fail : Inner → ℕ → State → State
 assert_fail inner at s = postfixes_from inner at (make (event.AssertFail at) (over_matched (mark (codes "(") s)))
 
 -- what follows a `(`: a block in a statement expression, or the type of a cast (C11 6.5.4)
+unfoldable pub inner_closed : ℕ → State → State
+inner_closed at s = make (event.Inner at (s.at - 1)) (mark (codes ")") s)
+
 unfoldable pub statement_expression : Inner → ℕ → State → State
-statement_expression inner at s = postfixes_from inner at (make (event.Inner at) (mark (codes ")") (block inner s)))
+statement_expression inner at s = postfixes_from inner at (inner_closed at (block inner s))
 
 unfoldable pub cast_to : Inner → ℕ → State → State
 cast_to inner at s = as_operand false (wrap (event.Cast at) (ask inner wanted.Cast (mark (codes ")") (type_name inner s))))

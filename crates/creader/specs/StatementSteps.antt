@@ -65,31 +65,53 @@ untyped inner s = if goes s && begins_with_typedef s.scope (rest s) then lost s 
 unfoldable pub tested : Inner → State → State
 tested inner s = mark (codes ")") (untyped inner (mark (codes "(") s))
 
--- `if` (C11 6.8.4.1): an `else` belongs to the nearest
-unfoldable pub otherwise_behind : Inner → ℕ → State → State
-otherwise_behind inner first s =
+-- a statement in an `if` or in a loop, a block for names (C11 6.8.4p3, 6.8.5p5)
+unfoldable pub substatement : Inner → State → State
+substatement inner s = leave (ask_whole inner wanted.Statement (enter s))
+
+-- `if` (C11 6.8.4.1), a scope of its own: an `else` belongs to the nearest
+unfoldable pub otherwise_behind : Inner → ℕ → ℕ → State → State
+otherwise_behind inner first close s =
     if goes s
-    then (if has_first (is_word (codes "else")) (rest s) then make (event.IfElse first) (ask_whole inner wanted.Statement (skipped 1 s))
-    else make (event.If first) s)
+    then (if has_first (is_word (codes "else")) (rest s) then make (event.IfElse first close) (substatement inner (skipped 1 s))
+    else make (event.If first close) s)
     else s
 
+-- from behind its test on, whose `)` is the token that was read last
+unfoldable pub if_tested : Inner → ℕ → State → State
+if_tested inner first s = otherwise_behind inner first (s.at - 1) (substatement inner s)
+
 unfoldable pub if_behind : Inner → ℕ → State → State
-if_behind inner first s = otherwise_behind inner first (ask_whole inner wanted.Statement (tested inner s))
+if_behind inner first s = leave (if_tested inner first (tested inner (enter s)))
+
+-- `while` (C11 6.8.5.1), a scope of its own
+unfoldable pub while_tested : Inner → ℕ → State → State
+while_tested inner first s = make (event.While first (s.at - 1)) (substatement inner s)
 
 unfoldable pub while_behind : Inner → ℕ → State → State
-while_behind inner first s = make (event.While first) (ask_whole inner wanted.Statement (tested inner s))
+while_behind inner first s = leave (while_tested inner first (tested inner (enter s)))
 
-unfoldable pub done : ℕ → State → State
-done first s = make (event.Do first (s.at - 1)) s
+-- `do` (C11 6.8.5.2), a scope of its own
+unfoldable pub done : ℕ → ℕ → State → State
+done first close s = make (event.Do first close (s.at - 1)) s
+
+unfoldable pub do_tested : ℕ → State → State
+do_tested first s = done first (s.at - 1) (mark (codes ";") s)
 
 unfoldable pub do_behind : Inner → ℕ → State → State
-do_behind inner first s = done first (mark (codes ";") (tested inner (word (codes "while") (ask_whole inner wanted.Statement s))))
+do_behind inner first s = leave (do_tested first (tested inner (word (codes "while") (substatement inner (enter s)))))
+
+-- `for` (C11 6.8.5.3), a scope of its own: from behind the `)` on, and from behind its second `;` on
+unfoldable pub for_closed : Inner → ℕ → ℕ → State → State
+for_closed inner first semicolon s = make (event.For first semicolon (s.at - 1)) (substatement inner s)
+
+unfoldable pub for_next : Inner → ℕ → State → State
+for_next inner first s = for_closed inner first (s.at - 1) (mark (codes ")") (maybe inner (is_mark (codes ")")) s))
 
 unfoldable pub for_behind : Inner → ℕ → State → State
 for_behind inner first s =
-    leave (make (event.For first) (ask_whole inner wanted.Statement
-    (mark (codes ")") (maybe inner (is_mark (codes ")")) (mark (codes ";") (maybe inner (is_mark (codes ";"))
-    (ask_whole inner wanted.Clause (enter (mark (codes "(") s)))))))))
+    leave (for_next inner first (mark (codes ";") (maybe inner (is_mark (codes ";"))
+    (ask_whole inner wanted.Clause (enter (mark (codes "(") s))))))
 
 unfoldable pub broken : ℕ → State → State
 broken first s = make (event.Break first (s.at - 1)) s

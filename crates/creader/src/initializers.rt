@@ -2,7 +2,7 @@ ghost use Rattle.std.specs.Prelude.{◌≡◌, OnOk, ◌≤◌, length};
 ghost use Rattle.creader.specs.Nests.{Nests};
 ghost use Rattle.creader.specs.ReadingSteps.{inner_at};
 ghost use Rattle.creader.specs.State.{rest};
-ghost use Rattle.creader.specs.DeclarationSteps.{empty_braces, member_part, next_part, init_part, init_parts, listed_braces, in_braces, value_initializer, initializer};
+ghost use Rattle.creader.specs.DeclarationSteps.{empty_braces, member_part, next_part, init_part, init_parts, listed_braces, in_braces, valued, value_initializer, initializer};
 
 use crate::grammar::Grammar;
 use crate::listed::Listed;
@@ -21,6 +21,15 @@ impl<'a> Reader<'a> {
         self.write(Event::NoParts)?;
         self.skip(1);
         self.make(Event::Braces)
+    }
+
+    /// Writes the expression that was read last as an initialiser.
+    #[tactic(auto, unfolding(crate::specs::DeclarationSteps::valued))]
+    fn valued(&mut self) -> Result<(), NoMemory>
+        ensures { OnOk result (self.new ≡ valued self.old) }
+    {
+        let after = self.at;
+        self.make(Event::Value { after })
     }
 }
 
@@ -106,7 +115,7 @@ impl<F: Fn(&mut Reader<'_>, u32, Wanted) -> Result<(), NoMemory>> Grammar<F> {
         ensures { OnOk result (reader.new ≡ value_initializer (inner_at self.now.depth) reader.old) }
     {
         self.ask_whole(reader, Wanted::Assignment)?;
-        reader.make(Event::Value)
+        reader.valued()
     }
 
     /// Reads an initialiser (C11 6.7.9).

@@ -3,7 +3,7 @@ ghost use Rattle.creader.specs.Nests.{Nests};
 ghost use Rattle.creader.specs.ReadingSteps.{inner_at};
 ghost use Rattle.creader.specs.State.{rest};
 ghost use Rattle.cgrammar.specs.ReadOperands.{begins_type_in_brackets};
-ghost use Rattle.creader.specs.OperandSteps.{unary_alone, statement_expression, cast_to, bracket, begins, size_of, size_of_type, assert_fail, counted, unary, primary, prefixed, plain_with, plain};
+ghost use Rattle.creader.specs.OperandSteps.{unary_alone, inner_closed, statement_expression, cast_to, bracket, begins, size_of, size_of_type, assert_fail, counted, unary, primary, prefixed, plain_with, plain};
 
 use crate::grammar::Grammar;
 use crate::reader::Reader;
@@ -29,6 +29,16 @@ impl<'a> Reader<'a> {
         }
     }
 
+    /// Reads a statement expression that begins with the `(` at `at`, from behind its block on, whose `}` was read last.
+    #[tactic(auto, unfolding(crate::specs::OperandSteps::inner_closed))]
+    fn inner_closed(&mut self, at: usize) -> Result<(), NoMemory>
+        ensures { OnOk result (self.new ≡ inner_closed at self.old) }
+    {
+        let close = self.last();
+        self.mark(b")");
+        self.make(Event::Inner { at, close })
+    }
+
     /// Whether a `(` stands there with a type behind it.
     pub fn has_type_in_brackets(&self) -> bool
         ensures is { result ≡ begins_type_in_brackets self.now.scope (rest self.now) }
@@ -49,8 +59,7 @@ impl<F: Fn(&mut Reader<'_>, u32, Wanted) -> Result<(), NoMemory>> Grammar<F> {
         ensures { OnOk result (reader.new ≡ statement_expression (inner_at self.now.depth) at reader.old) }
     {
         self.block(reader)?;
-        reader.mark(b")");
-        reader.make(Event::Inner { at })?;
+        reader.inner_closed(at)?;
         self.postfixes_from(reader, at)
     }
 

@@ -1,6 +1,6 @@
 ghost use Rattle.std.specs.Prelude.{◌≡◌, ◌≤◌, ◌-◌, OnOk, length};
 ghost use Rattle.creader.specs.State.{rest};
-ghost use Rattle.creader.specs.StatementSteps.{declared, evaluated, empty_statement, done, broken, break_behind, continued, continue_behind, returned, blocked};
+ghost use Rattle.creader.specs.StatementSteps.{declared, evaluated, empty_statement, done, do_tested, broken, break_behind, continued, continue_behind, returned, blocked};
 
 use crate::reader::Reader;
 use cbase::NoMemory;
@@ -46,13 +46,23 @@ impl<'a> Reader<'a> {
         })
     }
 
-    /// Writes a `do` that begins with the token `first` (C11 6.8.5.2).
+    /// Writes a `do` that begins with the token `first` and whose test ends with the `)` at `close` (C11 6.8.5.2).
     #[tactic(auto, unfolding(crate::specs::StatementSteps::done))]
-    pub fn done(&mut self, first: usize) -> Result<(), NoMemory>
-        ensures { OnOk result (self.new ≡ done first self.old) }
+    pub fn done(&mut self, first: usize, close: usize) -> Result<(), NoMemory>
+        ensures { OnOk result (self.new ≡ done first close self.old) }
     {
         let last = self.last();
-        self.make(Event::Do { first, last })
+        self.make(Event::Do { first, close, last })
+    }
+
+    /// Reads a `do` from behind its test on, whose `)` was read last (C11 6.8.5.2).
+    #[tactic(auto, unfolding(crate::specs::StatementSteps::do_tested))]
+    pub fn do_tested(&mut self, first: usize) -> Result<(), NoMemory>
+        ensures { OnOk result (self.new ≡ do_tested first self.old) }
+    {
+        let close = self.last();
+        self.mark(b";");
+        self.done(first, close)
     }
 
     /// Writes a `break` that begins with the token `first` (C11 6.8.6.3).

@@ -1,3 +1,4 @@
 pub mod Weight
 pub mod Levels
 pub mod Expressions
+pub mod Numbers

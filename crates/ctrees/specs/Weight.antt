@@ -63,7 +63,7 @@ in_form w (OffsetOf to path) = w.join to (joined w path)
 in_form w (Index base index) = w.join base index
 in_form w (ExprForm::Member base name through) = base
 in_form w (Call callee args) = w.join callee (joined w args)
-in_form w (Inner body) = joined w body
+in_form w (Inner body close) = joined w body
 in_form w AssertFail = 0
 
 abbrev pub in_part : Weight → Part-F ℕ ℕ ℕ ℕ ℕ ℕ ℕ ℕ ℕ ℕ ℕ ℕ ℕ ℕ ℕ → ℕ
@@ -71,7 +71,7 @@ in_part w (Part::Member name) = 0
 in_part w (At index) = index
 
 abbrev pub in_init : Weight → Init-F ℕ ℕ ℕ ℕ ℕ ℕ ℕ ℕ ℕ ℕ ℕ ℕ ℕ ℕ ℕ → ℕ
-in_init w (Value value) = w.init + value
+in_init w (Value value after) = w.init + value
 in_init w (Braces parts) = w.init + joined w parts
 
 abbrev pub in_spec : Weight → TypeSpec-F ℕ ℕ ℕ ℕ ℕ ℕ ℕ ℕ ℕ ℕ ℕ ℕ ℕ ℕ ℕ → ℕ
@@ -86,10 +86,10 @@ abbrev pub in_statement_form : Weight → StmtForm-F ℕ ℕ ℕ ℕ ℕ ℕ ℕ
 in_statement_form w (Declare decl) = decl
 in_statement_form w (Eval expr) = or_nothing expr
 in_statement_form w (Block body) = joined w body
-in_statement_form w (If test one other) = w.join test (w.join one (or_nothing other))
-in_statement_form w (While test body) = w.join test body
-in_statement_form w (Do body test) = w.join body test
-in_statement_form w (For first test next body) = w.join (w.join first (or_nothing test)) (w.join (or_nothing next) body)
+in_statement_form w (If test close one other) = w.join test (w.join one (or_nothing other))
+in_statement_form w (While test close body) = w.join test body
+in_statement_form w (Do body test close) = w.join body test
+in_statement_form w (For first test semicolon next close body) = w.join (w.join first (or_nothing test)) (w.join (or_nothing next) body)
 in_statement_form w Break = 0
 in_statement_form w Continue = 0
 in_statement_form w (Return value) = or_nothing value

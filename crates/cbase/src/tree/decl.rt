@@ -2,6 +2,7 @@ use crate::list::List;
 use crate::place::Place;
 use crate::text::Text;
 use crate::tree::expr::Expr;
+use crate::tree::identifier::Identifier;
 use crate::tree::init::Init;
 use crate::tree::spec::TypeSpec;
 
@@ -56,8 +57,8 @@ pub struct Param {
     pub spec: TypeSpec,
     /// How many `*` stand before its name.
     pub stars: u32,
-    /// Its name, where it has one.
-    pub name: Option<Text>,
+    /// Its name with its place, where it has one.
+    pub name: Option<Identifier>,
     /// The array sizes behind its name, outermost first; none where brackets are empty.
     pub sizes: List<Option<Expr>>,
 }

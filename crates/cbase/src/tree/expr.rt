@@ -3,6 +3,7 @@ use crate::list::List;
 use crate::place::Place;
 use crate::text::Text;
 use crate::tree::decl::TypeName;
+use crate::tree::identifier::Identifier;
 use crate::tree::operators::{BinaryOp, UnaryOp};
 use crate::tree::stmt::Stmt;
 
@@ -100,8 +101,8 @@ pub enum ExprForm {
     Member {
         /// The struct, or the pointer to it.
         base: Boxed<Expr>,
-        /// The member's name.
-        name: Text,
+        /// The member's name with its place.
+        name: Identifier,
         /// Whether it is reached by `->`, and not by `.`.
         through: bool,
     },
@@ -113,7 +114,12 @@ pub enum ExprForm {
         args: List<Expr>,
     },
     /// A block in brackets, whose value is that of its last statement. C11 has no such expression.
-    Inner(List<Stmt>),
+    Inner {
+        /// The statements of the block.
+        body: List<Stmt>,
+        /// The place of the block's `}`.
+        close: Place,
+    },
     /// `__assert_fail` with its arguments, which are not read.
     AssertFail,
 }
@@ -122,8 +128,8 @@ pub enum ExprForm {
 #[derive(Drop)]
 #[cycle(tree)]
 pub enum Part {
-    /// The member of that name.
-    Member(Text),
+    /// The member of that name, with the name's place.
+    Member(Identifier),
     /// The item of an array with that index.
     At(Expr),
 }

@@ -1,13 +1,19 @@
 use crate::list::List;
-use crate::text::Text;
+use crate::place::Place;
 use crate::tree::expr::Expr;
+use crate::tree::identifier::Identifier;
 
 /// An initialiser (C11 6.7.9).
 #[derive(Drop)]
 #[cycle(tree)]
 pub enum Init {
     /// A value.
-    Value(Expr),
+    Value {
+        /// The value, a full expression (C11 6.8p4).
+        value: Expr,
+        /// The place of the token behind it: a `,`, the `;` of the declaration, or the `}` of the braces around it.
+        after: Place,
+    },
     /// Parts in braces, in order.
     Braces(List<InitPart>),
 }
@@ -16,8 +22,8 @@ pub enum Init {
 #[derive(Drop)]
 #[cycle(tree)]
 pub struct InitPart {
-    /// The member that a designator `.name =` names, where there is one.
-    pub member: Option<Text>,
+    /// The member that a designator `.name =` names, with the name's place, where there is one.
+    pub member: Option<Identifier>,
     /// What it is set to.
     pub init: Init,
 }

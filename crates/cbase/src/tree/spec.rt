@@ -4,6 +4,7 @@ use crate::place::Place;
 use crate::text::Text;
 use crate::tree::decl::TypeName;
 use crate::tree::expr::Expr;
+use crate::tree::identifier::Identifier;
 
 /// The rank of an integer type (C11 6.3.1.1). The data layout says how many bytes it has.
 #[derive(Clone, Copy, Debug, PartialEq, Eq)]
@@ -46,15 +47,15 @@ pub enum TypeSpec {
     Named(Text),
     /// A struct (C11 6.7.2.1).
     Struct {
-        /// Its tag, where it has one.
-        name: Option<Text>,
+        /// Its tag with its place, where it has one.
+        name: Option<Identifier>,
         /// Its fields, where braces give them.
         fields: Option<List<FieldDecl>>,
     },
     /// An enum (C11 6.7.2.2).
     Enum {
-        /// Its tag, where it has one.
-        name: Option<Text>,
+        /// Its tag with its place, where it has one.
+        name: Option<Identifier>,
         /// Its constants, where braces give them.
         values: Option<List<Enumerator>>,
     },

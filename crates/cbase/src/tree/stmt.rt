@@ -30,6 +30,8 @@ pub enum StmtForm {
     If {
         /// The condition.
         test: Expr,
+        /// The place of the `)` behind the condition.
+        close: Place,
         /// The statement behind it.
         yes: Boxed<Stmt>,
         /// The statement behind `else`, where there is one.
@@ -39,6 +41,8 @@ pub enum StmtForm {
     While {
         /// The condition.
         test: Expr,
+        /// The place of the `)` behind the condition.
+        close: Place,
         /// The loop's body.
         body: Boxed<Stmt>,
     },
@@ -48,6 +52,8 @@ pub enum StmtForm {
         body: Boxed<Stmt>,
         /// The condition.
         test: Expr,
+        /// The place of the `)` behind the condition.
+        close: Place,
     },
     /// `for` (C11 6.8.5.3).
     For {
@@ -55,8 +61,12 @@ pub enum StmtForm {
         first: Boxed<Stmt>,
         /// The condition, where there is one.
         test: Option<Expr>,
+        /// The place of the `;` behind the condition. That of the `;` before it is the last place of what comes first.
+        semicolon: Place,
         /// What is done after each turn, where there is something.
         next: Option<Expr>,
+        /// The place of the `)` behind it.
+        close: Place,
         /// The loop's body.
         body: Boxed<Stmt>,
     },

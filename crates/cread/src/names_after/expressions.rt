@@ -21,9 +21,8 @@ fn declare_in_form(alloc: Global, scope: &mut Scope, form: &ExprForm) -> Result<
     ensures { OnOk result (scope.new ≡ with_names (form_names form.now) scope.old) }
 {
     match form {
-        ExprForm::Name(_) | ExprForm::Constant(_) | ExprForm::Inner(_) | ExprForm::AssertFail => Ok(
-            (),
-        ),
+        ExprForm::Name(_) | ExprForm::Constant(_) | ExprForm::Inner { .. } | ExprForm::AssertFail =>
+            Ok(()),
         ExprForm::Unary { arg, .. } => declare_in_expr(alloc, scope, arg.get()),
         ExprForm::Binary { left, right, .. } => declare_in_two(
             alloc,

@@ -12,7 +12,7 @@ pub fn declare_in_init(alloc: Global, scope: &mut Scope, init: &Init) -> Result<
     ensures { OnOk result (scope.new ≡ with_names (init_names init.now) scope.old) }
 {
     match init {
-        Init::Value(value) => declare_in_expr(alloc, scope, value),
+        Init::Value { value, .. } => declare_in_expr(alloc, scope, value),
         Init::Braces(parts) => declare_in_init_parts(alloc, scope, parts.as_slice()),
     }
 }
