@@ -29,14 +29,14 @@ use Rattle.creader.specs.ItemSteps.{item_alone}
 use Rattle.creader.specs.ReadingSteps.{inner_at}
 use Rattle.creader.specs.State.{State}
 use Rattle.creader.specs.Writings.{ItemWriting, item_written_of, start_of}
-use Rattle.cread.proofs.Refusals.{All-at, All-unpassed}
+use Rattle.cread.proofs.UnreadItems.{All-at, All-unpassed}
 use Rattle.cread.proofs.ReadRows.{RowRead, row_read, no_row_read}
-use Rattle.cread.specs.Refusals.{IsPlaceOf, IsPlaceIn, IsRefusal, ShowsLayout}
+use Rattle.cread.specs.UnreadItems.{IsPlaceOf, IsPlaceIn, IsUnread, ShowsLayout}
 use Rattle.cread.specs.ItemsRead.{IsItemRead}
 use Rattle.cread.specs.Items.{SpellsItem}
 use Rattle.cbuild.specs.ItemsMade.{item_made, nothing_made}
 use Rattle.cread.specs.RowItems.{IsItemOf, IsItemOfNone, IsConstructOf, MakeItem}
-use Rattle.cread.specs.declared.refusal.Refusal.TheVariants.{Construct, Syntax}
+use Rattle.cread.specs.declared.unread.Unread.TheVariants.{Construct, Syntax}
 
 -- Items.
 same_made : (one other : Item) (count number : ℕ) → item_made one count ≡ item_made other number → (one ≡ other) × (count ≡ number)
@@ -160,16 +160,16 @@ pub layout_placed : (t : Tokens) (from to : ℕ) (answer : Option ℕ) (number :
     → answer ≡ Some number → IsPlaceOf t number place → ShowsLayout t from to 7 place
 layout_placed t from to answer number place exact is placed = record { at = number; is = (exact number).0 is; placed = placed; is_layout = refl }
 
--- What is refused.
-pub refused_construct : (t : Tokens) (from to : ℕ) (row : List Terminal) (before : Context) (number : ℕ) (place : Place) → row ≡ row_between t from to → HasNoLayout t from to
-    → IsItemOfNone row before → IsConstructOf row number place → IsRefusal t from to before (Construct number place)
-refused_construct t from to row before number place same plain none construct =
+-- What is not read.
+pub unread_construct : (t : Tokens) (from to : ℕ) (row : List Terminal) (before : Context) (number : ℕ) (place : Place) → row ≡ row_between t from to → HasNoLayout t from to
+    → IsItemOfNone row before → IsConstructOf row number place → IsUnread t from to before (Construct number place)
+unread_construct t from to row before number place same plain none construct =
     let found : IsConstructOf (row_between t from to) number place = subst (λ (row : List Terminal). IsConstructOf row number place) same construct in
     inr (record { plain = plain; none = subst (λ (row : List Terminal). IsItemOfNone row before) same none; at = found.at; is = found.is; placed = found.placed })
 
-pub refused_syntax : (t : Tokens) (from to : ℕ) (row : List Terminal) (before : Context) (place : Place) → row ≡ row_between t from to → HasNoLayout t from to
-    → IsItemOfNone row before → HasNoConstruct row → IsPlaceOf t from place → IsRefusal t from to before (Syntax place)
-refused_syntax t from to row before place same plain none free placed =
+pub unread_syntax : (t : Tokens) (from to : ℕ) (row : List Terminal) (before : Context) (place : Place) → row ≡ row_between t from to → HasNoLayout t from to
+    → IsItemOfNone row before → HasNoConstruct row → IsPlaceOf t from place → IsUnread t from to before (Syntax place)
+unread_syntax t from to row before place same plain none free placed =
     record {
       plain = plain;
       none = subst (λ (row : List Terminal). IsItemOfNone row before) same none;

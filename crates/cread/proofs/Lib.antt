@@ -5,9 +5,9 @@ pub mod ItemRowsRead
 pub mod AgreedItems
 pub mod ReadRows
 pub mod FoundItems
-pub mod Refusals
+pub mod UnreadItems
 pub mod OneAnswer
-pub mod NeededItems
+pub mod InOrder
 pub mod WithNames
 pub mod Turns
 pub mod NamesOfParts

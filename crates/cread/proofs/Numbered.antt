@@ -9,7 +9,7 @@ use Rattle.ctokens.specs.declared.item_span.ItemSpan.{ItemSpan}
 use Rattle.ctokens.specs.declared.token.Tokens.{Tokens}
 use Rattle.ctrees.specs.Numbers.{AreConsecutive, item_numbers}
 use Rattle.cread.specs.Items.{SpellsItem, EmptyItem, DeclarationItem, FunctionDefinition}
-use Rattle.cread.specs.Needed.{ReadsAll, NoItem, OneItem}
+use Rattle.cread.specs.InOrder.{ReadsAll, NoItem, OneItem}
 use Rattle.cread.specs.Numbered.{ItemsAreNumbered, ReadItemsAreNumbered}
 
 in_item : {item : Item} {before after : Context} {row : List Terminal} → SpellsItem item before row after → AreConsecutive before.expressions (item_numbers item) after.expressions

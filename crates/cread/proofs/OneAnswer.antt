@@ -1,40 +1,22 @@
 -- Of an item at most one answer is true.
-use Rattle.std.proofs.Common.{◌≡◌, ℕ, ap}
+use Rattle.std.proofs.Common.{◌≡◌, ℕ, List, ap}
 use Rattle.cbase.specs.declared.tree.item.Item.{Item}
 use Rattle.ctokens.specs.declared.token.Tokens.{Tokens}
-use Rattle.cgrammar.specs.Phrases.{Context}
-use Rattle.cread.proofs.Refusals.{one_read, read_or_refused, one_refusal}
-use Rattle.cread.specs.ReadIn.{IsReadIn}
-use Rattle.cread.specs.Refusals.{IsRefusal}
-use Rattle.cread.specs.ItemAnswers.{IsAnswer, HasOneAnswer, answer_of as answer_of_read}
-use Rattle.cread.specs.declared.reading_item.ReadIn.{ReadIn}
-use Rattle.cread.specs.declared.reading_item.ReadIn.TheVariants as reading
-use Rattle.cread.specs.declared.answer.ItemAnswer.{ItemAnswer}
-use Rattle.cread.specs.declared.answer.ItemAnswer.TheVariants.{Read, Construct, Syntax}
-use Rattle.cread.specs.declared.refusal.Refusal.{Refusal}
-use Rattle.cread.specs.declared.refusal.Refusal.TheVariants as refusal
+use Rattle.cgrammar.specs.Phrases.{Context, context_at}
+use Rattle.cgrammar.specs.Scope.{Names}
+use Rattle.cread.proofs.UnreadItems.{one_read, read_or_unread, one_unread}
+use Rattle.cread.specs.ItemAnswers.{HasOneAnswer}
+use Rattle.cread.specs.declared.reading_item.ItemBehind.{ItemBehind}
+use Rattle.cread.specs.declared.reading_item.ItemRead.TheVariants.{Read, Unread}
 
--- the answer that is a refusal
-abbrev answer_of : Refusal → ItemAnswer
-answer_of (refusal.Construct number place) = Construct number place
-answer_of (refusal.Syntax place) = Syntax place
-
-both_refused : (t : Tokens) (from to : ℕ) (before : Context) (one other : Refusal) → IsRefusal t from to before one → IsRefusal t from to before other → answer_of one ≡ answer_of other
-both_refused t from to before one other is also = ap answer_of (one_refusal t from to before one other is also)
+-- an item with what stands behind it, from the two
+abbrev behind_of : Item → Context → ItemBehind
+behind_of item after = record { item = item; scope = after.scope; expressions = after.expressions }
 
 pub one_item_answer : HasOneAnswer
-one_item_answer t from to before (Read item) (Read other) (after, is) (behind, also) = ap (λ (item : Item). Read item) (one_read t from to before after behind item other is also).0
-one_item_answer t from to before (Read item) (Construct number place) (after, is) also = absurd (read_or_refused t from to before after item (refusal.Construct number place) is also)
-one_item_answer t from to before (Read item) (Syntax place) (after, is) also = absurd (read_or_refused t from to before after item (refusal.Syntax place) is also)
-one_item_answer t from to before (Construct number place) (Read item) is (after, also) = absurd (read_or_refused t from to before after item (refusal.Construct number place) also is)
-one_item_answer t from to before (Syntax place) (Read item) is (after, also) = absurd (read_or_refused t from to before after item (refusal.Syntax place) also is)
-one_item_answer t from to before (Construct number place) (Construct other second) is also = both_refused t from to before (refusal.Construct number place) (refusal.Construct other second) is also
-one_item_answer t from to before (Construct number place) (Syntax second) is also = both_refused t from to before (refusal.Construct number place) (refusal.Syntax second) is also
-one_item_answer t from to before (Syntax place) (Construct other second) is also = both_refused t from to before (refusal.Syntax place) (refusal.Construct other second) is also
-one_item_answer t from to before (Syntax place) (Syntax second) is also = both_refused t from to before (refusal.Syntax place) (refusal.Syntax second) is also
-
--- what is answered of an item that is read in a text is true
-pub answer_is : (t : Tokens) (from to : ℕ) (before : Context) (read : ReadIn) → IsReadIn t from to before read → IsAnswer t from to before (answer_of_read read)
-answer_is t from to before (reading.Read behind) is = (record { scope = behind.scope; expressions = behind.expressions }, is)
-answer_is t from to before (reading.Refused (refusal.Construct number place)) is = is
-answer_is t from to before (reading.Refused (refusal.Syntax place)) is = is
+one_item_answer t from to before (Read one) (Read other) is also =
+    let (same, after) = one_read t from to before (context_at one.scope one.expressions) (context_at other.scope other.expressions) one.item other.item is also in
+    λ i. Read (behind_of (same i) (after i))
+one_item_answer t from to before (Read one) (Unread unread) is also = absurd (read_or_unread t from to before (context_at one.scope one.expressions) one.item unread is also)
+one_item_answer t from to before (Unread unread) (Read other) is also = absurd (read_or_unread t from to before (context_at other.scope other.expressions) other.item unread also is)
+one_item_answer t from to before (Unread unread) (Unread other) is also = ap Unread (one_unread t from to before unread other is also)

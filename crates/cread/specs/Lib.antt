@@ -4,12 +4,11 @@ pub mod ReadItem
 pub mod TextItems
 pub mod ItemRows
 pub mod ItemsRead
-pub mod Refusals
-pub mod ReadIn
+pub mod UnreadItems
 pub mod RowItems
 pub mod ItemAnswers
 pub mod Named
-pub mod Needed
+pub mod InOrder
 pub mod NamesAfter
 pub mod SpelledNames
 pub mod Numbered

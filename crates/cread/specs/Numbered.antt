@@ -8,7 +8,7 @@ use Rattle.ctokens.specs.declared.item_span.ItemSpan.{ItemSpan}
 use Rattle.ctokens.specs.declared.token.Tokens.{Tokens}
 use Rattle.ctrees.specs.Numbers.{AreConsecutive, item_numbers}
 use Rattle.cread.specs.Items.{SpellsItem}
-use Rattle.cread.specs.Needed.{ReadsAll}
+use Rattle.cread.specs.InOrder.{ReadsAll}
 
 -- The expressions of a row that is an item have the numbers from the count of those before it up to the count behind it, each
 -- once, in the order of the text.

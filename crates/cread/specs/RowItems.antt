@@ -11,7 +11,7 @@ use Rattle.cgrammar.specs.Phrases.{Context}
 use Rattle.cgrammar.specs.Readings.{most_levels}
 use Rattle.cgrammar.specs.Scope.{Names}
 use Rattle.cgrammar.specs.Terminals.{Terminal}
-use Rattle.cread.specs.Refusals.{IsPlaceIn}
+use Rattle.cread.specs.UnreadItems.{IsPlaceIn}
 use Rattle.cread.specs.Items.{SpellsItem}
 
 -- the row is the item, which has few enough levels

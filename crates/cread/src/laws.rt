@@ -1,7 +1,7 @@
 //! Laws that hold of every row, and of the items of every text.
 
 ghost use Rattle.cread.specs.ItemAnswers.{HasOneAnswer};
-ghost use Rattle.cread.specs.Needed.{HaveOneAnswer};
+ghost use Rattle.cread.specs.InOrder.{HaveOneReading};
 ghost use Rattle.cread.specs.Numbered.{ItemsAreNumbered, ReadItemsAreNumbered};
 ghost use Rattle.cread.specs.OneItem.{IsOneItem};
 ghost use Rattle.cread.specs.SpelledNames.{AreNamesSpelled};
@@ -29,14 +29,15 @@ pub fn expressions_are_numbered()
     ensures items { ReadItemsAreNumbered }
 {}
 
-/// Of an item at most one answer is true.
+/// Of an item at most one answer is true: one tree with what stands behind it, or one way in which it is not read.
 #[tactic(auto, using(crate::proofs::OneAnswer::one_item_answer))]
 pub fn one_item_answer()
     ensures { HasOneAnswer }
 {}
 
-/// Of one list of items at most one answer is true: one program, or one refusal.
-#[tactic(auto, using(crate::proofs::NeededItems::one_answer))]
-pub fn needed_have_one_answer()
-    ensures { HaveOneAnswer }
+/// One list of items, read one behind the other, has at most one program, or else one item that is the first that is not
+/// read, in one way (C11 6.9).
+#[tactic(auto, using(crate::proofs::InOrder::one_reading))]
+pub fn items_have_one_reading()
+    ensures { HaveOneReading }
 {}

@@ -6,18 +6,18 @@ ghost use Rattle.ctokens.specs.TokenList.{AreNumbered};
 ghost use Rattle.cgrammar.specs.Readings.{row_between};
 ghost use Rattle.cconstructs.specs.Constructs.{HasNoConstruct};
 ghost use Rattle.cconstructs.specs.Layout.{HasNoLayout};
-ghost use Rattle.cread.specs.ReadIn.{IsReadIn};
-ghost use Rattle.cread.specs.Refusals.{IsPlaceIn, IsPlaceOf, IsRefusal, ShowsLayout};
+ghost use Rattle.cread.specs.ItemAnswers.{IsAnswer};
+ghost use Rattle.cread.specs.UnreadItems.{IsPlaceIn, IsPlaceOf, IsUnread, ShowsLayout};
 ghost use Rattle.cevents.specs.Building.{built_all};
 ghost use Rattle.cbuild.specs.ItemsMade.{item_made, nothing_made};
 ghost use Rattle.cread.specs.RowItems.{IsConstructOf, IsItemOf, IsItemOfNone, MakeItem};
 
-use crate::refusal::Refusal;
+use crate::unread::Unread;
 use cbase::{Item, NoMemory, Place};
 use cbuild::{BuiltItem, Unbuilt, build_item};
 use cconstructs::{first_construct, first_layout};
 use cgrammar::{Scope, Terminal, row_of_part};
-use creader::{WrittenItem, read_item};
+use creader::WrittenItem;
 use ctokens::{ItemSpan, Tokens};
 use std::alloc::Global;
 
@@ -34,38 +34,38 @@ pub struct ItemBehind {
 
 /// An item of a file that was read, or why it was not.
 #[derive(Drop)]
-pub enum ReadIn {
-    /// The grammar spells it, and it changes no layout.
+pub enum ItemRead {
+    /// The grammar spells it by a tree of at most 1,024 levels, and it changes no layout.
     Read(ItemBehind),
     /// It is not read, as this says.
-    Refused(Refusal),
+    Unread(Unread),
 }
 
 /// Reads the item of a text, where these names are in scope before it (C11 6.9). `passed` says which tokens of the text are
 /// passed over, and `expressions` how many expressions of the file end before the item, from 0: it is the number of its
 /// first.
 ///
-/// A change of layout is refused first, then a row that spells no item: by its first construct, or else as it begins. That the
-/// work grows with the item alone is measured by `bench/read.py`. An error says that memory is wanting.
+/// An item that changes a layout is not read; else a row that spells no item is not, for its first construct, or else for its
+/// syntax. That the work grows with the item alone is measured by `bench/read.py`. An error says that memory is wanting.
 #[tactic(auto, using(crate::proofs::FoundItems::passed_length))]
-pub fn read_item_in(
+pub fn read_item(
     alloc: Global,
     t: &Tokens,
     passed: &[bool],
     span: ItemSpan,
     scope: Scope,
     expressions: u32,
-) -> Result<ReadIn, NoMemory>
+) -> Result<ItemRead, NoMemory>
     requires text { LieInText t.now }
     requires numbered { AreNumbered t.now.list }
     requires passed { passed.now ≡ passed_tokens t.now }
     requires some { span.first < span.after }
     requires inside { span.after ≤ length t.now.list }
-    ensures { IfOk result (λ read. IsReadIn t.now span.first span.after (record { scope = scope; expressions = expressions }) read) }
+    ensures { IfOk result (λ read. IsAnswer t.now span.first span.after (record { scope = scope; expressions = expressions }) read) }
 {
     let row = row_of_part(alloc, t, passed, span.first as usize, span.after as usize)?;
     match layout_place(t, row.as_slice(), span.first, span.after) {
-        Some(place) => Ok(ReadIn::Refused(Refusal::Construct { number: 7, place })),
+        Some(place) => Ok(ItemRead::Unread(Unread::Construct { number: 7, place })),
         None => read_plain(alloc, t, row.as_slice(), span, scope, expressions),
     }
 }
@@ -79,15 +79,15 @@ fn read_plain(
     span: ItemSpan,
     scope: Scope,
     expressions: u32,
-) -> Result<ReadIn, NoMemory>
+) -> Result<ItemRead, NoMemory>
     requires same { row.now ≡ row_between t.now span.first span.after }
     requires plain { HasNoLayout t.now span.first span.after }
     requires inside { span.first < length t.now.list }
-    ensures { IfOk result (λ read. IsReadIn t.now span.first span.after (record { scope = scope; expressions = expressions }) read) }
+    ensures { IfOk result (λ read. IsAnswer t.now span.first span.after (record { scope = scope; expressions = expressions }) read) }
 {
     match read_row(alloc, row, scope, expressions)? {
-        Some(behind) => Ok(ReadIn::Read(behind)),
-        None => Ok(ReadIn::Refused(unread(alloc, t, row, span)?)),
+        Some(behind) => Ok(ItemRead::Read(behind)),
+        None => Ok(ItemRead::Unread(why_unread(alloc, t, row, span)?)),
     }
 }
 
@@ -102,7 +102,7 @@ fn read_row(
     ensures read { IfOk result (λ read. IfSome read (λ behind. IsItemOf row.now (context_at scope expressions) behind.item (context_at behind.scope behind.expressions))) }
     ensures none { IfOk result (λ read. IfNone read (IsItemOfNone row.now (context_at scope expressions))) }
 {
-    let written = read_item(alloc, row, scope)?;
+    let written = creader::read_item(alloc, row, scope)?;
     if !written.found {
         return Ok(None);
     }
@@ -141,21 +141,21 @@ fn build_row(
 }
 
 /// Why a row that spells no item and changes no layout is not read.
-#[tactic(auto, using(crate::proofs::FoundItems::refused_construct, crate::proofs::FoundItems::refused_syntax))]
-fn unread(
+#[tactic(auto, using(crate::proofs::FoundItems::unread_construct, crate::proofs::FoundItems::unread_syntax))]
+fn why_unread(
     alloc: Global,
     t: &Tokens,
     row: &[Terminal<'_>],
     span: ItemSpan,
-) -> Result<Refusal, NoMemory>
+) -> Result<Unread, NoMemory>
     requires same { row.now ≡ row_between t.now span.first span.after }
     requires plain { HasNoLayout t.now span.first span.after }
     requires inside { span.first < length t.now.list }
-    ensures { IfOk result (λ refusal. (before : Context) → IsItemOfNone row.now before → IsRefusal t.now span.first span.after before refusal) }
+    ensures { IfOk result (λ unread. (before : Context) → IsItemOfNone row.now before → IsUnread t.now span.first span.after before unread) }
 {
     match construct_place(alloc, row)? {
-        Some((number, place)) => Ok(Refusal::Construct { number, place }),
-        None => Ok(Refusal::Syntax {
+        Some((number, place)) => Ok(Unread::Construct { number, place }),
+        None => Ok(Unread::Syntax {
             place: place_of(t, span.first),
         }),
     }

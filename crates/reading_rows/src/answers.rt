@@ -5,9 +5,9 @@ ghost use Rattle.ctokens.specs.InText.{LieInText};
 ghost use Rattle.ctokens.specs.TokenList.{AreNumbered};
 
 use crate::places::places;
-use cbase::NoMemory;
+use cbase::{Item, NoMemory};
 use cgrammar::Scope;
-use cread::{ItemAnswer, ItemBehind, ReadIn, read_item, read_item_in, scope_after};
+use cread::{ItemBehind, ItemRead, Unread, read_item, scope_after};
 use ctokens::{ItemSpan, Tokens, items, passed_over};
 use std::alloc::Global;
 
@@ -21,9 +21,9 @@ pub enum Asked {
 }
 
 /// The names in scope behind what was read, where it was.
-fn scope_behind(read: ReadIn) -> Option<Scope> {
+fn scope_behind(read: ItemRead) -> Option<Scope> {
     match read {
-        ReadIn::Read(behind) => {
+        ItemRead::Read(behind) => {
             let ItemBehind {
                 item,
                 scope,
@@ -32,7 +32,7 @@ fn scope_behind(read: ReadIn) -> Option<Scope> {
             drop(item);
             Some(scope)
         }
-        ReadIn::Refused(_) => None,
+        ItemRead::Unread(_) => None,
     }
 }
 
@@ -54,18 +54,23 @@ fn behind_item(
     if span.after as usize > t.list.len() {
         return Ok(None);
     }
-    Ok(scope_behind(read_item_in(alloc, t, passed, *span, scope, 0)?))
+    Ok(scope_behind(read_item(alloc, t, passed, *span, scope, 0)?))
 }
 
 /// The names in scope behind items of a text, one behind the other from its beginning, where each is read.
-fn behind_items(alloc: Global, t: &Tokens, spans: &[ItemSpan]) -> Result<Option<Scope>, NoMemory>
+fn behind_items(
+    alloc: Global,
+    t: &Tokens,
+    passed: &[bool],
+    spans: &[ItemSpan],
+) -> Result<Option<Scope>, NoMemory>
     requires text { LieInText t.now }
     requires numbered { AreNumbered t.now.list }
+    requires passed { passed.now ≡ passed_tokens t.now }
 {
-    let passed = passed_over(alloc, t)?;
     let mut scope = Scope::new(alloc)?;
     for span in spans {
-        match behind_item(alloc, t, passed.as_slice(), span, scope)? {
+        match behind_item(alloc, t, passed, span, scope)? {
             None => return Ok(None),
             Some(within) => scope = within,
         }
@@ -73,17 +78,21 @@ fn behind_items(alloc: Global, t: &Tokens, spans: &[ItemSpan]) -> Result<Option<
     Ok(Some(scope))
 }
 
-/// An answer in words, or the places in an item that is read.
-fn shown(alloc: Global, answer: &ItemAnswer, asked: Asked) -> Result<String, NoMemory> {
-    match answer {
-        ItemAnswer::Read(item) => match asked {
-            Asked::Answer => Ok(String::from_str(alloc, "read")?),
-            Asked::Places => places(alloc, item),
-        },
-        ItemAnswer::Construct { number, place } => {
+/// An item that is read, in words, or the places in it.
+fn shown(alloc: Global, item: &Item, asked: Asked) -> Result<String, NoMemory> {
+    match asked {
+        Asked::Answer => Ok(String::from_str(alloc, "read")?),
+        Asked::Places => places(alloc, item),
+    }
+}
+
+/// Why an item is not read, in words.
+fn shown_unread(alloc: Global, unread: Unread) -> Result<String, NoMemory> {
+    match unread {
+        Unread::Construct { number, place } => {
             Ok(format!(in alloc; "construct {} at {}:{}", number, place.line, place.column)?)
         }
-        ItemAnswer::Syntax { place } => {
+        Unread::Syntax { place } => {
             Ok(format!(in alloc; "syntax at {}:{}", place.line, place.column)?)
         }
     }
@@ -93,12 +102,14 @@ fn shown(alloc: Global, answer: &ItemAnswer, asked: Asked) -> Result<String, NoM
 fn shown_item(
     alloc: Global,
     t: &Tokens,
+    passed: &[bool],
     span: &ItemSpan,
-    scope: &Scope,
+    scope: Scope,
     asked: Asked,
 ) -> Result<String, NoMemory>
     requires text { LieInText t.now }
     requires numbered { AreNumbered t.now.list }
+    requires passed { passed.now ≡ passed_tokens t.now }
 {
     if span.first >= span.after {
         return Ok(String::from_str(alloc, "no token")?);
@@ -106,10 +117,14 @@ fn shown_item(
     if span.after as usize > t.list.len() {
         return Ok(String::from_str(alloc, "outside")?);
     }
-    let answer = read_item(alloc, t, span, scope)?;
-    let shown = shown(alloc, &answer, asked);
-    drop(answer);
-    shown
+    match read_item(alloc, t, passed, *span, scope, 0)? {
+        ItemRead::Read(behind) => {
+            let shown = shown(alloc, &behind.item, asked);
+            drop(behind);
+            shown
+        }
+        ItemRead::Unread(unread) => shown_unread(alloc, unread),
+    }
 }
 
 /// What is answered of the last of these items, where each before it is read.
@@ -126,9 +141,17 @@ fn shown_last(
     if count == 0 {
         return Ok(String::from_str(alloc, "no item")?);
     }
-    match behind_items(alloc, t, &spans[..count - 1])? {
+    let passed = passed_over(alloc, t)?;
+    match behind_items(alloc, t, passed.as_slice(), &spans[..count - 1])? {
         None => Ok(String::from_str(alloc, "not read before")?),
-        Some(scope) => shown_item(alloc, t, &spans[count - 1], &scope, asked),
+        Some(scope) => shown_item(
+            alloc,
+            t,
+            passed.as_slice(),
+            &spans[count - 1],
+            scope,
+            asked,
+        ),
     }
 }
 
@@ -144,15 +167,19 @@ pub fn last(alloc: Global, t: &Tokens, asked: Asked) -> Result<String, NoMemory>
     }
 }
 
-/// The names in scope behind an item that was read, where it was.
-fn scope_behind_answer(
+/// The names that an item's tree leaves in scope behind those before it, where the item was read.
+fn scope_behind_tree(
     alloc: Global,
-    answer: &ItemAnswer,
-    scope: &Scope,
+    read: ItemRead,
+    before: &Scope,
 ) -> Result<Option<Scope>, NoMemory> {
-    match answer {
-        ItemAnswer::Read(item) => Ok(Some(scope_after(alloc, scope, item)?)),
-        ItemAnswer::Construct { .. } | ItemAnswer::Syntax { .. } => Ok(None),
+    match read {
+        ItemRead::Read(behind) => {
+            let after = scope_after(alloc, before, &behind.item);
+            drop(behind);
+            Ok(Some(after?))
+        }
+        ItemRead::Unread(_) => Ok(None),
     }
 }
 
@@ -172,10 +199,10 @@ fn is_typedef_behind(
     if span.after as usize > t.list.len() {
         return Ok(String::from_str(alloc, "outside")?);
     }
-    let answer = read_item(alloc, t, span, scope)?;
-    let behind = scope_behind_answer(alloc, &answer, scope);
-    drop(answer);
-    match behind? {
+    let passed = passed_over(alloc, t)?;
+    let before = scope.copied(alloc)?;
+    let read = read_item(alloc, t, passed.as_slice(), *span, before, 0)?;
+    match scope_behind_tree(alloc, read, scope)? {
         None => Ok(String::from_str(alloc, "not read")?),
         Some(behind) => Ok(format!(in alloc; "{}", behind.is_typedef(b"t"))?),
     }

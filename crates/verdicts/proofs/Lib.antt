@@ -1,5 +1,6 @@
 pub mod Exactness
 pub mod FaultPlaces
+pub mod NeededItems
 pub mod Told
 pub mod OneVerdict
 pub mod Printed

@@ -10,11 +10,10 @@ use Rattle.ctokens.specs.TokenList.{HasNamedFiles}
 use Rattle.ctokens.specs.Items.{IsFirstDeep, IsItems}
 use Rattle.ctokens.specs.Need.{IsNeed}
 use Rattle.ctokens.specs.ItemRows.{item_rows}
-use Rattle.cread.specs.Needed.{AreRead, IsRefused, at_file, spans_of}
+use Rattle.cread.specs.InOrder.{AreRead, IsFirstUnread, at_file}
 use Rattle.cread.specs.Named.{IsNamed}
-use Rattle.cread.specs.declared.needed_items.ReadNeeded.TheVariants.{Refused}
-use Rattle.cread.specs.declared.refusal.Refusal.{Refusal}
-use Rattle.cread.specs.declared.refusal.Refusal.TheVariants as refusal
+use Rattle.cread.specs.declared.unread.Unread.{Unread}
+use Rattle.cread.specs.declared.unread.Unread.TheVariants as unread
 use Rattle.std.proofs.lemmas.Option.{slice_get_cases, get_or_from_slice_get}
 use Rattle.report.specs.declared.answer.Why.TheVariants as why
 use Rattle.report.specs.declared.answer.Answer.TheVariants.{NotRead, NotYet}
@@ -25,6 +24,7 @@ use Rattle.first_form.specs.declared.token.PlacedToken.{PlacedToken}
 use Rattle.first_form.specs.FirstForm.{IsFormed}
 use Rattle.first_form.specs.Faults.{AreFaults}
 use Rattle.first_form.specs.Row.{item_tokens}
+use Rattle.verdicts.specs.Needed.{spans_of}
 use Rattle.verdicts.specs.Told.{IsTold}
 use Rattle.verdicts.specs.Verdict.{IsFirstForm, IsSound, answer_of, only_item, verdict_of}
 use Rattle.verdicts.specs.Warnings.{AreWarnings, warning_of}
@@ -60,17 +60,17 @@ no_main_told t items is need = record {
   verdict = tt;
 }
 
--- the first item that is not read is refused
-pub refused_told : (t : Tokens) (items : List ItemSpan) (numbers : List ℕ) (refused : Refusal) → IsItems t (Ok items) → IsNeed (item_rows t items) (Some numbers)
-    → IsRefused t (spans_of items numbers) at_file refused → IsNamed t.names (Refused refused) → IsTold t (answer_of refused)
-refused_told t items numbers (refusal.Construct number place) is need refused named = record {
-  judged = λ file bytes short are. (short, (t, items, numbers, record { are_tokens = are; are_items = is; are_needed = need }, refused));
+-- the first item that is not read is told with its reason
+pub unread_told : (t : Tokens) (items : List ItemSpan) (numbers : List ℕ) (reason : Unread) → IsItems t (Ok items) → IsNeed (item_rows t items) (Some numbers)
+    → IsFirstUnread t (spans_of items numbers) at_file reason → IsNamed t.names reason → IsTold t (answer_of reason)
+unread_told t items numbers (unread.Construct number place) is need first named = record {
+  judged = λ file bytes short are. (short, (t, items, numbers, record { are_tokens = are; are_items = is; are_needed = need }, first));
   named = λ file bytes are. (t, are, refl);
   printable = named;
   verdict = tt;
 }
-refused_told t items numbers (refusal.Syntax place) is need refused named = record {
-  judged = λ file bytes short are. (short, (t, items, numbers, record { are_tokens = are; are_items = is; are_needed = need }, refused));
+unread_told t items numbers (unread.Syntax place) is need first named = record {
+  judged = λ file bytes short are. (short, (t, items, numbers, record { are_tokens = are; are_items = is; are_needed = need }, first));
   named = λ file bytes are. (t, are, refl);
   printable = named.1;
   verdict = tt;

@@ -1,3 +1,4 @@
+pub mod Needed
 pub mod Warnings
 pub mod Shown
 pub mod Verdict

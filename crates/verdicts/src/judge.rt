@@ -4,18 +4,20 @@ ghost use Rattle.ctokens.specs.Items.{IsInside, IsItems};
 ghost use Rattle.ctokens.specs.Need.{IsNeed};
 ghost use Rattle.ctokens.specs.ItemRows.{item_rows};
 ghost use Rattle.ctokens.specs.InText.{LieInText, most_bytes};
-ghost use Rattle.cread.specs.Needed.{AreRead, spans_of};
+ghost use Rattle.cread.specs.InOrder.{AreRead};
 ghost use Rattle.ctokens.specs.TokenList.{HasNamedFiles, AreNumbered};
 ghost use Rattle.report.specs.Report.{HasPrintable};
 ghost use Rattle.first_form.specs.FirstForm.{IsSmall};
+ghost use Rattle.verdicts.specs.Needed.{spans_of};
 ghost use Rattle.verdicts.specs.Told.{IsTold};
 ghost use Rattle.verdicts.specs.Verdict.{IsExact, IsVerdict, Judges, answer_of, only_item, verdict_of};
 ghost use Rattle.verdicts.specs.Shown.{AreNames};
 ghost use Rattle.verdicts.specs.Warnings.{AreWarnings};
 
+use crate::needed_items::{ReadNeeded, read_needed};
 use crate::warnings::warnings_of;
 use cbase::{List, NoMemory, Text};
-use cread::{ReadNeeded, Refusal, needed_have_one_answer, read_needed};
+use cread::{Unread, items_have_one_reading};
 use ctokens::{
     Deep, ItemSpan, Lexical, Tokens, items, needed, one_item_list, one_token_list, tokens_of_bytes,
 };
@@ -49,7 +51,7 @@ pub fn judge(alloc: Global, file: &[u8], text: &[u8]) -> Result<Judged, NoMemory
 {
     one_token_list();
     one_item_list();
-    needed_have_one_answer();
+    items_have_one_reading();
     let judged = answer_of_text(alloc, file, text)?;
     Ok(judged)
 }
@@ -133,7 +135,7 @@ fn answer_of_items(alloc: Global, t: &Tokens, items: &List<ItemSpan>) -> Result<
 }
 
 /// The answer to a text where main needs the items with these numbers: they are read in order.
-#[tactic(auto, using(crate::proofs::Told::refused_told))]
+#[tactic(auto, using(crate::proofs::Told::unread_told))]
 fn answer_of_needed(
     alloc: Global,
     t: &Tokens,
@@ -149,18 +151,18 @@ fn answer_of_needed(
     ensures { IfOk result (IsTold t.now) }
 {
     match read_needed(alloc, t, items, numbers)? {
-        ReadNeeded::Refused(refusal) => Ok(answer_of(refusal)),
+        ReadNeeded::Unread(unread) => Ok(answer_of(unread)),
         ReadNeeded::Read(_) => answer_of_read(alloc, t, items, numbers),
     }
 }
 
-/// The answer where an item that main needs is refused so.
-fn answer_of(refusal: Refusal) -> Answer
-    ensures { result ≡ answer_of refusal }
+/// The answer where an item that main needs is not read, for this reason.
+fn answer_of(unread: Unread) -> Answer
+    ensures { result ≡ answer_of unread }
 {
-    match refusal {
-        Refusal::Construct { number, place } => Answer::Construct { number, place },
-        Refusal::Syntax { place } => Answer::NotRead {
+    match unread {
+        Unread::Construct { number, place } => Answer::Construct { number, place },
+        Unread::Syntax { place } => Answer::NotRead {
             why: Why::Syntax { place },
         },
     }

@@ -6,6 +6,7 @@
 
 mod judge;
 mod laws;
+mod needed_items;
 mod top;
 mod warnings;
 

@@ -3,29 +3,27 @@ ghost use Rattle.std.specs.List.{All};
 ghost use Rattle.ctokens.specs.InText.{LieInText};
 ghost use Rattle.ctokens.specs.TokenList.{HasNamedFiles, AreNumbered};
 ghost use Rattle.ctokens.specs.Items.{IsItems, IsSpanAmong};
-ghost use Rattle.cread.specs.Needed.{AreAnswered, spans_of, with_span};
-ghost use Rattle.cread.specs.Named.{IsNamed};
+ghost use Rattle.verdicts.specs.Needed.{AreAnswered, AreNamed, spans_of, with_span};
 
-use crate::reading_item::{ItemBehind, ReadIn, read_item_in};
-use crate::refusal::Refusal;
 use cbase::{List, NoMemory, Program};
 use cgrammar::Scope;
+use cread::{ItemBehind, ItemRead, Unread, read_item};
 use ctokens::{ItemSpan, Tokens, passed_over};
 use std::alloc::Global;
 
-/// What is answered of the items that main needs: a program, or why one of them is refused.
+/// What is answered of the items that main needs: a program, or why one of them is not read.
 #[derive(Drop)]
 pub enum ReadNeeded {
     /// Each is read: their trees, in the order in which they were read.
     Read(Program),
-    /// One is not read: why the first such is refused.
-    Refused(Refusal),
+    /// One is not read: why the first such is not.
+    Unread(Unread),
 }
 
 /// Reads the items with these numbers, one behind the other: each where the names that those before it declare are in
 /// scope, and as many expressions end before it as they have (C11 6.9).
 ///
-/// The first that is not read is refused. A number past the last item stands for none. That the work grows with the text and
+/// The first that is not read ends it. A number past the last item stands for none. That the work grows with the text and
 /// with the items that are read alone is measured by `bench/read.py`. An error says that memory is wanting.
 #[tactic(auto, using(crate::proofs::NeededItems::answer_named, crate::proofs::NeededItems::spans_some))]
 pub fn read_needed(
@@ -39,7 +37,7 @@ pub fn read_needed(
     requires spans { IsItems t.now (Ok items.now) }
     requires named { HasNamedFiles t.now }
     ensures answered { IfOk result (AreAnswered t.now (spans_of items.now numbers.now)) }
-    ensures named { IfOk result (IsNamed t.now.names) }
+    ensures named { IfOk result (AreNamed t.now.names) }
 {
     let spans = spans_of(alloc, items, numbers)?;
     let needed = read_all(alloc, t, spans.as_slice())?;
@@ -86,8 +84,8 @@ fn read_all(alloc: Global, t: &Tokens, spans: &[ItemSpan]) -> Result<ReadNeeded,
     let mut scope = Scope::new(alloc)?;
     let mut expressions: u32 = 0;
     for span in spans {
-        match read_item_in(alloc, t, passed.as_slice(), *span, scope, expressions)? {
-            ReadIn::Read(behind) => {
+        match read_item(alloc, t, passed.as_slice(), *span, scope, expressions)? {
+            ItemRead::Read(behind) => {
                 let ItemBehind {
                     item,
                     scope: within,
@@ -97,7 +95,7 @@ fn read_all(alloc: Global, t: &Tokens, spans: &[ItemSpan]) -> Result<ReadNeeded,
                 scope = within;
                 expressions = count;
             }
-            ReadIn::Refused(refusal) => return Ok(ReadNeeded::Refused(refusal)),
+            ItemRead::Unread(unread) => return Ok(ReadNeeded::Unread(unread)),
         }
     }
     Ok(ReadNeeded::Read(program))

@@ -1,5 +1,5 @@
--- Of an item at most one answer is true: one tree with what stands behind it, or one refusal. What is refused has a
--- number, and its place a name.
+-- Of an item at most one answer is true: one tree with what stands behind it, or one reason why it is not read. A reason
+-- has a number, and its place a name.
 use Rattle.std.proofs.Common.{◌≡◌, ℕ, ◌-◌, ◌<◌, ◌≤◌, inl, inr, rules, lit≤, Bool, true, false, Some, List, [], ◌∷◌, length, map, take, drop, slice_get, cond, ap, sym, ◌∙◌, subst, arith}
 use Rattle.std.specs.List.{All}
 use Rattle.std.specs.Str.{bytes_eq}
@@ -20,11 +20,11 @@ use Rattle.ctokens.specs.declared.token.Token.{Token}
 use Rattle.ctokens.specs.declared.token.Tokens.{Tokens}
 use Rattle.ctokens.specs.Passed.{passed_tokens, unpassed}
 use Rattle.ctokens.specs.TokenList.{HasNamedFiles}
-use Rattle.cread.specs.Refusals.{IsPlaceIn, IsPlaceOf, IsRefusal, ShowsConstruct, ShowsLayout}
+use Rattle.cread.specs.UnreadItems.{IsPlaceIn, IsPlaceOf, IsUnread, ShowsConstruct, ShowsLayout}
 use Rattle.cread.specs.ItemsRead.{IsItemRead}
-use Rattle.cread.specs.declared.refusal.Refusal.{Refusal}
-use Rattle.cread.specs.declared.refusal.Refusal.TheVariants.{Construct, Syntax}
-use Rattle.cread.specs.Named.{HasNumber, place_in}
+use Rattle.cread.specs.declared.unread.Unread.{Unread}
+use Rattle.cread.specs.declared.unread.Unread.TheVariants.{Construct, Syntax}
+use Rattle.cread.specs.Named.{HasNumber, IsNamed, place_in}
 use Rattle.cread.proofs.Complete.{one_item}
 
 -- one row is read in one way
@@ -32,12 +32,12 @@ pub one_read : (t : Tokens) (from to : ℕ) (before middle second : Context) (it
     → IsItemRead t from to before other second → (item ≡ other) × (middle ≡ second)
 one_read t from to before middle second item other read also = one_item item other before middle second (row_between t from to) read.spelled also.spelled
 
--- what is read is not refused
-pub read_or_refused : (t : Tokens) (from to : ℕ) (before middle : Context) (item : Item) (refusal : Refusal) → IsItemRead t from to before item middle
-    → IsRefusal t from to before refusal → ⊥
-read_or_refused t from to before middle item (Construct number place) read (inl layout) = read.plain layout.at layout.is.is
-read_or_refused t from to before middle item (Construct number place) read (inr construct) = construct.none item middle read.spelled read.small
-read_or_refused t from to before middle item (Syntax place) read nothing = nothing.none item middle read.spelled read.small
+-- what is read is not unread
+pub read_or_unread : (t : Tokens) (from to : ℕ) (before middle : Context) (item : Item) (unread : Unread) → IsItemRead t from to before item middle
+    → IsUnread t from to before unread → ⊥
+read_or_unread t from to before middle item (Construct number place) read (inl layout) = read.plain layout.at layout.is.is
+read_or_unread t from to before middle item (Construct number place) read (inr construct) = construct.none item middle read.spelled read.small
+read_or_unread t from to before middle item (Syntax place) read nothing = nothing.none item middle read.spelled read.small
 
 -- the first of numbers with a property
 one_first : (P : ℕ → Type 0) (at other : ℕ) → P at → ((earlier : ℕ) → earlier < at → P earlier → ⊥) → P other
@@ -81,18 +81,18 @@ two_constructs t from to number other before place second is also =
     let places = place_in_row row also.at place second (subst (λ (n : ℕ). IsPlaceIn row n place) at is.placed) also.placed in
     cc
 
--- an item is refused in one way
-pub one_refusal : (t : Tokens) (from to : ℕ) (before : Context) (refusal other : Refusal) → IsRefusal t from to before refusal
-    → IsRefusal t from to before other → refusal ≡ other
-one_refusal t from to before (Construct number place) (Construct other second) (inl layout) (inl also) = one_layout t from to number other place second layout also
-one_refusal t from to before (Construct number place) (Construct other second) (inl layout) (inr also) = absurd (also.plain layout.at layout.is.is)
-one_refusal t from to before (Construct number place) (Construct other second) (inr is) (inl layout) = absurd (is.plain layout.at layout.is.is)
-one_refusal t from to before (Construct number place) (Construct other second) (inr is) (inr also) = two_constructs t from to number other before place second is also
-one_refusal t from to before (Construct number place) (Syntax second) (inl layout) also = absurd (also.plain layout.at layout.is.is)
-one_refusal t from to before (Construct number place) (Syntax second) (inr is) also = absurd (also.free is.at number is.is.is)
-one_refusal t from to before (Syntax place) (Construct other second) is (inl layout) = absurd (is.plain layout.at layout.is.is)
-one_refusal t from to before (Syntax place) (Construct other second) is (inr also) = absurd (is.free also.at other also.is.is)
-one_refusal t from to before (Syntax place) (Syntax second) is also = ap Syntax (one_place t from place second is.placed also.placed)
+-- an item is not read for one reason
+pub one_unread : (t : Tokens) (from to : ℕ) (before : Context) (unread other : Unread) → IsUnread t from to before unread
+    → IsUnread t from to before other → unread ≡ other
+one_unread t from to before (Construct number place) (Construct other second) (inl layout) (inl also) = one_layout t from to number other place second layout also
+one_unread t from to before (Construct number place) (Construct other second) (inl layout) (inr also) = absurd (also.plain layout.at layout.is.is)
+one_unread t from to before (Construct number place) (Construct other second) (inr is) (inl layout) = absurd (is.plain layout.at layout.is.is)
+one_unread t from to before (Construct number place) (Construct other second) (inr is) (inr also) = two_constructs t from to number other before place second is also
+one_unread t from to before (Construct number place) (Syntax second) (inl layout) also = absurd (also.plain layout.at layout.is.is)
+one_unread t from to before (Construct number place) (Syntax second) (inr is) also = absurd (also.free is.at number is.is.is)
+one_unread t from to before (Syntax place) (Construct other second) is (inl layout) = absurd (is.plain layout.at layout.is.is)
+one_unread t from to before (Syntax place) (Construct other second) is (inr also) = absurd (is.free also.at other also.is.is)
+one_unread t from to before (Syntax place) (Syntax second) is also = ap Syntax (one_place t from place second is.placed also.placed)
 
 -- ---- numbers and names
 
@@ -123,10 +123,10 @@ construct_numbered (VariableArguments token found mark) = (lit≤ tt, lit≤ tt)
 construct_numbered (StringLiteral token found quoted free) = (lit≤ tt, lit≤ tt)
 construct_numbered (FunctionPointer opening star first opens second stars headed pointed) = (lit≤ tt, lit≤ tt)
 
-pub refusal_numbered : (t : Tokens) (from to : ℕ) (before : Context) (refusal : Refusal) → IsRefusal t from to before refusal → HasNumber refusal
-refusal_numbered t from to before (Construct number place) (inl layout) = let seven = layout.is_layout in (omega (arith, seven), omega (arith, seven))
-refusal_numbered t from to before (Construct number place) (inr is) = construct_numbered is.is.is
-refusal_numbered t from to before (Syntax place) is = tt
+unread_numbered : (t : Tokens) (from to : ℕ) (before : Context) (unread : Unread) → IsUnread t from to before unread → HasNumber unread
+unread_numbered t from to before (Construct number place) (inl layout) = let seven = layout.is_layout in (omega (arith, seven), omega (arith, seven))
+unread_numbered t from to before (Construct number place) (inr is) = construct_numbered is.is.is
+unread_numbered t from to before (Syntax place) is = tt
 
 pub All-unpassed : (P : Terminal → Type 0) (passed : List Bool) (row : List Terminal) → All P row → All P (unpassed passed row)
 All-unpassed P [] row all = All-nil P
@@ -147,8 +147,12 @@ row_named t from to at place (some, files) is =
     (All-take Named (to - from) (drop from (map (terminal_of t.text) t.list)) (All-drop Named from (map (terminal_of t.text) t.list) (All-map Named (terminal_of t.text) t.list files))) in
     subst (λ (p : Place). p.file < length t.names) is.is_place (All-at Named (row_between t from to) at is.token all is.is_token)
 
-pub refusal_named : (t : Tokens) (from to : ℕ) (before : Context) (refusal : Refusal) → HasNamedFiles t → IsRefusal t from to before refusal
-    → (place_in refusal).file < length t.names
-refusal_named t from to before (Construct number place) named (inl layout) = place_named t layout.at place named layout.placed
-refusal_named t from to before (Construct number place) named (inr is) = row_named t from to is.at place named is.placed
-refusal_named t from to before (Syntax place) named is = place_named t from place named is.placed
+place_is_named : (t : Tokens) (from to : ℕ) (before : Context) (unread : Unread) → HasNamedFiles t → IsUnread t from to before unread
+    → (place_in unread).file < length t.names
+place_is_named t from to before (Construct number place) named (inl layout) = place_named t layout.at place named layout.placed
+place_is_named t from to before (Construct number place) named (inr is) = row_named t from to is.at place named is.placed
+place_is_named t from to before (Syntax place) named is = place_named t from place named is.placed
+
+-- what is not read can be named
+pub unread_named : (t : Tokens) (from to : ℕ) (before : Context) (unread : Unread) → HasNamedFiles t → IsUnread t from to before unread → IsNamed t.names unread
+unread_named t from to before unread named is = (unread_numbered t from to before unread is, place_is_named t from to before unread named is)

@@ -2,7 +2,7 @@ use cbase::Place;
 
 /// Why an item is not read.
 #[derive(Clone, Copy, Debug, PartialEq, Eq)]
-pub enum Refusal {
+pub enum Unread {
     /// A construct of C that is given up stands at the place: the first change of layout, whose number is 7, or else the
     /// first construct, whose number is 1 to 6, 8 to 10 or 20 (`docs/report.md` names them).
     Construct { number: u8, place: Place },

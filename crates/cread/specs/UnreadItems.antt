@@ -12,8 +12,8 @@ use Rattle.ctokens.specs.declared.token.Token.{Token}
 use Rattle.ctokens.specs.declared.token.Tokens.{Tokens}
 use Rattle.ctrees.specs.Levels.{item_levels}
 use Rattle.cread.specs.Items.{SpellsItem}
-use Rattle.cread.specs.declared.refusal.Refusal.{Refusal}
-use Rattle.cread.specs.declared.refusal.Refusal.TheVariants.{Construct, Syntax}
+use Rattle.cread.specs.declared.unread.Unread.{Unread}
+use Rattle.cread.specs.declared.unread.Unread.TheVariants.{Construct, Syntax}
 
 -- the tokens are no item of at most 1,024 levels
 abbrev pub IsNoItem : Tokens → ℕ → ℕ → Context → Type 0
@@ -54,6 +54,6 @@ pub record ShowsNothing (t : Tokens) (from to : ℕ) (before : Context) (place :
   pub placed : IsPlaceOf t from place
 
 -- why the tokens are not read
-abbrev pub IsRefusal : Tokens → ℕ → ℕ → Context → Refusal → Type 0
-IsRefusal t from to before (Construct number place) = ShowsLayout t from to number place ⊎ ShowsConstruct t from to before number place
-IsRefusal t from to before (Syntax place) = ShowsNothing t from to before place
+abbrev pub IsUnread : Tokens → ℕ → ℕ → Context → Unread → Type 0
+IsUnread t from to before (Construct number place) = ShowsLayout t from to number place ⊎ ShowsConstruct t from to before number place
+IsUnread t from to before (Syntax place) = ShowsNothing t from to before place

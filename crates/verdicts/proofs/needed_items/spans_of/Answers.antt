@@ -1,7 +1,7 @@
 -- One more number is gone over.
 use Rattle.std.proofs.Common.{◌∙◌}
-use Rattle.cread.proofs.NeededItems.{spans_more}
-use Rattle.cread.proofs.needed_items.spans_of.Goals as goal
+use Rattle.verdicts.proofs.NeededItems.{spans_more}
+use Rattle.verdicts.proofs.needed_items.spans_of.Goals as goal
 
 pub loop-number-preserved : goal.loop-number-preserved
 loop-number-preserved c =

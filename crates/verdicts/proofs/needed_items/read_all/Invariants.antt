@@ -1,7 +1,7 @@
 -- The items so far are read.
 use Rattle.std.proofs.Common.{take}
-use Rattle.cread.specs.Needed.{ReadsAll, at_file}
-use Rattle.cread.proofs.needed_items.read_all.Given as goal
+use Rattle.cread.specs.InOrder.{ReadsAll, at_file}
+use Rattle.verdicts.proofs.needed_items.read_all.Given as goal
 
 abbrev pub invariant-loop-span : goal.invariant-loop-span
 invariant-loop-span l =

@@ -1,14 +1,14 @@
 -- The items so far and the next one.
-use Rattle.cread.proofs.NeededItems.{reads_none, reads_next, refused_next}
-use Rattle.cread.proofs.needed_items.read_all.Goals as goal
+use Rattle.verdicts.proofs.NeededItems.{reads_none, reads_next, unread_next}
+use Rattle.verdicts.proofs.needed_items.read_all.Goals as goal
 
 pub loop-span-init : goal.loop-span-init
 loop-span-init c = rw c.new-program.ensures (reads_none c.args.t.now c.in_ok-scope.scope c.in_ok-scope.ensures)
 
-pub returns-in-Refused : goal.returns-in-Refused
-returns-in-Refused c =
-    refused_next c.args.t.now c.args.spans.now _ _ _ c.in-Refused.refusal c.loop-span.span-index _ c.loop-span-test.true c.loop-span.invariant
-    (rw c.in-Refused.is at c.in_ok-behind.ensures)
+pub returns-in-Unread : goal.returns-in-Unread
+returns-in-Unread c =
+    unread_next c.args.t.now c.args.spans.now _ _ _ c.in-Unread.unread c.loop-span.span-index _ c.loop-span-test.true c.loop-span.invariant
+    (rw c.in-Unread.is at c.in_ok-behind.ensures)
 
 pub loop-span-preserved : goal.loop-span-preserved
 loop-span-preserved c =
