@@ -1,6 +1,5 @@
 -- Structs with their layouts beside them, as they are kept while the text of a program is read.
 use Rattle.std.specs.Prelude.{◌≡◌, ℕ, zero, suc, List, [], ◌∷◌, map, Option, Some, None, false, option_map, slice_get}
-use Rattle.std.specs.Option.{option_and_then}
 use Rattle.cbase.specs.declared.abi.Abi.TheVariants.{Lp64}
 use Rattle.cbase.specs.declared.structs.Field.{Field}
 use Rattle.cbase.specs.declared.structs.StructDef.{StructDef}
@@ -12,10 +11,6 @@ use Rattle.cbase.specs.Kept.{capped, IsSmall}
 -- the structs alone
 abbrev pub structs_of : List Entry → List StructDef
 structs_of entries = map (λ entry. entry.definition) entries
-
--- the layout that is kept of a struct
-abbrev pub layout_at : List Entry → ℕ → Option Layout
-layout_at entries number = option_and_then (λ entry. entry.lp64) (slice_get entries number)
 
 -- one more where there is a layout
 abbrev pub one_more : Option Layout → ℕ → ℕ

@@ -68,9 +68,9 @@ fn told(layout: Option<Layout>) -> Extent
 /// The size of a type, as `sizeof` of C11 6.5.3.4 gives it.
 ///
 /// `Incomplete` is for a type that is, or holds other than by pointers, `void` or an incomplete struct.
-/// So it is for what no program has: an integer of another number of bytes than 1, 2, 4 or 8, a struct
-/// whose number is past the list, and a struct that holds itself. It takes no memory, and a step for each array that stands
-/// inside another: a struct's layout is looked up.
+/// So it is for what no program has: an integer of another number of bytes than 1, 2, 4 or 8, and a struct
+/// whose number is past the list. It takes no memory, and a step for each array that stands inside another;
+/// the layout of a struct is looked up.
 #[tactic(auto, using(crate::proofs::Capped::extent_of_kept))]
 pub fn size(ctype: &CType, structs: &Structs, abi: Abi) -> Extent
     ensures { result ≡ extent_of (layout_of abi structs.now ctype.now) }

@@ -35,18 +35,18 @@ pub struct StructDef {
     pub fields: List<Field>,
 }
 
-/// A struct, and its layout from the end of its fields on.
+/// A struct with its layout.
 #[derive(Drop)]
 struct Entry {
     definition: StructDef,
-    /// Its layout by [`Abi::Lp64`].
+    /// Its layout by `Abi::Lp64`, once it is complete.
     lp64: Option<Layout>,
 }
 
 /// The structs of a program: a type names one by its place in this list.
 ///
-/// A struct is declared first, and completed where its fields end, as C11 6.7.2.1 has it. Its layout is laid there, once, and
-/// kept beside it, so whoever asks for a size walks no struct that stands inside another.
+/// A struct is declared first, and completed where its fields end (C11 6.7.2.1). There its layout is computed,
+/// once, and kept beside it: a struct that stands in another is never walked.
 #[derive(Drop)]
 pub struct Structs {
     entries: Vec<Entry>,
@@ -93,10 +93,10 @@ impl Structs {
         Some(&entry.definition)
     }
 
-    /// Puts a struct of that name behind the others, and gives its number. It has no fields yet, and is not complete.
+    /// Puts a struct of that name, which is incomplete, behind the others, and gives its number.
     ///
-    /// There are at most 2^32 structs: the call that would want one more answers as where memory is wanting. All stays as
-    /// it was then.
+    /// There are at most 2^32 structs: the call that would want one more answers as where memory is wanting.
+    /// Then all stays as it was.
     pub fn declare(&mut self, alloc: Global, name: Text) -> Result<u32, NoMemory>
         ensures ok { OnOk result (self.new ≡ self.old ++ fieldless name ∷ []) }
         ensures number { IfOk result (λ number. number ≡ length self.old) }
@@ -119,9 +119,9 @@ impl Structs {
 
     /// Gives the struct of that number its fields, with which it is complete (C11 6.7.2.1p8).
     ///
-    /// It answers whether it has done so. It has not, and all stays as it was, exactly where there is no such struct, where its
-    /// fields were given before (6.7.2.3p1), and where a field's type is incomplete (6.7.2.1p3). It takes no memory, and the
-    /// time of `size` for each field.
+    /// It answers whether it has done so. It has not, and all stays as it was, exactly where there is no such
+    /// struct, where its fields were given before (6.7.2.3p1), and where a field's type is incomplete
+    /// (6.7.2.1p3). It takes no memory, and the time of `size` for each field.
     pub fn complete(&mut self, number: u32, fields: List<Field>) -> bool
         ensures answer { result ≡ may_complete self.old number fields }
         ensures after { self.new ≡ (if result then completed self.old number fields else self.old) }

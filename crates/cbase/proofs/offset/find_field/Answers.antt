@@ -1,4 +1,4 @@
-use Rattle.std.proofs.Common.{◌≡◌, ℕ, suc, ap, ◌+◌, ◌∙◌, sym, add-zero, arith, Some, rules}
+use Rattle.std.proofs.Common.{◌≡◌, ℕ, suc, ap, ◌+◌, ◌∙◌, add-zero, arith, Some, rules}
 use Rattle.std.specs.Prelude.{option_map, nat_eq}
 use Rattle.std.specs.Cmp.Lexicographic.{pointwise}
 use Rattle.cbase.specs.Layout.{layout_of}
