@@ -17,9 +17,6 @@ min_mul most (suc count) size = elim (cases_lt most size) [
 min_count : (most count size : ℕ) → min (min count most * size) most ≡ min (count * size) most
 min_count most count size = rw (mul_comm (min count most) size, mul_comm count size) (min_mul most size count)
 
-pub capped-repeated : (count : ℕ) (item : Layout) → capped (repeated count (capped item)) ≡ capped (repeated count item)
-capped-repeated count item = ap (λ (size : ℕ). let l : Layout = record { size = size; alignment = item.alignment } in l) (min_mul 65537 count item.size)
-
 pub capped-repeated_count : (count : ℕ) (item : Layout) → capped (repeated (min count 65537) item) ≡ capped (repeated count item)
 capped-repeated_count count item = ap (λ (size : ℕ). let l : Layout = record { size = size; alignment = item.alignment } in l) (min_count 65537 count item.size)
 

@@ -47,7 +47,7 @@ if_more : (passes : BoolValue) (some more : Option Layout) (l : Layout) → (som
 if_more true some more l h e = h e
 if_more false some more l h e = e
 
-definition_more : (some more : CType → Option Layout) → GivesMore some more → GivesMore (struct_layout some) (struct_layout more)
+pub definition_more : (some more : CType → Option Layout) → GivesMore some more → GivesMore (struct_layout some) (struct_layout more)
 definition_more some more h None l e = e
 definition_more some more h (Some definition) l e = if_more definition.complete _ _ l (λ d. fields_more some more h no_fields definition.fields l d) e
 

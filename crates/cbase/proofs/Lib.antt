@@ -1,6 +1,8 @@
 pub mod Capped
 pub mod Deeper
 pub mod Fields
+pub mod Growing
+pub mod KeptStructs
 pub mod Offsets
 pub mod Rows
 pub mod Settled

@@ -48,10 +48,6 @@ field_kept before next (Some field) rest b e =
     let same : field ≡ next = sym (known ∙ capped-small field small) in
     (ap Some same, subst (λ (k : Layout). capped (with_field before k) ≡ with_field before k) same (capped-small (with_field before field) whole))
 
-field_none : (before : Layout) (first : Option Layout) (rest : List (Option Layout)) → IsBytes (extent_of (fields_layout before (first ∷ rest))) → None ≡ option_map capped first → ⊥
-field_none before None rest b e = b
-field_none before (Some field) rest b e = cc
-
 -- what goes on behind a field whose layout is known
 pub record Behind (of_type : CType → Option Layout) (before next : Layout) (fields : List Field) (index : ℕ) : Type 0 where
   pub bytes : IsBytes (extent_of (fields_layout (capped (with_field before next)) (map (λ f. of_type f.ctype) (drop (index + 1) fields))))
@@ -70,11 +66,6 @@ field_behind of_type before next fields index field within is b e =
       here = rw all refl;
       later = λ k. rw all (ap (λ (l : Layout). offset_behind l rest k) (sym known.1));
     }
-
-pub field_unknown : (of_type : CType → Option Layout) (before : Layout) (fields : List Field) (index : ℕ) (field : Field) → index < length fields → field ≡ get_or fields index field
-    → IsBytes (extent_of (fields_layout before (map (λ f. of_type f.ctype) (drop index fields)))) → None ≡ option_map capped (of_type field.ctype) → ⊥
-field_unknown of_type before fields index field within is b e =
-    field_none before (of_type field.ctype) (map (λ f. of_type f.ctype) (drop (index + 1) fields)) (rw (drop-field fields index field within is) at b) e
 
 -- a field that was found begins where its index says
 pub found_offset : (offset_at : ℕ → Option ℕ) (index offset : ℕ) (result : Option FieldAt) → IfSome result (λ f. f.offset ≡ offset) → IfSome result (λ f. f.index ≡ index)

@@ -1,4 +1,4 @@
--- An array of rows is one row.
+-- Arrays of arrays as one row of parts.
 use Rattle.std.proofs.Common.{◌≡◌, ℕ, ◌*◌, min, Option, Some, None, refl, sym, ap, ◌∙◌, mul_assoc}
 use Rattle.std.proofs.Math.Nat.{one-mul}
 use Rattle.std.specs.Prelude.{Bool as BoolValue, true, false, option_map, if◌then◌else◌}
@@ -6,51 +6,62 @@ use Rattle.cbase.specs.declared.abi.Abi.{Abi}
 use Rattle.cbase.specs.declared.ctype.CType.{CType}
 use Rattle.cbase.specs.declared.ctype.CType.TheVariants.{Void, Bool, Int, Pointer, Struct, Array}
 use Rattle.cbase.specs.declared.layout.Layout.{Layout}
-use Rattle.cbase.specs.declared.row.Row.{Row}
+use Rattle.cbase.specs.declared.row.RowPart.{RowPart}
 use Rattle.cbase.specs.declared.row.RowPart.TheVariants.{Unsized, Scalar, Struct as StructPart}
 use Rattle.cbase.specs.Layout.{type_layout, repeated, scalar, is_integer_size, pointer_bytes}
 use Rattle.cbase.specs.Kept.{capped}
-use Rattle.cbase.specs.KeptRows.{part_layout, row_layout, one, integer_row, array_row}
-use Rattle.cbase.proofs.Capped.{capped-repeated, capped-repeated_count}
+use Rattle.cbase.specs.KeptRows.{part_layout, row_layout, integer_part, IsRowOf}
+use Rattle.cbase.proofs.Capped.{capped-repeated_count}
 use Rattle.cbase.proofs.Types.{type_layout-Void, type_layout-Bool, type_layout-Int, type_layout-Pointer, type_layout-Struct, type_layout-Array}
 
-capped-array : (count items : ℕ) (item part : Layout) → capped item ≡ capped (repeated items part) → capped (repeated count item) ≡ capped (repeated (min (count * items) 65537) part)
-capped-array count items item part e =
-    sym (capped-repeated count item) ∙ ap (λ l. capped (repeated count l)) e ∙ capped-repeated count (repeated items part)
-    ∙ ap (λ (n : ℕ). capped (record { size = n; alignment = part.alignment })) (sym (mul_assoc count items part.size))
-    ∙ sym (capped-repeated_count (count * items) part)
+capped-rows : (count items : ℕ) (item : Layout) → capped (repeated count (repeated items item)) ≡ capped (repeated (min (count * items) 65537) item)
+capped-rows count items item =
+    ap (λ (n : ℕ). capped (record { size = n; alignment = item.alignment })) (sym (mul_assoc count items item.size))
+    ∙ sym (capped-repeated_count (count * items) item)
 
-option_array : (count items : ℕ) (item part : Option Layout) → option_map capped item ≡ option_map (λ l. capped (repeated items l)) part → option_map capped (option_map (repeated count) item) ≡ option_map (λ l. capped (repeated (min (count * items) 65537) l)) part
-option_array count items None None e = refl
-option_array count items None (Some part) e = cc
-option_array count items (Some item) None e = cc
-option_array count items (Some item) (Some part) e = let same : capped item ≡ capped (repeated items part) = cc in ap Some (capped-array count items item part same)
+option_rows : (count items : ℕ) (item : Option Layout) → option_map (λ l. capped (repeated count l)) (option_map (repeated items) item) ≡ option_map (λ l. capped (repeated (min (count * items) 65537) l)) item
+option_rows count items None = refl
+option_rows count items (Some item) = ap Some (capped-rows count items item)
 
-pub type_layout_array : (abi : Abi) (of_struct : ℕ → Option Layout) (t : CType) (count : ℕ) (row : Row) → option_map capped (type_layout abi of_struct t) ≡ row_layout of_struct row → option_map capped (type_layout abi of_struct (Array t count)) ≡ row_layout of_struct (array_row row count)
-type_layout_array abi of_struct t count row e = rw (type_layout-Array abi of_struct t count) (option_array count row.count (type_layout abi of_struct t) (part_layout of_struct row.part) e)
-
-pub type_layout_void : (abi : Abi) (of_struct : ℕ → Option Layout) → option_map capped (type_layout abi of_struct Void) ≡ row_layout of_struct (one Unsized)
-type_layout_void abi of_struct = rw (type_layout-Void abi of_struct) refl
-
-pub type_layout_bool : (abi : Abi) (of_struct : ℕ → Option Layout) → option_map capped (type_layout abi of_struct Bool) ≡ row_layout of_struct (one (Scalar 1))
-type_layout_bool abi of_struct = rw (type_layout-Bool abi of_struct) refl
-
-capped-one : (part : Layout) → capped part ≡ capped (repeated 1 part)
-capped-one part = ap (λ (n : ℕ). capped (record { size = n; alignment = part.alignment })) (sym (one-mul part.size))
-
-option_integer : (of_struct : ℕ → Option Layout) (bytes : ℕ) (is_size : BoolValue) → option_map capped (if is_size then Some (scalar bytes) else None) ≡ row_layout of_struct (if is_size then one (Scalar bytes) else one Unsized)
-option_integer of_struct bytes true = ap Some (capped-one (scalar bytes))
-option_integer of_struct bytes false = refl
-
-pub type_layout_int : (abi : Abi) (of_struct : ℕ → Option Layout) (bytes : ℕ) (signed : BoolValue) → option_map capped (type_layout abi of_struct (Int bytes signed)) ≡ row_layout of_struct (integer_row bytes)
-type_layout_int abi of_struct bytes signed = rw (type_layout-Int abi of_struct bytes signed) (option_integer of_struct bytes (is_integer_size bytes))
-
-pub type_layout_pointer : (abi : Abi) (of_struct : ℕ → Option Layout) (t : CType) → option_map capped (type_layout abi of_struct (Pointer t)) ≡ row_layout of_struct (one (Scalar (pointer_bytes abi)))
-type_layout_pointer abi of_struct t = rw (type_layout-Pointer abi of_struct t) (ap Some (capped-one (scalar (pointer_bytes abi))))
-
-option_one : (part : Option Layout) → option_map capped part ≡ option_map (λ l. capped (repeated 1 l)) part
+option_one : (item : Option Layout) → option_map capped item ≡ option_map (λ l. capped (repeated 1 l)) item
 option_one None = refl
-option_one (Some part) = ap Some (capped-one part)
+option_one (Some item) = ap Some (ap (λ (n : ℕ). capped (record { size = n; alignment = item.alignment })) (sym (one-mul item.size)))
 
-pub type_layout_struct : (abi : Abi) (of_struct : ℕ → Option Layout) (number : ℕ) → option_map capped (type_layout abi of_struct (Struct number)) ≡ row_layout of_struct (one (StructPart number))
-type_layout_struct abi of_struct number = rw (type_layout-Struct abi of_struct number) (option_one (of_struct number))
+-- a type is one item of itself
+pub row_one : (abi : Abi) (t : CType) → IsRowOf abi t 1 t
+row_one abi t = λ of_struct. option_one (type_layout abi of_struct t)
+
+-- an array's items in place of the array
+pub row_more : (abi : Abi) (t item : CType) (count items : ℕ) → IsRowOf abi t count (Array item items) → IsRowOf abi t (min (count * items) 65537) item
+row_more abi t item count items row = λ of_struct.
+    row of_struct ∙ (ap (option_map (λ l. capped (repeated count l))) (type_layout-Array abi of_struct item items) ∙ option_rows count items (type_layout abi of_struct item))
+
+-- where the layout of an item is that of a part, the type is laid as the row of these parts
+row_end : (abi : Abi) (t item : CType) (count : ℕ) (part : RowPart) → IsRowOf abi t count item → ((of_struct : ℕ → Option Layout) → type_layout abi of_struct item ≡ part_layout of_struct part)
+    → (of_struct : ℕ → Option Layout) → option_map capped (type_layout abi of_struct t) ≡ row_layout of_struct (record { count = count; part = part })
+row_end abi t item count part row same of_struct = row of_struct ∙ ap (option_map (λ l. capped (repeated count l))) (same of_struct)
+
+integer_same : (of_struct : ℕ → Option Layout) (bytes : ℕ) (is_size : BoolValue) → (if is_size then Some (scalar bytes) else None) ≡ part_layout of_struct (if is_size then Scalar bytes else Unsized)
+integer_same of_struct bytes true = refl
+integer_same of_struct bytes false = refl
+
+-- the layout of a row of parts, for each type that is no array
+abbrev EndsAs : CType → RowPart → Type 0
+EndsAs item part = (abi : Abi) (t : CType) (count : ℕ) → IsRowOf abi t count item
+    → (of_struct : ℕ → Option Layout) → option_map capped (type_layout abi of_struct t) ≡ row_layout of_struct (record { count = count; part = part })
+
+pub row_void : EndsAs Void Unsized
+row_void abi t count row = row_end abi t Void count Unsized row (λ of_struct. type_layout-Void abi of_struct)
+
+pub row_bool : EndsAs Bool (Scalar 1)
+row_bool abi t count row = row_end abi t Bool count (Scalar 1) row (λ of_struct. type_layout-Bool abi of_struct)
+
+pub row_int : (bytes : ℕ) (signed : BoolValue) → EndsAs (Int bytes signed) (integer_part bytes)
+row_int bytes signed abi t count row = row_end abi t (Int bytes signed) count (integer_part bytes) row (λ of_struct. type_layout-Int abi of_struct bytes signed ∙ integer_same of_struct bytes (is_integer_size bytes))
+
+pub row_pointer : (item : CType) (abi : Abi) (t : CType) (count : ℕ) → IsRowOf abi t count (Pointer item)
+    → (of_struct : ℕ → Option Layout) → option_map capped (type_layout abi of_struct t) ≡ row_layout of_struct (record { count = count; part = Scalar (pointer_bytes abi) })
+row_pointer item abi t count row = row_end abi t (Pointer item) count (Scalar (pointer_bytes abi)) row (λ of_struct. type_layout-Pointer abi of_struct item)
+
+pub row_struct : (number : ℕ) → EndsAs (Struct number) (StructPart number)
+row_struct number abi t count row = row_end abi t (Struct number) count (StructPart number) row (λ of_struct. type_layout-Struct abi of_struct number)

@@ -1,7 +1,9 @@
 pub mod formers
 pub mod Bytes
+pub mod Completing
 pub mod Kept
 pub mod KeptRows
+pub mod KeptStructs
 pub mod Layout
 pub mod Offset
 pub mod Ranks

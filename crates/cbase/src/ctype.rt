@@ -1,7 +1,8 @@
 use crate::boxed::Boxed;
 
 /// A type of C, with its typedefs followed and its enums read as integers.
-#[derive(Drop)]
+///
+/// It is let go of by a loop, however many types stand one inside the other.
 pub enum CType {
     /// `void`.
     Void,
@@ -20,4 +21,21 @@ pub enum CType {
     Struct(u32),
     /// An array of that many items of that type.
     Array(Boxed<CType>, u64),
+}
+
+impl Drop for CType {
+    fn drop(mut self) {
+        loop {
+            match self {
+                CType::Void
+                | CType::Bool
+                | CType::Int {
+                    bytes: _,
+                    signed: _,
+                }
+                | CType::Struct(_) => return,
+                CType::Pointer(item) | CType::Array(item, _) => self = item.into_inner(),
+            }
+        }
+    }
 }

@@ -296,18 +296,20 @@ fn type_of(alloc: Global, base: Base, dimensions: &[u64]) -> Result<CType, NoMem
     Ok(ctype)
 }
 
-fn struct_of(alloc: Global, samples: &[Sample]) -> Result<StructDef, NoMemory> {
+fn fields_of(alloc: Global, samples: &[Sample]) -> Result<List<Field>, NoMemory> {
     let mut fields = List::new(alloc);
     for (Sample(base, dimensions, _), letter) in samples.iter().zip(NAMES.iter()) {
         let ctype = type_of(alloc, *base, dimensions)?;
         let name = Text::from_slice(alloc, &[*letter])?;
         fields.push(Field { name, ctype })?;
     }
-    Ok(StructDef {
-        name: Text::new(alloc),
-        complete: true,
-        fields,
-    })
+    Ok(fields)
+}
+
+/// Whether one more struct could be completed with these fields.
+fn add(alloc: Global, structs: &mut Structs, samples: &[Sample]) -> Result<bool, NoMemory> {
+    let number = structs.declare(alloc, Text::new(alloc))?;
+    Ok(structs.complete(number, fields_of(alloc, samples)?))
 }
 
 /// The name of the field with that index.
@@ -325,10 +327,11 @@ fn field_in(number: u32, name: &[u8], structs: &Structs) -> Option<FieldAt> {
 
 #[test]
 fn layouts_are_those_of_gcc(rt: HostRuntime) -> Result<(), Fail> {
-    let mut structs = List::new(rt.alloc());
+    let mut structs = Structs::new(rt.alloc());
     for sample in SAMPLES.iter() {
-        structs.push(struct_of(rt.alloc(), sample.fields)?)?;
+        assert_eq!(rt; add(rt.alloc(), &mut structs, sample.fields)?, true);
     }
+    assert_eq!(rt; structs.len(), 30);
     for (number, sample) in (0u32..30).zip(SAMPLES.iter()) {
         let ctype = CType::Struct(number);
         assert_eq!(rt;
@@ -351,8 +354,8 @@ fn layouts_are_those_of_gcc(rt: HostRuntime) -> Result<(), Fail> {
 
 #[test]
 fn sizes_of_arrays(rt: HostRuntime) -> Result<(), Fail> {
-    let mut structs = List::new(rt.alloc());
-    structs.push(struct_of(rt.alloc(), &[])?)?;
+    let mut structs = Structs::new(rt.alloc());
+    assert_eq!(rt; add(rt.alloc(), &mut structs, &[])?, true);
     let cases: [(Base, &[u64], Extent); 8] = [
         (Base::Int(1), &[65_536], Extent::Bytes(65_536)),
         (Base::Int(1), &[65_537], Extent::TooLarge),
@@ -371,35 +374,56 @@ fn sizes_of_arrays(rt: HostRuntime) -> Result<(), Fail> {
 }
 
 #[test]
-fn what_holds_an_incomplete_type_is_incomplete(rt: HostRuntime) -> Result<(), Fail> {
-    let mut structs = List::new(rt.alloc());
-    structs.push(StructDef {
-        name: Text::new(rt.alloc()),
-        complete: false,
-        fields: List::new(rt.alloc()),
-    })?;
-    let field = Sample(Base::Struct(0), &[2], 0);
-    structs.push(struct_of(rt.alloc(), &[field])?)?;
+fn a_struct_is_incomplete_until_it_is_given_fields_of_complete_types(
+    rt: HostRuntime,
+) -> Result<(), Fail> {
+    let mut structs = Structs::new(rt.alloc());
+    let first = structs.declare(rt.alloc(), Text::from_slice(rt.alloc(), b"s")?)?;
+    assert_eq!(rt; first, 0);
+    for field in [Base::Struct(0), Base::Struct(1), Base::Int(3)] {
+        let sample = Sample(field, &[2], 0);
+        assert_eq!(rt; add(rt.alloc(), &mut structs, &[sample])?, false);
+    }
     for ctype in [CType::Void, CType::Struct(0), CType::Struct(1)] {
         assert_eq!(rt; size(&ctype, &structs, Abi::Lp64), Extent::Incomplete);
         assert_eq!(rt; align(&ctype, &structs, Abi::Lp64), None);
     }
     let pointer = CType::Pointer(Boxed::new(rt.alloc(), CType::Struct(0))?);
     assert_eq!(rt; size(&pointer, &structs, Abi::Lp64), Extent::Bytes(8));
+    let pointers = fields_of(rt.alloc(), &[Sample(Base::Pointer, &[3], 0)])?;
+    assert_eq!(rt; structs.complete(0, pointers), true);
+    assert_eq!(rt;
+        size(&CType::Struct(0), &structs, Abi::Lp64),
+        Extent::Bytes(24)
+    );
+    assert_eq!(rt; structs.complete(0, fields_of(rt.alloc(), &[])?), false);
+    let inner = fields_of(rt.alloc(), &[Sample(Base::Struct(0), &[2], 0)])?;
+    assert_eq!(rt; structs.complete(1, inner), true);
+    assert_eq!(rt;
+        size(&CType::Struct(1), &structs, Abi::Lp64),
+        Extent::Bytes(48)
+    );
     Ok(())
 }
 
 #[test]
-fn sixteen_levels_of_doubling_take_no_time(rt: HostRuntime) -> Result<(), Fail> {
-    let mut structs = List::new(rt.alloc());
-    structs.push(struct_of(rt.alloc(), &[Sample(Base::Int(1), &[], 0)])?)?;
-    for below in 0u32..16 {
+fn thirty_levels_of_doubling_take_no_time(rt: HostRuntime) -> Result<(), Fail> {
+    let mut structs = Structs::new(rt.alloc());
+    assert_eq!(rt;
+        add(rt.alloc(), &mut structs, &[Sample(Base::Int(1), &[], 0)])?,
+        true
+    );
+    for below in 0u32..29 {
         let twin = Sample(Base::Struct(below), &[], 0);
-        structs.push(struct_of(rt.alloc(), &[twin, twin])?)?;
+        assert_eq!(rt; add(rt.alloc(), &mut structs, &[twin, twin])?, true);
     }
     assert_eq!(rt;
         size(&CType::Struct(16), &structs, Abi::Lp64),
         Extent::Bytes(65_536)
+    );
+    assert_eq!(rt;
+        size(&CType::Struct(29), &structs, Abi::Lp64),
+        Extent::TooLarge
     );
     Ok(())
 }

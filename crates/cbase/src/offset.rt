@@ -7,7 +7,7 @@ ghost use Rattle.cbase.specs.Offset.{IsBytes, fields_of, index_of, offset_of};
 use crate::abi::Abi;
 use crate::ctype::CType;
 use crate::layout::Layout;
-use crate::measure::{at, type_layout};
+use crate::measure::type_layout;
 use crate::structs::{Field, Structs};
 
 /// Where a field lies in its struct.
@@ -43,7 +43,7 @@ fn find_field(fields: &[Field], name: &[u8], structs: &Structs, abi: Abi) -> Opt
 {
     let mut before = Layout::empty();
     for (index, field) in fields.iter().enumerate() {
-        let next = type_layout(&field.ctype, structs.as_slice(), abi, structs.len())?;
+        let next = type_layout(&field.ctype, structs, abi)?;
         if field.name.as_slice() == name {
             return field_behind(before, next, index);
         }
@@ -64,6 +64,6 @@ pub fn field_at(number: u32, name: &[u8], structs: &Structs, abi: Abi) -> Option
     ensures index { IfSome result (λ found. index_of name.now (fields_of structs.now number) ≡ Some found.index) }
     ensures offset { IfSome result (λ found. offset_of abi structs.now (fields_of structs.now number) found.index ≡ Some found.offset) }
 {
-    let definition = at(structs.as_slice(), number as usize)?;
+    let definition = structs.get(number)?;
     find_field(definition.fields.as_slice(), name, structs, abi)
 }

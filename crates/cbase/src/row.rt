@@ -1,8 +1,8 @@
-ghost use Rattle.std.specs.Prelude.{◌≡◌, ℕ, Option, option_map};
+ghost use Rattle.std.specs.Prelude.{◌≡◌, ◌*◌, ℕ, min, Option, option_map};
 ghost use Rattle.cbase.specs.Layout.{type_layout, pointer_bytes};
 ghost use Rattle.cbase.specs.declared.layout.Layout.{Layout};
 ghost use Rattle.cbase.specs.Kept.{capped};
-ghost use Rattle.cbase.specs.KeptRows.{row_layout, integer_row, array_row, IsSmallRow};
+ghost use Rattle.cbase.specs.KeptRows.{row_layout, integer_part, IsSmallRow};
 
 use crate::abi::Abi;
 use crate::ctype::CType;
@@ -40,55 +40,43 @@ pub(crate) fn pointer_bytes(abi: Abi) -> u8
 }
 
 /// One number of so many bytes, if there are integers of that size.
-fn integer_row(bytes: u8) -> Row
-    ensures { result ≡ integer_row bytes }
+fn integer_part(bytes: u8) -> RowPart
+    ensures { result ≡ integer_part bytes }
 {
     match bytes {
-        1 | 2 | 4 | 8 => Row {
-            count: 1,
-            part: RowPart::Scalar(bytes),
-        },
-        _ => Row {
-            count: 1,
-            part: RowPart::Unsized,
-        },
+        1 | 2 | 4 | 8 => RowPart::Scalar(bytes),
+        _ => RowPart::Unsized,
     }
 }
 
-/// The row of an array of so many items.
-fn array_row(item: Row, count: u64) -> Row
-    ensures { result ≡ array_row item count }
+/// How many parts that many arrays of so many items have.
+fn parts_of(arrays: u32, items: u64) -> u32
+    ensures { result ≡ min (arrays * items) 65537 }
 {
-    Row {
-        count: count.saturating_mul(item.count as u64).min(TOO_MANY) as u32,
-        part: item.part,
-    }
+    items.saturating_mul(arrays as u64).min(TOO_MANY) as u32
 }
 
-/// The parts of a type.
-#[tactic(auto, using(crate::proofs::Rows::type_layout_void, crate::proofs::Rows::type_layout_bool, crate::proofs::Rows::type_layout_int, crate::proofs::Rows::type_layout_pointer, crate::proofs::Rows::type_layout_struct, crate::proofs::Rows::type_layout_array))]
+/// The parts of a type, by a loop over its arrays.
+#[tactic(auto, using(crate::proofs::Rows::row_one, crate::proofs::Rows::row_more, crate::proofs::Rows::row_bool, crate::proofs::Rows::row_struct))]
 pub(crate) fn row_of(ctype: &CType, abi: Abi) -> Row
     ensures layout { (of_struct : ℕ → Option Layout) → option_map capped (type_layout abi of_struct ctype.now) ≡ row_layout of_struct result }
     ensures small { IsSmallRow result }
 {
-    match ctype {
-        CType::Void => Row {
-            count: 1,
-            part: RowPart::Unsized,
-        },
-        CType::Bool => Row {
-            count: 1,
-            part: RowPart::Scalar(1),
-        },
-        CType::Int { bytes, .. } => integer_row(*bytes),
-        CType::Pointer(_) => Row {
-            count: 1,
-            part: RowPart::Scalar(pointer_bytes(abi)),
-        },
-        CType::Struct(number) => Row {
-            count: 1,
-            part: RowPart::Struct(*number),
-        },
-        CType::Array(item, count) => array_row(row_of(item.get(), abi), *count),
+    let mut count = 1;
+    let mut item = ctype;
+    loop {
+        let part = match item {
+            CType::Array(inner, items) => {
+                count = parts_of(count, *items);
+                item = inner.get();
+                continue;
+            }
+            CType::Void => RowPart::Unsized,
+            CType::Bool => RowPart::Scalar(1),
+            CType::Int { bytes, .. } => integer_part(*bytes),
+            CType::Pointer(_) => RowPart::Scalar(pointer_bytes(abi)),
+            CType::Struct(number) => RowPart::Struct(*number),
+        };
+        return Row { count, part };
     }
 }

@@ -1,4 +1,4 @@
-use Rattle.std.proofs.Common.{◌≡◌, ℕ, suc, ap, ◌+◌, ◌∙◌, sym, add-zero, arith, Some, rules}
+use Rattle.std.proofs.Common.{◌≡◌, ℕ, suc, ap, ◌+◌, ◌∙◌, add-zero, arith, Some, rules}
 use Rattle.std.specs.Prelude.{option_map, nat_eq}
 use Rattle.std.specs.Cmp.Lexicographic.{pointwise}
 use Rattle.cbase.specs.Layout.{layout_of}
@@ -9,7 +9,7 @@ use Rattle.cbase.proofs.offset.find_field.Goals as goal
 
 pub returns-then-eq-clause-offset : goal.returns-then-eq-clause-offset
 returns-then-eq-clause-offset c =
-    let known : Some c.in_ok-next.next ≡ option_map capped (layout_of c.args.abi c.args.structs.now c.index-fields-index.result.ctype) = rw (sym c.len.ensures, sym c.as_slice.ensures) c.in_ok-next.ensures.value in
+    let known : Some c.in_ok-next.next ≡ option_map capped (layout_of c.args.abi c.args.structs.now c.index-fields-index.result.ctype) = c.in_ok-next.ensures.value in
     let behind : Behind (λ t. layout_of c.args.abi c.args.structs.now t) c.loop-index.before c.in_ok-next.next c.args.fields.now c.loop-index.index =
     field_behind _ c.loop-index.before c.in_ok-next.next c.args.fields.now c.loop-index.index c.index-fields-index.result c.loop-index-test.true c.index-fields-index.is c.loop-index.invariant.bytes known in
     found_offset (λ k. offset_of c.args.abi c.args.structs.now c.args.fields.now k) c.loop-index.index _ _ c.field_behind.ensures.offset c.field_behind.ensures.index
@@ -20,7 +20,7 @@ shift index k = omega arith
 
 pub loop-index-preserved : goal.loop-index-preserved
 loop-index-preserved c =
-    let known : Some c.in_ok-next.next ≡ option_map capped (layout_of c.args.abi c.args.structs.now c.index-fields-index.result.ctype) = rw (sym c.len.ensures, sym c.as_slice.ensures) c.in_ok-next.ensures.value in
+    let known : Some c.in_ok-next.next ≡ option_map capped (layout_of c.args.abi c.args.structs.now c.index-fields-index.result.ctype) = c.in_ok-next.ensures.value in
     let behind : Behind (λ t. layout_of c.args.abi c.args.structs.now t) c.loop-index.before c.in_ok-next.next c.args.fields.now c.loop-index.index =
     field_behind _ c.loop-index.before c.in_ok-next.next c.args.fields.now c.loop-index.index c.index-fields-index.result c.loop-index-test.true c.index-fields-index.is c.loop-index.invariant.bytes known in
     record {
