@@ -144,14 +144,7 @@ fn shown_last(
     let passed = passed_over(alloc, t)?;
     match behind_items(alloc, t, passed.as_slice(), &spans[..count - 1])? {
         None => Ok(String::from_str(alloc, "not read before")?),
-        Some(scope) => shown_item(
-            alloc,
-            t,
-            passed.as_slice(),
-            &spans[count - 1],
-            scope,
-            asked,
-        ),
+        Some(scope) => shown_item(alloc, t, passed.as_slice(), &spans[count - 1], scope, asked),
     }
 }
 
