@@ -6,3 +6,5 @@ pub mod Marks
 pub mod Steps
 pub mod MachineRows
 pub mod ClauseRows
+pub mod StandingLaws
+pub mod ScalarLaws

@@ -8,3 +8,4 @@ pub mod Standing
 pub mod Valid
 pub mod MachineRows
 pub mod ClauseRows
+pub mod Deciding

@@ -5,13 +5,23 @@
 #![tactic(auto)]
 
 mod answer;
+mod behind;
 mod counting;
+mod edges;
 mod flow_graph;
 mod heads;
+mod initials;
 mod instruction;
 pub mod laws;
 mod links;
+mod naming;
+mod orders;
+mod points;
 mod range;
+mod reading;
+mod scopes;
+mod sizes;
+mod standing;
 mod walking;
 
 pub use answer::Walks;
