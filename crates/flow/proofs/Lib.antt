@@ -8,3 +8,6 @@ pub mod MachineRows
 pub mod ClauseRows
 pub mod StandingLaws
 pub mod ScalarLaws
+pub mod MarkingLaws
+pub mod OwningLaws
+pub mod FlowLaws

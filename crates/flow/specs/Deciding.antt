@@ -7,7 +7,7 @@ use Rattle.flow.specs.declared.flow_graph.FlowFunction.{FlowFunction}
 use Rattle.flow.specs.declared.flow_graph.Initial.{Initial}
 use Rattle.flow.specs.declared.flow_graph.Standing.{Standing}
 use Rattle.flow.specs.Standing.{stands_at}
-use Rattle.flow.specs.Valid.{is_scalar_size, is_local, is_parameter, names_what_is_there, has_sizes, are_distinct, ascend, calls_rightly, reads_what_stands, tests_one_size, has_scope}
+use Rattle.flow.specs.Valid.{is_scalar_size, is_object_size, is_initial, is_close, is_call_of, is_local, is_parameter, names_what_is_there, has_sizes, are_distinct, ascend, calls_rightly, reads_what_stands, tests_one_size, has_scope}
 
 -- what is told of an edge and of what stands where it begins
 abbrev pub is_right_edge : Flow → FlowEdge → Bool
@@ -68,3 +68,16 @@ abbrev pub are_in_order : List Initial → Bool
 are_in_order [] = true
 are_in_order (first ∷ []) = true
 are_in_order (first ∷ second ∷ rest) = comes_before first second && are_in_order (second ∷ rest)
+
+-- whether main is not called, or no edge looks for blocks that were never freed
+abbrev pub closes_once : Flow → Bool
+closes_once flow =
+    not (list_any (λ edge. is_close edge.instr) flow.edges) || not (list_any (λ edge. is_call_of flow.main edge.instr) flow.edges)
+
+-- all that is told of one point, function, scalar or edge alone
+abbrev pub is_right_alone : Flow → Bool
+is_right_alone flow =
+    list_all (λ head. nat_lt head flow.points) flow.heads && (nat_eq (length flow.stands) flow.points
+    && (list_all (is_right_standing flow) flow.stands && (list_all (λ variable. is_object_size variable.size) flow.variables
+    && (list_all (is_initial flow) flow.initial && (are_apart flow.initial
+    && (list_all (is_right_function flow) flow.functions && (list_all (is_right_edge flow) flow.edges && closes_once flow)))))))

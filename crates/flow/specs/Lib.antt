@@ -9,3 +9,5 @@ pub mod Valid
 pub mod MachineRows
 pub mod ClauseRows
 pub mod Deciding
+pub mod Marked
+pub mod Owning
