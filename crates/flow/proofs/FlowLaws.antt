@@ -1,6 +1,6 @@
 -- What holds of a flow graph, put together from what is told of its parts.
-use Rattle.std.proofs.Common.{◌≡◌, ◌≢◌, ℕ, zero, suc, ◌+◌, ◌<◌, ◌⊎◌, inl, inr, List, [], ◌∷◌, length, map, refl, sym, ap, ◌∙◌, Bool, true, false, not, ◌&&◌, ◌||◌, nat_eq, nat_lt, Some, rules, arith}
-use Rattle.std.specs.Prelude.{All, AllPairs, Contains, IsTrue, slice_index_or}
+use Rattle.std.proofs.Common.{◌≡◌, ◌≢◌, ℕ, ◌<◌, ◌⊎◌, inl, inr, List, [], ◌∷◌, length, map, refl, sym, Bool, true, false, not, nat_eq, nat_lt, Some, arith}
+use Rattle.std.specs.Prelude.{All, Contains, IsTrue, slice_index_or}
 use Rattle.std.specs.List.{list_all, list_any, Any}
 use Rattle.std.proofs.lemmas.Bool.{cases_Bool, eq-eqb, eqb-true, ltb-true, lt-ltb, and_parts, and_from, or_cases, or_left, or_right, both_ways, not-true, not_from_false, false_from_ne_true}
 use Rattle.std.proofs.lemmas.List.Elements.{All-weaker, All-contains, Contains-get_or}
@@ -10,14 +10,10 @@ use Rattle.std.proofs.lemmas.Map.Views.{Contains-from_any}
 use Rattle.flow.specs.declared.flow_graph.Flow.{Flow}
 use Rattle.flow.specs.declared.flow_graph.FlowEdge.{FlowEdge}
 use Rattle.flow.specs.declared.flow_graph.FlowFunction.{FlowFunction}
-use Rattle.flow.specs.declared.flow_graph.Initial.{Initial}
-use Rattle.flow.specs.declared.flow_graph.Standing.{Standing}
-use Rattle.flow.specs.declared.flow_graph.Variable.{Variable}
-use Rattle.flow.specs.declared.flow_graph.Width.{Width}
 use Rattle.flow.specs.InRange.{IsInRange}
 use Rattle.flow.specs.Standing.{stands_at, stands_after}
 use Rattle.flow.specs.Walks.{is_return}
-use Rattle.flow.specs.Valid.{is_scalar_size, is_object_size, is_initial, is_close, is_call_of, is_local, is_parameter, exit_of, names_what_is_there, has_sizes, are_distinct, ascend, calls_rightly, reads_what_stands, tests_one_size, has_scope, AreApart, HasReturn, AreSeparate, IsFlow}
+use Rattle.flow.specs.Valid.{is_object_size, is_initial, is_close, is_call_of, exit_of, names_what_is_there, has_sizes, calls_rightly, reads_what_stands, tests_one_size, has_scope, HasReturn, AreSeparate, IsFlow}
 use Rattle.flow.specs.Deciding.{is_right_edge, has_right_variables, has_right_registers, is_right_standing, are_among, has_right_parameters, has_right_entry, is_right_function, are_apart, closes_once, is_right_alone}
 use Rattle.flow.proofs.ScalarLaws.{pairs_told, told_pairs}
 
@@ -147,10 +143,11 @@ flow_told flow in_range alone closes leads entries returns exits separate =
     entry_parts function h =
         let p0 = and_parts (has_right_parameters flow function) (has_right_entry flow function) h in
         let p1 = and_parts (are_among function.parameters (stands_at flow function.entry).variables) _ p0.1 in
-        let p2 = and_parts (are_among (stands_at flow function.entry).variables function.parameters) _ p1.1 in
-        (
-          λ variable. (among_told function.parameters (stands_at flow function.entry).variables p1.0 variable,
-          among_told (stands_at flow function.entry).variables function.parameters p2.0 variable),
+        let p2 = and_parts (are_among (stands_at flow function.entry).variables function.parameters) _ p1.1 in (
+          λ variable. (
+            among_told function.parameters (stands_at flow function.entry).variables p1.0 variable,
+            among_told (stands_at flow function.entry).variables function.parameters p2.0 variable,
+          ),
           no_items (stands_at flow function.entry).registers p2.1,
         )
 

@@ -1,5 +1,5 @@
 -- What marks of points tell of the edges and functions of a graph.
-use Rattle.std.proofs.Common.{◌≡◌, ◌≢◌, ℕ, ◌+◌, ◌<◌, ◌⊎◌, inl, inr, List, [], ◌∷◌, ◌++◌, length, take, get_or, map, refl, sym, ap, ◌∙◌, Bool, true, false, not, ◌||◌, nat_eq, cond, Some, rules, arith}
+use Rattle.std.proofs.Common.{◌≡◌, ◌≢◌, ℕ, ◌+◌, ◌<◌, ◌⊎◌, inl, inr, List, [], ◌∷◌, ◌++◌, length, take, map, refl, sym, ap, ◌∙◌, Bool, true, false, not, ◌||◌, nat_eq, cond, Some}
 use Rattle.std.specs.Prelude.{All, Contains, IsTrue, slice_get, slice_set, slice_index_or}
 use Rattle.std.specs.List.{list_all, list_any}
 use Rattle.std.proofs.lemmas.Bool.{cases_eq, cases_Bool, eq-eqb, eqb-true, eqb-false, ne_eqb, both_ways, not-true, not_from_false, false_from_ne_true, or_cases, or_left, or_right}
@@ -64,7 +64,7 @@ returns_told edges exits marks told is are = (forth, back)
   where
     left : (edge : FlowEdge) → (not (is_return edge.instr) || slice_index_or marks edge.from false) ≡ true → IsTrue (is_return edge.instr) → Contains exits edge.from
     left edge h returns = elim (or_cases _ _ h) [
-      inl differs ↦ absurd (both_ways _ (not-true _ differs) returns)
+      | inl differs ↦ absurd (both_ways _ (not-true _ differs) returns)
       | inr holds ↦ Contains-from_any (λ x y e. eqb-true x y e) edge.from exits (sym (are.marked edge.from) ∙ holds)
     ]
 

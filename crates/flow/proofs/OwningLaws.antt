@@ -1,7 +1,7 @@
 -- What is noted of points: that it is so, and what it tells where no edge is open.
-use Rattle.std.proofs.Common.{◌≡◌, ◌≢◌, ℕ, zero, suc, ◌+◌, ◌<◌, ◌⊎◌, inl, inr, List, length, get_or, refl, sym, ap, subst, ◌∙◌, Bool, true, false, not, ◌&&◌, nat_eq, Some, rules, arith}
-use Rattle.std.specs.Prelude.{All, Contains, slice_get, slice_set, slice_index, if◌then◌else◌}
-use Rattle.std.proofs.lemmas.Bool.{cases_eq, eq-eqb, eqb-true, ne_eqb, and_parts, and_cases, not-true, not-false, eqb-false}
+use Rattle.std.proofs.Common.{◌≡◌, ◌≢◌, ℕ, zero, suc, ◌+◌, ◌<◌, ◌⊎◌, inl, inr, List, length, get_or, refl, sym, ap, subst, ◌∙◌, true, false, not, nat_eq, Some, arith}
+use Rattle.std.specs.Prelude.{All, Contains, slice_get, slice_set, slice_index}
+use Rattle.std.proofs.lemmas.Bool.{cases_eq, eqb-true, and_parts, and_cases, not-true, not-false, eqb-false}
 use Rattle.std.proofs.lemmas.List.{get_or-set_same, get_or-set_other, length-set}
 use Rattle.std.proofs.lemmas.List.Elements.{All-contains}
 use Rattle.std.proofs.lemmas.Option.{slice_get_within}
@@ -117,9 +117,10 @@ end_more flow count owners edge are stands below free =
   where
     is_so : (number : ℕ) → slice_index owners edge.from ≡ suc number → IsReachedFrom flow number edge.to × (number < count)
     is_so number is =
-        let from = are.reached edge.from number is in
-        (record { function = from.function; stands = from.stands; reached = Along edge.from edge from.reached stands refl },
-        are.below edge.from number is)
+        let from = are.reached edge.from number is in (
+          record { function = from.function; stands = from.stands; reached = Along edge.from edge from.reached stands refl },
+          are.below edge.from number is,
+        )
 
 -- an open edge whose end is noted joins what is reached from two entries
 pub two_owners : (flow : Flow) (count : ℕ) (owners : List ℕ) (edge : FlowEdge) → AreOwned flow count owners → Contains flow.edges edge →

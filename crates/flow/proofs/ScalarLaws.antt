@@ -1,5 +1,5 @@
 -- Scalars of static variables that are apart, as the code tells it and as it is meant.
-use Rattle.std.proofs.Common.{◌≡◌, ℕ, zero, suc, ◌+◌, ◌<◌, ◌≤◌, ◌⊎◌, inl, inr, List, [], ◌∷◌, length, Bool, true, false, not, ◌&&◌, ◌||◌, refl, arith, nat_eq, nat_lt}
+use Rattle.std.proofs.Common.{◌≡◌, zero, suc, ◌+◌, ◌≤◌, ◌⊎◌, inl, inr, List, [], ◌∷◌, true, not, ◌||◌, refl, arith, nat_eq}
 use Rattle.std.specs.Prelude.{AllPairs, All, nat_le}
 use Rattle.std.specs.List.{list_all}
 use Rattle.std.proofs.lemmas.Bool.{and_parts, and_from, or_cases, or_left, or_right, eqb-true, eq-eqb, leb-true, le-leb, not_from_false, ne_eqb, cases_eq, not-true, both_ways}
@@ -45,7 +45,7 @@ apart_told one other h = record { apart = λ same. told same (or_cases _ _ h) }
         ((one.at ≡ other.at) × (one.size ≡ other.size)) ⊎ ((one.at + one.size ≤ other.at) ⊎ (other.at + other.size ≤ one.at))
     told same (inl differ) = absurd (both_ways _ (not-true _ differ) (eq-eqb _ _ same))
     told same (inr k) = elim (or_cases _ _ k) [
-      inl e ↦ (let parts = and_parts (nat_eq one.at other.at) (nat_eq one.size other.size) e in inl (eqb-true _ _ parts.0, eqb-true _ _ parts.1))
+      | inl e ↦ (let parts = and_parts (nat_eq one.at other.at) (nat_eq one.size other.size) e in inl (eqb-true _ _ parts.0, eqb-true _ _ parts.1))
       | inr e ↦ inr (ranges e)
     ]
 

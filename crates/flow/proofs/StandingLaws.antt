@@ -1,7 +1,7 @@
 -- What stands behind an instruction, as the code computes it.
 use Rattle.std.proofs.Common.{◌≡◌, ℕ, List, [], ◌∷◌, length, take, map, refl, ap}
 use Rattle.flow.specs.declared.flow_graph.Flow.{Flow}
-use Rattle.flow.specs.Standing.{Asked, any, arguments_asked}
+use Rattle.flow.specs.Standing.{any, arguments_asked}
 
 -- the registers of what the end of a full expression asks for
 pub finish_empties : (registers : List ℕ) → map (λ asked. asked.register) (map any registers) ≡ registers

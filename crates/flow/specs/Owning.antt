@@ -2,7 +2,7 @@
 --
 -- Of a point that is reached from the entry of a function there is noted one more than the function's number, and 0 of a
 -- point that is not reached.
-use Rattle.std.specs.Prelude.{◌≡◌, ℕ, zero, suc, ◌<◌, Bool, not, ◌&&◌, List, length, nat_eq, slice_get, slice_index, Some, Contains, sum_by, if◌then◌else◌}
+use Rattle.std.specs.Prelude.{◌≡◌, ℕ, suc, ◌<◌, Bool, not, ◌&&◌, List, length, nat_eq, slice_get, slice_index, Some, sum_by, if◌then◌else◌}
 use Rattle.flow.specs.declared.flow_graph.Flow.{Flow}
 use Rattle.flow.specs.declared.flow_graph.FlowEdge.{FlowEdge}
 use Rattle.flow.specs.declared.flow_graph.FlowFunction.{FlowFunction}

@@ -49,7 +49,11 @@ fn with_width(alloc: Global, new: Width, mut widths: &[Width]) -> Result<Vec<Wid
 }
 
 /// The registers that still stand at the end of a full expression, which empties these.
-fn left_by_finish(alloc: Global, registers: &[u32], widths: &[Width]) -> Result<Vec<Width>, NoMemory>
+fn left_by_finish(
+    alloc: Global,
+    registers: &[u32],
+    widths: &[Width],
+) -> Result<Vec<Width>, NoMemory>
     ensures { IfOk result (λ left. left.items ≡ emptied_widths (map (λ asked. asked.register) (map any registers.now)) widths.now) }
 {
     kept(alloc, registers, widths)
@@ -72,7 +76,12 @@ fn left_by_call(
 }
 
 /// The registers that an instruction does not empty.
-fn left_by(alloc: Global, flow: &Flow, instr: &Instr, widths: &[Width]) -> Result<Vec<Width>, NoMemory>
+fn left_by(
+    alloc: Global,
+    flow: &Flow,
+    instr: &Instr,
+    widths: &[Width],
+) -> Result<Vec<Width>, NoMemory>
     ensures { IfOk result (λ left. left.items ≡ emptied_widths (emptied_by flow.now instr.now) widths.now) }
 {
     match instr {
@@ -179,7 +188,11 @@ fn with_variable(alloc: Global, new: u32, mut variables: &[u32]) -> Result<Vec<u
 }
 
 /// The variables that stand when these are entered.
-fn with_variables(alloc: Global, mut entered: &[u32], variables: &[u32]) -> Result<Vec<u32>, NoMemory>
+fn with_variables(
+    alloc: Global,
+    mut entered: &[u32],
+    variables: &[u32],
+) -> Result<Vec<u32>, NoMemory>
     ensures { IfOk result (λ all. all.items ≡ with_variables entered.entry.now variables.now) }
 {
     let mut all = variables.to_vec(alloc)?;

@@ -55,9 +55,7 @@ pub fn is_return(instr: &Instr) -> bool
 fn returns_are_marked(edges: &[FlowEdge], marks: &[bool]) -> bool
     ensures { result ≡ list_all (λ edge. not (is_return edge.instr) || slice_index_or marks.now edge.from false) edges.now }
 {
-    edges
-        .iter()
-        .all(|edge| !is_return(&edge.instr) || is_marked(marks, edge.from))
+    edges.iter().all(|edge| !is_return(&edge.instr) || is_marked(marks, edge.from))
 }
 
 /// The ends of edges.
@@ -108,10 +106,7 @@ pub fn no_edge_enters(alloc: Global, flow: &Flow) -> Result<bool, NoMemory>
         ↔ All (λ function. All (λ edge. edge.to ≢ function.entry) flow.now.edges) flow.now.functions) }
 {
     let marks = ends_marked(alloc, flow.edges.as_slice(), flow.points)?;
-    Ok(no_entry_is_marked(
-        flow.functions.as_slice(),
-        marks.as_slice(),
-    ))
+    Ok(no_entry_is_marked(flow.functions.as_slice(), marks.as_slice()))
 }
 
 /// Whether each return begins at the exit of a function.

@@ -108,7 +108,8 @@ pub fn reads_what_stands(flow: &Flow, point: u32, instr: &Instr) -> bool
             stands(widths, *left) && stands(widths, *right)
         }
         Instr::Fill { at, from, .. } => address_stands(widths, *at) && stands(widths, *from),
-        Instr::Copy { to, from, .. } => address_stands(widths, *to) && address_stands(widths, *from),
+        Instr::Copy { to, from, .. } => address_stands(widths, *to)
+            && address_stands(widths, *from),
         Instr::Finish { registers } => all_stand(widths, registers.as_slice()),
         Instr::Call {
             function,

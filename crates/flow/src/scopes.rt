@@ -13,9 +13,7 @@ use crate::standing::{parameters_of, result_size, variables_at};
 fn are_new(flow: &Flow, standing: &[u32], variables: &[u32]) -> bool
     ensures { result ≡ list_all (λ variable. is_local flow.now variable && not (list_any (nat_eq variable) standing.now)) variables.now }
 {
-    variables
-        .iter()
-        .all(|variable| is_local(flow, *variable) && !is_among(*variable, standing))
+    variables.iter().all(|variable| is_local(flow, *variable) && !is_among(*variable, standing))
 }
 
 /// Whether the variables that an instruction enters or leaves at a point may be entered, or left.

@@ -1,5 +1,5 @@
 -- What is put there already and what is left make up the whole.
-use Rattle.std.proofs.Common.{◌≡◌, ◌++◌, ◌∷◌, List, [], take, length, ◌<◌}
+use Rattle.std.proofs.Common.{◌≡◌, ◌++◌, take, length}
 use Rattle.flow.specs.Holding.{put_width}
 use Rattle.flow.proofs.behind.with_width.Given as goal
 

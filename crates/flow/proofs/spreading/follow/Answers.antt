@@ -1,4 +1,4 @@
-use Rattle.std.proofs.Common.{◌≡◌, ◌<◌, sym, arith, length}
+use Rattle.std.proofs.Common.{◌<◌, sym, arith, length}
 use Rattle.std.specs.Prelude.{Contains}
 use Rattle.std.proofs.lemmas.List.Elements.{All-contains}
 use Rattle.flow.specs.declared.flow_graph.FlowEdge.{FlowEdge}
