@@ -1,7 +1,5 @@
 use cbase::{Abi, List, NoMemory, Place};
-use flow::{
-    Flow, FlowEdge, FlowFunction, Initial, InitialWord, Instr, Standing, Variable, Width,
-};
+use flow::{Flow, FlowEdge, FlowFunction, Initial, InitialWord, Instr, Standing, Variable, Width};
 use std::alloc::Global;
 
 /// A list of one number, or of none.
@@ -95,16 +93,20 @@ fn caller(alloc: Global, edges: &mut List<FlowEdge>, wrong: u32) -> Result<(), N
     put(edges, 9, Instr::Return { from: None }, 10)
 }
 
+/// The end of a full expression without registers.
+fn nothing(alloc: Global) -> Instr {
+    Instr::Finish {
+        registers: List::new(alloc),
+    }
+}
+
 /// One edge more, which breaks a rule, where a number asks for one.
 fn extra(alloc: Global, edges: &mut List<FlowEdge>, wrong: u32) -> Result<(), NoMemory> {
-    let nothing = Instr::Finish {
-        registers: List::new(alloc),
-    };
     match wrong {
-        14 => put(edges, 11, nothing, 4),
+        14 => put(edges, 11, nothing(alloc), 4),
         15 => put(edges, 9, Instr::Return { from: None }, 10),
         16 => put(edges, 11, Instr::Return { from: None }, 10),
-        17 => put(edges, 11, nothing, 3),
+        17 => put(edges, 11, nothing(alloc), 3),
         18 => put(edges, 11, Instr::Close, 10),
         19 => {
             let call = Instr::Call {
@@ -121,7 +123,7 @@ fn extra(alloc: Global, edges: &mut List<FlowEdge>, wrong: u32) -> Result<(), No
             };
             put(edges, 8, address, 8)
         }
-        24 => put(edges, 11, nothing, 11),
+        24 => put(edges, 11, nothing(alloc), 11),
         _ => Ok(()),
     }
 }
@@ -167,7 +169,11 @@ fn variables(alloc: Global, wrong: u32) -> Result<List<Variable>, NoMemory> {
 /// Both halves of the static variable hold a number at the start.
 fn initial(alloc: Global, wrong: u32) -> Result<List<Initial>, NoMemory> {
     let mut scalars: List<Initial> = List::new(alloc);
-    let second = if wrong == 6 { 5 } else { either(wrong == 7, 4, 3) };
+    let second = if wrong == 6 {
+        5
+    } else {
+        either(wrong == 7, 4, 3)
+    };
     for (at, value) in [(second, 1), (0, 9)] {
         scalars.push(Initial {
             variable: 0,
