@@ -8,8 +8,4 @@ mod graphs;
 #[cfg(test)]
 mod heads;
 #[cfg(test)]
-mod two_functions;
-#[cfg(test)]
 mod walk_counts;
-#[cfg(test)]
-mod well_formed;
