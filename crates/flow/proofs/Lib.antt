@@ -6,3 +6,8 @@ pub mod Marks
 pub mod Steps
 pub mod MachineRows
 pub mod ClauseRows
+pub mod StandingLaws
+pub mod ScalarLaws
+pub mod MarkingLaws
+pub mod OwningLaws
+pub mod FlowLaws

@@ -8,3 +8,6 @@ pub mod Standing
 pub mod Valid
 pub mod MachineRows
 pub mod ClauseRows
+pub mod Deciding
+pub mod Marked
+pub mod Owning

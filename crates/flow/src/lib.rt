@@ -5,14 +5,29 @@
 #![tactic(auto)]
 
 mod answer;
+mod behind;
 mod counting;
+mod edges;
 mod flow_graph;
 mod heads;
+mod initials;
 mod instruction;
 pub mod laws;
 mod links;
+mod marking;
+mod naming;
+mod orders;
+mod outs;
+mod points;
 mod range;
+mod reading;
+mod scopes;
+mod separation;
+mod sizes;
+mod spreading;
+mod standing;
 mod walking;
+mod well_formed;
 
 pub use answer::Walks;
 pub use flow_graph::{
@@ -22,3 +37,4 @@ pub use heads::is_head;
 pub use instruction::Instr;
 pub use range::is_in_range;
 pub use walking::walks;
+pub use well_formed::is_well_formed;
