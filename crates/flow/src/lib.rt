@@ -1,7 +1,7 @@
 //! The flow graph of a C program: points, edges with one instruction each, and what stands at each point.
 //!
-//! It answers how many walks there are within main, and which points are loop heads. The meaning of the
-//! instructions is the flow machine of `specs/`. The crate knows nothing of the text or the trees of a program.
+//! It answers whether data are a flow graph, how many walks there are within main, and which points are loop heads. The meaning
+//! of the instructions is the flow machine of `specs/`. The crate knows nothing of the text or the trees of a program.
 #![tactic(auto)]
 
 mod answer;
