@@ -1,19 +1,16 @@
 -- What a graph does not see of a state may differ.
-use Rattle.std.proofs.Common.{◌≡◌, ◌≢◌, ℕ, zero, suc, ◌<◌, Bool, true, false, List, [], ◌∷◌, map, length, take, drop, Option, None, Some, refl, sym, ◌∙◌, ap, subst}
-use Rattle.std.specs.Prelude.{IsSome, option_map, slice_get, Contains, ℤ}
+use Rattle.std.proofs.Common.{◌≡◌, ℕ, zero, suc, Bool, true, false, List, [], ◌∷◌, map, length, take, drop, Option, None, Some, refl, sym, ◌∙◌, ap, subst}
+use Rattle.std.specs.Prelude.{option_map, slice_get, Contains, ℤ}
 use Rattle.std.specs.Int.{w64, to_le_bytes}
-use Rattle.std.specs.List.{All}
 use Rattle.std.proofs.lemmas.List.{length-map, take-map, drop-map}
 use Rattle.std.proofs.lemmas.List.Elements.{All-map}
 use Rattle.std.proofs.lemmas.Option.{same_Some, none-some, slice_get-map}
 use Rattle.std.proofs.lemmas.Simd.{map-map}
 use Rattle.bytes_core.specs.declared.byte.Byte.{Byte}
 use Rattle.bytes_core.specs.declared.byte.Byte.TheVariants.{Num, Part}
-use Rattle.bytes_core.specs.declared.block.Block.{Block}
 use Rattle.bytes_core.specs.declared.word.Word.{Word}
 use Rattle.bytes_core.specs.declared.word.Word.TheVariants.{Plain, To}
 use Rattle.bytes_core.specs.Value.{word_bytes}
-use Rattle.bytes_core.specs.Laws.{IsWord}
 use Rattle.graph.specs.declared.edges.HasValue.{HasValue}
 use Rattle.graph.specs.declared.object.Object.{Object}
 use Rattle.graph.specs.declared.object.Shape.{Shape}
@@ -25,9 +22,8 @@ use Rattle.graph.specs.declared.value.Value.TheVariants.{Const, Number, Any, Add
 use Rattle.graph.specs.declared.parts.Pair.{Pair}
 use Rattle.graph.specs.declared.parts.Parts.{Parts}
 use Rattle.graph.specs.State.{State, IsWordBelow}
-use Rattle.graph.specs.Meaning.{HasClass, HaveClasses, HoldsWord, HoldEdges, IsNode, StandsAt, IsGone, HasShape, HasBlocksAs, address_word, HasWord, IsRooted, AreRooted, AreUnequal, Maps, maps_of, Assignment, IsOwned, Meets, StandsForBy, StandsFor}
-use Rattle.graph.specs.Alike.{renumbered_word, renumbered_byte, LooksLike, Shows, WasLive, IsSeenAs}
-use Rattle.graph.proofs.Found.{Holds, Holds-some}
+use Rattle.graph.specs.Meaning.{HasClass, HaveClasses, HoldEdges, StandsAt, HasShape, HasBlocksAs, address_word, HasWord, IsRooted, AreRooted, AreUnequal, Maps, maps_of, Assignment, IsOwned, Meets, StandsForBy, StandsFor}
+use Rattle.graph.specs.Alike.{renumbered_word, renumbered_byte, WasLive, IsSeenAs}
 use Rattle.graph.proofs.Pulled.{option_map-option_map}
 
 word_bytes-renumbered : (there : ℕ → ℕ) (word : Word) → map (renumbered_byte there) (word_bytes word) ≡ word_bytes (renumbered_word there word)

@@ -1,9 +1,7 @@
 -- What a slab holds at a list of its keys.
-use Rattle.std.proofs.Common.{◌≡◌, ◌≢◌, ℕ, zero, suc, ◌+◌, ◌<◌, ◌≤◌, List, [], ◌∷◌, ◌++◌, length, get_or, refl, ap, sym, ◌∙◌, subst, arith, Option, Some, None, add-zero}
-use Rattle.std.specs.Prelude.{All, IsSome, slice_get, slice_index_or}
-use Rattle.std.specs.List.{filter_map}
-use Rattle.std.proofs.lemmas.List.{append-nil}
-use Rattle.std.proofs.lemmas.List.Elements.{All-head, All-tail, All-cons, All-nil, All-push, All-append, filter_map-append}
+use Rattle.std.proofs.Common.{◌≡◌, ◌≢◌, ℕ, zero, suc, ◌<◌, ◌≤◌, List, [], ◌∷◌, ◌++◌, length, get_or, refl, ap, sym, ◌∙◌, arith, Option, Some, None}
+use Rattle.std.specs.Prelude.{IsSome, slice_get}
+use Rattle.std.proofs.lemmas.List.Elements.{All-head, All-tail, All-cons, All-nil, All-append, filter_map-append}
 use Rattle.std.proofs.lemmas.Option.{slice_get_past}
 use Rattle.slab.specs.Slab.{Slab, get, Updates}
 use Rattle.graph.specs.Slots.{slot_at, held_at, AreHeld}

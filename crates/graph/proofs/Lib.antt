@@ -9,6 +9,8 @@ pub mod Chosen
 pub mod Table
 pub mod Placing
 pub mod Witness
+pub mod InOrder
+pub mod ByHalves
 pub mod InSlots
 pub mod Ranges
 pub mod AtPlaces

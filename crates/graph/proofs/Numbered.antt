@@ -1,7 +1,7 @@
 -- Parts whose keys are their places.
-use Rattle.std.proofs.Common.{◌≡◌, ℕ, suc, zero, ◌+◌, ◌<◌, ◌≤◌, ◌^◌, Bool, true, false, ◌&&◌, List, [], ◌∷◌, map, length, Option, None, Some, nat_eq, nat_lt, get_or, refl, sym, ◌∙◌, ap, subst, eqb-true, eq-eqb, ne_eqb, ltb-true, ltb-false, arith, sum_by}
-use Rattle.std.specs.Prelude.{IsSome, IsTrue, ◌↔◌}
-use Rattle.std.specs.List.{AllPairs, position_or_len, fold}
+use Rattle.std.proofs.Common.{◌≡◌, ℕ, suc, zero, ◌+◌, ◌<◌, ◌≤◌, ◌^◌, Bool, true, false, ◌&&◌, List, [], ◌∷◌, map, length, Option, nat_eq, nat_lt, get_or, refl, sym, ◌∙◌, ap, subst, eqb-true, eq-eqb, ne_eqb, ltb-true, ltb-false, arith}
+use Rattle.std.specs.Prelude.{IsSome, ◌↔◌}
+use Rattle.std.specs.List.{AllPairs, fold}
 use Rattle.std.proofs.lemmas.Bool.{false≢true}
 use Rattle.std.proofs.lemmas.List.{length-map, get_or-map}
 use Rattle.std.proofs.lemmas.List.Sums.{position_or_len_is, fails_before_first, passes_at_first}
@@ -11,8 +11,8 @@ use Rattle.graph.specs.declared.parts.KeyedObject.{KeyedObject}
 use Rattle.graph.specs.declared.parts.KeyedValue.{KeyedValue}
 use Rattle.graph.specs.declared.parts.Parts.{Parts}
 use Rattle.graph.specs.declared.graph.Graph.TheInside.{Inside}
-use Rattle.graph.specs.Maps.{found_at, object_at, value_at}
-use Rattle.graph.specs.Renaming.{renamed, renamed_object, renamed_value, renamed_pair, place_among, object_keys, value_keys, object_place, value_place, numbered, objects_from, values_from}
+use Rattle.graph.specs.Maps.{found_at}
+use Rattle.graph.specs.Renaming.{renamed, renamed_object, renamed_value, renamed_pair, place_among, object_place, value_place, numbered, objects_from, values_from}
 use Rattle.graph.specs.WellFormed.{HasAscendingKeys, IsWellFormed, nodes_of, nodes, is_within_limits}
 use Rattle.graph.specs.Whole.{parts_of}
 use Rattle.graph.specs.Laws.{IsRenaming, IsOneToOne}

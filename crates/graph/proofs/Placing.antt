@@ -1,15 +1,15 @@
 -- A memory with a block for each object, in their order, far enough from one another.
-use Rattle.std.proofs.Common.{◌≡◌, ℕ, zero, suc, ◌+◌, ◌-◌, ◌*◌, ◌^◌, ◌%◌, ◌<◌, ◌≤◌, max, Bool, true, false, ◌&&◌, ◌||◌, not, List, [], ◌∷◌, map, length, get_or, nat_eq, nat_le, nat_lt, Option, None, Some, refl, sym, ◌∙◌, ap, subst, eq-eqb, eqb-true, le-leb, leb-true, arith}
-use Rattle.std.specs.Prelude.{IsTrue, option_map, slice_get, pos}
+use Rattle.std.proofs.Common.{◌≡◌, ℕ, zero, suc, ◌+◌, ◌*◌, ◌^◌, ◌%◌, ◌<◌, ◌≤◌, max, Bool, true, false, ◌||◌, not, List, [], ◌∷◌, length, nat_eq, nat_le, Some, refl, sym, ◌∙◌, ap, subst, eq-eqb, le-leb, leb-true, arith}
+use Rattle.std.specs.Prelude.{IsTrue, option_map, slice_get}
 use Rattle.std.specs.List.{All, AllPairs, list_all}
 use Rattle.std.proofs.lemmas.List.Kept.{AllPairs-cons}
 use Rattle.std.proofs.Math.Nat.{mul-mod_left}
 use Rattle.bytes_core.specs.declared.byte.Byte.{Byte}
 use Rattle.bytes_core.specs.declared.block.Block.{Block}
-use Rattle.bytes_core.specs.Placement.{extent, is_placed, are_apart, are_compatible}
+use Rattle.bytes_core.specs.Placement.{is_placed, are_compatible}
 use Rattle.bytes_core.specs.Valid.{NamesBelow, IsMemory}
 use Rattle.graph.specs.declared.object.Object.{Object}
-use Rattle.graph.proofs.Tests.{and_left, and_right, and_both}
+use Rattle.graph.proofs.Tests.{and_left, and_right}
 
 pub All-nil : {A : Type 0} (P : A → Type 0) → All P []
 All-nil P k d within = absurd (omega arith)

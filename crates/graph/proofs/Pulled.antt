@@ -1,8 +1,7 @@
 -- A graph whose keys are sent into those of another: what the other says of a state, it says too.
 use Rattle.std.proofs.Common.{◌≡◌, ℕ, Bool, true, false, List, [], ◌∷◌, map, length, Option, None, Some, refl, sym, ◌∙◌, ap, subst}
-use Rattle.std.specs.Prelude.{IsSome, option_map, slice_get, Contains}
+use Rattle.std.specs.Prelude.{IsSome, option_map, slice_get}
 use Rattle.std.proofs.lemmas.Simd.{map-map}
-use Rattle.std.proofs.lemmas.Option.{none-some}
 use Rattle.bytes_core.specs.declared.byte.Byte.{Byte}
 use Rattle.bytes_core.specs.declared.block.Block.{Block}
 use Rattle.bytes_core.specs.declared.word.Word.{Word}
@@ -15,8 +14,8 @@ use Rattle.graph.specs.declared.value.Value.TheVariants.{Const, Number, Any, Add
 use Rattle.graph.specs.declared.parts.Pair.{Pair}
 use Rattle.graph.specs.Renaming.{renamed_edge, renamed_object, renamed_value, renamed_pair}
 use Rattle.graph.specs.State.{State}
-use Rattle.graph.specs.Meaning.{HoldEdges, IsNode, StandsAt, HasShape, HasBlocksAs, HasBlocks, HasWord, IsRooted, AreRooted, AreUnequal, Maps, Assignment, IsOwned, Meets}
-use Rattle.graph.proofs.Found.{IsSome-holds, Holds, Holds-some}
+use Rattle.graph.specs.Meaning.{HoldEdges, StandsAt, HasShape, HasBlocksAs, HasWord, IsRooted, AreRooted, AreUnequal, Maps, Assignment, IsOwned, Meets}
+use Rattle.graph.proofs.Found.{IsSome-holds, Holds-some}
 
 -- what stands at each key of `one` stands, with keys sent on, at the key of `other` that it is sent to
 pub record IsSent (one other : Maps) (of_objects of_values back : ℕ → ℕ) : Type 0 where

@@ -1,5 +1,5 @@
 -- The points of a graph: ranges of a plane, and all points together.
-use Rattle.std.proofs.Common.{◌≡◌, ◌≢◌, ℕ, zero, suc, ◌+◌, ◌-◌, ◌<◌, ◌≤◌, Bool, true, false, ◌&&◌, ◌||◌, not, List, [], ◌∷◌, length, take, drop, nat_eq, nat_le, Option, None, Some, refl, sym, ◌∙◌, ap, eq-eqb, ne_eqb, arith}
+use Rattle.std.proofs.Common.{◌≡◌, ◌≢◌, ℕ, zero, suc, ◌+◌, ◌-◌, ◌<◌, ◌≤◌, Bool, true, false, ◌&&◌, ◌||◌, not, List, [], ◌∷◌, length, take, drop, nat_eq, nat_le, Some, refl, ◌∙◌, ap, eq-eqb, ne_eqb, arith}
 use Rattle.std.specs.Prelude.{slice_get, ◌↔◌}
 use Rattle.std.specs.List.{list_all}
 use Rattle.std.proofs.lemmas.Option.{same_Some, none-some}
@@ -9,7 +9,7 @@ use Rattle.graph.specs.declared.parts.KeyedObject.{KeyedObject}
 use Rattle.graph.specs.declared.parts.Parts.{Parts}
 use Rattle.graph.specs.Maps.{value_at}
 use Rattle.graph.specs.Sizes.{value_size, is_sized, is_zero}
-use Rattle.graph.specs.WellFormed.{IsWellFormed, has_value, passes_at, lies_in, edge_has_size, edge_has_class, has_class_a_byte, is_bare, are_disjoint, leads_to_object, registers_hold_values, ports_are_values, variables_have_storage, storage_is_distinct, variables_are_distinct, registers_are_distinct, pairs_may_be_unequal}
+use Rattle.graph.specs.WellFormed.{IsWellFormed, has_value, passes_at, lies_in, edge_has_size, edge_has_class, has_class_a_byte, is_bare, are_disjoint, leads_to_object, registers_hold_values, ports_are_values, variables_have_storage, storage_is_distinct, variables_are_distinct, registers_are_distinct}
 use Rattle.graph.specs.Points.{edge_fits, objects_fit, values_fit, is_well_formed}
 use Rattle.graph.proofs.Tests.{and_left, and_right, and_both, list_all-implies}
 use Rattle.graph.proofs.Renamed.{passes-some}

@@ -1,6 +1,6 @@
 -- Well-formed parts stay so under other keys, one to one.
-use Rattle.std.proofs.Common.{◌≡◌, ℕ, ◌+◌, Bool, true, false, ◌&&◌, ◌||◌, not, List, [], ◌∷◌, map, length, take, drop, Option, None, Some, nat_eq, nat_le, refl, sym, ◌∙◌, ap, subst, eqb-true, eq-eqb}
-use Rattle.std.specs.Prelude.{IsSome, is_some, option_map, IsTrue}
+use Rattle.std.proofs.Common.{◌≡◌, ℕ, Bool, true, false, ◌&&◌, ◌||◌, not, List, [], ◌∷◌, map, take, drop, Option, nat_eq, nat_le, refl, sym, ◌∙◌, ap, subst, eqb-true, eq-eqb}
+use Rattle.std.specs.Prelude.{IsSome, is_some}
 use Rattle.std.specs.List.{list_all}
 use Rattle.std.specs.Option.{option_map_or}
 use Rattle.std.proofs.lemmas.Bool.{false≢true}
@@ -21,10 +21,10 @@ use Rattle.graph.specs.declared.parts.Parts.{Parts}
 use Rattle.graph.specs.Maps.{object_at, value_at}
 use Rattle.graph.specs.Sizes.{value_size, value_class, is_sized, is_zero, is_number, is_constant}
 use Rattle.graph.specs.Renaming.{renamed, renamed_edge, renamed_object, renamed_value, renamed_pair}
-use Rattle.graph.specs.WellFormed.{IsWellFormed, are_distinct, has_value, passes_at, target_fits, leads_to_object, is_storage, has_class_a_byte, is_bare, lies_in, share_no_byte, are_disjoint, edge_has_size, edge_has_class, is_unequal_pair, may_be_unequal, are_numbers}
+use Rattle.graph.specs.WellFormed.{IsWellFormed, are_distinct, has_value, passes_at, target_fits, leads_to_object, is_storage, has_class_a_byte, is_bare, lies_in, share_no_byte, are_disjoint, edge_has_size, edge_has_class, is_unequal_pair, may_be_unequal}
 use Rattle.graph.specs.Laws.{IsRenaming, IsOneToOne}
 use Rattle.graph.proofs.Tests.{and_left, and_right, and_both, list_all-implies}
-use Rattle.graph.proofs.Found.{Holds, Holds-some, IsSome-holds}
+use Rattle.graph.proofs.Found.{Holds-some, IsSome-holds}
 use Rattle.graph.proofs.Renamed.{object_sent, value_sent, passes-some}
 
 -- the value's size and class, and what it is, do not rest on keys

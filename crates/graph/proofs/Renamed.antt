@@ -1,10 +1,9 @@
 -- Other keys, one to one, keep what a graph stands for.
-use Rattle.std.proofs.Common.{◌≡◌, ℕ, Bool, true, false, ◌&&◌, ◌||◌, not, List, [], ◌∷◌, map, length, Option, None, Some, nat_eq, refl, sym, ◌∙◌, ap, subst}
-use Rattle.std.specs.Prelude.{IsSome, is_some, option_map, ◌↔◌}
+use Rattle.std.proofs.Common.{◌≡◌, ℕ, Bool, true, false, not, List, [], ◌∷◌, map, Option, None, Some, nat_eq, refl, sym, ◌∙◌, ap, subst}
+use Rattle.std.specs.Prelude.{IsSome, option_map, ◌↔◌}
 use Rattle.std.specs.List.{list_all}
 use Rattle.std.specs.Option.{option_map_or}
 use Rattle.std.proofs.lemmas.Bool.{false≢true}
-use Rattle.std.proofs.lemmas.Option.{none-some}
 use Rattle.graph.specs.declared.edges.HasValue.{HasValue}
 use Rattle.graph.specs.declared.object.Object.{Object}
 use Rattle.graph.specs.declared.value.Value.{Value}
@@ -15,15 +14,15 @@ use Rattle.graph.specs.declared.parts.Named.{Named}
 use Rattle.graph.specs.declared.parts.Held.{Held}
 use Rattle.graph.specs.declared.parts.Pair.{Pair}
 use Rattle.graph.specs.declared.parts.Parts.{Parts}
-use Rattle.graph.specs.Maps.{found_at, object_at, value_at, storage_of, held_by}
+use Rattle.graph.specs.Maps.{object_at, value_at, storage_of, held_by}
 use Rattle.graph.specs.Renaming.{renamed, renamed_edge, renamed_object, renamed_value, renamed_pair}
 use Rattle.graph.specs.WellFormed.{IsWellFormed, has_value, passes_at, leads_to_object, is_storage, is_unequal_pair, may_be_unequal, target_fits}
 use Rattle.graph.specs.State.{State}
-use Rattle.graph.specs.Meaning.{Maps, maps_of, StandsForBy, StandsFor}
+use Rattle.graph.specs.Meaning.{maps_of, StandsFor}
 use Rattle.graph.specs.Laws.{IsRenaming}
 use Rattle.graph.proofs.Tests.{and_left, and_right}
-use Rattle.graph.proofs.Found.{Holds, Holds-some, IsSome-holds, WasFound, WasFound-renamed, found-renamed, found-changed, found-all, back_in, back_in-there, back_in-same}
-use Rattle.graph.proofs.Pulled.{IsSent, Meets-pulled, option_map-option_map}
+use Rattle.graph.proofs.Found.{Holds-some, IsSome-holds, WasFound-renamed, found-renamed, found-changed, found-all, back_in, back_in-there, back_in-same}
+use Rattle.graph.proofs.Pulled.{IsSent, Meets-pulled}
 
 pub passes-some : {A : Type 0} (test : A → Bool) (o : Option A) → option_map_or test o false ≡ true → IsSome o
 passes-some test None passes = absurd (false≢true passes)

@@ -1,16 +1,16 @@
 -- The bytes of an object: at each place the byte of the edge that covers it, or the number 0.
-use Rattle.std.proofs.Common.{◌≡◌, ℕ, zero, suc, ◌+◌, ◌-◌, ◌<◌, ◌≤◌, Bool, true, false, ◌&&◌, ◌||◌, not, List, [], ◌∷◌, map, length, take, drop, get_or, nat_eq, nat_le, nat_lt, refl, sym, ◌∙◌, ap, subst, eqb-true, le-leb, leb-true, leb-false, lt-ltb, ltb-true, ltb-false, arith}
+use Rattle.std.proofs.Common.{◌≡◌, ℕ, zero, suc, ◌+◌, ◌-◌, ◌<◌, ◌≤◌, Bool, true, false, ◌&&◌, ◌||◌, List, [], ◌∷◌, length, take, drop, get_or, nat_le, nat_lt, refl, ◌∙◌, ap, subst, le-leb, leb-true, lt-ltb, ltb-true, arith}
 use Rattle.std.specs.Prelude.{if◌then◌else◌}
 use Rattle.std.specs.List.{list_all}
 use Rattle.std.proofs.lemmas.Bool.{false≢true}
 use Rattle.bytes_core.specs.declared.byte.Byte.{Byte}
-use Rattle.bytes_core.specs.declared.byte.Byte.TheVariants.{Num, Part}
+use Rattle.bytes_core.specs.declared.byte.Byte.TheVariants.{Num}
 use Rattle.bytes_core.specs.declared.word.Word.{Word}
 use Rattle.bytes_core.specs.declared.word.Word.TheVariants.{Plain, To}
 use Rattle.bytes_core.specs.Value.{word_bytes}
 use Rattle.graph.specs.declared.edges.HasValue.{HasValue}
 use Rattle.graph.specs.WellFormed.{share_no_byte, are_disjoint, lies_in}
-use Rattle.graph.specs.Meaning.{HasClass, HaveClasses, HoldsWord, HoldEdges}
+use Rattle.graph.specs.Meaning.{HasClass, HaveClasses, HoldEdges}
 use Rattle.graph.proofs.Tests.{and_left, and_right}
 
 -- whether a place lies in the range of an edge

@@ -1,8 +1,8 @@
 -- Every well-formed graph stands for some state.
-use Rattle.std.proofs.Common.{◌≡◌, ◌≢◌, ℕ, zero, suc, ◌+◌, ◌-◌, ◌*◌, ◌^◌, ◌<◌, ◌≤◌, Bool, true, false, ◌&&◌, ◌||◌, not, List, [], ◌∷◌, map, length, take, drop, get_or, min, length-take, length-drop, nat_eq, nat_le, nat_lt, Option, None, Some, refl, sym, ◌∙◌, ap, subst, eqb-true, eq-eqb, le-leb, leb-true, leb-false, ltb-true, arith, sum_by, ◌⊎◌, inl, inr}
+use Rattle.std.proofs.Common.{◌≡◌, ◌≢◌, ℕ, zero, suc, ◌+◌, ◌-◌, ◌*◌, ◌^◌, ◌<◌, ◌≤◌, Bool, true, false, ◌&&◌, ◌||◌, not, List, [], ◌∷◌, map, length, take, drop, get_or, min, length-take, length-drop, nat_eq, nat_le, nat_lt, Option, None, Some, refl, sym, ◌∙◌, ap, subst, eqb-true, eq-eqb, le-leb, leb-true, ltb-true, arith, ◌⊎◌, inl, inr}
 use Rattle.std.specs.Prelude.{IsSome, IsTrue, option_map, slice_get, Contains, ℤ, if◌then◌else◌}
 use Rattle.std.specs.Int.{w64, to_le_bytes}
-use Rattle.std.specs.List.{All, AllPairs, list_all, fold}
+use Rattle.std.specs.List.{All, list_all, fold}
 use Rattle.std.specs.Option.{option_map_or}
 use Rattle.std.proofs.lemmas.Bool.{false≢true}
 use Rattle.std.proofs.lemmas.List.{get_or-take, get_or-drop}
@@ -14,30 +14,27 @@ use Rattle.bytes_core.specs.declared.block.Block.{Block}
 use Rattle.bytes_core.specs.declared.word.Word.{Word}
 use Rattle.bytes_core.specs.declared.word.Word.TheVariants.{Plain, To}
 use Rattle.bytes_core.specs.Value.{word_bytes}
-use Rattle.bytes_core.specs.Laws.{IsWord}
-use Rattle.bytes_core.specs.Valid.{NamesBelow, WordNamesBelow, IsMemory}
+use Rattle.bytes_core.specs.Valid.{NamesBelow}
 use Rattle.graph.specs.declared.edges.HasValue.{HasValue}
 use Rattle.graph.specs.declared.object.Object.{Object}
 use Rattle.graph.specs.declared.object.Shape.{Shape}
 use Rattle.graph.specs.declared.object.Shape.TheVariants.{Region as RegionShape}
-use Rattle.graph.specs.declared.value.Target.{Target}
 use Rattle.graph.specs.declared.value.Target.TheVariants.{Region}
 use Rattle.graph.specs.declared.value.Value.{Value}
 use Rattle.graph.specs.declared.value.Value.TheVariants.{Const, Number, Any, Address}
 use Rattle.graph.specs.declared.parts.KeyedObject.{KeyedObject}
 use Rattle.graph.specs.declared.parts.KeyedValue.{KeyedValue}
 use Rattle.graph.specs.declared.parts.Named.{Named}
-use Rattle.graph.specs.declared.parts.Held.{Held}
 use Rattle.graph.specs.declared.parts.Pair.{Pair}
 use Rattle.graph.specs.declared.parts.Parts.{Parts}
-use Rattle.graph.specs.Maps.{found_at, object_at, value_at, storage_of, held_by}
+use Rattle.graph.specs.Maps.{object_at, value_at, storage_of, held_by}
 use Rattle.graph.specs.Sizes.{value_size, value_class, is_scalar_size, is_sized, is_number, is_constant}
 use Rattle.graph.specs.Renaming.{renamed_object, objects_from, value_place, numbered}
-use Rattle.graph.specs.WellFormed.{IsWellFormed, has_value, passes_at, target_fits, leads_to_object, is_storage, has_class_a_byte, lies_in, share_no_byte, are_disjoint, edge_has_size, edge_has_class, is_unequal_pair, may_be_unequal, are_numbers, nodes_of, nodes, is_within_limits, HasAscendingKeys}
+use Rattle.graph.specs.WellFormed.{IsWellFormed, passes_at, target_fits, leads_to_object, is_storage, has_class_a_byte, lies_in, are_disjoint, edge_has_size, edge_has_class, is_unequal_pair, may_be_unequal, are_numbers, nodes_of, nodes, is_within_limits, HasAscendingKeys}
 use Rattle.graph.specs.State.{State, IsWordBelow, IsState}
-use Rattle.graph.specs.Meaning.{HasClass, HaveClasses, HoldEdges, IsNode, StandsAt, IsGone, HasShape, HasBlocksAs, address_word, HasWord, IsRooted, AreRooted, AreUnequal, maps_of, Assignment, IsOwned, Meets, StandsForBy, StandsFor}
-use Rattle.graph.proofs.Tests.{and_left, and_right, and_both, list_all-implies}
-use Rattle.graph.proofs.Found.{Holds, Holds-some, IsSome-holds, found-all, found-here, found-later}
+use Rattle.graph.specs.Meaning.{HasClass, HaveClasses, IsNode, IsGone, HasShape, HasBlocksAs, HasWord, IsRooted, AreRooted, AreUnequal, maps_of, Assignment, IsOwned, StandsFor}
+use Rattle.graph.proofs.Tests.{and_left, and_right, list_all-implies}
+use Rattle.graph.proofs.Found.{Holds-some, IsSome-holds, found-all, found-here, found-later}
 use Rattle.graph.proofs.Renamed.{passes-some}
 use Rattle.graph.proofs.Numbered.{numbered_well_formed, numbered_within_limits, numbering_keeps}
 use Rattle.graph.proofs.Chosen.{is_in, is_in-later, is_in-first, chosen, chosen-below, chosen-outside, chosen-differ}

@@ -1,6 +1,6 @@
 -- States that differ in nothing that a graph sees: in the numbers of blocks, in where blocks lie, in the sizes and
 -- bytes of dead blocks, and in dead blocks that one has and the other has not.
-use Rattle.std.specs.Prelude.{◌≡◌, ℕ, ◌<◌, Bool, true, List, map, length, slice_get, Some, option_map, Contains}
+use Rattle.std.specs.Prelude.{◌≡◌, ℕ, ◌<◌, true, List, map, length, slice_get, Some, option_map, Contains}
 use Rattle.bytes_core.specs.declared.byte.Byte.{Byte}
 use Rattle.bytes_core.specs.declared.byte.Byte.TheVariants.{Num, Part}
 use Rattle.bytes_core.specs.declared.block.BlockKind.{BlockKind}

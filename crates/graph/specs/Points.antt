@@ -1,12 +1,12 @@
 -- The points of a graph, in the order of one walk over its parts.
-use Rattle.std.specs.Prelude.{ℕ, Bool, true, ◌&&◌, ◌||◌, not, List, map, length, take, drop, nat_eq, nat_le}
+use Rattle.std.specs.Prelude.{Bool, true, ◌&&◌, ◌||◌, not, List, [], ◌∷◌, nat_le}
 use Rattle.std.specs.List.{list_all}
 use Rattle.graph.specs.declared.edges.HasValue.{HasValue}
 use Rattle.graph.specs.declared.object.Object.{Object}
 use Rattle.graph.specs.declared.value.Value.{Value}
 use Rattle.graph.specs.declared.parts.Parts.{Parts}
 use Rattle.graph.specs.Sizes.{is_sized, is_zero}
-use Rattle.graph.specs.WellFormed.{has_value, lies_in, edge_has_size, edge_has_class, passes_at, has_class_a_byte, is_bare, are_disjoint, leads_to_object, registers_hold_values, ports_are_values, variables_have_storage, storage_is_distinct, variables_are_distinct, registers_are_distinct, pairs_may_be_unequal}
+use Rattle.graph.specs.WellFormed.{lies_in, edge_has_size, edge_has_class, passes_at, has_class_a_byte, is_bare, are_disjoint, leads_to_object, registers_hold_values, ports_are_values, variables_have_storage, storage_is_distinct, variables_are_distinct, registers_are_distinct, pairs_may_be_unequal}
 
 -- all that is asked of an edge of an object
 abbrev pub edge_fits : Parts → Object → HasValue → Bool
@@ -39,3 +39,9 @@ is_well_formed parts =
     && (storage_is_distinct parts
     && (variables_are_distinct parts
     && (registers_hold_values parts && (registers_are_distinct parts && (ports_are_values parts && pairs_may_be_unequal parts)))))))
+
+-- each item and the one behind it pass a test
+abbrev pub neighbours : {Item : Type 0} → (Item → Item → Bool) → List Item → Bool
+neighbours test [] = true
+neighbours test (one ∷ []) = true
+neighbours test (one ∷ (other ∷ rest)) = test one other && neighbours test (other ∷ rest)

@@ -1,6 +1,6 @@
 -- Which parts make a graph. Each point is a test of its own; the last one, on how much a graph may hold,
 -- stands apart.
-use Rattle.std.specs.Prelude.{ℕ, ◌+◌, ◌^◌, ◌<◌, Bool, true, false, ◌&&◌, ◌||◌, not, List, [], ◌∷◌, map, length, take, drop, sum_by, nat_eq, nat_le, nat_lt, Option, None, Some, is_some, IsTrue}
+use Rattle.std.specs.Prelude.{ℕ, ◌+◌, ◌^◌, ◌<◌, Bool, true, false, ◌&&◌, ◌||◌, not, List, [], ◌∷◌, map, length, take, drop, sum_by, nat_eq, nat_le, nat_lt, is_some, IsTrue}
 use Rattle.std.specs.List.{list_all, AllPairs}
 use Rattle.std.specs.Option.{option_map_or}
 use Rattle.bytes_core.specs.Release.{is_heap}
@@ -12,7 +12,6 @@ use Rattle.graph.specs.declared.value.Target.{Target}
 use Rattle.graph.specs.declared.value.Target.TheVariants.{Region}
 use Rattle.graph.specs.declared.value.Value.{Value}
 use Rattle.graph.specs.declared.value.Value.TheVariants.{Const, Number, Any, Address}
-use Rattle.graph.specs.declared.parts.Named.{Named}
 use Rattle.graph.specs.declared.parts.Pair.{Pair}
 use Rattle.graph.specs.declared.parts.Parts.{Parts}
 use Rattle.graph.specs.Maps.{object_at, value_at}

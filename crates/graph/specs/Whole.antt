@@ -1,5 +1,5 @@
 -- What a contract sees of a graph: its parts.
-use Rattle.std.specs.Prelude.{ℕ, IsTrue}
+use Rattle.std.specs.Prelude.{IsTrue}
 use Rattle.graph.specs.declared.parts.Parts.{Parts}
 use Rattle.graph.specs.declared.graph.Graph.TheInside.{Inside}
 use Rattle.graph.specs.Renaming.{objects_from, values_from}

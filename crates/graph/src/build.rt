@@ -52,7 +52,7 @@ pub fn graph_of(alloc: Global, parts: Parts) -> Result<Option<Graph>, Stop>
     ensures none { (result ≡ Ok None) ↔ (IsWellFormed parts → ⊥) }
     ensures large { (result ≡ Err Stop.Large) ↔ (IsWellFormed parts × (is_within_limits parts ≡ false)) }
 {
-    if !is_well_formed(&parts) {
+    if !is_well_formed(alloc, &parts) {
         return Ok(None);
     }
     match built(alloc, parts) {

@@ -5,17 +5,23 @@
 //! words and blocks, and nothing of C: no statement, no step and no fault.
 #![tactic(auto)]
 
+mod ascending;
 mod build;
 mod copies;
+mod disjoint;
+mod distinct;
 mod edges;
 mod graph;
 mod keyed;
 pub mod laws;
+mod look_up;
 mod object;
+mod object_points;
 mod parts;
 mod places;
 mod points;
 mod post;
+mod sizes;
 mod stop;
 mod value;
 

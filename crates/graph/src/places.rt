@@ -1,4 +1,5 @@
 ghost use Rattle.std.specs.Prelude.{◌≡◌, ◌<◌, length, map, IfOk};
+ghost use Rattle.std.specs.List.{AllPairs};
 ghost use Rattle.graph.specs.Renaming.{place_among, renamed_edge, renamed_object, renamed_value, renamed_pair};
 
 use crate::edges::{Edges, HasValue};
@@ -10,20 +11,16 @@ use crate::value::Value;
 use cbase::{List, NoMemory};
 use std::alloc::Global;
 
-/// The place of a key among these; how many they are where it is none of them.
-#[tactic(auto, using(crate::proofs::PlaceAmong::place_more, crate::proofs::PlaceAmong::place_here, crate::proofs::PlaceAmong::place_end))]
+/// The place of a key among these, found by halves; how many they are where it is none of them.
 pub(crate) fn place_of(keys: &[u32], key: u32) -> u32
-    requires { length keys.now < 4294967296 }
+    requires few { length keys.now < 4294967296 }
+    requires ascending { AllPairs (λ one other. one < other) keys.now }
     ensures { result ≡ place_among keys.now key }
 {
-    let mut place: u32 = 0;
-    for other in keys {
-        if key == *other {
-            return place;
-        }
-        place += 1;
+    match keys.binary_search(&key) {
+        Ok(place) => place as u32,
+        Err(_) => keys.len() as u32,
     }
-    place
 }
 
 /// The keys of objects, in order.
@@ -44,7 +41,8 @@ pub(crate) fn value_keys(alloc: Global, values: &[KeyedValue]) -> Result<Vec<u32
 
 /// Edges that hold values by their places.
 fn placed_edges(alloc: Global, keys: &[u32], edges: &[HasValue]) -> Result<Edges, NoMemory>
-    requires { length keys.now < 4294967296 }
+    requires few { length keys.now < 4294967296 }
+    requires ascending { AllPairs (λ one other. one < other) keys.now }
     ensures { IfOk result (λ placed. placed ≡ map (renamed_edge (place_among keys.now)) edges.now) }
 {
     let mut placed = Vec::new(alloc);
@@ -60,7 +58,8 @@ fn placed_edges(alloc: Global, keys: &[u32], edges: &[HasValue]) -> Result<Edges
 
 /// An object whose edges hold values by their places.
 fn placed_object(alloc: Global, keys: &[u32], object: &Object) -> Result<Object, NoMemory>
-    requires { length keys.now < 4294967296 }
+    requires few { length keys.now < 4294967296 }
+    requires ascending { AllPairs (λ one other. one < other) keys.now }
     ensures { IfOk result (λ placed. placed ≡ renamed_object (place_among keys.now) object.now) }
 {
     let edges = placed_edges(alloc, keys, object.edges.as_slice())?;
@@ -81,7 +80,8 @@ pub(crate) fn placed_objects(
     keys: &[u32],
     objects: &[KeyedObject],
 ) -> Result<Objects, NoMemory>
-    requires { length keys.now < 4294967296 }
+    requires few { length keys.now < 4294967296 }
+    requires ascending { AllPairs (λ one other. one < other) keys.now }
     ensures { IfOk result (λ placed. placed ≡ map (λ entry. renamed_object (place_among keys.now) entry.object) objects.now) }
 {
     let mut placed = Keyed::new(alloc);
@@ -93,7 +93,8 @@ pub(crate) fn placed_objects(
 
 /// A value that leads to an object by its place.
 fn placed_value(keys: &[u32], value: Value) -> Value
-    requires { length keys.now < 4294967296 }
+    requires few { length keys.now < 4294967296 }
+    requires ascending { AllPairs (λ one other. one < other) keys.now }
     ensures { result ≡ renamed_value (place_among keys.now) value }
 {
     match value {
@@ -118,7 +119,8 @@ pub(crate) fn placed_values(
     keys: &[u32],
     values: &[KeyedValue],
 ) -> Result<Values, NoMemory>
-    requires { length keys.now < 4294967296 }
+    requires few { length keys.now < 4294967296 }
+    requires ascending { AllPairs (λ one other. one < other) keys.now }
     ensures { IfOk result (λ placed. placed ≡ map (λ entry. renamed_value (place_among keys.now) entry.value) values.now) }
 {
     let mut placed = Keyed::new(alloc);
@@ -134,7 +136,8 @@ pub(crate) fn placed_variables(
     keys: &[u32],
     variables: &[Named],
 ) -> Result<List<Named>, NoMemory>
-    requires { length keys.now < 4294967296 }
+    requires few { length keys.now < 4294967296 }
+    requires ascending { AllPairs (λ one other. one < other) keys.now }
     ensures { IfOk result (λ placed. placed ≡ map {B = Named} (λ named. record { variable = named.variable; object = place_among keys.now named.object }) variables.now) }
 {
     let mut placed = List::new(alloc);
@@ -153,7 +156,8 @@ pub(crate) fn placed_registers(
     keys: &[u32],
     registers: &[Held],
 ) -> Result<List<Held>, NoMemory>
-    requires { length keys.now < 4294967296 }
+    requires few { length keys.now < 4294967296 }
+    requires ascending { AllPairs (λ one other. one < other) keys.now }
     ensures { IfOk result (λ placed. placed ≡ map {B = Held} (λ held. record { register = held.register; value = place_among keys.now held.value }) registers.now) }
 {
     let mut placed = List::new(alloc);
@@ -172,7 +176,8 @@ pub(crate) fn placed_ports(
     keys: &[u32],
     ports: &[u32],
 ) -> Result<List<u32>, NoMemory>
-    requires { length keys.now < 4294967296 }
+    requires few { length keys.now < 4294967296 }
+    requires ascending { AllPairs (λ one other. one < other) keys.now }
     ensures { IfOk result (λ placed. placed ≡ map (place_among keys.now) ports.now) }
 {
     let mut placed = List::new(alloc);
@@ -188,7 +193,8 @@ pub(crate) fn placed_pairs(
     keys: &[u32],
     pairs: &[Pair],
 ) -> Result<List<Pair>, NoMemory>
-    requires { length keys.now < 4294967296 }
+    requires few { length keys.now < 4294967296 }
+    requires ascending { AllPairs (λ one other. one < other) keys.now }
     ensures { IfOk result (λ placed. placed ≡ map (renamed_pair (place_among keys.now)) pairs.now) }
 {
     let mut placed = List::new(alloc);

@@ -1,5 +1,4 @@
 use Rattle.std.proofs.Common.{refl}
-use Rattle.graph.specs.declared.parts.Pair.{Pair}
 use Rattle.graph.specs.Renaming.{place_among, renamed_pair}
 use Rattle.graph.proofs.PlaceAmong.{mapped_more}
 use Rattle.graph.proofs.places.placed_pairs.Goals as goal

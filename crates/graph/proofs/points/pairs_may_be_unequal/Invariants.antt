@@ -1,4 +1,4 @@
-use Rattle.std.proofs.Common.{◌≡◌, length, ℕ, not, nat_eq, map}
+use Rattle.std.proofs.Common.{◌≡◌, length}
 use Rattle.std.specs.List.{list_all}
 use Rattle.graph.specs.WellFormed.{pairs_may_be_unequal, is_unequal_pair}
 use Rattle.graph.proofs.points.pairs_may_be_unequal.Given as goal

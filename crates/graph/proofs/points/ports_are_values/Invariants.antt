@@ -1,4 +1,4 @@
-use Rattle.std.proofs.Common.{◌≡◌, length, ℕ, true, false, not, ◌&&◌}
+use Rattle.std.proofs.Common.{◌≡◌, length}
 use Rattle.std.specs.List.{list_all}
 use Rattle.graph.specs.WellFormed.{ports_are_values, has_value}
 use Rattle.graph.proofs.points.ports_are_values.Given as goal

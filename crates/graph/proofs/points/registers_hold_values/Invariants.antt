@@ -1,4 +1,4 @@
-use Rattle.std.proofs.Common.{◌≡◌, length, ℕ, true, false, not, ◌&&◌}
+use Rattle.std.proofs.Common.{◌≡◌, length}
 use Rattle.std.specs.List.{list_all}
 use Rattle.graph.specs.WellFormed.{registers_hold_values, has_value}
 use Rattle.graph.proofs.points.registers_hold_values.Given as goal

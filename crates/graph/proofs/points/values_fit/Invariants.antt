@@ -1,4 +1,4 @@
-use Rattle.std.proofs.Common.{◌≡◌, length, ℕ, true, false, not, ◌&&◌}
+use Rattle.std.proofs.Common.{◌≡◌, length}
 use Rattle.std.specs.List.{list_all}
 use Rattle.graph.specs.Points.{values_fit, value_fits}
 use Rattle.graph.proofs.points.values_fit.Given as goal

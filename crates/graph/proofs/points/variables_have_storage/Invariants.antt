@@ -1,4 +1,4 @@
-use Rattle.std.proofs.Common.{◌≡◌, length, ℕ, true, false, not, ◌&&◌}
+use Rattle.std.proofs.Common.{◌≡◌, length, false}
 use Rattle.std.specs.List.{list_all}
 use Rattle.std.specs.Option.{option_map_or}
 use Rattle.graph.specs.Maps.{object_at}

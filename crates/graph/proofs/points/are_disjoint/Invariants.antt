@@ -1,9 +1,0 @@
-use Rattle.std.proofs.Common.{◌≡◌, length, ℕ, true, false, not, ◌&&◌}
-use Rattle.graph.specs.WellFormed.{are_disjoint}
-use Rattle.graph.proofs.points.are_disjoint.Given as goal
-
-abbrev pub invariant-loop-left : goal.invariant-loop-left
-invariant-loop-left l = are_disjoint l.edges ≡ are_disjoint l.left
-
-abbrev pub decreases-loop-left : goal.decreases-loop-left
-decreases-loop-left l = length l.left
