@@ -5,7 +5,9 @@ use Rattle.std.proofs.Math.Seq.{drop-cons}
 use Rattle.ctokens.specs.declared.token.Token.{Token}
 use Rattle.cgrammar.specs.Terminals.{Terminal, terminal_of}
 use Rattle.cconstructs.specs.declared.part.Part.{Part}
-use Rattle.cconstructs.specs.Layout.{attribute_from, part_behind, shows_layout, opens, closes, is_attribute, outside, within}
+use Rattle.cconstructs.specs.Layout.{is_attribute}
+use Rattle.cconstructs.specs.LayoutFinding.{attribute_from, part_behind, shows_layout, outside, within}
+use Rattle.cconstructs.specs.OpenBrackets.{opens, closes}
 
 -- what is found where it is known whether the token at a place shows a layout
 abbrev choice : Bool → ℕ → Part → Terminal → List Terminal → Option ℕ

@@ -4,6 +4,12 @@ use Rattle.std.proofs.lemmas.List.{drop_all, take_rest}
 use Rattle.cgrammar.specs.Terminals.{Terminal}
 use Rattle.cconstructs.specs.LayoutFinding.{least_struct, lesser, struct_at}
 
+-- what is found is this number or less
+pub record AtMost (found : Option ℕ) (most : ℕ) : Type 0 where
+  pub least : ℕ
+  pub is : found ≡ Some least
+  pub less : least ≤ most
+
 pub lesser_none : (one : Option ℕ) → lesser one None ≡ one
 lesser_none None = refl
 lesser_none (Some one) = refl

@@ -3,6 +3,10 @@ pub mod Between
 pub mod PassedBrackets
 pub mod First
 pub mod Guarded
+pub mod Closed
+pub mod AttributeParts
+pub mod StructEnds
+pub mod LayoutNames
 pub mod Guards
 pub mod LayoutExact
 pub mod Least

@@ -12,7 +12,8 @@ use Rattle.ctokens.specs.TokenSymbols.{token_symbol, bytes_of as token_bytes}
 use Rattle.ctokens.specs.SymbolTables.{Rows, symbol_in, mark_rows, mark_symbol, passed_rows, keyword_rows, name_rows, passed_symbol, keyword_symbol, name_symbol, word_symbol, read_as, symbol_of}
 use Rattle.cgrammar.proofs.Truth.{and-left, and-right}
 use Rattle.cgrammar.specs.Terminals.{bytes_read, terminal_of}
-use Rattle.cconstructs.specs.Layout.{closes, is_attribute, opens}
+use Rattle.cconstructs.specs.Layout.{is_attribute}
+use Rattle.cconstructs.specs.OpenBrackets.{closes, opens}
 
 -- what a claim about bytes says of each row of a table is what a test says of the row's symbol
 abbrev same : Bool → Bool → Bool

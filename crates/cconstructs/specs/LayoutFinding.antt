@@ -1,9 +1,47 @@
 -- The first change of layout of an item as it is found.
-use Rattle.std.specs.Prelude.{ℕ, nat_le, min, Bool, false, not, ◌&&◌, ◌||◌, if◌then◌else◌, List, [], ◌∷◌, Option, None, Some, codes}
+use Rattle.std.specs.Prelude.{ℕ, zero, suc, ◌+◌, ◌-◌, nat_eq, nat_le, min, Bool, true, false, not, ◌&&◌, ◌||◌, if◌then◌else◌, List, [], ◌∷◌, Option, None, Some, codes}
 use Rattle.ctokens.specs.declared.token.Tokens.{Tokens}
 use Rattle.cgrammar.specs.Readings.{row_between}
 use Rattle.cgrammar.specs.Terminals.{Terminal, is_mark, is_name, is_word}
-use Rattle.cconstructs.specs.Layout.{attribute_from, first_closing, outside, tokens_between}
+use Rattle.cconstructs.specs.declared.part.Part.{Part}
+use Rattle.cconstructs.specs.Layout.{is_attribute, is_layout_name, separates, tokens_between}
+use Rattle.cconstructs.specs.OpenBrackets.{opens, closes}
+
+-- how many are open behind a token, where so many were open before it
+abbrev pub unclosed_behind : ℕ → Terminal → ℕ
+unclosed_behind unclosed token = if opens token then unclosed + 1 else (if closes token then unclosed - 1 else unclosed)
+
+-- outside of an attribute's part; `behind` says whether an attribute's word stands directly before
+abbrev pub outside : Bool → Part
+outside behind = record { behind = behind; unclosed = 0; separated = false }
+
+-- in an attribute's part, of which so many brackets are open; `separated` says whether a `(` or a `,` stands directly before
+abbrev pub within : ℕ → Bool → Part
+within unclosed separated = record { behind = false; unclosed = unclosed; separated = separated }
+
+-- a layout attribute's name: at depth 2, directly behind a `(` or a `,`
+abbrev pub shows_layout : Part → Terminal → Bool
+shows_layout part token = nat_eq part.unclosed 2 && (part.separated && is_layout_name token)
+
+-- what is known of the next token, from what is known of this one: an attribute's part begins with the bracket behind its word
+abbrev pub part_behind : Bool → ℕ → Terminal → Part
+part_behind behind zero token = if behind && opens token then within 1 true else outside (is_attribute token)
+part_behind behind (suc unclosed) token = within (unclosed_behind (suc unclosed) token) (separates token)
+
+-- the number of the first name of a layout attribute in a row of tokens, of which the first has the number `at`
+unfoldable pub attribute_from : ℕ → Part → List Terminal → Option ℕ
+attribute_from at part [] = None
+attribute_from at part (token ∷ others) =
+    if shows_layout part token then Some at else attribute_from (at + 1) (part_behind part.behind part.unclosed token) others
+
+-- whether the token closes the last bracket that is open, where so many are open before it
+abbrev pub closes_last : ℕ → Terminal → Bool
+closes_last unclosed token = closes token && nat_le unclosed 1
+
+-- the token that closes the first bracket that opens in the row, or that is open before it, where so many are open there
+unfoldable pub first_closing : ℕ → List Terminal → Option Terminal
+first_closing unclosed [] = None
+first_closing unclosed (token ∷ others) = if closes_last unclosed token then Some token else first_closing (unclosed_behind unclosed token) others
 
 -- `{` with no `}` behind it begins the row
 abbrev pub is_filled : List Terminal → Bool

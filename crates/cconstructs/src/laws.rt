@@ -3,7 +3,8 @@ ghost use Rattle.ctokens.specs.Symbol.{is_attribute as begins_attribute, is_clos
 ghost use Rattle.ctokens.specs.TokenSymbols.{token_symbol};
 ghost use Rattle.ctokens.specs.declared.token.Token.{Token};
 ghost use Rattle.cgrammar.specs.Terminals.{terminal_of};
-ghost use Rattle.cconstructs.specs.Layout.{closes, is_attribute, opens};
+ghost use Rattle.cconstructs.specs.Layout.{is_attribute};
+ghost use Rattle.cconstructs.specs.OpenBrackets.{closes, opens};
 
 /// The brackets of an attribute's part, and the words that an attribute follows, are those by which tokens are passed
 /// over.

@@ -4,8 +4,8 @@ ghost use Rattle.ctokens.specs.InText.{LieInText, most_bytes};
 ghost use Rattle.ctokens.specs.declared.token.Token.{Token};
 ghost use Rattle.cgrammar.specs.Readings.{row_between};
 ghost use Rattle.cgrammar.specs.Terminals.{terminal_of};
-ghost use Rattle.cconstructs.specs.Layout.{HasNoLayout, IsFirstLayout, attribute_from, outside};
-ghost use Rattle.cconstructs.specs.LayoutFinding.{layout_found};
+ghost use Rattle.cconstructs.specs.Layout.{HasNoLayout, IsFirstLayout};
+ghost use Rattle.cconstructs.specs.LayoutFinding.{attribute_from, layout_found, outside};
 
 use crate::packed::{lesser, packed_struct};
 use crate::part::{outside, part_behind, shows_layout};

@@ -1,6 +1,5 @@
 ghost use Rattle.std.specs.Prelude.{◌≡◌, ◌≤◌, min};
-ghost use Rattle.cconstructs.specs.Layout.{closes_last, first_closing};
-ghost use Rattle.cconstructs.specs.LayoutFinding.{ends_behind, has_members, is_behind, is_filled, is_tagged, least_struct, lesser, packed_struct, struct_at};
+ghost use Rattle.cconstructs.specs.LayoutFinding.{closes_last, ends_behind, first_closing, has_members, is_behind, is_filled, is_tagged, least_struct, lesser, packed_struct, struct_at};
 
 use crate::part::{closes, unclosed_behind};
 use cgrammar::Terminal;
@@ -49,7 +48,7 @@ fn closes_last(unclosed: usize, token: &Terminal<'_>) -> bool
 }
 
 /// Whether the first bracket that opens in the row is closed at the line or behind it.
-#[tactic(auto, unfolding(crate::specs::Layout::first_closing))]
+#[tactic(auto, unfolding(crate::specs::LayoutFinding::first_closing))]
 fn closes_behind(line: u32, row: &[Terminal<'_>]) -> bool
     ensures { result ≡ is_behind line (first_closing 0 row.now) }
 {

@@ -2,7 +2,9 @@ ghost use Rattle.std.specs.Prelude.{◌≡◌, ◌≤◌, ◌<◌, ◌+◌, ◌^
 ghost use Rattle.ctokens.specs.InText.{most_bytes};
 ghost use Rattle.std.specs.List.{list_any};
 ghost use Rattle.std.specs.Str.{bytes_eq};
-ghost use Rattle.cconstructs.specs.Layout.{closes, is_attribute, is_layout_name, layout_names, opens, outside, part_behind, separates, shows_layout, unclosed_behind, with_underscores, within};
+ghost use Rattle.cconstructs.specs.Layout.{is_attribute, is_layout_name, layout_names, separates, with_underscores};
+ghost use Rattle.cconstructs.specs.LayoutFinding.{outside, part_behind, shows_layout, unclosed_behind, within};
+ghost use Rattle.cconstructs.specs.OpenBrackets.{closes, opens};
 
 use cgrammar::{Terminal, is_one_of};
 

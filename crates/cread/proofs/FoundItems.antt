@@ -13,8 +13,7 @@ use Rattle.cevents.specs.declared.piece.Piece.TheVariants as piece
 use Rattle.cconstructs.specs.Finding.{found_at}
 use Rattle.cconstructs.specs.declared.found.Found.{Found}
 use Rattle.cconstructs.specs.Constructs.{IsConstructAt, IsFirstConstruct, NamedWord, FloatingWord, FloatingConstant, VariableArguments, StringLiteral, FunctionPointer, HasNoConstruct}
-use Rattle.cconstructs.specs.declared.part.Part.{Part}
-use Rattle.cconstructs.specs.Layout.{attribute_from, outside, shows_layout, part_behind, tokens_between, IsLayoutAt, ByAttribute, ByPragma, IsFirstLayout, HasNoLayout}
+use Rattle.cconstructs.specs.Layout.{tokens_between, IsLayoutAt, ByAttribute, ByPragma, IsFirstLayout, HasNoLayout}
 use Rattle.ctokens.proofs.ItemsInside.{length_passed}
 use Rattle.ctokens.specs.Passed.{passed_tokens}
 use Rattle.ctokens.specs.declared.token.Token.{Token}
@@ -119,20 +118,6 @@ pub construct_placed : (row : List Terminal) (answer : Option Found) (found : Fo
 construct_placed row answer found place exact is placed = record { at = found.at; is = construct_is row answer found exact is; placed = placed }
 
 -- Changes of layout stand in the text.
-record Within (from count number : ℕ) : Type 0 where
-  pub behind : from ≤ number
-  pub before : number < from + count
-
-attribute_within : (from : ℕ) (part : Part) (row : List Terminal) (number : ℕ) → attribute_from from part row ≡ Some number → Within from (length row) number
-unfolding attribute_from
-attribute_within from part [] number is = cc is
-attribute_within from part (token ∷ others) number is = case (shows_layout part token) is (attribute_within (from + 1) (part_behind part.behind part.unclosed token) others number)
-  where
-    case : (shows : Bool) → (if shows then Some from else attribute_from (from + 1) (part_behind part.behind part.unclosed token) others) ≡ Some number
-        → (attribute_from (from + 1) (part_behind part.behind part.unclosed token) others ≡ Some number → Within (from + 1) (length others) number) → Within from (length (token ∷ others)) number
-    case true here further = let same : from ≡ number = cc here in record { behind = omega (arith, same); before = omega (arith, same) }
-    case false later further = let there = further later in record { behind = omega (arith, there.behind); before = omega (arith, there.before) }
-
 token_within : (t : Tokens) (from to at : ℕ) (word : Terminal) → AreNumbered t.list → slice_get (row_between t from to) at ≡ Some word → word.place.at < length t.list
 token_within t from to at word numbered found =
     let Inside : Terminal → Type 0 = λ (token : Terminal). token.place.at < length t.list in
@@ -143,13 +128,13 @@ token_within t from to at word numbered found =
     All-at Inside (row_between t from to) at word all found
 
 layout_at_within : (t : Tokens) (from to number : ℕ) → AreNumbered t.list → IsLayoutAt t from to number → number < length t.list
-layout_at_within t from to number numbered (ByAttribute _ is) =
-    let within = attribute_within from (outside false) (tokens_between t from to) number is in
+layout_at_within t from to _ numbered (ByAttribute at names) =
+    let within = slice_get_within (tokens_between t from to) at names.name names.there in
     let some = length-take (to - from) (drop from (map (terminal_of t.text) t.list)) in
     let left = length-drop from (map (terminal_of t.text) t.list) in
     let all = length-map t.list (terminal_of t.text) in
-    omega (arith, within.behind, within.before, some, left, all)
-layout_at_within t from to _ numbered (ByPragma at line word found full first behind) = token_within t from to at word numbered found
+    omega (arith, within, some, left, all)
+layout_at_within t from to _ numbered (ByPragma at line word members found full first behind) = token_within t from to at word numbered found
 
 -- of an answer that is the first change of layout
 pub layout_within : (t : Tokens) (from to : ℕ) (answer : Option ℕ) (number : ℕ) → AreNumbered t.list → ((number : ℕ) → (answer ≡ Some number) ↔ IsFirstLayout t from to number)

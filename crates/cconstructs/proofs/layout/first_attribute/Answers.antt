@@ -1,7 +1,7 @@
 use Rattle.std.proofs.Common.{◌+◌, sym, ap, ◌∙◌, drop, map, arith}
 use Rattle.cgrammar.specs.Terminals.{terminal_of}
 use Rattle.cconstructs.specs.declared.part.Part.{Part}
-use Rattle.cconstructs.specs.Layout.{attribute_from}
+use Rattle.cconstructs.specs.LayoutFinding.{attribute_from}
 use Rattle.cconstructs.proofs.Attributes.{attribute_found, attribute_later, few_behind}
 use Rattle.cconstructs.proofs.layout.first_attribute.Goals as goal
 

@@ -1,6 +1,6 @@
 use Rattle.std.proofs.Common.{◌≡◌, ◌≤◌, ◌+◌, drop, false, map}
 use Rattle.cgrammar.specs.Terminals.{terminal_of}
-use Rattle.cconstructs.specs.Layout.{attribute_from, outside}
+use Rattle.cconstructs.specs.LayoutFinding.{attribute_from, outside}
 use Rattle.cconstructs.proofs.layout.first_attribute.Given as goal
 
 abbrev pub invariant-loop-token : goal.invariant-loop-token

@@ -1,5 +1,5 @@
 use Rattle.std.proofs.Common.{◌≡◌, ◌≤◌, drop}
-use Rattle.cconstructs.specs.Layout.{first_closing}
+use Rattle.cconstructs.specs.LayoutFinding.{first_closing}
 use Rattle.cconstructs.proofs.packed.closes_behind.Given as goal
 
 abbrev pub invariant-loop-token : goal.invariant-loop-token
