@@ -1,7 +1,6 @@
 -- Which tokens stand in the brackets of an `__assert_fail`: those that are counted from its `(` on. What stands in
 -- brackets that are matched needs no count of its own.
-use Rattle.std.proofs.Common.{◌≡◌, ℕ, zero, suc, ◌+◌, ◌-◌, ◌<◌, ◌≤◌, nat_eq, nat_lt, Bool, true, false, ◌&&◌, ◌||◌, if◌then◌else◌, refl, ap, sym, ◌∙◌, subst, ◌⊎◌, inl, inr, List, [], ◌∷◌, ◌++◌, Option, None, Some, length, drop, codes, add-one, arith}
-use Rattle.std.specs.Prelude.{slice_get}
+use Rattle.std.proofs.Common.{◌≡◌, ℕ, zero, suc, ◌+◌, ◌-◌, ◌<◌, ◌≤◌, nat_eq, nat_lt, Bool, true, false, ◌&&◌, ◌||◌, if◌then◌else◌, refl, ap, sym, ◌∙◌, subst, ◌⊎◌, inl, inr, List, [], ◌∷◌, ◌++◌, Option, None, Some, length, length-append, drop, codes, arith}
 use Rattle.std.specs.List.{list_all}
 use Rattle.std.specs.Str.{bytes_eq}
 use Rattle.std.proofs.lemmas.Bool.Decides.{Decides-ltb}
@@ -13,7 +12,9 @@ use Rattle.cgrammar.specs.Terminals.{Terminal, is_mark, is_mark_kind, is_word, I
 use Rattle.cgrammar.specs.Closers.{behind_other, behind_token}
 use Rattle.cconstructs.specs.Constructs.{IsAsserted}
 use Rattle.cconstructs.specs.Finding.{guarded_behind, guarded_front, inside}
+use Rattle.cgrammar.proofs.CompleteAssertions.{behind_assertion}
 use Rattle.cgrammar.proofs.Matching.{matched_on, matched_one}
+use Rattle.cgrammar.proofs.SoundBrackets.{brackets_close}
 use Rattle.cconstructs.proofs.Options.{no_some, same_some}
 
 abbrev pub is_assertion : Terminal → Bool
@@ -298,22 +299,49 @@ brackets_complete (token ∷ others) (suc guarded) asserting (suc at) zero rest 
     within others guarded (is_assertion token) at (count_behind (suc guarded) asserting token others (inr unclosed))
     (nested guarded token others rest at opens.1 matched (omega arith) unclosed)
 
--- the place of the `(` by the places of two tokens
-opened_tokens : (row : List Terminal) (asserting : Bool) (place : ℕ) → OpenedAt asserting row (suc place)
-    → (word : Terminal) × (opening : Terminal) × (slice_get row place ≡ Some word) × IsWord (codes "__assert_fail") word × (slice_get row (suc place) ≡ Some opening) × IsMark (codes "(") opening
-opened_tokens [] asserting place opens = absurd opens
-opened_tokens (word ∷ []) asserting zero opens = absurd opens
-opened_tokens (word ∷ (opening ∷ others)) asserting zero opens = (word, opening, refl, opens.0, refl, opens.1)
-opened_tokens (word ∷ others) asserting (suc place) opens = opened_tokens others (is_assertion word) place opens
+-- the row around the `(` at a place
+record Opened (row : List Terminal) (place : ℕ) : Type 0 where
+  pub before : List Terminal
+  pub word : Terminal
+  pub opening : Terminal
+  pub is : row ≡ before ++ (word ∷ (opening ∷ drop (suc (suc place)) row))
+  pub counts : length before ≡ place
+  pub asserts : IsWord (codes "__assert_fail") word
+  pub opens : IsMark (codes "(") opening
 
-tokens_opened : (row : List Terminal) (asserting : Bool) (place : ℕ) (word opening : Terminal) → slice_get row place ≡ Some word → IsWord (codes "__assert_fail") word
-    → slice_get row (suc place) ≡ Some opening → IsMark (codes "(") opening → OpenedAt asserting row (suc place)
-tokens_opened [] asserting place word opening first asserts second opens = no_some word first
-tokens_opened (one ∷ []) asserting zero word opening first asserts second opens = no_some opening second
-tokens_opened (one ∷ (two ∷ others)) asserting zero word opening first asserts second opens =
-    (ap is_assertion (same_some one word first) ∙ asserts, ap (is_mark (codes "(")) (same_some two opening second) ∙ opens)
-tokens_opened (one ∷ others) asserting (suc place) word opening first asserts second opens =
-    tokens_opened others (is_assertion one) place word opening first asserts second opens
+around : (row : List Terminal) (asserting : Bool) (place : ℕ) → OpenedAt asserting row (suc place) → Opened row place
+around [] asserting place opens = absurd opens
+around (word ∷ []) asserting zero opens = absurd opens
+around (word ∷ []) asserting (suc place) opens = absurd opens
+around (word ∷ (opening ∷ others)) asserting zero opens =
+    record { before = []; word = word; opening = opening; is = refl; counts = refl; asserts = opens.0; opens = opens.1 }
+around (first ∷ (next ∷ others)) asserting (suc place) opens =
+    let further = around (next ∷ others) (is_assertion first) place opens in
+    record {
+      before = first ∷ further.before;
+      word = further.word;
+      opening = further.opening;
+      is = ap (λ (row : List Terminal). first ∷ row) further.is;
+      counts = ap suc further.counts;
+      asserts = further.asserts;
+      opens = further.opens;
+    }
+
+opened_behind : (before : List Terminal) (word opening : Terminal) (others : List Terminal) (asserting : Bool) → IsWord (codes "__assert_fail") word → IsMark (codes "(") opening
+    → OpenedAt asserting (before ++ (word ∷ (opening ∷ others))) (suc (length before))
+opened_behind [] word opening others asserting asserts opens = (asserts, opens)
+opened_behind (first ∷ before) word opening others asserting asserts opens = opened_behind before word opening others (is_assertion first) asserts opens
+
+dropped_behind : (before : List Terminal) (word opening : Terminal) (others : List Terminal) → drop (suc (suc (length before))) (before ++ (word ∷ (opening ∷ others))) ≡ others
+dropped_behind [] word opening others = refl
+dropped_behind (first ∷ before) word opening others = dropped_behind before word opening others
+
+length_around : (before inside behind : List Terminal) (word opening closing : Terminal)
+    → length (before ++ (word ∷ (opening ∷ (inside ++ (closing ∷ behind))))) ≡ length before + (2 + (length inside + (1 + length behind)))
+length_around before inside behind word opening closing =
+    let whole = length-append before (word ∷ (opening ∷ (inside ++ (closing ∷ behind)))) in
+    let part = length-append inside (closing ∷ behind) in
+    omega (arith, whole, part)
 
 pub guarded_sound : (row : List Terminal) (at : ℕ) → in_brackets 0 false row at ≡ true → IsAsserted row at
 guarded_sound row at is = step (brackets_sound row 0 false at is)
@@ -323,23 +351,26 @@ guarded_sound row at is = step (brackets_sound row 0 false at is)
     there [] place rest opens matched after before = absurd opens
     there (token ∷ others) zero rest opens matched after before = let wrong : false ≡ true = opens.0 in cc wrong
     there (token ∷ others) (suc place) rest opens matched after before =
-        let tokens = opened_tokens (token ∷ others) false place opens in
+        let row : List Terminal = token ∷ others in
+        let tokens = around row false place opens in
+        let (inside, closing, more, split, closed, ends, same) = brackets_close (41 ∷ []) (drop (suc (suc place)) row) rest matched in
+        let whole : row ≡ tokens.before ++ (tokens.word ∷ (tokens.opening ∷ (inside ++ (closing ∷ more)))) =
+        tokens.is ∙ ap (λ (r : List Terminal). tokens.before ++ (tokens.word ∷ (tokens.opening ∷ r))) split.is in
         record {
-          start = place;
-          word = tokens.0;
-          first = tokens.2;
-          asserts = tokens.3;
-          opening = tokens.1;
-          second = ap (slice_get (token ∷ others)) (add-one place) ∙ tokens.4;
-          opens = tokens.5;
-          others = rest;
-          matched = ap (λ (n : ℕ). behind_matched (41 ∷ []) (drop n (token ∷ others))) (two_more place) ∙ matched;
-          behind = omega arith;
-          before = before;
+          before = tokens.before;
+          word = tokens.word;
+          opening = tokens.opening;
+          inside = inside;
+          closing = closing;
+          behind = more;
+          is = whole;
+          asserts = tokens.asserts;
+          opens = tokens.opens;
+          matched = closed;
+          closes = ends;
+          from = omega (arith, tokens.counts, after);
+          to = omega (arith, tokens.counts, before, ap length same, ap length whole, length_around tokens.before inside more tokens.word tokens.opening closing);
         }
-      where
-        two_more : (n : ℕ) → n + 2 ≡ suc (suc n)
-        two_more n = omega arith
 
     step : (at < 0) ⊎ Asserted false row at → IsAsserted row at
     step (inl less) = absurd (omega arith)
@@ -347,8 +378,11 @@ guarded_sound row at is = step (brackets_sound row 0 false at is)
 
 pub guarded_complete : (row : List Terminal) (at : ℕ) → IsAsserted row at → in_brackets 0 false row at ≡ true
 guarded_complete row at is =
-    let two_more : is.start + 2 ≡ suc (suc is.start) = omega arith in
-    brackets_complete row 0 false at (suc is.start) is.others (inl refl)
-    (tokens_opened row false is.start is.word is.opening is.first is.asserts (ap (slice_get row) (sym (add-one is.start)) ∙ is.second) is.opens)
-    (ap (λ (n : ℕ). behind_matched (41 ∷ []) (drop n row)) (sym two_more) ∙ is.matched)
-    (omega (arith, is.behind)) (omega (arith, is.before))
+    let others : List Terminal = is.inside ++ (is.closing ∷ is.behind) in
+    let whole : List Terminal = is.before ++ (is.word ∷ (is.opening ∷ others)) in
+    let counted = length_around is.before is.inside is.behind is.word is.opening is.closing in
+    subst (λ (row : List Terminal). in_brackets 0 false row at ≡ true) (sym is.is)
+    (brackets_complete whole 0 false at (suc (length is.before)) is.behind (inl refl)
+    (opened_behind is.before is.word is.opening others false is.asserts is.opens)
+    (ap (behind_matched (41 ∷ [])) (dropped_behind is.before is.word is.opening others) ∙ behind_assertion is.inside is.behind is.closing is.matched is.closes)
+    (omega (arith, is.from)) (omega (arith, is.to, counted)))

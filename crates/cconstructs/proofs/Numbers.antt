@@ -7,7 +7,8 @@ use Rattle.std.proofs.lemmas.Slice.Eq.{bytes_eq-Decides}
 use Rattle.ctokens.specs.declared.token.TokenKind.{TokenKind}
 use Rattle.ctokens.specs.declared.token.TokenKind.TheVariants.{Word, Number, Letter, Quoted, Mark}
 use Rattle.cgrammar.proofs.TokenKinds.{mark_kind_is, word_kind_is}
-use Rattle.cgrammar.proofs.Truth.{and-left, and-right, and-both, not-true}
+use Rattle.cgrammar.proofs.Integers.{integer_exact}
+use Rattle.cgrammar.proofs.Truth.{and-left, and-right, and-both, clash, false-of, not-true}
 use Rattle.cgrammar.specs.ConstantParts.{is_integer}
 use Rattle.cgrammar.specs.Operators.{row_of}
 use Rattle.cgrammar.specs.Terminals.{Terminal, is_mark_kind, is_word_kind, IsMark}
@@ -68,7 +69,7 @@ token_sound row at number token there is = by_kind token.kind refl is
 
     constant : (b : Bool) → is_integer token.bytes ≡ b → token.kind ≡ Number → (if b then None else Some 4) ≡ Some number → IsConstructAt row at number
     constant true e k h = no_some number h
-    constant false e k h = along row at 4 number (same_some 4 number h) (FloatingConstant token there k e)
+    constant false e k h = along row at 4 number (same_some 4 number h) (FloatingConstant token there k (λ integer. clash (is_integer token.bytes) ((integer_exact token.bytes).1 integer) e))
 
     text : (b : Bool) → in_brackets 0 false row at ≡ b → token.kind ≡ Quoted → (if b then None else Some 10) ≡ Some number → IsConstructAt row at number
     text true e k h = no_some number h
@@ -109,7 +110,7 @@ construct_found row at _ (FloatingWord token there is floats) =
 construct_found row at _ (FloatingConstant token there is floats) =
     ap (number_there (in_brackets 0 false row at) (pointed_at false false row at)) there
     ∙ (ap (λ (k : TokenKind). number_of k (in_brackets 0 false row at) (pointed_at false false row at) token.bytes) is
-    ∙ ap (λ (b : Bool). if b then None else Some 4) floats)
+    ∙ ap (λ (b : Bool). if b then None else Some 4) (false-of (is_integer token.bytes) (λ whole. floats ((integer_exact token.bytes).0 whole))))
 construct_found row at _ (VariableArguments token there is) =
     ap (number_there (in_brackets 0 false row at) (pointed_at false false row at)) there
     ∙ (ap (λ (k : TokenKind). number_of k (in_brackets 0 false row at) (pointed_at false false row at) token.bytes)

@@ -1,12 +1,12 @@
 -- Forms of C11 and of GNU C that the grammar has no rule for, each by the token that shows it, and the number by which
 -- it is given up. The row is that of an item, less the tokens that are passed over.
-use Rattle.std.specs.Prelude.{◌≡◌, ℕ, suc, ◌+◌, ◌<◌, Bool, false, not, ◌||◌, IsTrue, List, [], ◌∷◌, Some, length, drop, slice_get, codes}
+use Rattle.std.specs.Prelude.{◌≡◌, ℕ, suc, ◌+◌, ◌<◌, ◌≤◌, Bool, not, ◌||◌, IsTrue, List, [], ◌∷◌, ◌++◌, Some, length, drop, slice_get, codes}
 use Rattle.std.specs.List.{starts_with}
 use Rattle.std.specs.Prelude.{nat_eq}
 use Rattle.ctokens.specs.declared.token.TokenKind.TheVariants.{Number, Quoted}
-use Rattle.cgrammar.specs.ConstantParts.{is_integer}
+use Rattle.cgrammar.specs.Brackets.{AreMatched}
+use Rattle.cgrammar.specs.Constants.{IsInteger}
 use Rattle.cgrammar.specs.Operators.{row_of}
-use Rattle.cgrammar.specs.ReadOperands.{behind_matched}
 use Rattle.cgrammar.specs.Terminals.{Terminal, is_any_word, is_word, IsWord, IsMark, IsName}
 use Rattle.cconstructs.specs.Numbers.{goto_statement, switch_statement, union_type, floating_type, variable_arguments, inline_assembly, complex_type, thread_local_object, string_literal, function_pointer}
 
@@ -18,19 +18,22 @@ word_rows =
     ∷ (codes "__asm", inline_assembly) ∷ (codes "__asm__", inline_assembly) ∷ (codes "_Complex", complex_type)
     ∷ (codes "__complex__", complex_type) ∷ (codes "_Thread_local", thread_local_object) ∷ (codes "__thread", thread_local_object) ∷ []
 
--- the token stands between the brackets of an `__assert_fail`, which are matched by kind
+-- The token at the place stands between the brackets of an `__assert_fail`: the word, `(`, a row whose brackets are matched by
+-- kind, in which the place lies, and `)` (C11 7.2).
 pub record IsAsserted (row : List Terminal) (at : ℕ) : Type 0 where
-  pub start : ℕ
+  pub before : List Terminal
   pub word : Terminal
-  pub first : slice_get row start ≡ Some word
-  pub asserts : IsWord (codes "__assert_fail") word
   pub opening : Terminal
-  pub second : slice_get row (start + 1) ≡ Some opening
+  pub inside : List Terminal
+  pub closing : Terminal
+  pub behind : List Terminal
+  pub is : row ≡ before ++ (word ∷ (opening ∷ (inside ++ (closing ∷ behind))))
+  pub asserts : IsWord (codes "__assert_fail") word
   pub opens : IsMark (codes "(") opening
-  pub others : List Terminal
-  pub matched : behind_matched (41 ∷ []) (drop (start + 2) row) ≡ Some others
-  pub behind : start + 1 < at
-  pub before : at + length others + 1 < length row
+  pub matched : AreMatched inside
+  pub closes : IsMark (codes ")") closing
+  pub from : length before + 2 ≤ at
+  pub to : at < length before + 2 + length inside
 
 -- the word before a `(` with which no function pointer begins
 abbrev pub is_header : Terminal → Bool
@@ -58,7 +61,7 @@ IsNotHeaded row at = (before : ℕ) (token : Terminal) → at ≡ suc before →
 pub data IsConstructAt (row : List Terminal) : ℕ → ℕ → Type 0 where
   NamedWord : {at number : ℕ} (token : Terminal) → slice_get row at ≡ Some token → IsTrue (is_any_word token) → row_of token.bytes word_rows ≡ Some number → IsConstructAt row at number
   FloatingWord : {at : ℕ} (token : Terminal) → slice_get row at ≡ Some token → IsTrue (is_any_word token) → IsTrue (starts_with nat_eq token.bytes (codes "_Float")) → IsConstructAt row at floating_type
-  FloatingConstant : {at : ℕ} (token : Terminal) → slice_get row at ≡ Some token → token.kind ≡ Number → is_integer token.bytes ≡ false → IsConstructAt row at floating_type
+  FloatingConstant : {at : ℕ} (token : Terminal) → slice_get row at ≡ Some token → token.kind ≡ Number → (IsInteger token.bytes → ⊥) → IsConstructAt row at floating_type
   VariableArguments : {at : ℕ} (token : Terminal) → slice_get row at ≡ Some token → IsMark (codes "...") token → IsConstructAt row at variable_arguments
   StringLiteral : {at : ℕ} (token : Terminal) → slice_get row at ≡ Some token → token.kind ≡ Quoted → (IsAsserted row at → ⊥) → IsConstructAt row at string_literal
   FunctionPointer : {before : ℕ} (opening star : Terminal) → slice_get row before ≡ Some opening → IsMark (codes "(") opening
