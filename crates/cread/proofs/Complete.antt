@@ -31,6 +31,7 @@ use Rattle.cgrammar.specs.Reader.{level}
 use Rattle.cgrammar.specs.Terminals.{Terminal, is_mark, IsMark, IsName, AreStars}
 use Rattle.cgrammar.specs.Trees.{function}
 use Rattle.cgrammar.specs.TypeWords.{declares_typedef}
+use Rattle.cread.proofs.BehindFunctions.{behind_function}
 use Rattle.cread.specs.Items.{SpellsItem, EmptyItem, DeclarationItem, FunctionDefinition, in_body}
 use Rattle.cread.specs.OneItem.{IsOneItem}
 use Rattle.cread.specs.ReadItem.{Head, head_of, read_head, read_function, read_external}
@@ -119,7 +120,9 @@ complete_item _ _ _ _ (FunctionDefinition {before} {middle} {within} {last} {xs}
     let begins : Begins (begins_declaration before.scope) xs = first d1 in
     go_false _ (declaration_row_no_mark before.scope (codes ";") xs (ys ++ (opening ∷ (zs ++ (closing ∷ [])))) begins)
     (go_true _ (ap ends_with_brace (regrouped xs ys opening zs closing) ∙ (ends_behind (xs ++ (ys ++ (opening ∷ zs))) closing ∙ p2))
-    (complete_function before middle within last xs ys zs storage type name head body opening closing d1 d2 p1 d3 p2 n small))
+    (complete_function before middle within last xs ys zs storage type name head body opening closing d1 d2 p1 d3 p2 n small
+    ∙ ap (λ (behind : Context). Read (Function type storage head body closing.place) (item_levels (Function type storage head body closing.place)) behind [])
+    (behind_function middle within last ys zs name (declares_typedef storage) head body d2 d3)))
   where
     regrouped : (xs ys : List Terminal) (opening : Terminal) (zs : List Terminal) (closing : Terminal)
         → xs ++ (ys ++ (opening ∷ (zs ++ (closing ∷ [])))) ≡ (xs ++ (ys ++ (opening ∷ zs))) ++ (closing ∷ [])

@@ -1,5 +1,5 @@
 -- What the reader's events make of a row is its item; where constructs and changes of layout stand.
-use Rattle.std.proofs.Common.{◌≡◌, ℕ, ◌+◌, ◌-◌, ◌<◌, ◌≤◌, Bool, true, false, if◌then◌else◌, Option, Some, List, [], ◌∷◌, length, map, take, drop, slice_get, length-drop, refl, ap, sym, ◌∙◌, subst, arith, inr, ◌↔◌}
+use Rattle.std.proofs.Common.{◌≡◌, ℕ, ◌-◌, ◌<◌, ◌≤◌, Bool, true, false, Option, Some, List, [], ◌∷◌, length, map, take, drop, slice_get, length-drop, refl, ap, sym, ◌∙◌, subst, arith, inr, ◌↔◌}
 use Rattle.std.proofs.lemmas.List.{length-map, length-take}
 use Rattle.std.proofs.lemmas.List.Elements.{All-drop, All-map, All-take}
 use Rattle.std.proofs.lemmas.Option.{slice_get_within}

@@ -1,5 +1,5 @@
 -- Items that are read one behind the other are read in one way.
-use Rattle.std.proofs.Common.{◌≡◌, List, [], ◌∷◌, refl, subst}
+use Rattle.std.proofs.Common.{◌≡◌, List, ◌∷◌, refl, subst}
 use Rattle.cbase.specs.declared.tree.item.Item.{Item}
 use Rattle.cgrammar.specs.Phrases.{Context}
 use Rattle.ctokens.specs.declared.item_span.ItemSpan.{ItemSpan}

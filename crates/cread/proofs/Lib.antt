@@ -1,3 +1,5 @@
+pub mod WithNames
+pub mod BehindFunctions
 pub mod Complete
 pub mod Sound
 pub mod TextItemsRead
@@ -8,7 +10,6 @@ pub mod FoundItems
 pub mod UnreadItems
 pub mod OneAnswer
 pub mod InOrder
-pub mod WithNames
 pub mod Turns
 pub mod NamesOfParts
 pub mod NamesOfTrees

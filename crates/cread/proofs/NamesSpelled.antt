@@ -2,17 +2,16 @@
 use Rattle.std.proofs.Common.{◌≡◌, ℕ, Bool, true, false, refl, ap, sym, ◌∙◌, map, length, List, [], ◌∷◌, ◌++◌, Some, None}
 use Rattle.cbase.specs.declared.tree.operators.BinaryOp.TheVariants.{Comma}
 use Rattle.cbase.specs.declared.tree.expr.Part.TheVariants.{Member as NamedPart, At}
-use Rattle.cgrammar.proofs.Contexts.{scopes_kept}
 use Rattle.cgrammar.specs.Grammar.{Spells, OneAssignment, CommaOperator, OneConditional, AssignmentOperator, OneOperation, ConditionalOperator, OneCast, BinaryOperator, OneUnary, CastOperator, OnePostfix, CountBefore, UnaryOperator, SizeOfExpression, SizeOfTypeName, OnePrimary, IndexOperator, CallOfNothing, CallOperator, MemberOperator, CountBehind, OneArgument, MoreArguments, OneName, OneConstant, Bracketed, StatementExpression, OffsetOfMember, NoMoreMembers, PathToMember, PathToItem, FailedAssertion, BasicWords, TypedefName, TypeOfExpression, TypeOfType, StructWithFields, StructByTag, NoMoreFields, MoreFields, OneFieldDeclaration, OneField, MoreFieldNames, NamedField, NamedBits, UnnamedBits, EnumWithValues, EnumByTag, LastEnumerator, MoreEnumerators, PlainEnumerator, ValuedEnumerator, OneTypeName, NoMoreSizes, SizeLeftOut, SizeGiven, TypeAlone, StorageBefore, StorageBehind, NoDeclarator, WithDeclarators, OneDeclarator, MoreDeclarators, ObjectDeclarator, InitializedDeclarator, DeclaratorOfFunction, NoParameters, VoidParameters, WithParameters, OneParameter, MoreParameters, NamedParameter, UnnamedParameter, InitializedTo, EmptyBraces, InBraces, OneInitializer, MoreInitializers, NextPart, MemberPart, OneBlock, NoMoreItems, NextDeclaration, NextStatement, BlockStatement, EmptyStatement, ExpressionStatement, OneSubstatement, IfStatement, IfElseStatement, WhileStatement, DoStatement, ForStatement, FirstDeclaration, FirstLeftOut, FirstExpression, NoExpression, SomeExpression, BreakStatement, ContinueStatement, ReturnStatement, LabeledStatement}
 use Rattle.cgrammar.specs.Phrases.{Phrase, Context}
-use Rattle.cgrammar.specs.Phrases.{Expression, Assignment, Conditional, Operation, CastExpression, UnaryExpression, PostfixExpression, PrimaryExpression, Arguments, MemberPath, TypeSpecifier, NameOfType, ArraySizes, Fields, FieldDeclaration, FieldDeclarators, FieldDeclarator, Enumerators, OneEnumerator, Specifiers, Declaration, Declarators, Declarator, FunctionDeclarator, Initializer, Initializers, DesignatedInitializer, CompoundStatement, BlockItems}
-use Rattle.cgrammar.specs.Scope.{Names, declared, declared_around, left}
+use Rattle.cgrammar.specs.Phrases.{Expression, Assignment, Conditional, Operation, CastExpression, UnaryExpression, PostfixExpression, PrimaryExpression, Arguments, MemberPath, TypeSpecifier, NameOfType, ArraySizes, Fields, FieldDeclaration, FieldDeclarators, FieldDeclarator, Enumerators, OneEnumerator, Specifiers, Declaration, Declarators, Declarator, FunctionDeclarator, Initializer, Initializers, DesignatedInitializer, CompoundStatement}
+use Rattle.cgrammar.specs.Scope.{Names, declared}
 use Rattle.cgrammar.specs.Terminals.{Terminal, last_place}
 use Rattle.cgrammar.specs.Trees.{identifier}
 use Rattle.cgrammar.specs.TypeWords.{declares_typedef}
 use Rattle.cread.proofs.NamesOfTrees.{names_of, names_name, names_constant, names_assert_fail, names_unary, names_binary, names_assign, names_count, names_choose, names_cast, names_size_of, names_size_of_type, names_offset_of, names_index, names_member, names_call, names_inner, names_named_part, names_at, names_value, names_braces, names_initializer, names_basic, names_named, names_struct_by_tag, names_struct, names_enum_by_tag, names_enum, names_of_expr, names_of_type, names_type_name, names_fields, names_field, names_bits, names_enumerator, names_valued_enumerator, names_declaration, names_object, names_initialized, names_function}
-use Rattle.cread.proofs.WithNames.{with_two, left_around}
-use Rattle.cread.specs.Items.{EmptyItem, DeclarationItem, FunctionDefinition, in_body}
+use Rattle.cread.proofs.WithNames.{with_two}
+use Rattle.cread.specs.Items.{EmptyItem, DeclarationItem, FunctionDefinition}
 use Rattle.cread.specs.NamesAfter.{joined, decl_names, declared_names, enumerator_names, expr_names, field_decl_names, field_name_names, init_names, init_part_names, maybe_names, part_names, spec_names, type_name_names, with_names}
 use Rattle.cread.specs.SpelledNames.{AreNamesSpelled}
 
@@ -185,15 +184,8 @@ leaves (ContinueStatement _ _ _ _) = tt
 leaves (ReturnStatement _ _ _ _ _) = tt
 leaves (LabeledStatement _ _ _ _ _ _) = tt
 
--- outside a function, its name is declared behind what stands before its parameters
-outside : (name : List ℕ) (typedef : Bool) (middle within last : List Names) → left last ≡ left (declared_around name typedef within) → left within ≡ middle → left last ≡ declared name typedef middle
-outside name typedef middle within last body head = body ∙ (left_around name typedef within ∙ ap (declared name typedef) head)
-
 pub names_spelled : AreNamesSpelled
 names_spelled _ before after row (EmptyItem _ _) = refl
 names_spelled _ before after row (DeclarationItem d1) = (leaves d1).is
-names_spelled _ before after row (FunctionDefinition {middle} {within} {last} {ys} {zs} {storage} {name} {head} {body} _ _ d1 d2 _ d3 _) =
-    let typedef : Bool = declares_typedef storage in
-    let kept_body : left last.scope ≡ left (declared_around name typedef within.scope) = scopes_kept (BlockItems body) (in_body name typedef within) last zs d3 in
-    let kept_head : left within.scope ≡ middle.scope = scopes_kept (FunctionDeclarator name head) middle within ys d2 in
-    (both (leaves d1) (same (leaves d2 typedef) (record { is = outside name typedef middle.scope within.scope last.scope kept_body kept_head }))).is
+names_spelled _ before after row (FunctionDefinition {storage} _ _ d1 d2 _ _ _) =
+    (both (leaves d1) (same (leaves d2 (declares_typedef storage)) (record { is = refl }))).is

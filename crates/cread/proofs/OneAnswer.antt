@@ -1,9 +1,7 @@
 -- Of an item at most one answer is true.
-use Rattle.std.proofs.Common.{◌≡◌, ℕ, List, ap}
+use Rattle.std.proofs.Common.{ap}
 use Rattle.cbase.specs.declared.tree.item.Item.{Item}
-use Rattle.ctokens.specs.declared.token.Tokens.{Tokens}
 use Rattle.cgrammar.specs.Phrases.{Context, context_at}
-use Rattle.cgrammar.specs.Scope.{Names}
 use Rattle.cread.proofs.UnreadItems.{one_read, read_or_unread, one_unread}
 use Rattle.cread.specs.ItemAnswers.{HasOneAnswer}
 use Rattle.cread.specs.declared.reading_item.ItemBehind.{ItemBehind}

@@ -19,7 +19,8 @@ use Rattle.cgrammar.specs.Reader.{level}
 use Rattle.cgrammar.specs.Terminals.{Terminal, is_mark}
 use Rattle.cgrammar.specs.Trees.{function}
 use Rattle.cgrammar.specs.TypeWords.{declares_typedef}
-use Rattle.cread.specs.Items.{SpellsItem, EmptyItem, DeclarationItem, FunctionDefinition, in_body}
+use Rattle.cread.proofs.BehindFunctions.{function_spelled}
+use Rattle.cread.specs.Items.{SpellsItem, EmptyItem, DeclarationItem, in_body}
 use Rattle.cread.specs.ReadItem.{Head, head_of, read_head, read_function, read_external}
 use Rattle.creader.specs.ItemSteps.{ends_with_brace}
 
@@ -52,7 +53,7 @@ sound_function inner is context row =
     (sound_items inner (length others + 1) is (in_body head.name (declares_typedef specifiers.storage) within) others) (λ body bodies last end read_body.
     sound_first _ end _ _ (λ none. sound_nothing) (λ closing final next ends.
     made (split_more read.whole (split_more read_head_of.whole (split_first from (split_more read_body.whole (split_last next)))))
-    (FunctionDefinition opening closing read.spelled read_head_of.spelled marked read_body.spelled.0 ends)
+    (function_spelled opening closing read.spelled read_head_of.spelled marked read_body.spelled.0 ends)
     (larger read.same (larger read_head_of.same read_body.same))
     (larger_fits read.fits (larger_fits read_head_of.fits read_body.fits)))))))
 

@@ -1,6 +1,6 @@
 -- Of an item at most one answer is true: one tree with what stands behind it, or one reason why it is not read. A reason
 -- has a number, and its place a name.
-use Rattle.std.proofs.Common.{◌≡◌, ℕ, ◌-◌, ◌<◌, ◌≤◌, inl, inr, rules, lit≤, Bool, true, false, Some, List, [], ◌∷◌, length, map, take, drop, slice_get, cond, ap, sym, ◌∙◌, subst, arith}
+use Rattle.std.proofs.Common.{◌≡◌, ℕ, ◌-◌, ◌<◌, inl, inr, rules, lit≤, Bool, true, false, Some, List, [], ◌∷◌, length, map, take, drop, slice_get, cond, ap, sym, ◌∙◌, subst, arith}
 use Rattle.std.specs.List.{All}
 use Rattle.std.specs.Str.{bytes_eq}
 use Rattle.std.proofs.lemmas.List.Elements.{All-cons, All-drop, All-head, All-map, All-nil, All-tail, All-take}

@@ -1,6 +1,6 @@
 -- Items of a text that are read one behind the other: each where the names that those before it declare are in scope, and
 -- as many expressions end before it as they have (C11 6.9).
-use Rattle.std.specs.Prelude.{◌≡◌, ℕ, List, [], ◌∷◌}
+use Rattle.std.specs.Prelude.{◌≡◌, List, [], ◌∷◌}
 use Rattle.cbase.specs.declared.tree.item.Item.{Item}
 use Rattle.cgrammar.specs.Phrases.{Context}
 use Rattle.cgrammar.specs.Readings.{at_first}

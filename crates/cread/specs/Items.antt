@@ -9,9 +9,8 @@ use Rattle.cbase.specs.declared.tree.item.Item.{Item}
 use Rattle.cbase.specs.declared.tree.item.Item.TheVariants.{Empty, Declare, Function}
 use Rattle.cbase.specs.declared.tree.spec.TypeSpec.{TypeSpec}
 use Rattle.cbase.specs.declared.tree.stmt.Stmt.{Stmt}
-use Rattle.cgrammar.specs.Grammar.{Spells}
+use Rattle.cgrammar.specs.Grammar.{Spells, declaring, outside}
 use Rattle.cgrammar.specs.Phrases.{Context, Specifiers, Declaration, FunctionDeclarator, BlockItems, scoped}
-use Rattle.cgrammar.specs.ReadDeclarations.{leaving}
 use Rattle.cgrammar.specs.Scope.{declared_around}
 use Rattle.cgrammar.specs.Terminals.{Terminal, IsMark}
 use Rattle.cgrammar.specs.TypeWords.{declares_typedef}
@@ -21,7 +20,8 @@ abbrev pub in_body : List ℕ → Bool → Context → Context
 in_body name typedef within = scoped within (declared_around name typedef within.scope)
 
 -- `SpellsItem item before row after`: the row, where `before` stands before it, is the item, and then `after` stands
--- before what follows. The parameters of a function and the block of its body are one scope.
+-- before what follows. The parameters of a function and the block of its body are one scope; behind it the names are in scope
+-- that its specifiers leave, and its own.
 pub data SpellsItem : Item → Context → List Terminal → Context → Type 0 where
   EmptyItem : {before : Context} (semicolon : Terminal)
       → IsMark (codes ";") semicolon
@@ -35,4 +35,4 @@ pub data SpellsItem : Item → Context → List Terminal → Context → Type 0 
       → IsMark (codes "{") opening
       → Spells (BlockItems body) (in_body name (declares_typedef storage) within) zs last
       → IsMark (codes "}") closing
-      → SpellsItem (Function type storage head body closing.place) before (xs ++ (ys ++ (opening ∷ (zs ++ (closing ∷ []))))) (leaving last)
+      → SpellsItem (Function type storage head body closing.place) before (xs ++ (ys ++ (opening ∷ (zs ++ (closing ∷ []))))) (declaring (outside middle last) name (declares_typedef storage))

@@ -9,7 +9,6 @@ use Rattle.ctrees.specs.Levels.{item_levels}
 use Rattle.cconstructs.specs.Constructs.{IsFirstConstruct}
 use Rattle.cgrammar.specs.Phrases.{Context}
 use Rattle.cgrammar.specs.Readings.{most_levels}
-use Rattle.cgrammar.specs.Scope.{Names}
 use Rattle.cgrammar.specs.Terminals.{Terminal}
 use Rattle.cread.specs.UnreadItems.{IsPlaceIn}
 use Rattle.cread.specs.Items.{SpellsItem}
