@@ -20,6 +20,9 @@ min_count most count size = rw (mul_comm (min count most) size, mul_comm count s
 pub capped-repeated_count : (count : ℕ) (item : Layout) → capped (repeated (min count 65537) item) ≡ capped (repeated count item)
 capped-repeated_count count item = ap (λ (size : ℕ). let l : Layout = record { size = size; alignment = item.alignment } in l) (min_count 65537 count item.size)
 
+pub capped-repeated_size : (count : ℕ) (item : Layout) → capped (repeated count (capped item)) ≡ capped (repeated count item)
+capped-repeated_size count item = ap (λ (size : ℕ). let l : Layout = record { size = size; alignment = item.alignment } in l) (min_mul 65537 count item.size)
+
 pub extent_of_kept : (layout : Option Layout) → extent_of (option_map capped layout) ≡ extent_of layout
 extent_of_kept None = refl
 extent_of_kept (Some layout) = elim (cases_lt 65536 layout.size) [

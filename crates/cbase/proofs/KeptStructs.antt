@@ -13,6 +13,7 @@ use Rattle.cbase.specs.Layout.{type_layout, layout_of, struct_at, fields_layout,
 use Rattle.cbase.specs.Kept.{capped, IsSmall}
 use Rattle.cbase.specs.KeptStructs.{structs_of, one_more, laid_count, IsKept, AreKept, IsLaid}
 use Rattle.cbase.specs.Completing.{is_open, are_complete, may_complete, with_fields, completed}
+use Rattle.cbase.proofs.Alike.{struct_alike}
 use Rattle.cbase.proofs.Deeper.{GivesMore, type_more, fields_more}
 use Rattle.cbase.proofs.Growing.{GrowsTo, grown, kept_more, incomplete_none, missing_none}
 
@@ -22,7 +23,7 @@ one_more_most (Some layout) count most h = omega arith
 
 laid_count_most : (entries : List Entry) → laid_count entries ≤ length entries
 laid_count_most [] = omega arith
-laid_count_most (entry ∷ entries) = one_more_most entry.lp64 (laid_count entries) (length entries) (laid_count_most entries)
+laid_count_most (entry ∷ entries) = one_more_most entry.layout (laid_count entries) (length entries) (laid_count_most entries)
 
 -- the structs themselves do not change
 same : (structs : List StructDef) → GrowsTo structs structs
@@ -42,15 +43,17 @@ layout_kept entries number definition (Some layout) found kept =
 
 -- the layout beside a struct is its layout
 pub entry_layout : (abi : Abi) (entries : List Entry) → AreKept entries → (number : ℕ) (entry : Entry) → slice_get entries number ≡ Some entry
-    → entry.lp64 ≡ option_map capped (struct_at abi (length (structs_of entries)) (structs_of entries) number)
-entry_layout Lp64 entries kept number entry found = layout_kept entries number entry.definition entry.lp64 (struct_found entries number entry found) (kept number entry found)
+    → entry.layout ≡ option_map capped (struct_at abi (length (structs_of entries)) (structs_of entries) number)
+entry_layout abi entries kept number entry found =
+    layout_kept entries number entry.definition entry.layout (struct_found entries number entry found) (kept number entry found)
+    ∙ sym (ap (option_map capped) (struct_alike abi (length (structs_of entries)) (structs_of entries) number))
 
 small_kept : (depth : ℕ) (structs : List StructDef) (number : ℕ) (definition : StructDef) (layout : Option Layout) → IsKept depth structs number definition layout → IfSome layout IsSmall
 small_kept depth structs number definition None incomplete = tt
 small_kept depth structs number definition (Some layout) kept = kept.1
 
-pub entry_small : (entries : List Entry) → AreKept entries → (number : ℕ) (entry : Entry) → slice_get entries number ≡ Some entry → IfSome entry.lp64 IsSmall
-entry_small entries kept number entry found = small_kept _ _ number entry.definition entry.lp64 (kept number entry found)
+pub entry_small : (entries : List Entry) → AreKept entries → (number : ℕ) (entry : Entry) → slice_get entries number ≡ Some entry → IfSome entry.layout IsSmall
+entry_small entries kept number entry found = small_kept _ _ number entry.definition entry.layout (kept number entry found)
 
 -- what is kept stays so
 stays_kept : (structs more : List StructDef) → GrowsTo structs more → (depth deeper : ℕ) → depth ≤ deeper → (number : ℕ) (definition : StructDef) (layout : Option Layout)
@@ -70,20 +73,20 @@ pushed_found [] y (suc number) x found = cc
 pushed_found (z ∷ xs) y zero x found = inl found
 pushed_found (z ∷ xs) y (suc number) x found = pushed_found xs y number x found
 
-pushed_count : (entries : List Entry) (entry : Entry) → entry.lp64 ≡ None → laid_count (entries ++ entry ∷ []) ≡ laid_count entries
+pushed_count : (entries : List Entry) (entry : Entry) → entry.layout ≡ None → laid_count (entries ++ entry ∷ []) ≡ laid_count entries
 pushed_count [] entry none = rw none refl
-pushed_count (first ∷ entries) entry none = ap (one_more first.lp64) (pushed_count entries entry none)
+pushed_count (first ∷ entries) entry none = ap (one_more first.layout) (pushed_count entries entry none)
 
 no_layout_kept : (depth : ℕ) (structs : List StructDef) (number : ℕ) (definition : StructDef) (layout : Option Layout) → layout ≡ None → definition.complete ≡ false → IsKept depth structs number definition layout
 no_layout_kept depth structs number definition layout none incomplete = rw none incomplete
 
-pub declared_kept : (entries : List Entry) (entry : Entry) → AreKept entries → entry.definition.complete ≡ false → entry.lp64 ≡ None → AreKept (entries ++ entry ∷ [])
+pub declared_kept : (entries : List Entry) (entry : Entry) → AreKept entries → entry.definition.complete ≡ false → entry.layout ≡ None → AreKept (entries ++ entry ∷ [])
 declared_kept entries entry kept incomplete none number found is =
     rw (map_push (λ (e : Entry). e.definition) entries entry, pushed_count entries entry none) (elim (pushed_found entries entry number found is) [
       | inl before ↦ stays_kept (structs_of entries) (structs_of entries ++ entry.definition ∷ []) (λ n d at complete. front_found (structs_of entries) _ n d at)
-          (laid_count entries) (laid_count entries) (omega arith) number found.definition found.lp64 (kept number found before)
-      | inr last ↦ subst (λ (e : Entry). IsKept (laid_count entries) (structs_of entries ++ entry.definition ∷ []) number e.definition e.lp64) last
-          (no_layout_kept (laid_count entries) (structs_of entries ++ entry.definition ∷ []) number entry.definition entry.lp64 none incomplete)
+          (laid_count entries) (laid_count entries) (omega arith) number found.definition found.layout (kept number found before)
+      | inr last ↦ subst (λ (e : Entry). IsKept (laid_count entries) (structs_of entries ++ entry.definition ∷ []) number e.definition e.layout) last
+          (no_layout_kept (laid_count entries) (structs_of entries ++ entry.definition ∷ []) number entry.definition entry.layout none incomplete)
     ])
 
 -- one more struct that is complete
@@ -113,13 +116,13 @@ more_later : (layout : Option Layout) (count : ℕ) → one_more layout (suc cou
 more_later None count = refl
 more_later (Some layout) count = refl
 
-set_count : (entries : List Entry) (place : ℕ) (before after : Entry) (layout : Layout) → slice_get entries place ≡ Some before → before.lp64 ≡ None → after.lp64 ≡ Some layout
+set_count : (entries : List Entry) (place : ℕ) (before after : Entry) (layout : Layout) → slice_get entries place ≡ Some before → before.layout ≡ None → after.layout ≡ Some layout
     → laid_count (slice_set entries place after) ≡ suc (laid_count entries)
 set_count [] place before after layout found none laid = cc
 set_count (entry ∷ entries) zero before after layout found none laid =
     let is : entry ≡ before = cc in
     rw (laid, is, none) refl
-set_count (entry ∷ entries) (suc place) before after layout found none laid = ap (one_more entry.lp64) (set_count entries place before after layout found none laid) ∙ more_later entry.lp64 (laid_count entries)
+set_count (entry ∷ entries) (suc place) before after layout found none laid = ap (one_more entry.layout) (set_count entries place before after layout found none laid) ∙ more_later entry.layout (laid_count entries)
 
 none_some : (layout : Layout) → None ≡ Some layout → ⊥
 none_some layout e = cc
@@ -155,7 +158,7 @@ shallow : (entries : List Entry) → AreKept entries → (found : Option StructD
 shallow entries kept None number is l laid = absurd (none_some l (sym (missing_none Lp64 (length (structs_of entries)) (structs_of entries) number is) ∙ laid))
 shallow entries kept (Some definition) number is l laid =
     let from : (e : Entry) × (slice_get entries number ≡ Some e) × (e.definition ≡ definition) = option_found (λ (e : Entry). e.definition) (slice_get entries number) definition (sym (slice_get-map (λ (e : Entry). e.definition) entries number) ∙ is) in
-    shallow_kept entries number from.0.definition from.0.lp64 (struct_found entries number from.0 from.1) (kept number from.0 from.1) l laid
+    shallow_kept entries number from.0.definition from.0.layout (struct_found entries number from.0 from.1) (kept number from.0 from.1) l laid
 
 -- a struct that is given fields is laid as they are
 fields_kept : (entries : List Entry) (more : List StructDef) → AreKept entries → GrowsTo (structs_of entries) more → (place : ℕ) (definition : StructDef) (fields : List Field) (layout : Layout)
@@ -174,20 +177,20 @@ other_complete structs place number first second found incomplete other complete
     let wrong : false ≡ true = sym incomplete ∙ ap (λ (d : StructDef). d.complete) is ∙ complete in cc
 
 pub completed_kept : (entries : List Entry) (place : ℕ) (before after : Entry) (fields : List Field) (layout : Layout) → AreKept entries → slice_get entries place ≡ Some before → before.definition.complete ≡ false
-    → IsLaid (structs_of entries) fields layout → after.definition ≡ with_fields fields before.definition → after.lp64 ≡ Some layout → AreKept (slice_set entries place after)
+    → IsLaid (structs_of entries) fields layout → after.definition ≡ with_fields fields before.definition → after.layout ≡ Some layout → AreKept (slice_set entries place after)
 completed_kept entries place before after fields layout kept here incomplete laid is is_layout number found at =
     let structs : List StructDef = structs_of entries in
     let more : List StructDef = slice_set structs place after.definition in
     let stood : slice_get structs place ≡ Some before.definition = struct_found entries place before here in
     let count : laid_count (slice_set entries place after) ≡ suc (laid_count entries) =
-    set_count entries place before after layout here (incomplete_kept structs (laid_count entries) place before.definition before.lp64 stood incomplete (kept place before here)) is_layout in
+    set_count entries place before after layout here (incomplete_kept structs (laid_count entries) place before.definition before.layout stood incomplete (kept place before here)) is_layout in
     let grows : GrowsTo structs more = λ n d d_at complete. set_other structs place n after.definition d (other_complete structs place n before.definition d stood incomplete d_at complete) d_at in
     let stands : slice_get more place ≡ Some (with_fields fields before.definition) = set_here structs place after.definition before.definition stood ∙ ap Some is in
     let new_layout : option_map capped (struct_at Lp64 (suc (laid_count entries)) more place) ≡ Some layout = fields_kept entries more kept grows place before.definition fields layout stands laid in
     rw (map-set (λ (e : Entry). e.definition) entries place after, count) (elim (set_found entries place number after found at) [
-      | inl new ↦ subst (λ (e : Entry). IsKept (suc (laid_count entries)) more number e.definition e.lp64) new.1
+      | inl new ↦ subst (λ (e : Entry). IsKept (suc (laid_count entries)) more number e.definition e.layout) new.1
           (rw is_layout (subst (λ (n : ℕ). option_map capped (struct_at Lp64 (suc (laid_count entries)) more n) ≡ Some layout) new.0 new_layout, laid.1))
-      | inr old ↦ stays_kept structs more grows (laid_count entries) (suc (laid_count entries)) (omega arith) number found.definition found.lp64 (kept number found old)
+      | inr old ↦ stays_kept structs more grows (laid_count entries) (suc (laid_count entries)) (omega arith) number found.definition found.layout (kept number found old)
     ])
 
 -- a struct has a layout exactly where the types of its fields have
@@ -214,7 +217,7 @@ pub open_entry : (entries : List Entry) (number : ℕ) → is_open (slice_get (s
 open_entry entries number is = entry_found entries number (slice_get entries number) refl (ap is_open (sym (slice_get-map (λ (e : Entry). e.definition) entries number)) ∙ is)
 
 abbrev pub entry_with : StructDef → List Field → Layout → Entry
-entry_with definition fields layout = record { definition = record { name = definition.name; complete = true; fields = fields }; lp64 = Some layout }
+entry_with definition fields layout = record { definition = record { name = definition.name; complete = true; fields = fields }; layout = Some layout }
 
 pub closed_kept : (entries : List Entry) (number : ℕ) (entry : Entry) (fields : List Field) (layout : Layout) → AreKept entries → is_open (slice_get (structs_of entries) number) ≡ true → IsLaid (structs_of entries) fields layout
     → AreKept (slice_set entries number (entry_with (slice_index_or entries number entry).definition fields layout))

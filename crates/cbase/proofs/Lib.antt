@@ -1,3 +1,4 @@
+pub mod Alike
 pub mod Capped
 pub mod Deeper
 pub mod Fields

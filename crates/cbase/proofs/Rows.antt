@@ -14,7 +14,7 @@ use Rattle.cbase.specs.KeptRows.{part_layout, row_layout, integer_part, IsRowOf}
 use Rattle.cbase.proofs.Capped.{capped-repeated_count}
 use Rattle.cbase.proofs.Types.{type_layout-Void, type_layout-Bool, type_layout-Int, type_layout-Pointer, type_layout-Struct, type_layout-Array}
 
-capped-rows : (count items : ℕ) (item : Layout) → capped (repeated count (repeated items item)) ≡ capped (repeated (min (count * items) 65537) item)
+pub capped-rows : (count items : ℕ) (item : Layout) → capped (repeated count (repeated items item)) ≡ capped (repeated (min (count * items) 65537) item)
 capped-rows count items item =
     ap (λ (n : ℕ). capped (record { size = n; alignment = item.alignment })) (sym (mul_assoc count items item.size))
     ∙ sym (capped-repeated_count (count * items) item)

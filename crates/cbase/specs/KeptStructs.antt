@@ -20,7 +20,7 @@ one_more (Some layout) count = suc count
 -- how many structs have a layout
 abbrev pub laid_count : List Entry → ℕ
 laid_count [] = zero
-laid_count (entry ∷ entries) = one_more entry.lp64 (laid_count entries)
+laid_count (entry ∷ entries) = one_more entry.layout (laid_count entries)
 
 -- the layout beside a struct is that of the struct, in which at most `depth` structs lie one inside the other; a struct
 -- without a layout has no fields yet
@@ -31,7 +31,7 @@ IsKept depth structs number definition (Some layout) = (option_map capped (struc
 -- so it is of each struct: no more of them lie one inside the other than have a layout
 abbrev pub AreKept : List Entry → Type 0
 AreKept entries = (number : ℕ) (entry : Entry) → slice_get entries number ≡ Some entry →
-    IsKept (laid_count entries) (structs_of entries) number entry.definition entry.lp64
+    IsKept (laid_count entries) (structs_of entries) number entry.definition entry.layout
 
 -- the layout of a struct with these fields, as it is kept
 abbrev pub IsLaid : List StructDef → List Field → Layout → Type 0

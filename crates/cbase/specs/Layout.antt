@@ -1,9 +1,9 @@
--- Sizes and alignments of the types of C: C11 6.2.5, 6.5.3.4 and 6.7.2.1, with the data layout of System V
--- AMD64. The numbers here have no bound.
+-- Sizes and alignments of the types of C: C11 6.2.5, 6.5.3.4 and 6.7.2.1, by a data layout. A type says how many bytes its
+-- integers have, so that the data layouts give it one size. The numbers here have no bound.
 use Rattle.std.specs.Prelude.{ℕ, zero, suc, ◌+◌, ◌*◌, ◌||◌, max, nat_eq, nat_le, Bool, List, [], ◌∷◌, map, length, Option, Some, None, option_map, slice_get, if◌then◌else◌}
 use Rattle.std.specs.Int.{next_multiple_of}
 use Rattle.cbase.specs.declared.abi.Abi.{Abi}
-use Rattle.cbase.specs.declared.abi.Abi.TheVariants.{Lp64}
+use Rattle.cbase.specs.declared.abi.Abi.TheVariants.{Lp64, Llp64}
 use Rattle.cbase.specs.declared.ctype.CType.{CType}
 use Rattle.cbase.specs.declared.ctype.CType.TheOpen.{CType-F, Void, Bool as BoolType, Int, Pointer, Struct, Array}
 use Rattle.cbase.specs.declared.ctype.CType.TheFolds.{fold-CType}
@@ -15,6 +15,7 @@ use Rattle.cbase.specs.declared.measure.Extent.TheVariants.{Bytes, Incomplete, T
 -- how many bytes a pointer has
 abbrev pub pointer_bytes : Abi → ℕ
 pointer_bytes Lp64 = 8
+pointer_bytes Llp64 = 8
 
 -- a number or a pointer: its address is a multiple of its size
 abbrev pub scalar : ℕ → Layout

@@ -1,6 +1,7 @@
 pub mod formers
 pub mod Bytes
 pub mod Completing
+pub mod IntegerSizes
 pub mod Kept
 pub mod KeptRows
 pub mod KeptStructs

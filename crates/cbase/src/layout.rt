@@ -2,13 +2,13 @@ ghost use Rattle.std.specs.Prelude.{◌≡◌};
 ghost use Rattle.cbase.specs.Layout.{no_fields, scalar, repeated, with_field, padded};
 ghost use Rattle.cbase.specs.Kept.{capped, IsSmall};
 
-/// The bytes of a type, and the number of which its address is a multiple.
+/// The bytes of a type, and the number of which its address is a multiple, as they are kept while others are computed.
 #[derive(Clone, Copy, Debug, PartialEq, Eq)]
-pub(crate) struct Layout {
+pub struct Layout {
     /// How many bytes it takes; 65,537 stands for every larger size as well.
-    pub(crate) size: u32,
+    pub size: u32,
     /// 1, 2, 4 or 8.
-    pub(crate) alignment: u32,
+    pub alignment: u32,
 }
 
 /// What every size above 65,536 is kept as.
@@ -16,7 +16,7 @@ const TOO_LARGE: u32 = 65_537;
 
 impl Layout {
     /// A struct before its first field.
-    pub(crate) fn empty() -> Layout
+    pub fn empty() -> Layout
         ensures { result ≡ no_fields }
     {
         Layout {
@@ -26,7 +26,7 @@ impl Layout {
     }
 
     /// A number or a pointer of so many bytes.
-    pub(crate) fn scalar(bytes: u8) -> Layout
+    pub fn scalar(bytes: u8) -> Layout
         ensures { result ≡ scalar bytes }
     {
         Layout {
@@ -36,7 +36,7 @@ impl Layout {
     }
 
     /// An array of so many items of this layout.
-    pub(crate) fn repeated(self, count: u32) -> Layout
+    pub fn repeated(self, count: u32) -> Layout
         ensures { result ≡ capped (repeated count self) }
     {
         Layout {
@@ -46,7 +46,7 @@ impl Layout {
     }
 
     /// A struct of this layout with one more field.
-    pub(crate) fn with_field(self, field: Layout) -> Layout
+    pub fn with_field(self, field: Layout) -> Layout
         requires before { IsSmall self }
         requires field { IsSmall field }
         ensures { result ≡ capped (with_field self field) }
@@ -59,7 +59,7 @@ impl Layout {
     }
 
     /// A struct whose fields take this layout, rounded up to its alignment.
-    pub(crate) fn padded(self) -> Layout
+    pub fn padded(self) -> Layout
         requires { IsSmall self }
         ensures { result ≡ capped (padded self) }
     {

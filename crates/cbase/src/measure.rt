@@ -44,13 +44,13 @@ pub(crate) fn type_layout(ctype: &CType, structs: &Structs, abi: Abi) -> Option<
     let part = match row.part {
         RowPart::Unsized => return None,
         RowPart::Scalar(bytes) => Layout::scalar(bytes),
-        RowPart::Struct(number) => structs.layout(number, abi)?,
+        RowPart::Struct(number) => structs.layout(number)?,
     };
     Some(part.repeated(row.count))
 }
 
-/// What is told of a layout.
-fn told(layout: Option<Layout>) -> Extent
+/// What is told of a layout: of one that is kept, the same as of the whole one.
+pub fn told(layout: Option<Layout>) -> Extent
     ensures { result ≡ extent_of layout }
 {
     match layout {

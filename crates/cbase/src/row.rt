@@ -9,7 +9,7 @@ use crate::ctype::CType;
 
 /// What a type is made of once its arrays are taken off.
 #[derive(Clone, Copy, Debug, PartialEq, Eq)]
-pub(crate) enum RowPart {
+pub enum RowPart {
     /// `void`, or an integer of a size that there is none of.
     Unsized,
     /// A number or a pointer of so many bytes.
@@ -20,27 +20,27 @@ pub(crate) enum RowPart {
 
 /// A type as a row of equal parts: an array of arrays is one row.
 #[derive(Clone, Copy, Debug, PartialEq, Eq)]
-pub(crate) struct Row {
+pub struct Row {
     /// How many parts there are; 65,537 stands for every larger number as well.
-    pub(crate) count: u32,
+    pub count: u32,
     /// What each of them is.
-    pub(crate) part: RowPart,
+    pub part: RowPart,
 }
 
 /// What every number of parts above 65,536 is kept as.
 const TOO_MANY: u64 = 65_537;
 
 /// How many bytes a pointer has.
-pub(crate) fn pointer_bytes(abi: Abi) -> u8
+pub fn pointer_bytes(abi: Abi) -> u8
     ensures { result ≡ pointer_bytes abi }
 {
     match abi {
-        Abi::Lp64 => 8,
+        Abi::Lp64 | Abi::Llp64 => 8,
     }
 }
 
 /// One number of so many bytes, if there are integers of that size.
-fn integer_part(bytes: u8) -> RowPart
+pub fn integer_part(bytes: u8) -> RowPart
     ensures { result ≡ integer_part bytes }
 {
     match bytes {
@@ -49,11 +49,11 @@ fn integer_part(bytes: u8) -> RowPart
     }
 }
 
-/// How many parts that many arrays of so many items have.
-fn parts_of(arrays: u32, items: u64) -> u32
-    ensures { result ≡ min (arrays * items) 65537 }
+/// How many parts an array of so many `items` has, each of which has so many `parts`.
+pub fn parts_of(parts: u32, items: u64) -> u32
+    ensures { result ≡ min (parts * items) 65537 }
 {
-    items.saturating_mul(arrays as u64).min(TOO_MANY) as u32
+    items.saturating_mul(parts as u64).min(TOO_MANY) as u32
 }
 
 /// The parts of a type, by a loop over its arrays.

@@ -1,5 +1,6 @@
 ghost use Rattle.std.specs.Prelude.{◌≡◌, [], ◌∷◌, ◌++◌, true, length, option_map, slice_get, IfSome, IfOk, OnOk, OnErr, if◌then◌else◌};
 ghost use Rattle.std.specs.Option.{option_copied};
+ghost use Rattle.cbase.specs.declared.abi.Abi.{Abi};
 ghost use Rattle.cbase.specs.Layout.{struct_at};
 ghost use Rattle.cbase.specs.Kept.{capped, IsSmall};
 ghost use Rattle.cbase.specs.KeptStructs.{structs_of, AreKept, IsLaid};
@@ -39,8 +40,8 @@ pub struct StructDef {
 #[derive(Drop)]
 struct Entry {
     definition: StructDef,
-    /// Its layout by `Abi::Lp64`, once it is complete.
-    lp64: Option<Layout>,
+    /// Its layout, once it is complete: one for both data layouts, for these give a type one size.
+    layout: Option<Layout>,
 }
 
 /// The structs of a program: a type names one by its place in this list.
@@ -112,7 +113,7 @@ impl Structs {
         };
         self.entries.push(Entry {
             definition,
-            lp64: None,
+            layout: None,
         })?;
         Ok(number)
     }
@@ -136,15 +137,13 @@ impl Structs {
         true
     }
 
-    /// The layout of the struct of that number: none where it is not complete.
-    pub(crate) fn layout(&self, number: u32, abi: Abi) -> Option<Layout>
-        ensures value { result ≡ option_map capped (struct_at abi (length self.now) self.now number) }
+    /// The layout of the struct of that number, whatever the data layout: none where it is not complete.
+    pub(crate) fn layout(&self, number: u32) -> Option<Layout>
+        ensures value { (abi : Abi) → result ≡ option_map capped (struct_at abi (length self.now) self.now number) }
         ensures small { IfSome result IsSmall }
     {
-        let entry = entry_at(&self.entries, number as usize)?;
-        match abi {
-            Abi::Lp64 => entry.lp64,
-        }
+        let kept = entry_at(&self.entries, number as usize)?;
+        kept.layout
     }
 }
 
@@ -176,5 +175,5 @@ fn close(entries: &mut [Entry], number: usize, fields: List<Field>, layout: Layo
     let entry = &mut entries[number];
     entry.definition.fields = fields;
     entry.definition.complete = true;
-    entry.lp64 = Some(layout);
+    entry.layout = Some(layout);
 }
