@@ -90,7 +90,7 @@ declared_kept entries entry kept incomplete none number found is =
     ])
 
 -- one more struct that is complete
-set_found : {X : Type 0} (xs : List X) (place number : ℕ) (y x : X) → slice_get (slice_set xs place y) number ≡ Some x → ((place ≡ number) × (y ≡ x)) ⊎ (slice_get xs number ≡ Some x)
+pub set_found : {X : Type 0} (xs : List X) (place number : ℕ) (y x : X) → slice_get (slice_set xs place y) number ≡ Some x → ((place ≡ number) × (y ≡ x)) ⊎ (slice_get xs number ≡ Some x)
 set_found [] place number y x found = cc
 set_found (z ∷ xs) zero zero y x found = inl (refl, cc)
 set_found (z ∷ xs) zero (suc number) y x found = inr found

@@ -1,3 +1,7 @@
+pub mod Closing
+pub mod Growing
+pub mod Laid
+pub mod Rows
+pub mod Same
 pub mod Shapes
 pub mod Tables
-pub mod Same

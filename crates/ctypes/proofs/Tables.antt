@@ -18,7 +18,7 @@ types_of-push : (shapes : List Shape) (shape : Shape) → types_of (shapes ++ sh
 types_of-push shapes shape = fold-append (λ types s. types ++ type_of types s ∷ []) [] shapes (shape ∷ [])
 
 -- what stands at a place of a list with one more behind it
-get_pushed : {A : Type 0} (xs : List A) (x : A) (k : ℕ) (y : A) → slice_get (xs ++ x ∷ []) k ≡ Some y → (slice_get xs k ≡ Some y) ⊎ ((k ≡ length xs) × (y ≡ x))
+pub get_pushed : {A : Type 0} (xs : List A) (x : A) (k : ℕ) (y : A) → slice_get (xs ++ x ∷ []) k ≡ Some y → (slice_get xs k ≡ Some y) ⊎ ((k ≡ length xs) × (y ≡ x))
 get_pushed xs x k y e =
     let within : k < length (xs ++ x ∷ []) = slice_get_within (xs ++ x ∷ []) k y e in
     let longer : length (xs ++ x ∷ []) ≡ length xs + 1 = length-append xs (x ∷ []) in
@@ -29,7 +29,7 @@ get_pushed xs x k y e =
           inr (last, sym read ∙ (ap (λ n. get_or (xs ++ x ∷ []) n x) last ∙ get_or-append_seam xs x [] x))
     ]
 
-type_pushed : (types : List CType) (t : CType) → type_at (types ++ t ∷ []) (length types) ≡ t
+pub type_pushed : (types : List CType) (t : CType) → type_at (types ++ t ∷ []) (length types) ≡ t
 type_pushed types t = get_or-append_seam types t [] VoidType
 
 apart-push : (types : List CType) (t : CType) → AreApart types → ((i : ℕ) → i < length types → type_at types i ≡ t → ⊥) → AreApart (types ++ t ∷ [])

@@ -46,6 +46,10 @@ pub record StandsFor (types : List CType) (shapes : List Shape) : Type 0 where
 abbrev pub IsTable : List Shape → Type 0
 IsTable shapes = StandsFor (types_of shapes) shapes
 
+-- `new` are the types of `old`, or these and one more behind them
+abbrev pub Grows : List CType → CType → List CType → Type 0
+Grows old t new = (new ≡ old) ⊎ (new ≡ old ++ t ∷ [])
+
 -- `new` are the types of `old` and the one of `number`, which stands behind the others where it is new; no two are one type
 abbrev pub Interns : List CType → CType → List CType → ℕ → Type 0
-Interns old t new number = (slice_get new number ≡ Some t) × ((new ≡ old) ⊎ (new ≡ old ++ t ∷ [])) × AreApart new
+Interns old t new number = (slice_get new number ≡ Some t) × Grows old t new × AreApart new

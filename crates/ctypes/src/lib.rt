@@ -3,8 +3,13 @@
 //! It knows how types are built from one another, and nothing of names, of scopes or of expressions.
 #![tactic(auto)]
 
+mod completing;
+mod interning;
+mod measure;
 mod shape;
+mod structs;
 mod types;
 
 pub use shape::Shape;
+pub use structs::Member;
 pub use types::Types;

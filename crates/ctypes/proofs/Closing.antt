@@ -1,0 +1,103 @@
+-- What is kept of structs stays right while structs are declared and completed.
+use Rattle.std.proofs.Common.{◌≡◌, inl, inr, ℕ, ◌+◌, ◌<◌, ◌++◌, ◌∷◌, [], List, Option, Some, None, length, get_or, map, drop, refl, sym, ap, subst, ◌∙◌, arith}
+use Rattle.std.specs.Prelude.{Bool as BoolValue, true, false, not, All, option_map, slice_get, slice_set}
+use Rattle.std.proofs.lemmas.List.{length-map, map_push, map-set}
+use Rattle.std.proofs.lemmas.Option.{slice_get-map, slice_get_within}
+use Rattle.std.proofs.Math.ListN.{get_or-map}
+use Rattle.cbase.specs.declared.abi.Abi.TheVariants.{Lp64}
+use Rattle.cbase.specs.declared.ctype.CType.{CType}
+use Rattle.cbase.specs.declared.structs.StructDef.{StructDef}
+use Rattle.cbase.specs.declared.structs.Entry.{Entry as KeptEntry}
+use Rattle.cbase.specs.declared.layout.Layout.{Layout}
+use Rattle.cbase.specs.Layout.{layout_of, fields_layout, with_field}
+use Rattle.cbase.specs.Kept.{capped}
+use Rattle.cbase.specs.KeptStructs.{AreKept, IsLaid}
+use Rattle.cbase.specs.Completing.{fieldless, is_open, completed}
+use Rattle.cbase.proofs.Fields.{drop-field, fields_layout_step}
+use Rattle.cbase.proofs.KeptStructs.{declared_kept, completed_kept, set_found}
+use Rattle.ctypes.specs.declared.structs.Member.{Member}
+use Rattle.ctypes.specs.declared.structs.Entry.{Entry}
+use Rattle.ctypes.specs.Table.{type_at}
+use Rattle.ctypes.specs.Structs.{field_of, fields_of, struct_of, read_off}
+use Rattle.ctypes.specs.Kept.{kept_of, closed, AreLaid}
+use Rattle.ctypes.proofs.Tables.{get_pushed}
+use Rattle.ctypes.proofs.Laid.{kept_structs, kept_found}
+
+abbrev pub open_entry : List ℕ → Entry
+open_entry name = record { name = name; complete = false; members = []; layout = None }
+
+-- one more struct, without members
+pub declared_laid : (types : List CType) (entries : List Entry) (name : List ℕ) → AreLaid types entries → AreLaid types (entries ++ open_entry name ∷ [])
+declared_laid types entries name laid = record {
+  named = λ number entry found. elim (get_pushed entries (open_entry name) number entry found) as (λ _. All (λ member. member.ctype < length types) entry.members) [
+    | inl old ↦ laid.named number entry old
+    | inr new ↦ subst (λ (e : Entry). All (λ member. member.ctype < length types) e.members) (sym new.1) (λ k d h. absurd (omega arith))
+  ];
+  kept = subst (λ (ks : List KeptEntry). AreKept ks) (sym (map_push (kept_of types) entries (open_entry name)))
+      (declared_kept (map (kept_of types) entries) (kept_of types (open_entry name)) laid.kept refl refl);
+}
+
+pub declared_structs : (types : List CType) (entries : List Entry) (name : List ℕ) → read_off types (entries ++ open_entry name ∷ []) ≡ read_off types entries ++ fieldless name ∷ []
+declared_structs types entries name = map_push (struct_of types) entries (open_entry name)
+
+-- a struct with its members
+pub completed_laid : (types : List CType) (entries : List Entry) (number : ℕ) (entry : Entry) (members : List Member) (layout : Layout) → AreLaid types entries → slice_get entries number ≡ Some entry → entry.complete ≡ false
+    → All (λ member. member.ctype < length types) members → IsLaid (read_off types entries) (fields_of types members) layout → AreLaid types (slice_set entries number (closed entry members layout))
+completed_laid types entries number entry members layout laid here incomplete named is =
+    let after : Entry = closed entry members layout in
+    let is_kept : IsLaid _ (fields_of types members) layout = subst (λ (structs : List StructDef). IsLaid structs (fields_of types members) layout) (sym (kept_structs types entries)) is in
+    record {
+      named = λ place found at. elim (set_found entries number place after found at) as (λ _. All (λ member. member.ctype < length types) found.members) [
+        | inl new ↦ subst (λ (e : Entry). All (λ member. member.ctype < length types) e.members) new.1 named
+        | inr old ↦ laid.named place found old
+      ];
+      kept = subst (λ (ks : List KeptEntry). AreKept ks) (sym (map-set (kept_of types) entries number after))
+          (completed_kept (map (kept_of types) entries) number (kept_of types entry) (kept_of types after) (fields_of types members) layout laid.kept (kept_found types entries number entry here) incomplete is_kept refl refl);
+    }
+
+pub completed_structs : (types : List CType) (entries : List Entry) (number : ℕ) (entry : Entry) (members : List Member) (layout : Layout) → slice_get entries number ≡ Some entry
+    → read_off types (slice_set entries number (closed entry members layout)) ≡ completed (read_off types entries) number (fields_of types members)
+completed_structs types entries number entry members layout here =
+    let found : slice_get (read_off types entries) number ≡ Some (struct_of types entry) = slice_get-map (struct_of types) entries number ∙ ap (option_map (struct_of types)) here in
+    rw found (map-set (struct_of types) entries number (closed entry members layout))
+
+-- one member more is laid
+pub member_laid : (types : List CType) (structs : List StructDef) (before next : Layout) (members : List Member) (index : ℕ) (member : Member) → index < length members → member ≡ get_or members index member
+    → Some next ≡ option_map capped (layout_of Lp64 structs (type_at types member.ctype))
+    → option_map capped (fields_layout (capped (with_field before next)) (map (λ field. layout_of Lp64 structs field.ctype) (drop (index + 1) (fields_of types members))))
+    ≡ option_map capped (fields_layout before (map (λ field. layout_of Lp64 structs field.ctype) (drop index (fields_of types members))))
+member_laid types structs before next members index member within is known =
+    fields_layout_step (λ t. layout_of Lp64 structs t) before next (fields_of types members) index (field_of types member)
+    (subst (λ (n : ℕ). index < n) (sym (length-map members (field_of types))) within)
+    (ap (field_of types) is ∙ sym (get_or-map (field_of types) members index member)) known
+
+refused : (before : Layout) (first : Option Layout) (rest : List (Option Layout)) → None ≡ option_map capped first → option_map capped (fields_layout before (first ∷ rest)) ≡ None
+refused before None rest e = refl
+refused before (Some l) rest e = cc
+
+-- a member of an incomplete type leaves no layout
+pub member_refused : (types : List CType) (structs : List StructDef) (before : Layout) (members : List Member) (index : ℕ) (member : Member) → index < length members → member ≡ get_or members index member
+    → None ≡ option_map capped (layout_of Lp64 structs (type_at types member.ctype))
+    → option_map capped (fields_layout before (map (λ field. layout_of Lp64 structs field.ctype) (drop index (fields_of types members)))) ≡ None
+member_refused types structs before members index member within is unknown =
+    rw (drop-field (fields_of types members) index (field_of types member)
+    (subst (λ (n : ℕ). index < n) (sym (length-map members (field_of types))) within)
+    (ap (field_of types) is ∙ sym (get_or-map (field_of types) members index member)))
+    (refused before (layout_of Lp64 structs (type_at types member.ctype)) (map (λ field. layout_of Lp64 structs field.ctype) (drop (index + 1) (fields_of types members))) unknown)
+
+not_true : (complete : BoolValue) → not complete ≡ true → complete ≡ false
+not_true true e = cc
+not_true false e = refl
+
+entry_open : (types : List CType) (entries : List Entry) (number : ℕ) (found : Option Entry) → slice_get entries number ≡ found → is_open (option_map (struct_of types) found) ≡ true
+    → (entry : Entry) × (slice_get entries number ≡ Some entry) × (entry.complete ≡ false)
+entry_open types entries number None found is = cc
+entry_open types entries number (Some entry) found is = (entry, found, not_true entry.complete is)
+
+-- a struct whose members are to be given yet stands among the others
+pub open_found : (types : List CType) (entries : List Entry) (number : ℕ) → is_open (slice_get (read_off types entries) number) ≡ true
+    → (entry : Entry) × (slice_get entries number ≡ Some entry) × (entry.complete ≡ false)
+open_found types entries number is = entry_open types entries number (slice_get entries number) refl (ap is_open (sym (slice_get-map (struct_of types) entries number)) ∙ is)
+
+pub open_within : (types : List CType) (entries : List Entry) (number : ℕ) → is_open (slice_get (read_off types entries) number) ≡ true → number < length entries
+open_within types entries number is = let from = open_found types entries number is in slice_get_within entries number from.0 from.1
