@@ -24,7 +24,7 @@ type_alike abi first second same =
     (λ number. type_layout-Struct abi first number ∙ (same number ∙ sym (type_layout-Struct Lp64 second number)))
     (λ item count alike. type_layout-Array abi first item count ∙ (ap (option_map (repeated count)) alike ∙ sym (type_layout-Array Lp64 second item count)))
 
-fields_alike : (first second : CType → Option Layout) → ((t : CType) → first t ≡ second t) → (fields : List Field)
+pub fields_alike : (first second : CType → Option Layout) → ((t : CType) → first t ≡ second t) → (fields : List Field)
     → map (λ field. first field.ctype) fields ≡ map (λ field. second field.ctype) fields
 fields_alike first second same [] = refl
 fields_alike first second same (field ∷ fields) =

@@ -28,7 +28,7 @@ padded_alike most a b alignment e = elim (same_or_large most a b e) [
   | inr large ↦ large_sum most a b _ _ large.0 large.1
 ]
 
-padded_size : (most a b k l : ℕ) → min a most ≡ min b most → k ≡ l → min (next_multiple_of a k) most ≡ min (next_multiple_of b l) most
+pub padded_size : (most a b k l : ℕ) → min a most ≡ min b most → k ≡ l → min (next_multiple_of a k) most ≡ min (next_multiple_of b l) most
 padded_size most a b k l e h = ap (λ (n : ℕ). min (next_multiple_of a n) most) h ∙ padded_alike most a b l e
 
 made : ℕ → ℕ → Layout
@@ -59,7 +59,7 @@ capped-fields_layout a b [] e = ap Some (capped-padded a b e)
 capped-fields_layout a b (None ∷ rest) e = refl
 capped-fields_layout a b (Some field ∷ rest) e = capped-fields_layout (with_field a field) (with_field b field) rest (capped-with_field a b field field e refl)
 
-capped-again : (l : Layout) → capped (capped l) ≡ capped l
+pub capped-again : (l : Layout) → capped (capped l) ≡ capped l
 capped-again l = capped-same (capped l) l (omega arith) refl
 
 capped-field : (before next : Layout) (field : Option Layout) (rest : List (Option Layout)) → Some next ≡ option_map capped field → option_map capped (fields_layout before (field ∷ rest)) ≡ option_map capped (fields_layout (capped (with_field before next)) rest)

@@ -62,7 +62,7 @@ stays_kept structs more grows depth deeper h number definition None incomplete =
 stays_kept structs more grows depth deeper h number definition (Some layout) kept = (kept_more _ _ layout (grown Lp64 structs more grows depth deeper h number) kept.0, kept.1)
 
 -- one more struct
-front_found : {X : Type 0} (xs ys : List X) (number : ℕ) (x : X) → slice_get xs number ≡ Some x → slice_get (xs ++ ys) number ≡ Some x
+pub front_found : {X : Type 0} (xs ys : List X) (number : ℕ) (x : X) → slice_get xs number ≡ Some x → slice_get (xs ++ ys) number ≡ Some x
 front_found [] ys number x found = cc
 front_found (y ∷ xs) ys zero x found = found
 front_found (y ∷ xs) ys (suc number) x found = front_found xs ys number x found
@@ -105,7 +105,7 @@ set_here [] place y x found = cc
 set_here (z ∷ xs) zero y x found = refl
 set_here (z ∷ xs) (suc place) y x found = set_here xs place y x found
 
-set_other : {X : Type 0} (xs : List X) (place number : ℕ) (y x : X) → (place ≡ number → ⊥) → slice_get xs number ≡ Some x → slice_get (slice_set xs place y) number ≡ Some x
+pub set_other : {X : Type 0} (xs : List X) (place number : ℕ) (y x : X) → (place ≡ number → ⊥) → slice_get xs number ≡ Some x → slice_get (slice_set xs place y) number ≡ Some x
 set_other [] place number y x other found = found
 set_other (z ∷ xs) zero zero y x other found = absurd (other refl)
 set_other (z ∷ xs) zero (suc number) y x other found = found
@@ -170,7 +170,7 @@ fields_kept entries more kept grows place definition fields layout found laid =
     rw found (kept_more (fields_layout no_fields (map (λ field. layout_of Lp64 structs field.ctype) fields)) _ layout
     (λ l e. fields_more (type_layout Lp64 (struct_at Lp64 (length structs) structs)) (type_layout Lp64 (struct_at Lp64 (laid_count entries) more)) (type_more Lp64 _ _ deep) no_fields fields l e) laid.0)
 
-other_complete : (structs : List StructDef) (place number : ℕ) (first second : StructDef) → slice_get structs place ≡ Some first → first.complete ≡ false → slice_get structs number ≡ Some second → second.complete ≡ true → place ≡ number → ⊥
+pub other_complete : (structs : List StructDef) (place number : ℕ) (first second : StructDef) → slice_get structs place ≡ Some first → first.complete ≡ false → slice_get structs number ≡ Some second → second.complete ≡ true → place ≡ number → ⊥
 other_complete structs place number first second found incomplete other complete same_place =
     let both : Some first ≡ Some second = sym found ∙ ap (slice_get structs) same_place ∙ other in
     let is : first ≡ second = cc in

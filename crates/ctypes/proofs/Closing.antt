@@ -1,65 +1,94 @@
 -- What is kept of structs stays right while structs are declared and completed.
 use Rattle.std.proofs.Common.{◌≡◌, inl, inr, ℕ, ◌+◌, ◌<◌, ◌++◌, ◌∷◌, [], List, Option, Some, None, length, get_or, map, drop, refl, sym, ap, subst, ◌∙◌, arith}
 use Rattle.std.specs.Prelude.{Bool as BoolValue, true, false, not, All, option_map, slice_get, slice_set}
-use Rattle.std.proofs.lemmas.List.{length-map, map_push, map-set}
+use Rattle.std.proofs.lemmas.List.{length-append, length-map, length-set, map_push, map-set}
 use Rattle.std.proofs.lemmas.Option.{slice_get-map, slice_get_within}
 use Rattle.std.proofs.Math.ListN.{get_or-map}
 use Rattle.cbase.specs.declared.abi.Abi.TheVariants.{Lp64}
 use Rattle.cbase.specs.declared.ctype.CType.{CType}
+use Rattle.cbase.specs.declared.structs.Field.{Field}
 use Rattle.cbase.specs.declared.structs.StructDef.{StructDef}
 use Rattle.cbase.specs.declared.structs.Entry.{Entry as KeptEntry}
 use Rattle.cbase.specs.declared.layout.Layout.{Layout}
 use Rattle.cbase.specs.Layout.{layout_of, fields_layout, with_field}
 use Rattle.cbase.specs.Kept.{capped}
 use Rattle.cbase.specs.KeptStructs.{AreKept, IsLaid}
+use Rattle.cbase.specs.Offset.{index_of}
+use Rattle.std.specs.Global.{Vec}
 use Rattle.cbase.specs.Completing.{fieldless, is_open, completed}
 use Rattle.cbase.proofs.Fields.{drop-field, fields_layout_step}
-use Rattle.cbase.proofs.KeptStructs.{declared_kept, completed_kept, set_found}
+use Rattle.cbase.proofs.Growing.{GrowsTo}
+use Rattle.cbase.proofs.KeptStructs.{declared_kept, completed_kept, front_found, set_found, set_other, other_complete}
 use Rattle.ctypes.specs.declared.structs.Member.{Member}
+use Rattle.ctypes.specs.declared.structs.MemberAt.{MemberAt}
+use Rattle.ctypes.specs.declared.structs.Laid.{Laid}
 use Rattle.ctypes.specs.declared.structs.Entry.{Entry}
+use Rattle.ctypes.specs.Places.{find_in, IsPlace, ArePlaces}
+use Rattle.ctypes.proofs.Placing.{places_more}
 use Rattle.ctypes.specs.Table.{type_at}
 use Rattle.ctypes.specs.Structs.{field_of, fields_of, struct_of, read_off}
 use Rattle.ctypes.specs.Kept.{kept_of, closed, AreLaid}
 use Rattle.ctypes.proofs.Tables.{get_pushed}
 use Rattle.ctypes.proofs.Laid.{kept_structs, kept_found}
 
-abbrev pub open_entry : List ℕ → Entry
-open_entry name = record { name = name; complete = false; members = []; layout = None }
+-- a struct without members has no member of any name
+no_places : (structs : List StructDef) (types : List CType) (members : List Member) (places : List (Vec ℕ × MemberAt)) → members ≡ [] → places ≡ [] → ArePlaces structs (fields_of types members) members (find_in places)
+no_places structs types members places no_members none name =
+    subst (λ (es : List (Vec ℕ × MemberAt)). IsPlace structs (fields_of types members) members name (find_in es name)) (sym none) (ap (λ (ms : List Member). index_of name (fields_of types ms)) no_members)
 
 -- one more struct, without members
-pub declared_laid : (types : List CType) (entries : List Entry) (name : List ℕ) → AreLaid types entries → AreLaid types (entries ++ open_entry name ∷ [])
-declared_laid types entries name laid = record {
-  named = λ number entry found. elim (get_pushed entries (open_entry name) number entry found) as (λ _. All (λ member. member.ctype < length types) entry.members) [
-    | inl old ↦ laid.named number entry old
-    | inr new ↦ subst (λ (e : Entry). All (λ member. member.ctype < length types) e.members) (sym new.1) (λ k d h. absurd (omega arith))
-  ];
-  kept = subst (λ (ks : List KeptEntry). AreKept ks) (sym (map_push (kept_of types) entries (open_entry name)))
-      (declared_kept (map (kept_of types) entries) (kept_of types (open_entry name)) laid.kept refl refl);
-}
-
-pub declared_structs : (types : List CType) (entries : List Entry) (name : List ℕ) → read_off types (entries ++ open_entry name ∷ []) ≡ read_off types entries ++ fieldless name ∷ []
-declared_structs types entries name = map_push (struct_of types) entries (open_entry name)
+pub declared_laid : (types : List CType) (entries : List Entry) (entry : Entry) → entry.complete ≡ false → entry.layout ≡ None → entry.members ≡ [] → entry.places.entries ≡ [] → AreLaid types entries → AreLaid types (entries ++ entry ∷ [])
+declared_laid types entries entry incomplete no_layout no_members none laid =
+    let structs : List StructDef = read_off types entries in
+    let longer : length (structs ++ struct_of types entry ∷ []) ≡ length structs + 1 = length-append structs (struct_of types entry ∷ []) in
+    record {
+      named = λ number e found. elim (get_pushed entries entry number e found) as (λ _. All (λ member. member.ctype < length types) e.members) [
+        | inl old ↦ laid.named number e old
+        | inr new ↦ subst (λ (u : Entry). All (λ member. member.ctype < length types) u.members) (sym new.1) (subst (λ (ms : List Member). All (λ member. member.ctype < length types) ms) (sym no_members) (λ k d h. absurd (omega arith)))
+      ];
+      kept = subst (λ (ks : List KeptEntry). AreKept ks) (sym (map_push (kept_of types) entries entry))
+          (declared_kept (map (kept_of types) entries) (kept_of types entry) laid.kept incomplete no_layout);
+      found = λ number e at. elim (get_pushed entries entry number e at) as (λ _. ArePlaces (read_off types (entries ++ entry ∷ [])) (fields_of types e.members) e.members (find_in e.places.entries)) [
+        | inl old ↦ subst (λ (ss : List StructDef). ArePlaces ss (fields_of types e.members) e.members (find_in e.places.entries)) (sym (map_push (struct_of types) entries entry))
+            (places_more structs (structs ++ struct_of types entry ∷ []) (λ n d there complete. front_found structs _ n d there) (omega arith) (fields_of types e.members) e.members (find_in e.places.entries) (laid.found number e old))
+        | inr new ↦ subst (λ (u : Entry). ArePlaces (read_off types (entries ++ entry ∷ [])) (fields_of types u.members) u.members (find_in u.places.entries)) (sym new.1)
+            (no_places (read_off types (entries ++ entry ∷ [])) types entry.members entry.places.entries no_members none)
+      ];
+    }
 
 -- a struct with its members
-pub completed_laid : (types : List CType) (entries : List Entry) (number : ℕ) (entry : Entry) (members : List Member) (layout : Layout) → AreLaid types entries → slice_get entries number ≡ Some entry → entry.complete ≡ false
-    → All (λ member. member.ctype < length types) members → IsLaid (read_off types entries) (fields_of types members) layout → AreLaid types (slice_set entries number (closed entry members layout))
-completed_laid types entries number entry members layout laid here incomplete named is =
-    let after : Entry = closed entry members layout in
-    let is_kept : IsLaid _ (fields_of types members) layout = subst (λ (structs : List StructDef). IsLaid structs (fields_of types members) layout) (sym (kept_structs types entries)) is in
+pub completed_laid : (types : List CType) (entries : List Entry) (number : ℕ) (entry : Entry) (members : List Member) (how : Laid) → AreLaid types entries → slice_get entries number ≡ Some entry → entry.complete ≡ false
+    → All (λ member. member.ctype < length types) members → IsLaid (read_off types entries) (fields_of types members) how.layout
+    → ArePlaces (read_off types entries) (fields_of types members) members (find_in how.places.entries) → AreLaid types (slice_set entries number (closed entry members how))
+completed_laid types entries number entry members how laid here incomplete named is placed =
+    let after : Entry = closed entry members how in
+    let structs : List StructDef = read_off types entries in
+    let more : List StructDef = slice_set structs number (struct_of types after) in
+    let is_kept : IsLaid _ (fields_of types members) how.layout = subst (λ (ss : List StructDef). IsLaid ss (fields_of types members) how.layout) (sym (kept_structs types entries)) is in
+    let stood : slice_get structs number ≡ Some (struct_of types entry) = slice_get-map (struct_of types) entries number ∙ ap (option_map (struct_of types)) here in
+    let grows : GrowsTo structs more = λ n d d_at complete. set_other structs number n (struct_of types after) d (other_complete structs number n (struct_of types entry) d stood incomplete d_at complete) d_at in
+    let long : length more ≡ length structs = length-set structs number (struct_of types after) in
+    let further : (fields : List Field) (ms : List Member) (find : List ℕ → Option MemberAt) → ArePlaces structs fields ms find → ArePlaces (read_off types (slice_set entries number after)) fields ms find =
+    λ fields ms find are. subst (λ (ss : List StructDef). ArePlaces ss fields ms find) (sym (map-set (struct_of types) entries number after)) (places_more structs more grows (omega arith) fields ms find are) in
     record {
       named = λ place found at. elim (set_found entries number place after found at) as (λ _. All (λ member. member.ctype < length types) found.members) [
         | inl new ↦ subst (λ (e : Entry). All (λ member. member.ctype < length types) e.members) new.1 named
         | inr old ↦ laid.named place found old
       ];
       kept = subst (λ (ks : List KeptEntry). AreKept ks) (sym (map-set (kept_of types) entries number after))
-          (completed_kept (map (kept_of types) entries) number (kept_of types entry) (kept_of types after) (fields_of types members) layout laid.kept (kept_found types entries number entry here) incomplete is_kept refl refl);
+          (completed_kept (map (kept_of types) entries) number (kept_of types entry) (kept_of types after) (fields_of types members) how.layout laid.kept (kept_found types entries number entry here) incomplete is_kept refl refl);
+      found = λ place e at. elim (set_found entries number place after e at) as (λ _. ArePlaces (read_off types (slice_set entries number after)) (fields_of types e.members) e.members (find_in e.places.entries)) [
+        | inl new ↦ subst (λ (u : Entry). ArePlaces (read_off types (slice_set entries number after)) (fields_of types u.members) u.members (find_in u.places.entries)) new.1
+            (further (fields_of types members) members (find_in how.places.entries) placed)
+        | inr old ↦ further (fields_of types e.members) e.members (find_in e.places.entries) (laid.found place e old)
+      ];
     }
 
-pub completed_structs : (types : List CType) (entries : List Entry) (number : ℕ) (entry : Entry) (members : List Member) (layout : Layout) → slice_get entries number ≡ Some entry
-    → read_off types (slice_set entries number (closed entry members layout)) ≡ completed (read_off types entries) number (fields_of types members)
-completed_structs types entries number entry members layout here =
+pub completed_structs : (types : List CType) (entries : List Entry) (number : ℕ) (entry : Entry) (members : List Member) (how : Laid) → slice_get entries number ≡ Some entry
+    → read_off types (slice_set entries number (closed entry members how)) ≡ completed (read_off types entries) number (fields_of types members)
+completed_structs types entries number entry members how here =
     let found : slice_get (read_off types entries) number ≡ Some (struct_of types entry) = slice_get-map (struct_of types) entries number ∙ ap (option_map (struct_of types)) here in
-    rw found (map-set (struct_of types) entries number (closed entry members layout))
+    rw found (map-set (struct_of types) entries number (closed entry members how))
 
 -- one member more is laid
 pub member_laid : (types : List CType) (structs : List StructDef) (before next : Layout) (members : List Member) (index : ℕ) (member : Member) → index < length members → member ≡ get_or members index member

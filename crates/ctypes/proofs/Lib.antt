@@ -1,6 +1,7 @@
 pub mod Closing
 pub mod Growing
 pub mod Laid
+pub mod Placing
 pub mod Rows
 pub mod Same
 pub mod Shapes

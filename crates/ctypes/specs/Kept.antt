@@ -12,9 +12,11 @@ use Rattle.cbase.specs.KeptRows.{row_layout, IsSmallRow}
 use Rattle.cbase.specs.KeptStructs.{AreKept}
 use Rattle.ctypes.specs.declared.shape.Shape.{Shape}
 use Rattle.ctypes.specs.declared.structs.Member.{Member}
+use Rattle.ctypes.specs.declared.structs.Laid.{Laid}
 use Rattle.ctypes.specs.declared.structs.Entry.{Entry}
 use Rattle.ctypes.specs.Table.{types_of, type_at, IsTable}
-use Rattle.ctypes.specs.Structs.{struct_of}
+use Rattle.ctypes.specs.Structs.{fields_of, struct_of, read_off}
+use Rattle.ctypes.specs.Places.{find_in, ArePlaces}
 
 -- a type is laid as a row of parts, whatever the structs are; so the row stays right while structs are completed
 abbrev pub IsRow : CType → Row → Type 0
@@ -33,14 +35,20 @@ AreNamed count entries = (number : ℕ) (entry : Entry) → slice_get entries nu
 abbrev pub kept_of : List CType → Entry → KeptEntry
 kept_of types entry = record { definition = struct_of types entry; layout = entry.layout }
 
--- a struct with these members, of that layout
-abbrev pub closed : Entry → List Member → Layout → Entry
-closed entry members layout = record { name = entry.name; complete = true; members = members; layout = Some layout }
+-- a struct with these members, which are laid so
+abbrev pub closed : Entry → List Member → Laid → Entry
+closed entry members laid = record { name = entry.name; complete = true; members = members; layout = Some laid.layout; places = laid.places }
+
+-- the members of each struct are found by their names
+abbrev pub AreFound : List CType → List Entry → Type 0
+AreFound types entries = (number : ℕ) (entry : Entry) → slice_get entries number ≡ Some entry →
+    ArePlaces (read_off types entries) (fields_of types entry.members) entry.members (find_in entry.places.entries)
 
 -- what is kept of structs, where `types` are those of the numbers
 pub record AreLaid (types : List CType) (entries : List Entry) : Type 0 where
   pub named : AreNamed (length types) entries
   pub kept : AreKept (map (kept_of types) entries)
+  pub found : AreFound types entries
 
 -- what holds of the parts of a table
 pub record AreTables (shapes : List Shape) (rows : List Row) (entries : List Entry) : Type 0 where

@@ -1,3 +1,4 @@
 pub mod Kept
+pub mod Places
 pub mod Structs
 pub mod Table

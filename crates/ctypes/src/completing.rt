@@ -1,13 +1,12 @@
-ghost use Rattle.std.specs.Prelude.{◌≡◌, ◌<◌, [], ◌∷◌, ◌++◌, map, All, length, option_map, IfSome, IfOk, OnOk, OnErr, if◌then◌else◌};
-ghost use Rattle.cbase.specs.declared.abi.Abi.TheVariants.{Lp64};
-ghost use Rattle.cbase.specs.Layout.{layout_of, no_fields, fields_layout};
-ghost use Rattle.cbase.specs.Kept.{capped, IsSmall};
+ghost use Rattle.std.specs.Prelude.{◌≡◌, ◌<◌, [], ◌∷◌, ◌++◌, All, length, IfOk, OnOk, OnErr, if◌then◌else◌};
 ghost use Rattle.cbase.specs.Completing.{fieldless, may_complete, completed};
 ghost use Rattle.ctypes.specs.Structs.{fields_of};
 
+use crate::laying::lay;
 use crate::structs::{Entry, Member, close, is_open};
 use crate::types::Types;
-use cbase::{Layout, List, NoMemory, Text};
+use cbase::{List, NoMemory, Text};
+use indexmap::IndexMap;
 use std::alloc::Global;
 
 impl Types {
@@ -29,6 +28,7 @@ impl Types {
             complete: false,
             members: List::new(alloc),
             layout: None,
+            places: IndexMap::new(alloc),
         })?;
         Ok(number)
     }
@@ -37,34 +37,27 @@ impl Types {
     ///
     /// It answers whether it has done so. It has not, and all stays as it was, exactly where there is no such
     /// struct, where its members were given before (6.7.2.3p1), and where a member's type is incomplete
-    /// (6.7.2.1p3). It takes no memory, and a step for each member.
-    pub fn complete(&mut self, number: u32, members: List<Member>) -> bool
+    /// (6.7.2.1p3). Where memory is wanting all stays as it was, too. It takes a step for each member.
+    pub fn complete(
+        &mut self,
+        alloc: Global,
+        number: u32,
+        members: List<Member>,
+    ) -> Result<bool, NoMemory>
         requires { All (λ member. member.ctype < length self.old.types) members }
-        ensures answer { result ≡ may_complete self.old.structs number (fields_of self.old.types members) }
-        ensures after { self.new.structs ≡ (if result then completed self.old.structs number (fields_of self.old.types members) else self.old.structs) }
+        ensures answer { IfOk result (λ done. done ≡ may_complete self.old.structs number (fields_of self.old.types members)) }
+        ensures after { IfOk result (λ done. self.new.structs ≡ (if done then completed self.old.structs number (fields_of self.old.types members) else self.old.structs)) }
         ensures types { self.new.types ≡ self.old.types }
+        ensures err { OnErr result (self.new.structs ≡ self.old.structs) }
     {
         if !is_open(&self.structs, number as usize) {
-            return false;
+            return Ok(false);
         }
-        let Some(layout) = members_layout(members.as_slice(), self) else {
-            return false;
+        let found = lay(alloc, members.as_slice(), self)?;
+        let Some(laid) = found else {
+            return Ok(false);
         };
-        close(&mut self.structs, number as usize, members, layout);
-        true
+        close(&mut self.structs, number as usize, members, laid);
+        Ok(true)
     }
-}
-
-/// The layout of a struct of these members.
-fn members_layout(members: &[Member], types: &Types) -> Option<Layout>
-    requires { All (λ member. member.ctype < length types.now.types) members.now }
-    ensures value { result ≡ option_map capped (fields_layout no_fields (map (λ field. layout_of Lp64 types.now.structs field.ctype) (fields_of types.now.types members.now))) }
-    ensures small { IfSome result IsSmall }
-{
-    let mut before = Layout::empty();
-    for member in members {
-        let next = types.layout(member.ctype)?;
-        before = before.with_field(next);
-    }
-    Some(before.padded())
 }

@@ -5,11 +5,12 @@
 
 mod completing;
 mod interning;
+mod laying;
 mod measure;
 mod shape;
 mod structs;
 mod types;
 
 pub use shape::Shape;
-pub use structs::Member;
+pub use structs::{Member, MemberAt};
 pub use types::Types;

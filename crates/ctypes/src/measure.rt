@@ -1,13 +1,14 @@
-ghost use Rattle.std.specs.Prelude.{◌≡◌, ◌<◌, ℕ, Option, length, option_map, IfSome};
+ghost use Rattle.std.specs.Prelude.{◌≡◌, ◌<◌, ℕ, Option, Some, min, length, slice_get, option_map, IfSome};
 ghost use Rattle.cbase.specs.declared.abi.Abi.{Abi};
 ghost use Rattle.cbase.specs.declared.abi.Abi.TheVariants.{Lp64};
 ghost use Rattle.cbase.specs.declared.layout.Layout.{Layout};
 ghost use Rattle.cbase.specs.Layout.{layout_of, type_layout, struct_at, extent_of, alignment_of};
 ghost use Rattle.cbase.specs.Kept.{capped, IsSmall};
 ghost use Rattle.cbase.specs.KeptRows.{part_layout, row_layout, IsSmallPart, IsSmallRow};
+ghost use Rattle.cbase.specs.Offset.{fields_of, index_of, offset_of};
 ghost use Rattle.ctypes.specs.Table.{type_at};
 
-use crate::structs::entry_at;
+use crate::structs::{MemberAt, entry_at};
 use crate::types::Types;
 use cbase::{Extent, Layout, Row, RowPart, told};
 
@@ -33,6 +34,20 @@ impl Types {
     {
         let layout = self.layout(number)?;
         Some(layout.alignment)
+    }
+
+    /// Where the first member of that name lies in the struct of that number (C11 6.5.2.3 and 7.19).
+    ///
+    /// It is `None` exactly where the struct has no member of that name. Names of members differ in C. It takes
+    /// no memory, and one look-up in a table of names.
+    pub fn field(&self, of: u32, name: &[u8]) -> Option<MemberAt>
+        ensures index { option_map (λ at. at.index) result ≡ index_of name.now (fields_of self.now.structs of) }
+        ensures offset { (abi : Abi) → IfSome result (λ at. option_map (λ offset. min offset 65537) (offset_of abi self.now.structs (fields_of self.now.structs of) at.index) ≡ Some at.offset) }
+        ensures ctype { IfSome result (λ at. option_map (λ field. field.ctype) (slice_get (fields_of self.now.structs of) at.index) ≡ Some (type_at self.now.types at.ctype)) }
+        ensures inside { IfSome result (λ at. at.ctype < length self.now.types) }
+    {
+        let kept = entry_at(&self.structs, of as usize)?;
+        kept.places.get(name).copied()
     }
 
     /// The layout of the type of that number: so many times that of the part that its row has.

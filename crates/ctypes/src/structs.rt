@@ -6,6 +6,7 @@ ghost use Rattle.ctypes.specs.Structs.{read_off};
 ghost use Rattle.ctypes.specs.Kept.{closed};
 
 use cbase::{Layout, List, Text};
+use indexmap::IndexMap;
 
 /// A member of a struct, as its declaration gives it.
 #[derive(Drop)]
@@ -14,6 +15,26 @@ pub struct Member {
     pub name: Text,
     /// The number of its type.
     pub ctype: u32,
+}
+
+/// Where a member lies in its struct.
+#[derive(Clone, Copy, Debug, PartialEq, Eq)]
+pub struct MemberAt {
+    /// How many bytes lie before it; 65,537 stands for every larger number as well.
+    pub offset: u32,
+    /// How many members stand before it.
+    pub index: u32,
+    /// The number of its type.
+    pub ctype: u32,
+}
+
+/// How the members of a struct are laid.
+#[derive(Drop)]
+pub(crate) struct Laid {
+    /// The layout of the struct.
+    pub(crate) layout: Layout,
+    /// The first member of each name.
+    pub(crate) places: IndexMap<Vec<u8>, MemberAt>,
 }
 
 /// A struct, as far as the text has defined it, with its layout.
@@ -27,6 +48,8 @@ pub(crate) struct Entry {
     pub(crate) members: List<Member>,
     /// Its layout, once it is complete.
     pub(crate) layout: Option<Layout>,
+    /// The first member of each name.
+    pub(crate) places: IndexMap<Vec<u8>, MemberAt>,
 }
 
 /// The struct of that number.
@@ -46,13 +69,15 @@ pub(crate) fn is_open(entries: &[Entry], number: usize) -> bool
     }
 }
 
-/// Gives a struct its members, of that layout.
-pub(crate) fn close(entries: &mut Vec<Entry>, number: usize, members: List<Member>, layout: Layout)
+/// Gives a struct its members, which are laid so.
+pub(crate) fn close(entries: &mut Vec<Entry>, number: usize, members: List<Member>, laid: Laid)
     requires { number < length entries.old.items }
-    ensures { (entry : Entry) → slice_get entries.old.items number ≡ Some entry → entries.new.items ≡ slice_set entries.old.items number (closed entry members layout) }
+    ensures { (entry : Entry) → slice_get entries.old.items number ≡ Some entry → entries.new.items ≡ slice_set entries.old.items number (closed entry members laid) }
 {
+    let Laid { layout, places } = laid;
     let entry = &mut entries[number];
     entry.members = members;
     entry.complete = true;
     entry.layout = Some(layout);
+    entry.places = places;
 }

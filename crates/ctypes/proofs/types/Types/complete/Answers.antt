@@ -1,9 +1,12 @@
-use Rattle.std.proofs.Common.{◌≡◌, List, sym, ◌∙◌, true, slice_get, rules}
+use Rattle.std.proofs.Common.{◌≡◌, List, sym, ap, ◌∙◌, true, slice_get, rules}
 use Rattle.cbase.specs.declared.ctype.CType.{CType}
 use Rattle.cbase.specs.Completing.{is_open}
 use Rattle.cbase.specs.KeptStructs.{IsLaid}
 use Rattle.cbase.proofs.KeptStructs.{fields_refused, fields_taken}
+use Rattle.std.specs.Prelude.{option_map}
+use Rattle.ctypes.specs.declared.structs.Laid.{Laid}
 use Rattle.ctypes.specs.declared.structs.Entry.{Entry}
+use Rattle.ctypes.specs.Places.{find_in, ArePlaces}
 use Rattle.ctypes.specs.Table.{types_of}
 use Rattle.ctypes.specs.Structs.{read_off, fields_of}
 use Rattle.ctypes.proofs.Closing.{open_found, open_within, completed_laid, completed_structs}
@@ -11,7 +14,7 @@ use Rattle.ctypes.proofs.types.Types.complete.Goals as goal
 
 pub returns-in_default-clause-answer : goal.returns-in_default-clause-answer
 returns-in_default-clause-answer c =
-    fields_refused c.args.self.now.structs c.args.number (fields_of c.args.self.now.types c.args.members) c.members_layout.result (rw (sym c.as_slice.ensures) c.members_layout.ensures.value) c.in_default.is
+    fields_refused c.args.self.now.structs c.args.number (fields_of c.args.self.now.types c.args.members) (option_map (λ (l : Laid). l.layout) c.in_ok-found.found) (rw (sym c.as_slice.ensures) c.in_ok-found.ensures.layout) (ap (option_map (λ (l : Laid). l.layout)) c.in_default.is)
 
 pub close-requires : goal.close-requires
 close-requires c =
@@ -25,19 +28,21 @@ invariant_of-self c =
     let entries : List Entry = c.self.inside.structs.items in
     let is : is_open (slice_get (read_off types entries) c.args.number) ≡ true = rw (sym c.deref.ensures.value) (sym (c.is_open.ensures types) ∙ search rules) in
     let from = open_found types entries c.args.number is in
-    let laid : IsLaid (read_off types entries) (fields_of types c.args.members) c.in-Some.layout =
-    (sym (rw (sym c.self.view_is, c.as_slice.ensures) at c.members_layout.ensures.value) ∙ c.in-Some.is, c.in-Some.ensures.small) in
+    let laid : IsLaid (read_off types entries) (fields_of types c.args.members) c.in-Some.laid.layout =
+    (sym (rw (sym c.self.view_is, c.as_slice.ensures) at c.in_ok-found.ensures.layout) ∙ ap (option_map (λ (l : Laid). l.layout)) c.in-Some.is, rw c.in-Some.is at c.in_ok-found.ensures.small) in
+    let placed : ArePlaces (read_off types entries) (fields_of types c.args.members) c.args.members (find_in c.in-Some.laid.places.entries) =
+    rw (sym c.self.view_is, c.as_slice.ensures, c.in-Some.is) at c.in_ok-found.ensures.places in
     rw (c.close.ensures from.0 from.1) record {
       apart = c.self.invariant.apart;
       beside = c.self.invariant.beside;
-      laid = completed_laid types entries c.args.number from.0 c.args.members c.in-Some.layout c.self.invariant.laid from.1 from.2 (rw (sym c.self.view_is) at c.requires) laid;
+      laid = completed_laid types entries c.args.number from.0 c.args.members c.in-Some.laid c.self.invariant.laid from.1 from.2 (rw (sym c.self.view_is) at c.requires) laid placed;
     }
 
 pub returns-clause-answer : goal.returns-clause-answer
 returns-clause-answer c =
     let types : List CType = types_of c.self.inside.shapes.keys in
     let is : is_open (slice_get c.args.self.now.structs c.args.number) ≡ true = rw (sym c.self.view_is, sym c.deref.ensures.value) (sym (c.is_open.ensures types) ∙ search rules) in
-    fields_taken c.args.self.now.structs c.args.number (fields_of c.args.self.now.types c.args.members) c.in-Some.layout c.members_layout.result is (rw (sym c.as_slice.ensures) c.members_layout.ensures.value) c.in-Some.is
+    fields_taken c.args.self.now.structs c.args.number (fields_of c.args.self.now.types c.args.members) c.in-Some.laid.layout (option_map (λ (l : Laid). l.layout) c.in_ok-found.found) is (rw (sym c.as_slice.ensures) c.in_ok-found.ensures.layout) (ap (option_map (λ (l : Laid). l.layout)) c.in-Some.is)
 
 pub returns-clause-after : goal.returns-clause-after
 returns-clause-after c =
@@ -45,4 +50,4 @@ returns-clause-after c =
     let entries : List Entry = c.self.inside.structs.items in
     let is : is_open (slice_get (read_off types entries) c.args.number) ≡ true = rw (sym c.deref.ensures.value) (sym (c.is_open.ensures types) ∙ search rules) in
     let from = open_found types entries c.args.number is in
-    rw (c.close.ensures from.0 from.1, sym c.self.view_is) (completed_structs types entries c.args.number from.0 c.args.members c.in-Some.layout from.1)
+    rw (c.close.ensures from.0 from.1, sym c.self.view_is) (completed_structs types entries c.args.number from.0 c.args.members c.in-Some.laid from.1)
