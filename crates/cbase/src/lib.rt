@@ -1,5 +1,5 @@
-//! The types that every other crate speaks with: lists, texts and boxes that contracts see as plain data, the one
-//! error of a call that takes memory, places of tokens, the types of C with their layout, and the syntax trees of C.
+//! The types that every other crate speaks with: lists, texts and boxes that contracts see as plain data, the
+//! errors of a call that takes memory, places of tokens, the types of C with their layout, and the syntax trees of C.
 //!
 //! It knows no tokens, no memory blocks and no reports.
 #![tactic(auto)]
@@ -16,6 +16,7 @@ mod offset;
 mod place;
 mod row;
 mod rules;
+mod stop;
 mod structs;
 mod text;
 mod tree;
@@ -32,6 +33,7 @@ pub use offset::{FieldAt, field_at};
 pub use place::Place;
 pub use row::{Row, RowPart, integer_part, parts_of, pointer_bytes};
 pub use rules::layout_rules;
+pub use stop::Stop;
 pub use structs::{Field, StructDef, Structs};
 pub use text::Text;
 pub use tree::{
@@ -39,8 +41,3 @@ pub use tree::{
     Identifier, Init, InitPart, Item, Param, Part, Program, Rank, StaticObject, Stmt, StmtForm,
     Storage, TypeName, TypeSpec, TypedProgram, UnaryOp,
 };
-
-#[cfg(test)]
-mod layout_tests;
-#[cfg(test)]
-mod tests;

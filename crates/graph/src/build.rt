@@ -5,8 +5,7 @@ ghost use Rattle.graph.specs.Renaming.{numbered};
 use crate::graph::Graph;
 use crate::parts::Parts;
 use crate::points::is_well_formed;
-use crate::stop::Stop;
-use cbase::NoMemory;
+use cbase::{NoMemory, Stop};
 use std::alloc::Global;
 
 /// How many nodes, and how many unequal pairs, are too many.

@@ -13,9 +13,8 @@ use crate::places::{
     object_keys, placed_objects, placed_pairs, placed_ports, placed_registers, placed_values,
     placed_variables, value_keys,
 };
-use crate::stop::Stop;
 use crate::value::Value;
-use cbase::{List, NoMemory};
+use cbase::{List, NoMemory, Stop};
 use std::alloc::Global;
 use std::marker::Model;
 

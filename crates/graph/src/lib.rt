@@ -22,7 +22,6 @@ mod places;
 mod points;
 mod post;
 mod sizes;
-mod stop;
 mod value;
 
 pub use build::{built, graph_of};
@@ -32,5 +31,4 @@ pub use keyed::Keyed;
 pub use object::{Object, Shape};
 pub use parts::{Held, KeyedObject, KeyedValue, Named, Pair, Parts};
 pub use post::Post;
-pub use stop::Stop;
 pub use value::{Target, Value};

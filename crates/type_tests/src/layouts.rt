@@ -1,4 +1,7 @@
-use super::*;
+use cbase::{
+    Abi, Boxed, CType, Extent, Field, FieldAt, Layout, List, NoMemory, StructDef, Structs, Text,
+    align, field_at, layout_rules, size, told,
+};
 use std::alloc::Global;
 use std::test::Fail;
 

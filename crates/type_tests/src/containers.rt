@@ -1,4 +1,4 @@
-use super::*;
+use cbase::{Boxed, List, Text};
 use std::test::Fail;
 
 #[test]
@@ -53,18 +53,5 @@ fn a_tree_holds_itself_in_lists_and_boxes(rt: HostRuntime) -> Result<(), Fail> {
     let left = Boxed::new(rt.alloc(), Tree::Branches(branches))?;
     let right = Boxed::new(rt.alloc(), Tree::Leaf(4))?;
     assert_eq!(rt; sum(&Tree::Twin { left, right }), 7);
-    Ok(())
-}
-
-#[test]
-fn long_alone_differs_between_data_layouts(rt: HostRuntime) -> Result<(), Fail> {
-    assert_eq!(rt; bytes_of_rank(Rank::Long, Abi::Lp64), 8);
-    assert_eq!(rt; bytes_of_rank(Rank::Long, Abi::Llp64), 4);
-    for abi in [Abi::Lp64, Abi::Llp64] {
-        assert_eq!(rt; bytes_of_rank(Rank::Char, abi), 1);
-        assert_eq!(rt; bytes_of_rank(Rank::Short, abi), 2);
-        assert_eq!(rt; bytes_of_rank(Rank::Int, abi), 4);
-        assert_eq!(rt; bytes_of_rank(Rank::LongLong, abi), 8);
-    }
     Ok(())
 }

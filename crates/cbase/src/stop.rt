@@ -1,4 +1,4 @@
-use cbase::NoMemory;
+use crate::no_memory::NoMemory;
 use std::alloc::{AllocError, AllocFailed};
 
 /// Why a call that hands out a graph stopped.
