@@ -328,52 +328,138 @@ fn field_in(number: u32, name: &[u8], structs: &Structs) -> Option<FieldAt> {
     }
 }
 
+/// Whether each field of a struct stands where a sample says, and no field has another name.
+fn are_placed(number: u32, samples: &[Sample], structs: &Structs) -> bool {
+    for (index, Sample(_, _, offset)) in (0u32..8).zip(samples.iter()) {
+        let want = FieldAt {
+            offset: *offset,
+            index,
+        };
+        if field_in(number, &[name_at(index)], structs) != Some(want) {
+            return false;
+        }
+    }
+    field_in(number, b"z", structs).is_none()
+}
+
+/// What is told of a struct's size.
+fn extent(number: u32, structs: &Structs) -> Extent {
+    size(&CType::Struct(number), structs, Abi::Lp64)
+}
+
+/// What is told of a struct's alignment.
+fn alignment(number: u32, structs: &Structs) -> Option<u32> {
+    align(&CType::Struct(number), structs, Abi::Lp64)
+}
+
+/// Whether a struct is laid out as a sample says.
+fn is_laid(number: u32, sample: &SampleStruct, structs: &Structs) -> bool {
+    extent(number, structs) == Extent::Bytes(sample.size)
+        && alignment(number, structs) == Some(sample.alignment)
+        && are_placed(number, sample.fields, structs)
+}
+
+/// The structs of all samples.
+fn all_samples(alloc: Global) -> Result<Structs, NoMemory> {
+    let mut structs = Structs::new(alloc);
+    for sample in SAMPLES.iter() {
+        add(alloc, &mut structs, sample.fields)?;
+    }
+    Ok(structs)
+}
+
+/// The number of the first sample that is laid out otherwise, where there is one.
+fn first_laid_otherwise(alloc: Global) -> Result<Option<u32>, NoMemory> {
+    let structs = all_samples(alloc)?;
+    for (number, sample) in (0u32..30).zip(SAMPLES.iter()) {
+        if !is_laid(number, sample, &structs) {
+            return Ok(Some(number));
+        }
+    }
+    Ok(None)
+}
+
 #[test]
 fn layouts_are_those_of_gcc(rt: HostRuntime) -> Result<(), Fail> {
-    let mut structs = Structs::new(rt.alloc());
-    for sample in SAMPLES.iter() {
-        assert_eq!(rt; add(rt.alloc(), &mut structs, sample.fields)?, true);
-    }
-    assert_eq!(rt; structs.len(), 30);
-    for (number, sample) in (0u32..30).zip(SAMPLES.iter()) {
-        let ctype = CType::Struct(number);
-        assert_eq!(rt;
-            size(&ctype, &structs, Abi::Lp64),
-            Extent::Bytes(sample.size)
-        );
-        assert_eq!(rt; align(&ctype, &structs, Abi::Lp64), Some(sample.alignment));
-        for (index, Sample(_, _, offset)) in (0u32..8).zip(sample.fields.iter()) {
-            let letter = name_at(index);
-            let want = Some(FieldAt {
-                offset: *offset,
-                index,
-            });
-            assert_eq!(rt; field_in(number, &[letter], &structs), want);
-        }
-        assert_eq!(rt; field_in(number, b"z", &structs), None);
-    }
+    assert_eq!(rt; first_laid_otherwise(rt.alloc())?, None);
     Ok(())
+}
+
+/// A type with arrays, and what is told of its size where struct 0 has no fields and there is no other.
+#[derive(Clone, Copy)]
+struct SampleArray(Base, &'static [u64], Extent);
+
+const ARRAYS: [SampleArray; 8] = [
+    SampleArray(Base::Int(1), &[65_536], Extent::Bytes(65_536)),
+    SampleArray(Base::Int(1), &[65_537], Extent::TooLarge),
+    SampleArray(Base::Int(2), &[8, 4_096], Extent::Bytes(65_536)),
+    SampleArray(Base::Int(8), &[1 << 32, 1 << 32], Extent::TooLarge),
+    SampleArray(Base::Int(8), &[1 << 63, 0, 1 << 63], Extent::Bytes(0)),
+    SampleArray(Base::Struct(0), &[1 << 63], Extent::Bytes(0)),
+    SampleArray(Base::Int(1), &[1 << 63], Extent::TooLarge),
+    SampleArray(Base::Struct(1), &[0], Extent::Incomplete),
+];
+
+/// Whether the size of a type with arrays is as a sample says.
+fn is_told(alloc: Global, sample: &SampleArray, structs: &Structs) -> Result<bool, NoMemory> {
+    let ctype = type_of(alloc, sample.0, sample.1)?;
+    Ok(size(&ctype, structs, Abi::Lp64) == sample.2)
+}
+
+/// The number of the first type of which another size is told, where there is one.
+fn first_of_other_size(alloc: Global) -> Result<Option<usize>, NoMemory> {
+    let mut structs = Structs::new(alloc);
+    add(alloc, &mut structs, &[])?;
+    for (number, sample) in ARRAYS.iter().enumerate() {
+        if !is_told(alloc, sample, &structs)? {
+            return Ok(Some(number));
+        }
+    }
+    Ok(None)
 }
 
 #[test]
 fn sizes_of_arrays(rt: HostRuntime) -> Result<(), Fail> {
-    let mut structs = Structs::new(rt.alloc());
-    assert_eq!(rt; add(rt.alloc(), &mut structs, &[])?, true);
-    let cases: [(Base, &[u64], Extent); 8] = [
-        (Base::Int(1), &[65_536], Extent::Bytes(65_536)),
-        (Base::Int(1), &[65_537], Extent::TooLarge),
-        (Base::Int(2), &[8, 4_096], Extent::Bytes(65_536)),
-        (Base::Int(8), &[1 << 32, 1 << 32], Extent::TooLarge),
-        (Base::Int(8), &[1 << 63, 0, 1 << 63], Extent::Bytes(0)),
-        (Base::Struct(0), &[1 << 63], Extent::Bytes(0)),
-        (Base::Int(1), &[1 << 63], Extent::TooLarge),
-        (Base::Struct(1), &[0], Extent::Incomplete),
-    ];
-    for (base, dimensions, want) in cases.iter() {
-        let ctype = type_of(rt.alloc(), *base, dimensions)?;
-        assert_eq!(rt; size(&ctype, &structs, Abi::Lp64), *want);
-    }
+    assert_eq!(rt; first_of_other_size(rt.alloc())?, None);
     Ok(())
+}
+
+/// Whether struct 0 is declared, and no struct is completed with a field whose type is no complete one or has three bytes.
+fn begins_incomplete(alloc: Global, structs: &mut Structs) -> Result<bool, NoMemory> {
+    let mut holds = structs.declare(alloc, Text::new(alloc))? == 0;
+    for field in [Base::Struct(0), Base::Struct(1), Base::Int(3)] {
+        if add(alloc, structs, &[Sample(field, &[2], 0)])? {
+            holds = false;
+        }
+    }
+    Ok(holds)
+}
+
+/// Whether nothing is told of the sizes and alignments of `void` and of structs 0 and 1.
+fn is_nothing_told(structs: &Structs) -> bool {
+    size(&CType::Void, structs, Abi::Lp64) == Extent::Incomplete
+        && align(&CType::Void, structs, Abi::Lp64).is_none()
+        && extent(0, structs) == Extent::Incomplete
+        && alignment(0, structs).is_none()
+        && extent(1, structs) == Extent::Incomplete
+        && alignment(1, structs).is_none()
+}
+
+/// Whether a struct is completed with one field, an array.
+fn completes(
+    alloc: Global,
+    number: u32,
+    sample: Sample,
+    structs: &mut Structs,
+) -> Result<bool, NoMemory> {
+    let fields = fields_of(alloc, &[sample])?;
+    Ok(structs.complete(number, fields))
+}
+
+/// Whether a pointer to struct 0 has eight bytes.
+fn is_pointed(alloc: Global, structs: &Structs) -> Result<bool, NoMemory> {
+    let pointer = CType::Pointer(Boxed::new(alloc, CType::Struct(0))?);
+    Ok(size(&pointer, structs, Abi::Lp64) == Extent::Bytes(8))
 }
 
 #[test]
@@ -381,52 +467,35 @@ fn a_struct_is_incomplete_until_it_is_given_fields_of_complete_types(
     rt: HostRuntime,
 ) -> Result<(), Fail> {
     let mut structs = Structs::new(rt.alloc());
-    let first = structs.declare(rt.alloc(), Text::from_slice(rt.alloc(), b"s")?)?;
-    assert_eq!(rt; first, 0);
-    for field in [Base::Struct(0), Base::Struct(1), Base::Int(3)] {
-        let sample = Sample(field, &[2], 0);
-        assert_eq!(rt; add(rt.alloc(), &mut structs, &[sample])?, false);
-    }
-    for ctype in [CType::Void, CType::Struct(0), CType::Struct(1)] {
-        assert_eq!(rt; size(&ctype, &structs, Abi::Lp64), Extent::Incomplete);
-        assert_eq!(rt; align(&ctype, &structs, Abi::Lp64), None);
-    }
-    let pointer = CType::Pointer(Boxed::new(rt.alloc(), CType::Struct(0))?);
-    assert_eq!(rt; size(&pointer, &structs, Abi::Lp64), Extent::Bytes(8));
-    let pointers = fields_of(rt.alloc(), &[Sample(Base::Pointer, &[3], 0)])?;
-    assert_eq!(rt; structs.complete(0, pointers), true);
-    assert_eq!(rt;
-        size(&CType::Struct(0), &structs, Abi::Lp64),
-        Extent::Bytes(24)
-    );
-    assert_eq!(rt; structs.complete(0, fields_of(rt.alloc(), &[])?), false);
-    let inner = fields_of(rt.alloc(), &[Sample(Base::Struct(0), &[2], 0)])?;
-    assert_eq!(rt; structs.complete(1, inner), true);
-    assert_eq!(rt;
-        size(&CType::Struct(1), &structs, Abi::Lp64),
-        Extent::Bytes(48)
-    );
+    let begins = begins_incomplete(rt.alloc(), &mut structs)?
+        && is_nothing_told(&structs)
+        && is_pointed(rt.alloc(), &structs)?;
+    let pointers = Sample(Base::Pointer, &[3], 0);
+    let goes_on = completes(rt.alloc(), 0, pointers, &mut structs)?
+        && extent(0, &structs) == Extent::Bytes(24)
+        && !completes(rt.alloc(), 0, pointers, &mut structs)?;
+    let inner = Sample(Base::Struct(0), &[2], 0);
+    let ends = completes(rt.alloc(), 1, inner, &mut structs)?
+        && extent(1, &structs) == Extent::Bytes(48);
+    assert_eq!(rt; (begins, goes_on, ends), (true, true, true));
     Ok(())
+}
+
+/// Thirty structs, the first of one byte and each other one of two of the one before.
+fn thirty_levels(alloc: Global) -> Result<Structs, NoMemory> {
+    let mut structs = Structs::new(alloc);
+    add(alloc, &mut structs, &[Sample(Base::Int(1), &[], 0)])?;
+    for below in 0u32..29 {
+        let twin = Sample(Base::Struct(below), &[], 0);
+        add(alloc, &mut structs, &[twin, twin])?;
+    }
+    Ok(structs)
 }
 
 #[test]
 fn thirty_levels_of_doubling_take_no_time(rt: HostRuntime) -> Result<(), Fail> {
-    let mut structs = Structs::new(rt.alloc());
-    assert_eq!(rt;
-        add(rt.alloc(), &mut structs, &[Sample(Base::Int(1), &[], 0)])?,
-        true
-    );
-    for below in 0u32..29 {
-        let twin = Sample(Base::Struct(below), &[], 0);
-        assert_eq!(rt; add(rt.alloc(), &mut structs, &[twin, twin])?, true);
-    }
-    assert_eq!(rt;
-        size(&CType::Struct(16), &structs, Abi::Lp64),
-        Extent::Bytes(65_536)
-    );
-    assert_eq!(rt;
-        size(&CType::Struct(29), &structs, Abi::Lp64),
-        Extent::TooLarge
-    );
+    let structs = thirty_levels(rt.alloc())?;
+    let told = (extent(16, &structs), extent(29, &structs));
+    assert_eq!(rt; told, (Extent::Bytes(65_536), Extent::TooLarge));
     Ok(())
 }
