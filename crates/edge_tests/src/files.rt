@@ -6,143 +6,224 @@ use outside::{
     Began, Files, Given, MemoryFiles, MemorySink, NamedFile, OsFiles, OsSink, Reading, Sink,
     SteadyFiles, SteadySink, Taken, read_file, send,
 };
+use std::alloc::Global;
 use std::test::Fail;
 use std::{fs, io};
 
-// Which answer a reading gives, with its bytes.
-fn shown(reading: &Reading) -> (&str, &[u8]) {
-    match reading {
-        Reading::Whole(bytes) => ("whole", bytes.as_slice()),
-        Reading::Long(bytes) => ("long", bytes.as_slice()),
-        Reading::Failed => ("failed", b"".as_slice()),
+/// What is wanted of a reading.
+#[derive(Clone, Copy)]
+enum Wanted {
+    Whole(&'static [u8]),
+    Long(&'static [u8]),
+    Failed,
+}
+
+/// Whether a reading is the one that is wanted.
+fn is_wanted(reading: &Reading, want: Wanted) -> bool {
+    match (reading, want) {
+        (Reading::Whole(bytes), Wanted::Whole(want)) => bytes.as_slice() == want,
+        (Reading::Long(bytes), Wanted::Long(want)) => bytes.as_slice() == want,
+        (Reading::Failed, Wanted::Failed) => true,
+        _ => false,
     }
+}
+
+/// Whether a file is read as it is wanted.
+fn reads<F: Files>(
+    alloc: Global,
+    files: &mut F,
+    name: &[u8],
+    most: u32,
+    want: Wanted,
+) -> Result<bool, NoMemory> {
+    let name = Text::from_slice(alloc, name)?;
+    let reading = read_file(alloc, files, name, most)?;
+    Ok(is_wanted(&reading, want))
+}
+
+/// Whether a file of five bytes is read as it is wanted.
+fn reads_five_bytes(alloc: Global, most: u32, want: Wanted) -> Result<bool, NoMemory> {
+    let name = Text::from_slice(alloc, b"a.c")?;
+    let bytes = Text::from_slice(alloc, b"abcde")?;
+    let mut files = SteadyFiles::new(name, bytes);
+    reads(alloc, &mut files, b"b.c", most, want)
 }
 
 #[test]
 fn a_reading_ends_one_byte_past_what_is_allowed(rt: HostRuntime) -> Result<(), Fail> {
     for (most, want) in [
-        (7, ("whole", b"abcde".as_slice())),
-        (5, ("whole", b"abcde".as_slice())),
-        (4, ("long", b"abcde".as_slice())),
-        (2, ("long", b"abc".as_slice())),
-        (0, ("long", b"a".as_slice())),
+        (7, Wanted::Whole(b"abcde")),
+        (5, Wanted::Whole(b"abcde")),
+        (4, Wanted::Long(b"abcde")),
+        (2, Wanted::Long(b"abc")),
+        (0, Wanted::Long(b"a")),
     ] {
-        let name = Text::from_slice(rt.alloc(), b"a.c")?;
-        let bytes = Text::from_slice(rt.alloc(), b"abcde")?;
-        let mut files = SteadyFiles::new(name, bytes);
-        let other = Text::from_slice(rt.alloc(), b"b.c")?;
-        let reading = read_file(rt.alloc(), &mut files, other, most)?;
-        assert_eq!(rt; shown(&reading), want, "at {most}");
+        assert!(rt; reads_five_bytes(rt.alloc(), most, want)?, "at {most}");
     }
     Ok(())
+}
+
+/// So many bytes, by their numbers.
+fn numbered_bytes(alloc: Global, count: u32) -> Result<Vec<u8>, NoMemory> {
+    let mut bytes = Vec::new(alloc);
+    for number in 0..count {
+        bytes.push((number % 251) as u8)?;
+    }
+    Ok(bytes)
+}
+
+/// Whether a reading is whole, with these bytes.
+fn is_whole(reading: &Reading, bytes: &[u8]) -> bool {
+    match reading {
+        Reading::Whole(read) => read.as_slice() == bytes,
+        _ => false,
+    }
+}
+
+/// Whether a file of so many bytes, which are given at once, is read whole.
+fn is_read_at_once(alloc: Global, count: u32) -> Result<bool, NoMemory> {
+    let bytes = numbered_bytes(alloc, count)?;
+    let text = Text::from_slice(alloc, bytes.as_slice())?;
+    let mut files = SteadyFiles::new(Text::new(alloc), text);
+    let reading = read_file(alloc, &mut files, Text::new(alloc), count)?;
+    Ok(is_whole(&reading, bytes.as_slice()))
 }
 
 #[test]
 fn a_file_longer_than_one_piece_is_read_whole(rt: HostRuntime) -> Result<(), Fail> {
-    let mut bytes = Vec::new(rt.alloc());
-    for number in 0..10_000u32 {
-        bytes.push((number % 251) as u8)?;
-    }
-    let text = Text::from_slice(rt.alloc(), bytes.as_slice())?;
-    let mut files = SteadyFiles::new(Text::new(rt.alloc()), text);
-    let reading = read_file(rt.alloc(), &mut files, Text::new(rt.alloc()), 10_000)?;
-    assert_eq!(rt; shown(&reading), ("whole", bytes.as_slice()));
+    assert!(rt; is_read_at_once(rt.alloc(), 10_000)?);
     Ok(())
 }
 
-// Two files of the name `a.c` and an empty one, of which two bytes are given a call.
-fn three_files(rt: &HostRuntime, failing: u32) -> Result<MemoryFiles, NoMemory> {
-    let mut files = List::new(rt.alloc());
-    for (name, bytes) in [
-        (b"a.c".as_slice(), b"abcde".as_slice()),
-        (b"empty.c", b""),
-        (b"a.c", b"other"),
-    ] {
-        let name = Text::from_slice(rt.alloc(), name)?;
-        let bytes = Text::from_slice(rt.alloc(), bytes)?;
-        files.push(NamedFile { name, bytes })?;
-    }
-    let mut numbers = List::new(rt.alloc());
-    numbers.push(failing)?;
-    Ok(MemoryFiles::new(rt.alloc(), files, 2, numbers))
+/// Puts a file of this name and these bytes behind the others.
+fn put(
+    alloc: Global,
+    files: &mut List<NamedFile>,
+    name: &[u8],
+    bytes: &[u8],
+) -> Result<(), NoMemory> {
+    let name = Text::from_slice(alloc, name)?;
+    let bytes = Text::from_slice(alloc, bytes)?;
+    files.push(NamedFile { name, bytes })?;
+    Ok(())
 }
+
+/// Two files of the name `a.c` and an empty one, of which two bytes are given a call.
+fn three_files(alloc: Global, failing: u32) -> Result<MemoryFiles, NoMemory> {
+    let mut files = List::new(alloc);
+    put(alloc, &mut files, b"a.c", b"abcde")?;
+    put(alloc, &mut files, b"empty.c", b"")?;
+    put(alloc, &mut files, b"a.c", b"other")?;
+    let mut numbers = List::new(alloc);
+    numbers.push(failing)?;
+    Ok(MemoryFiles::new(alloc, files, 2, numbers))
+}
+
+/// Whether one of the three files is read as it is wanted, where the call of that number fails.
+fn reads_of_three(
+    alloc: Global,
+    name: &[u8],
+    failing: u32,
+    want: Wanted,
+) -> Result<bool, NoMemory> {
+    let mut files = three_files(alloc, failing)?;
+    reads(alloc, &mut files, name, 10, want)
+}
+
+/// A file's name, the call that fails, and what is wanted.
+static OF_THREE: [(&[u8], u32, Wanted); 12] = [
+    (b"a.c", 0, Wanted::Whole(b"abcde")),
+    (b"a.c", 1, Wanted::Failed),
+    (b"a.c", 2, Wanted::Failed),
+    (b"a.c", 3, Wanted::Failed),
+    (b"a.c", 4, Wanted::Failed),
+    (b"a.c", 5, Wanted::Failed),
+    (b"a.c", 6, Wanted::Whole(b"abcde")),
+    (b"empty.c", 0, Wanted::Whole(b"")),
+    (b"empty.c", 2, Wanted::Failed),
+    (b"b.c", 0, Wanted::Failed),
+    (b"a", 0, Wanted::Failed),
+    (b"", 0, Wanted::Failed),
+];
 
 #[test]
 fn files_in_memory_fail_at_each_call_that_was_told(rt: HostRuntime) -> Result<(), Fail> {
-    let whole = ("whole", b"abcde".as_slice());
-    let failed = ("failed", b"".as_slice());
-    for (name, failing, want) in [
-        (b"a.c".as_slice(), 0, whole),
-        (b"a.c", 1, failed),
-        (b"a.c", 2, failed),
-        (b"a.c", 3, failed),
-        (b"a.c", 4, failed),
-        (b"a.c", 5, failed),
-        (b"a.c", 6, whole),
-        (b"empty.c", 0, ("whole", b"")),
-        (b"empty.c", 2, failed),
-        (b"b.c", 0, failed),
-        (b"a", 0, failed),
-        (b"", 0, failed),
-    ] {
-        let mut files = three_files(&rt, failing)?;
-        let text = Text::from_slice(rt.alloc(), name)?;
-        let reading = read_file(rt.alloc(), &mut files, text, 10)?;
-        assert_eq!(rt; shown(&reading), want, "at {failing}");
+    for (name, failing, want) in OF_THREE.iter() {
+        assert!(rt;
+            reads_of_three(rt.alloc(), name, *failing, *want)?,
+            "at {failing}"
+        );
     }
     Ok(())
+}
+
+/// Whether four files are read as they are wanted, one behind the other, where the seventh call fails.
+fn reads_in_turn(alloc: Global) -> Result<[bool; 4], NoMemory> {
+    let mut files = three_files(alloc, 7)?;
+    Ok([
+        reads(alloc, &mut files, b"b.c", 10, Wanted::Failed)?,
+        reads(alloc, &mut files, b"a.c", 10, Wanted::Whole(b"abcde"))?,
+        reads(alloc, &mut files, b"a.c", 10, Wanted::Failed)?,
+        reads(alloc, &mut files, b"a.c", 10, Wanted::Whole(b"abcde"))?,
+    ])
 }
 
 #[test]
 fn files_in_memory_count_begin_and_take_together(rt: HostRuntime) -> Result<(), Fail> {
-    let mut files = three_files(&rt, 7)?;
-    for (name, want) in [
-        (b"b.c".as_slice(), ("failed", b"".as_slice())),
-        (b"a.c", ("whole", b"abcde")),
-        (b"a.c", ("failed", b"")),
-        (b"a.c", ("whole", b"abcde")),
-    ] {
-        let name = Text::from_slice(rt.alloc(), name)?;
-        let reading = read_file(rt.alloc(), &mut files, name, 10)?;
-        assert_eq!(rt; shown(&reading), want);
-    }
+    assert_eq!(rt; reads_in_turn(rt.alloc())?, [true; 4]);
     Ok(())
+}
+
+/// Whether a file of so many bytes, which are given one by one, is read whole.
+fn is_read_byte_by_byte(alloc: Global, count: u32) -> Result<bool, NoMemory> {
+    let bytes = numbered_bytes(alloc, count)?;
+    let mut files = List::new(alloc);
+    put(alloc, &mut files, b"a.c", bytes.as_slice())?;
+    let mut files = MemoryFiles::new(alloc, files, 1, List::new(alloc));
+    let name = Text::from_slice(alloc, b"a.c")?;
+    let reading = read_file(alloc, &mut files, name, count)?;
+    Ok(is_whole(&reading, bytes.as_slice()))
 }
 
 #[test]
 fn a_large_file_is_read_byte_after_byte(rt: HostRuntime) -> Result<(), Fail> {
-    let mut bytes = Vec::new(rt.alloc());
-    for number in 0..4_194_304u32 {
-        bytes.push((number % 251) as u8)?;
-    }
-    let copy = Text::from_slice(rt.alloc(), bytes.as_slice())?;
-    let name = Text::from_slice(rt.alloc(), b"a.c")?;
-    let mut files = List::new(rt.alloc());
-    files.push(NamedFile { name, bytes: copy })?;
-    let mut files = MemoryFiles::new(rt.alloc(), files, 1, List::new(rt.alloc()));
-    let name = Text::from_slice(rt.alloc(), b"a.c")?;
-    let reading = read_file(rt.alloc(), &mut files, name, 4_194_304)?;
-    let (answer, read) = shown(&reading);
-    assert_eq!(rt; answer, "whole");
-    assert!(rt; read == bytes.as_slice());
+    assert!(rt; is_read_byte_by_byte(rt.alloc(), 4_194_304)?);
     Ok(())
 }
 
+/// Whether a sink that takes three bytes a call, and has this room, takes these bytes of eight, where the call of that
+/// number fails.
+fn takes(
+    alloc: Global,
+    room: u32,
+    failing: u32,
+    sent: bool,
+    want: &[u8],
+) -> Result<bool, NoMemory> {
+    let mut numbers = List::new(alloc);
+    numbers.push(failing)?;
+    let mut sink = MemorySink::new(alloc, 3, room, numbers)?;
+    let is_sent = send(&mut sink, b"abcdefgh");
+    Ok(is_sent == sent && sink.bytes() == want)
+}
+
+/// The room, the call that fails, whether all is sent, and what is taken.
+static SENT: [(u32, u32, bool, &[u8]); 6] = [
+    (100, 0, true, b"abcdefgh"),
+    (8, 4, true, b"abcdefgh"),
+    (100, 2, false, b"abc"),
+    (100, 1, false, b""),
+    (5, 0, false, b"abcde"),
+    (0, 0, false, b""),
+];
+
 #[test]
 fn a_sink_in_memory_takes_and_fails_as_it_was_told(rt: HostRuntime) -> Result<(), Fail> {
-    for (room, failing, want) in [
-        (100, 0, (true, b"abcdefgh".as_slice())),
-        (8, 4, (true, b"abcdefgh".as_slice())),
-        (100, 2, (false, b"abc".as_slice())),
-        (100, 1, (false, b"".as_slice())),
-        (5, 0, (false, b"abcde".as_slice())),
-        (0, 0, (false, b"".as_slice())),
-    ] {
-        let mut numbers = List::new(rt.alloc());
-        numbers.push(failing)?;
-        let mut sink = MemorySink::new(rt.alloc(), 3, room, numbers)?;
-        let sent = send(&mut sink, b"abcdefgh");
-        assert_eq!(rt; (sent, sink.bytes()), want, "at {room} and {failing}");
+    for (room, failing, sent, want) in SENT.iter() {
+        assert!(rt;
+            takes(rt.alloc(), *room, *failing, *sent, want)?,
+            "at {room} and {failing}"
+        );
     }
     Ok(())
 }
@@ -154,38 +235,49 @@ fn a_steady_sink_takes_all(rt: HostRuntime) {
     assert!(rt; send(&mut sink, b""));
 }
 
+/// Whether the system's file of that name is read as it is wanted.
+fn system_reads(rt: &HostRuntime, name: &[u8], want: Wanted) -> Result<bool, NoMemory> {
+    let mut files = OsFiles::new(rt);
+    reads(rt.alloc(), &mut files, name, 1000, want)
+}
+
 #[test]
 fn the_system_gives_a_file_that_is_there_and_no_other(rt: HostRuntime) -> Result<(), Fail> {
     fs::write(&rt, "given.txt", "int main(void)\n{ return 0; }\n")?;
-    for (name, want) in [
-        (
-            b"given.txt".as_slice(),
-            ("whole", b"int main(void)\n{ return 0; }\n".as_slice()),
-        ),
-        (b"missing.txt", ("failed", b"")),
-        (b"\xff.txt", ("failed", b"")),
-        (b".", ("failed", b"")),
-        (b"", ("failed", b"")),
-    ] {
-        let mut files = OsFiles::new(&rt);
-        let name = Text::from_slice(rt.alloc(), name)?;
-        let reading = read_file(rt.alloc(), &mut files, name, 1000)?;
-        assert_eq!(rt; shown(&reading), want);
-    }
+    let given = Wanted::Whole(b"int main(void)\n{ return 0; }\n");
+    let seen = [
+        system_reads(&rt, b"given.txt", given)?,
+        system_reads(&rt, b"missing.txt", Wanted::Failed)?,
+        system_reads(&rt, b"\xff.txt", Wanted::Failed)?,
+        system_reads(&rt, b".", Wanted::Failed)?,
+        system_reads(&rt, b"", Wanted::Failed)?,
+    ];
     fs::remove_file(&rt, "given.txt")?;
+    assert_eq!(rt; seen, [true; 5]);
     Ok(())
+}
+
+/// Whether the system's file has these bytes.
+fn holds(rt: &HostRuntime, name: &str, want: &[u8]) -> Result<bool, Fail> {
+    let bytes = fs::read(rt, name)?;
+    Ok(bytes.as_slice() == want)
+}
+
+/// Whether all is sent to a new file of the system.
+fn is_sent_to(rt: &HostRuntime, name: &str, text: &[u8]) -> Result<bool, Fail> {
+    let mut out = OsSink::new(fs::create(rt, name)?);
+    Ok(send(&mut out, text))
 }
 
 #[test]
 fn the_system_takes_what_is_sent(rt: HostRuntime) -> Result<(), Fail> {
-    let mut out = OsSink::new(fs::create(&rt, "sent.txt")?);
-    assert!(rt; send(&mut out, b"t.c: safe\n"));
-    drop(out);
-    let sent = fs::read(&rt, "sent.txt")?;
+    let sent = is_sent_to(&rt, "sent.txt", b"t.c: safe\n")?;
+    let held = holds(&rt, "sent.txt", b"t.c: safe\n")?;
     fs::remove_file(&rt, "sent.txt")?;
-    assert_eq!(rt; sent.as_slice(), b"t.c: safe\n".as_slice());
     let mut standard = OsSink::new(io::writer(&rt));
-    assert!(rt; send(&mut standard, b"sent to the standard output\n"));
+    let shown = send(&mut standard, b"sent to the standard output\n");
+    drop(standard);
+    assert_eq!(rt; (sent, held, shown), (true, true, true));
     Ok(())
 }
 
@@ -246,23 +338,25 @@ impl Files for Torn {
     }
 }
 
+/// Whether the file of which the second read fails is read as it is wanted.
+fn reads_torn(alloc: Global, most: u32, want: Wanted) -> Result<bool, NoMemory> {
+    let mut files = Torn {
+        begun: None,
+        reads: 0,
+        faults: 0,
+        failed: false,
+    };
+    reads(alloc, &mut files, b"t.c", most, want)
+}
+
 #[test]
 fn a_read_that_fails_in_the_middle_is_no_end(rt: HostRuntime) -> Result<(), Fail> {
-    for (most, want) in [
-        (0, ("long", b"x".as_slice())),
-        (1, ("failed", b"")),
-        (100, ("failed", b"")),
-    ] {
-        let mut files = Torn {
-            begun: None,
-            reads: 0,
-            faults: 0,
-            failed: false,
-        };
-        let name = Text::from_slice(rt.alloc(), b"t.c")?;
-        let reading = read_file(rt.alloc(), &mut files, name, most)?;
-        assert_eq!(rt; shown(&reading), want, "at {most}");
-    }
+    let seen = [
+        reads_torn(rt.alloc(), 0, Wanted::Long(b"x"))?,
+        reads_torn(rt.alloc(), 1, Wanted::Failed)?,
+        reads_torn(rt.alloc(), 100, Wanted::Failed)?,
+    ];
+    assert_eq!(rt; seen, [true; 3]);
     Ok(())
 }
 
@@ -297,6 +391,7 @@ fn a_text_is_sent_byte_after_byte(rt: HostRuntime) {
         bytes: Vec::new(rt.alloc()),
         faults: 0,
     };
-    assert!(rt; send(&mut out, b"t.c: safe\n"));
-    assert_eq!(rt; out.bytes.as_slice(), b"t.c: safe\n".as_slice());
+    let sent = send(&mut out, b"t.c: safe\n");
+    let held = out.bytes.as_slice() == b"t.c: safe\n".as_slice();
+    assert_eq!(rt; (sent, held), (true, true));
 }

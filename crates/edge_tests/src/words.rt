@@ -41,13 +41,31 @@ static TAKEN: [(&str, &str, u32, u32); 25] = [
     ("-|--budget|5", "-", 5, 10),
 ];
 
+/// Whether the words ask for this command.
+fn is_taken(
+    alloc: Global,
+    line: &str,
+    file: &str,
+    budget: u32,
+    int_limit: u32,
+) -> Result<bool, NoMemory> {
+    match asked(alloc, line)? {
+        None => Ok(false),
+        Some(command) => Ok(
+            command.file.as_slice() == file.as_bytes()
+                && command.budget == budget
+                && command.int_limit == int_limit,
+        ),
+    }
+}
+
 #[test]
 fn words_that_are_taken(rt: HostRuntime) -> Result<(), Fail> {
     for (line, file, budget, int_limit) in &TAKEN {
-        let command = asked(rt.alloc(), line)?.expect(&rt, line);
-        assert_eq!(rt; command.file.as_slice(), file.as_bytes());
-        assert_eq!(rt; command.budget, *budget);
-        assert_eq!(rt; command.int_limit, *int_limit);
+        assert!(rt;
+            is_taken(rt.alloc(), line, file, *budget, *int_limit)?,
+            "{line}"
+        );
     }
     Ok(())
 }
@@ -99,10 +117,15 @@ static REFUSED: [&str; 43] = [
     "--Budget=5|t.c",
 ];
 
+/// Whether the answer to the words is the usage line.
+fn is_refused(alloc: Global, line: &str) -> Result<bool, NoMemory> {
+    Ok(asked(alloc, line)?.is_none())
+}
+
 #[test]
 fn words_that_are_refused(rt: HostRuntime) -> Result<(), Fail> {
     for line in &REFUSED {
-        assert!(rt; asked(rt.alloc(), line)?.is_none());
+        assert!(rt; is_refused(rt.alloc(), line)?, "{line}");
     }
     Ok(())
 }
