@@ -18,5 +18,7 @@ pub mod KeepingLaws
 pub mod ChoosingLaws
 pub mod HiddenBlocks
 pub mod RenamedBlocks
+pub mod RenamedStates
+pub mod RenamedStepLaws
 pub mod PartLaws
 pub mod LossLaws

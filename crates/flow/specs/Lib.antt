@@ -10,6 +10,7 @@ pub mod Keeping
 pub mod Choosing
 pub mod Hiding
 pub mod Renaming
+pub mod RenamedSteps
 pub mod MachineRows
 pub mod ClauseRows
 pub mod Deciding

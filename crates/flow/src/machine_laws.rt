@@ -2,6 +2,7 @@
 ghost use Rattle.flow.specs.Choosing.{AreRunsByFirst, AreStepsByFirst, DoRunsGoAlong, DoRunsKeepMore};
 ghost use Rattle.flow.specs.Hiding.{AreHiddenRightly, DoPartsFollow, IsNoMoreLost};
 ghost use Rattle.flow.specs.Keeping.{DoRunsKeep, DoStartsKeep, DoStepsKeep};
+ghost use Rattle.flow.specs.RenamedSteps.{DoStepsRename};
 ghost use Rattle.flow.specs.Renaming.{IsRenamingKept};
 
 /// A step along an edge of a flow graph keeps what stands: where the frame has the variables and registers that stand at
@@ -68,4 +69,10 @@ pub fn a_part_without_loss_tells_of_the_whole()
 #[tactic(auto, using(crate::proofs::RenamedBlocks::renaming_kept))]
 pub fn numbers_of_blocks_do_not_matter()
     ensures { IsRenamingKept }
+{}
+
+/// A step does the same under other numbers of blocks, and a new block gets its number in both.
+#[tactic(auto, using(crate::proofs::RenamedStepLaws::steps_rename))]
+pub fn a_step_does_the_same_under_other_numbers()
+    ensures { DoStepsRename }
 {}
