@@ -22,3 +22,4 @@ pub mod RenamedStates
 pub mod RenamedStepLaws
 pub mod PartLaws
 pub mod LossLaws
+pub mod RunLaws

@@ -18,6 +18,7 @@ use Rattle.flow.specs.declared.flow_graph.Flow.{Flow}
 use Rattle.flow.specs.declared.flow_graph.FlowEdge.{FlowEdge}
 use Rattle.flow.specs.Machine.{Choice, Caller, State, Outcome, Went, Barred, Waits, Ended, Faulted, block_never_freed, step_along}
 use Rattle.flow.specs.Walks.{is_return}
+use Rattle.flow.specs.Choosing.{run_along}
 
 -- a block that is hidden, or is not
 abbrev pub hidden_block : Bool → Block → Block
@@ -107,3 +108,24 @@ IsNoMoreLost = (hides : ℕ → Bool) (memory : List Block) (roots inside : List
     Chain memory roots number) →
     ((number : ℕ) → Contains inside number → Chain memory roots number) →
     is_lost (hidden hides memory) inside ≡ false → is_lost memory roots ≡ false
+
+-- along these edges the part does not go back to a caller that is away
+abbrev pub StaysInside : Flow → List FlowEdge → State → List Choice → Type 0
+StaysInside flow [] part choices = Unit {0}
+StaysInside flow (edge ∷ rest) part choices =
+    (IsTrue (is_return edge.instr) → part.callers ≢ [])
+    × ((next : State) (more : List Choice) → step_along flow edge part choices ≡ Went next more → StaysInside flow rest next more)
+
+-- what a run on the part comes to, where that run on the whole leaves this state: it meets a fault, or leaves the part of it
+abbrev pub FollowsTo : (ℕ → Bool) → List Caller → List ℕ → State → List Choice → Outcome → Type 0
+FollowsTo hides below outer whole choices (Went part rest) = IsPartOf hides below outer part whole × (rest ≡ choices)
+FollowsTo hides below outer whole choices (Faulted kind place) = Unit {0}
+FollowsTo hides below outer whole choices Barred = ⊥
+FollowsTo hides below outer whole choices Waits = ⊥
+FollowsTo hides below outer whole choices Ended = ⊥
+
+-- a run on the whole is, step for step, that run on the part, until the part meets a fault or goes back
+abbrev pub DoRunsFollow : Type 0
+DoRunsFollow = (hides : ℕ → Bool) (below : List Caller) (outer : List ℕ) (flow : Flow) (edges : List FlowEdge) (part whole next : State) (choices rest : List Choice) →
+    IsPartOf hides below outer part whole → StaysInside flow edges part choices → run_along flow edges whole choices ≡ Went next rest →
+    FollowsTo hides below outer next rest (run_along flow edges part choices)

@@ -5,6 +5,7 @@ use Rattle.flow.specs.declared.flow_graph.Flow.{Flow}
 use Rattle.flow.specs.declared.flow_graph.FlowEdge.{FlowEdge}
 use Rattle.flow.specs.Holding.{Held, Owned}
 use Rattle.flow.specs.Machine.{Choice, Frame, Caller, State, Outcome, Went, Barred, Waits, Ended, Faulted, step_along}
+use Rattle.flow.specs.Runs.{run}
 use Rattle.flow.specs.Renaming.{renamed_word, AreRenamed}
 
 abbrev pub renamed_held : (ℕ → ℕ) → Held → Held
@@ -52,3 +53,9 @@ abbrev pub DoStepsRename : Type 0
 DoStepsRename = (renames back : ℕ → ℕ) (flow : Flow) (edge : FlowEdge) (state other : State) (choices : List Choice) →
     IsRenamedState renames back state other →
     IsSameRenamed renames back (step_along flow edge state choices) (step_along flow edge other choices)
+
+-- and so does a run of so many steps
+abbrev pub DoRunsRename : Type 0
+DoRunsRename = (renames back : ℕ → ℕ) (flow : Flow) (steps : ℕ) (state other : State) (choices : List Choice) →
+    IsRenamedState renames back state other →
+    IsSameRenamed renames back (run steps flow state choices) (run steps flow other choices)

@@ -1,8 +1,8 @@
 //! Laws of the flow machine. Each is the contract of a function that does nothing.
 ghost use Rattle.flow.specs.Choosing.{AreRunsByFirst, AreStepsByFirst, DoRunsGoAlong, DoRunsKeepMore};
-ghost use Rattle.flow.specs.Hiding.{AreHiddenRightly, DoPartsFollow, IsNoMoreLost};
+ghost use Rattle.flow.specs.Hiding.{AreHiddenRightly, DoPartsFollow, DoRunsFollow, IsNoMoreLost};
 ghost use Rattle.flow.specs.Keeping.{DoRunsKeep, DoStartsKeep, DoStepsKeep};
-ghost use Rattle.flow.specs.RenamedSteps.{DoStepsRename};
+ghost use Rattle.flow.specs.RenamedSteps.{DoRunsRename, DoStepsRename};
 ghost use Rattle.flow.specs.Renaming.{IsRenamingKept};
 
 /// A step along an edge of a flow graph keeps what stands: where the frame has the variables and registers that stand at
@@ -59,6 +59,12 @@ pub fn a_step_on_a_part_is_that_step_on_the_whole()
     ensures { DoPartsFollow }
 {}
 
+/// A run on the whole is, step for step, that run on the part, until the part meets a fault or goes back to a caller that is
+/// away.
+pub fn a_run_on_the_whole_is_that_run_on_a_part()
+    ensures { DoRunsFollow }
+{}
+
 /// Where no memory of the part is lost, none of the whole is, if hidden heap blocks and the part's roots are reached in it.
 #[tactic(auto, using(crate::proofs::LossLaws::no_more_lost))]
 pub fn a_part_without_loss_tells_of_the_whole()
@@ -75,4 +81,10 @@ pub fn numbers_of_blocks_do_not_matter()
 #[tactic(auto, using(crate::proofs::RenamedStepLaws::steps_rename))]
 pub fn a_step_does_the_same_under_other_numbers()
     ensures { DoStepsRename }
+{}
+
+/// A run of so many steps does the same under other numbers of blocks.
+#[tactic(auto, using(crate::proofs::RunLaws::runs_rename))]
+pub fn a_run_does_the_same_under_other_numbers()
+    ensures { DoRunsRename }
 {}
