@@ -11,3 +11,15 @@ pub mod ScalarLaws
 pub mod MarkingLaws
 pub mod OwningLaws
 pub mod FlowLaws
+pub mod Ascending
+pub mod Outcomes
+pub mod Frames
+pub mod KeepingLaws
+pub mod ChoosingLaws
+pub mod HiddenBlocks
+pub mod RenamedBlocks
+pub mod RenamedStates
+pub mod RenamedStepLaws
+pub mod PartLaws
+pub mod LossLaws
+pub mod RunLaws

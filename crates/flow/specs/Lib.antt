@@ -6,6 +6,11 @@ pub mod Machine
 pub mod Runs
 pub mod Standing
 pub mod Valid
+pub mod Keeping
+pub mod Choosing
+pub mod Hiding
+pub mod Renaming
+pub mod RenamedSteps
 pub mod MachineRows
 pub mod ClauseRows
 pub mod Deciding

@@ -14,6 +14,7 @@ mod initials;
 mod instruction;
 pub mod laws;
 mod links;
+pub mod machine_laws;
 mod marking;
 mod naming;
 mod orders;

@@ -1,0 +1,90 @@
+//! Laws of the flow machine. Each is the contract of a function that does nothing.
+ghost use Rattle.flow.specs.Choosing.{AreRunsByFirst, AreStepsByFirst, DoRunsGoAlong, DoRunsKeepMore};
+ghost use Rattle.flow.specs.Hiding.{AreHiddenRightly, DoPartsFollow, DoRunsFollow, IsNoMoreLost};
+ghost use Rattle.flow.specs.Keeping.{DoRunsKeep, DoStartsKeep, DoStepsKeep};
+ghost use Rattle.flow.specs.RenamedSteps.{DoRunsRename, DoStepsRename};
+ghost use Rattle.flow.specs.Renaming.{IsRenamingKept};
+
+/// A step along an edge of a flow graph keeps what stands: where the frame has the variables and registers that stand at
+/// its point, with their sizes, and each caller what stands where it goes on, but for the result, so it is behind the step.
+pub fn a_step_keeps_what_stands()
+    ensures { DoStepsKeep }
+{}
+
+/// A run of a flow graph begins with a state that has what stands at main's entry.
+#[tactic(auto, using(crate::proofs::KeepingLaws::starts_keep))]
+pub fn a_run_begins_with_what_stands()
+    ensures { DoStartsKeep }
+{}
+
+/// Each state of a run of a flow graph has what stands at its point.
+#[tactic(auto, using(crate::proofs::KeepingLaws::runs_keep))]
+pub fn a_run_keeps_what_stands()
+    ensures { DoRunsKeep }
+{}
+
+/// What a step along an edge comes to is determined by as many choices as its instruction asks for, and the others are left.
+#[tactic(auto, using(crate::proofs::ChoosingLaws::steps_by_first))]
+pub fn a_step_is_determined_by_its_choices()
+    ensures { AreStepsByFirst }
+{}
+
+/// What a run along edges comes to is determined by as many choices as their instructions ask for, and the others are left.
+pub fn a_run_is_determined_by_its_choices()
+    ensures { AreRunsByFirst }
+{}
+
+/// A run of so many steps goes along as many edges of the graph.
+#[tactic(auto, using(crate::proofs::ChoosingLaws::runs_go_along))]
+pub fn a_run_goes_along_edges()
+    ensures { DoRunsGoAlong }
+{}
+
+/// Where a run does not wait, choices behind the others change nothing, and are left.
+#[tactic(auto, using(crate::proofs::ChoosingLaws::runs_keep_more))]
+pub fn more_choices_are_left()
+    ensures { DoRunsKeepMore }
+{}
+
+/// Where some blocks of a memory are hidden, loads and addresses are as they were, each change of the part is that change
+/// of the whole, and what meets no fault on the part meets none on the whole.
+#[tactic(auto, using(crate::proofs::HiddenBlocks::hidden_rightly))]
+pub fn hidden_blocks_change_nothing_else()
+    ensures { AreHiddenRightly }
+{}
+
+/// Where the part meets no fault, a step on it is that step on the whole, but for a return to a caller that is away.
+#[tactic(auto, using(crate::proofs::PartLaws::parts_follow))]
+pub fn a_step_on_a_part_is_that_step_on_the_whole()
+    ensures { DoPartsFollow }
+{}
+
+/// A run on the whole is, step for step, that run on the part, until the part meets a fault or goes back to a caller that is
+/// away.
+pub fn a_run_on_the_whole_is_that_run_on_a_part()
+    ensures { DoRunsFollow }
+{}
+
+/// Where no memory of the part is lost, none of the whole is, if hidden heap blocks and the part's roots are reached in it.
+#[tactic(auto, using(crate::proofs::LossLaws::no_more_lost))]
+pub fn a_part_without_loss_tells_of_the_whole()
+    ensures { IsNoMoreLost }
+{}
+
+/// Blocks under other numbers are read, changed, freed and lost as before.
+#[tactic(auto, using(crate::proofs::RenamedBlocks::renaming_kept))]
+pub fn numbers_of_blocks_do_not_matter()
+    ensures { IsRenamingKept }
+{}
+
+/// A step does the same under other numbers of blocks, and a new block gets its number in both.
+#[tactic(auto, using(crate::proofs::RenamedStepLaws::steps_rename))]
+pub fn a_step_does_the_same_under_other_numbers()
+    ensures { DoStepsRename }
+{}
+
+/// A run of so many steps does the same under other numbers of blocks.
+#[tactic(auto, using(crate::proofs::RunLaws::runs_rename))]
+pub fn a_run_does_the_same_under_other_numbers()
+    ensures { DoRunsRename }
+{}
