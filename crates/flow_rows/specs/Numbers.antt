@@ -1,5 +1,6 @@
 -- A number of a part, where it is there and not too large.
-use Rattle.std.specs.Prelude.{ℕ, ◌+◌, Bool, true, not, ◌||◌, nat_le, Option, None, Some, if◌then◌else◌}
+use Rattle.std.specs.Prelude.{◌≡◌, ℕ, ◌+◌, Bool, true, not, ◌||◌, nat_le, Option, None, Some, slice_get, if◌then◌else◌}
+use Rattle.flow_rows.specs.declared.numbers.Numbers.{Numbers}
 
 -- the number, or 0
 abbrev pub number_to : ℕ → Option ℕ → ℕ
@@ -15,3 +16,10 @@ number_behind taken (Some number) = taken + 1
 abbrev pub is_wrong_behind : ℕ → Bool → Option ℕ → Bool
 is_wrong_behind most wrong None = true
 is_wrong_behind most wrong (Some number) = wrong || not (nat_le number most)
+
+-- the next number is taken, which is to be at most `most`
+pub record Takes (most : ℕ) (before after : Numbers) (number : ℕ) : Type 0 where
+  pub taken : number ≡ number_to most (slice_get before.items before.next)
+  pub next : after.next ≡ number_behind before.next (slice_get before.items before.next)
+  pub wrong : after.wrong ≡ is_wrong_behind most before.wrong (slice_get before.items before.next)
+  pub items : after.items ≡ before.items

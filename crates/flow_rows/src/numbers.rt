@@ -1,7 +1,4 @@
 //! The numbers of a part.
-ghost use Rattle.std.specs.Prelude.{◌≡◌, ◌≤◌, slice_get};
-ghost use Rattle.flow_rows.specs.Numbers.{number_to, number_behind, is_wrong_behind};
-
 use cbase::{List, NoMemory};
 use std::alloc::Global;
 
@@ -17,13 +14,14 @@ pub struct Numbers {
 }
 
 impl Numbers {
+    ghost use Rattle.std.specs.Prelude.{◌≡◌, ◌≤◌, ◌↔◌, ℕ, IsTrue};
+    ghost use Rattle.std.specs.Int.{w64, cast_signed};
+    ghost use Rattle.flow_rows.specs.Numbers.{Takes};
+
     /// Takes the next number, if it is at most `most`, and 0 in its place where it is not.
     pub fn up_to(&mut self, most: u64) -> u64
         ensures at_most { result ≤ most }
-        ensures number { result ≡ number_to most (slice_get self.old.items self.old.next) }
-        ensures next { self.new.next ≡ number_behind self.old.next (slice_get self.old.items self.old.next) }
-        ensures wrong { self.new.wrong ≡ is_wrong_behind most self.old.wrong (slice_get self.old.items self.old.next) }
-        ensures items { self.new.items ≡ self.old.items }
+        ensures taken { Takes most self.old self.new result }
     {
         match self.items.as_slice().get(self.next) {
             Some(number) if *number <= most => {
@@ -44,27 +42,37 @@ impl Numbers {
     }
 
     /// The next number, of 32 bits.
-    pub fn short(&mut self) -> u32 {
+    pub fn short(&mut self) -> u32
+        ensures { Takes 4294967295 self.old self.new result }
+    {
         self.up_to(0xffff_ffff) as u32
     }
 
     /// The next number, of 8 bits.
-    pub fn byte(&mut self) -> u8 {
+    pub fn byte(&mut self) -> u8
+        ensures { Takes 255 self.old self.new result }
+    {
         self.up_to(0xff) as u8
     }
 
     /// The next number, 0 for no and 1 for yes.
-    pub fn flag(&mut self) -> bool {
+    pub fn flag(&mut self) -> bool
+        ensures { (number : ℕ) × Takes 1 self.old self.new number × (IsTrue result ↔ (number ≡ 1)) }
+    {
         self.up_to(1) == 1
     }
 
     /// The next number.
-    pub fn long(&mut self) -> u64 {
+    pub fn long(&mut self) -> u64
+        ensures { Takes 18446744073709551615 self.old self.new result }
+    {
         self.up_to(u64::MAX)
     }
 
     /// The next number, which may be negative.
-    pub fn signed(&mut self) -> i64 {
+    pub fn signed(&mut self) -> i64
+        ensures { (number : ℕ) × Takes 18446744073709551615 self.old self.new number × (result ≡ cast_signed w64 number) }
+    {
         self.up_to(u64::MAX).cast_signed()
     }
 
