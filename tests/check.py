@@ -3,7 +3,8 @@
 
 Usage: python3 tests/check.py
 answers/ has short texts whose answers were worked out by hand, preprocessed/ programs as gcc -E writes them. What is
-wanted of NAME.c or NAME.i stands in NAME.expect. It prints a line for each that differs; the status is 1 where one does.
+wanted of NAME.c or NAME.i stands in NAME.expect. It prints a line for each that differs; the status is 1 where one does, and
+where the picture of docs/flow.md is not that of its rows.
 """
 import subprocess
 import sys
@@ -44,7 +45,8 @@ def main():
         count = differing(files)
         is_wrong = is_wrong or count > 0 or not files
         print(f"{folder}: {len(files) - count} of {len(files)} programs as wanted")
-    return 1 if is_wrong else 0
+    picture = subprocess.run([sys.executable, HOME.parent / "tools" / "flow_picture.py", "--check"])
+    return 1 if is_wrong or picture.returncode else 0
 
 
 sys.exit(main())

@@ -113,8 +113,8 @@ fn is_right_alone(flow: &Flow) -> bool
 /// Whether all that holds of each flow graph holds of such data.
 ///
 /// It is made to take time in proportion to the edges and points, and for each of them to the square of what stands there and of
-/// what its instruction names; for what static variables hold at the start it is as `are_initials_apart` says. No clause says so,
-/// and it is not measured.
+/// what its instruction names; for what static variables hold at the start it is as `are_initials_apart` says. No clause says so;
+/// `bench/flow.py` measures it.
 pub fn is_well_formed(alloc: Global, flow: &Flow) -> Result<bool, NoMemory>
     ensures { IfOk result (λ holds. IsTrue holds ↔ IsFlow flow.now) }
 {

@@ -1,0 +1,17 @@
+-- What an answer to a row says of its graph.
+use Rattle.std.specs.Prelude.{◌↔◌, ◌<◌, Contains, IsTrue}
+use Rattle.flow.specs.declared.flow_graph.Flow.{Flow}
+use Rattle.flow.specs.InRange.{IsInRange, entry_of}
+use Rattle.flow.specs.Valid.{IsFlow}
+use Rattle.flow.specs.Walks.{Answers}
+use Rattle.flow_rows.specs.declared.answer.Ask.{Ask}
+use Rattle.flow_rows.specs.declared.answer.Ask.TheVariants as ask
+use Rattle.flow_rows.specs.declared.answer.Answer.{Answer}
+use Rattle.flow_rows.specs.declared.answer.Answer.TheVariants.{Form, Walks, Outside, Head}
+
+abbrev pub Says : Flow → Ask → Answer → Type 0
+Says flow ask.Form (Form holds) = IsTrue holds ↔ IsFlow flow
+Says flow ask.Walks (Walks number) = Answers flow.edges (entry_of flow flow.main) number
+Says flow ask.Walks Outside = IsInRange flow → ⊥
+Says flow (ask.Head point) (Head holds) = IsTrue holds ↔ ((point < flow.points) × Contains flow.heads point)
+Says flow asked answer = ⊥
