@@ -1,7 +1,7 @@
 use Rattle.std.proofs.Common.{refl}
 use Rattle.graph.specs.Renaming.{place_among}
 use Rattle.graph.proofs.PlaceAmong.{mapped_more}
-use Rattle.graph.proofs.places.placed_ports.Goals as goal
+use Rattle.graph.proofs.places.place_ports.Goals as goal
 
 pub loop-port-preserved : goal.loop-port-preserved
 loop-port-preserved c =

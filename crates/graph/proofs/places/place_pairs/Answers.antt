@@ -1,7 +1,7 @@
 use Rattle.std.proofs.Common.{refl}
 use Rattle.graph.specs.Renaming.{place_among, renamed_pair}
 use Rattle.graph.proofs.PlaceAmong.{mapped_more}
-use Rattle.graph.proofs.places.placed_pairs.Goals as goal
+use Rattle.graph.proofs.places.place_pairs.Goals as goal
 
 pub loop-pair-preserved : goal.loop-pair-preserved
 loop-pair-preserved c =
