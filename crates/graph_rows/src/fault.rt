@@ -1,7 +1,7 @@
 use cbase::NoMemory;
 
 /// Why a row has no parts.
-#[derive(Clone, Copy, Debug, PartialEq, Eq)]
+#[derive(Clone, Copy)]
 pub enum Fault {
     /// The line is no row.
     NoRow,

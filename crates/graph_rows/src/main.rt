@@ -12,16 +12,22 @@ mod word;
 
 use answers::answer_of_line;
 use cbase::NoMemory;
+use std::alloc::Global;
 use std::io::{self, BufRead, BufReader, ErrorKind};
 
 fn main(rt: HostRuntime) -> io::Result<()> {
     let alloc = rt.alloc();
     for line in BufReader::new(alloc, rt.reader())?.lines(alloc) {
         let line = line?;
-        match answer_of_line(alloc, line.as_str()) {
-            Ok(answer) => println!(rt; "{answer}")?,
-            Err(NoMemory) => return Err(io::Error::from(ErrorKind::OutOfMemory)),
-        }
+        print_answer(&rt, alloc, line.as_str())?;
     }
     Ok(())
+}
+
+/// Prints what is answered of a line.
+fn print_answer(rt: &impl Print, alloc: Global, line: &str) -> io::Result<()> {
+    match answer_of_line(alloc, line) {
+        Ok(answer) => println!(rt; "{answer}"),
+        Err(NoMemory) => Err(io::Error::from(ErrorKind::OutOfMemory)),
+    }
 }

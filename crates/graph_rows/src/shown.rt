@@ -1,21 +1,43 @@
 //! Parts as text, in the words that spell them.
 use bytes_core::BlockKind;
 use cbase::NoMemory;
-use graph::{KeyedObject, KeyedValue, Parts, Value};
+use graph::{HasValue, KeyedObject, KeyedValue, Parts, Value};
 use planes::Plane;
 use std::alloc::Global;
 
 /// Parts as the words that spell them, behind `graph`.
 pub fn shown(alloc: Global, parts: &Parts) -> Result<String, NoMemory> {
     let mut text = String::from_str(alloc, "graph")?;
+    match show_parts(alloc, &mut text, parts) {
+        Ok(()) => Ok(text),
+        Err(error) => {
+            drop(text);
+            Err(error)
+        }
+    }
+}
+
+/// Puts a word for each part.
+fn show_parts(alloc: Global, text: &mut String, parts: &Parts) -> Result<(), NoMemory> {
     for entry in parts.objects.as_slice() {
-        show_object(alloc, &mut text, entry)?;
+        show_object(alloc, text, entry)?;
     }
     for entry in parts.values.as_slice() {
-        show_value(alloc, &mut text, *entry)?;
+        show_value(alloc, text, *entry)?;
     }
-    show_others(alloc, &mut text, parts)?;
-    Ok(text)
+    for named in parts.variables.as_slice() {
+        show_pair(alloc, text, "variable", named.variable, named.object)?;
+    }
+    for held in parts.registers.as_slice() {
+        show_pair(alloc, text, "register", held.register, held.value)?;
+    }
+    for port in parts.ports.as_slice() {
+        show(alloc, text, "port", &[*port as i128])?;
+    }
+    for pair in parts.unequal.as_slice() {
+        show_pair(alloc, text, "unequal", pair.left, pair.right)?;
+    }
+    Ok(())
 }
 
 /// Puts a word behind others.
@@ -31,33 +53,45 @@ fn show(alloc: Global, text: &mut String, name: &str, fields: &[i128]) -> Result
     Ok(())
 }
 
+/// Puts a word of two fields behind others.
+fn show_pair(
+    alloc: Global,
+    text: &mut String,
+    name: &str,
+    left: u32,
+    right: u32,
+) -> Result<(), NoMemory> {
+    show(alloc, text, name, &[left as i128, right as i128])
+}
+
 fn show_object(alloc: Global, text: &mut String, entry: &KeyedObject) -> Result<(), NoMemory> {
     let object = &entry.object;
-    show(
-        alloc,
-        text,
-        "object",
-        &[entry.key as i128, object.size as i128],
-    )?;
-    text.push_str(kind_of(object.kind))?;
-    text.push_str(if object.live { ":live" } else { ":dead" })?;
+    show_pair(alloc, text, "object", entry.key, object.size)?;
+    text.push_str(storage_of(object.kind, object.live))?;
     show_plane(alloc, text, &object.plane)?;
     for edge in object.edges.as_slice() {
-        show(
-            alloc,
-            text,
-            "edge",
-            &[edge.at as i128, edge.size as i128, edge.value as i128],
-        )?;
+        show_edge(alloc, text, *edge)?;
     }
     Ok(())
 }
 
-fn kind_of(kind: BlockKind) -> &'static str {
+fn show_edge(alloc: Global, text: &mut String, edge: HasValue) -> Result<(), NoMemory> {
+    show(
+        alloc,
+        text,
+        "edge",
+        &[edge.at as i128, edge.size as i128, edge.value as i128],
+    )
+}
+
+fn storage_of(kind: BlockKind, live: bool) -> &'static str {
     match kind {
-        BlockKind::Static => ":static",
-        BlockKind::Local => ":local",
-        BlockKind::Heap => ":heap",
+        BlockKind::Static if live => ":static:live",
+        BlockKind::Static => ":static:dead",
+        BlockKind::Local if live => ":local:live",
+        BlockKind::Local => ":local:dead",
+        BlockKind::Heap if live => ":heap:live",
+        BlockKind::Heap => ":heap:dead",
     }
 }
 
@@ -68,12 +102,7 @@ fn show_plane(alloc: Global, text: &mut String, plane: &Plane) -> Result<(), NoM
         let next = at + 1;
         let class = plane.class_at(at);
         if next == plane.len() || plane.class_at(next) != class {
-            show(
-                alloc,
-                text,
-                "class",
-                &[next.wrapping_sub(from) as i128, class as i128],
-            )?;
+            show_pair(alloc, text, "class", next.wrapping_sub(from), class as u32)?;
             from = next;
         }
     }
@@ -99,36 +128,4 @@ fn show_value(alloc: Global, text: &mut String, entry: KeyedValue) -> Result<(),
             &[key, object as i128, offset as i128],
         ),
     }
-}
-
-/// Puts a word for each variable, register, port and pair.
-fn show_others(alloc: Global, text: &mut String, parts: &Parts) -> Result<(), NoMemory> {
-    for named in parts.variables.as_slice() {
-        show(
-            alloc,
-            text,
-            "variable",
-            &[named.variable as i128, named.object as i128],
-        )?;
-    }
-    for held in parts.registers.as_slice() {
-        show(
-            alloc,
-            text,
-            "register",
-            &[held.register as i128, held.value as i128],
-        )?;
-    }
-    for port in parts.ports.as_slice() {
-        show(alloc, text, "port", &[*port as i128])?;
-    }
-    for pair in parts.unequal.as_slice() {
-        show(
-            alloc,
-            text,
-            "unequal",
-            &[pair.left as i128, pair.right as i128],
-        )?;
-    }
-    Ok(())
 }

@@ -35,19 +35,10 @@ pub struct Word {
     pub fields: [i128; 4],
 }
 
-/// The names, each with how many fields it has.
-const NAMES: [(&'static str, usize, Name); 11] = [
-    ("object", 4, Name::Object),
-    ("class", 2, Name::Class),
-    ("edge", 3, Name::Edge),
-    ("const", 3, Name::Const),
-    ("number", 2, Name::Number),
-    ("any", 1, Name::Any),
-    ("address", 3, Name::Address),
-    ("variable", 2, Name::Variable),
-    ("register", 2, Name::Register),
-    ("port", 1, Name::Port),
-    ("unequal", 2, Name::Unequal),
+/// The names of words.
+const NAMES: [&'static str; 11] = [
+    "object", "class", "edge", "const", "number", "any", "address", "variable", "register", "port",
+    "unequal",
 ];
 
 /// Fields that are no numbers. Each stands for its place here.
@@ -56,6 +47,7 @@ const FIELDS: [&'static str; 5] = ["static", "local", "heap", "dead", "live"];
 /// What a word says, if it is one.
 pub fn word_of(text: &str) -> Option<Word> {
     let (name, rest) = text.split_once('=')?;
+    let name = name_at(place_of(&NAMES, name)?);
     let mut fields = [0; 4];
     let mut count: usize = 0;
     for field in rest.split(':') {
@@ -65,30 +57,58 @@ pub fn word_of(text: &str) -> Option<Word> {
         fields[count] = field_of(field)?;
         count += 1;
     }
-    let name = name_of(name, count)?;
-    Some(Word { name, fields })
+    if count == fields_of(name) {
+        Some(Word { name, fields })
+    } else {
+        None
+    }
 }
 
-/// What a word with so many fields is of.
-fn name_of(text: &str, count: usize) -> Option<Name> {
-    for (spelling, fields, name) in NAMES {
-        if spelling == text {
-            return if fields == count { Some(name) } else { None };
+/// Where a text stands among others.
+fn place_of(texts: &[&'static str], text: &str) -> Option<usize> {
+    let mut place: usize = 0;
+    for other in texts {
+        if *other == text {
+            return Some(place);
         }
+        place = place.wrapping_add(1);
     }
     None
 }
 
+/// The name at a place of `NAMES`.
+fn name_at(place: usize) -> Name {
+    match place {
+        0 => Name::Object,
+        1 => Name::Class,
+        2 => Name::Edge,
+        3 => Name::Const,
+        4 => Name::Number,
+        5 => Name::Any,
+        6 => Name::Address,
+        7 => Name::Variable,
+        8 => Name::Register,
+        9 => Name::Port,
+        _ => Name::Unequal,
+    }
+}
+
+/// How many fields a word has.
+fn fields_of(name: Name) -> usize {
+    match name {
+        Name::Any | Name::Port => 1,
+        Name::Class | Name::Number | Name::Variable | Name::Register | Name::Unequal => 2,
+        Name::Edge | Name::Const | Name::Address => 3,
+        Name::Object => 4,
+    }
+}
+
 /// The number that a field stands for.
 fn field_of(text: &str) -> Option<i128> {
-    let mut number: i128 = 0;
-    for spelling in FIELDS {
-        if spelling == text {
-            return Some(number);
-        }
-        number = number.wrapping_add(1);
+    match place_of(&FIELDS, text) {
+        Some(place) => Some(place as i128),
+        None => text.parse::<i128>().ok(),
     }
-    text.parse::<i128>().ok()
 }
 
 /// A field as a number of 32 bits, the greatest where it is none.
