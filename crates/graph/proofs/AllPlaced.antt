@@ -1,5 +1,5 @@
 -- Parts with their places for keys, from what they are kept as.
-use Rattle.std.proofs.Common.{◌≡◌, List, true, ap, sym, ◌∙◌, subst}
+use Rattle.std.proofs.Common.{◌≡◌, true, ap, sym, ◌∙◌, subst}
 use Rattle.graph.specs.declared.contents.Contents.{Contents}
 use Rattle.graph.specs.declared.parts.Parts.{Parts}
 use Rattle.graph.specs.Renaming.{numbered}
