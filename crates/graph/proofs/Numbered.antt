@@ -10,11 +10,11 @@ use Rattle.graph.specs.declared.value.Value.{Value}
 use Rattle.graph.specs.declared.parts.KeyedObject.{KeyedObject}
 use Rattle.graph.specs.declared.parts.KeyedValue.{KeyedValue}
 use Rattle.graph.specs.declared.parts.Parts.{Parts}
-use Rattle.graph.specs.declared.graph.Graph.TheInside.{Inside}
+use Rattle.graph.specs.declared.contents.Contents.{Contents}
 use Rattle.graph.specs.Maps.{found_at}
 use Rattle.graph.specs.Renaming.{renamed, renamed_object, renamed_value, renamed_pair, place_among, object_place, value_place, numbered, objects_from, values_from}
 use Rattle.graph.specs.WellFormed.{HasAscendingKeys, IsWellFormed, nodes_of, nodes, is_within_limits}
-use Rattle.graph.specs.Whole.{parts_of}
+use Rattle.graph.specs.Whole.{entries_of}
 use Rattle.graph.specs.Laws.{IsRenaming, IsOneToOne}
 use Rattle.graph.proofs.Found.{found-later}
 use Rattle.graph.specs.State.{State}
@@ -132,15 +132,15 @@ value_key_from from (value ∷ rest) zero default within = omega arith
 value_key_from from (value ∷ rest) (suc index) default within = value_key_from (from + 1) rest index default (omega arith) ∙ omega arith
 
 -- the keys of a graph ascend
-pub ascending_from : (inside : Inside) → HasAscendingKeys (parts_of inside)
-ascending_from inside = record {
+pub ascending_from : (contents : Contents) → HasAscendingKeys (entries_of contents)
+ascending_from contents = record {
   objects = λ i j default before within.
-      let one = key_from 0 inside.objects i default (omega arith) in
-      let other = key_from 0 inside.objects j default within in
+      let one = key_from 0 contents.objects i default (omega arith) in
+      let other = key_from 0 contents.objects j default within in
       omega arith;
   values = λ i j default before within.
-      let one = value_key_from 0 inside.values i default (omega arith) in
-      let other = value_key_from 0 inside.values j default within in
+      let one = value_key_from 0 contents.values i default (omega arith) in
+      let other = value_key_from 0 contents.values j default within in
       omega arith;
 }
 

@@ -33,10 +33,22 @@ pub fn built(alloc: Global, parts: Parts) -> Result<Graph, Stop>
     ensures ok { IfOk result (λ graph. graph ≡ numbered parts) }
     ensures large { (result ≡ Err Stop.Large) ↔ (is_within_limits parts ≡ false) }
 {
-    if !is_within_limits(&parts) {
+    let graph = built_of(alloc, &parts);
+    drop(parts);
+    graph
+}
+
+/// The graph with these parts.
+fn built_of(alloc: Global, parts: &Parts) -> Result<Graph, Stop>
+    requires ascending { HasAscendingKeys parts.now }
+    requires well_formed { IsWellFormed parts.now }
+    ensures ok { IfOk result (λ graph. graph ≡ numbered parts.now) }
+    ensures large { (result ≡ Err Stop.Large) ↔ (is_within_limits parts.now ≡ false) }
+{
+    if !is_within_limits(parts) {
         return Err(Stop::Large);
     }
-    match Graph::numbered(alloc, &parts) {
+    match Graph::numbered(alloc, parts) {
         Ok(graph) => Ok(graph),
         Err(NoMemory) => Err(Stop::NoMemory),
     }
@@ -51,10 +63,22 @@ pub fn graph_of(alloc: Global, parts: Parts) -> Result<Option<Graph>, Stop>
     ensures none { (result ≡ Ok None) ↔ (IsWellFormed parts → ⊥) }
     ensures large { (result ≡ Err Stop.Large) ↔ (IsWellFormed parts × (is_within_limits parts ≡ false)) }
 {
-    if !is_well_formed(alloc, &parts) {
+    let graph = graph_of_parts(alloc, &parts);
+    drop(parts);
+    graph
+}
+
+/// The graph with these parts, if they make one.
+fn graph_of_parts(alloc: Global, parts: &Parts) -> Result<Option<Graph>, Stop>
+    requires { HasAscendingKeys parts.now }
+    ensures some { IfOk result (λ answer. IfSome answer (λ graph. graph ≡ numbered parts.now)) }
+    ensures none { (result ≡ Ok None) ↔ (IsWellFormed parts.now → ⊥) }
+    ensures large { (result ≡ Err Stop.Large) ↔ (IsWellFormed parts.now × (is_within_limits parts.now ≡ false)) }
+{
+    if !is_well_formed(alloc, parts) {
         return Ok(None);
     }
-    match built(alloc, parts) {
+    match built_of(alloc, parts) {
         Ok(graph) => Ok(Some(graph)),
         Err(stop) => Err(stop),
     }

@@ -5,24 +5,15 @@ ghost use Rattle.graph.specs.Renaming.{numbered};
 ghost use Rattle.graph.specs.WellFormed.{HasAscendingKeys, IsWellFormed, is_within_limits};
 ghost use Rattle.graph.specs.Whole.{IsGraph};
 
-use crate::copies::{copied_items, copied_objects, copied_values, keyed_objects, keyed_values};
-use crate::keyed::{Keyed, MOST_KEYS};
+use crate::contents::Contents;
+use crate::copies::{copy_contents, key_contents};
 use crate::object::Object;
-use crate::parts::{Held, Named, Pair, Parts};
-use crate::places::{
-    object_keys, placed_objects, placed_pairs, placed_ports, placed_registers, placed_values,
-    placed_variables, value_keys,
-};
+use crate::parts::{Parts, no_parts};
+use crate::places::place_parts;
 use crate::value::Value;
-use cbase::{List, NoMemory, Stop};
+use cbase::{NoMemory, Stop};
 use std::alloc::Global;
 use std::marker::Model;
-
-/// The objects of a graph.
-pub type Objects = Keyed<Object>;
-
-/// The values of a graph.
-pub type Values = Keyed<Value>;
 
 /// A graph: objects and values that stand for the blocks and words of many memories.
 ///
@@ -30,12 +21,7 @@ pub type Values = Keyed<Value>;
 /// values are 0, 1 and so on.
 #[derive(Drop)]
 pub struct Graph {
-    objects: Objects,
-    values: Values,
-    variables: List<Named>,
-    registers: List<Held>,
-    ports: List<u32>,
-    unequal: List<Pair>,
+    contents: Contents,
 }
 
 impl Model for Graph {
@@ -55,7 +41,7 @@ impl Graph {
     pub fn object(&self, key: u32) -> Option<&Object>
         ensures { option_copied result ≡ object_at self.now.objects key }
     {
-        self.objects.get(key)
+        self.contents.objects.get(key)
     }
 
     /// The value with a key. None exactly where no value has it. It takes no memory.
@@ -63,7 +49,7 @@ impl Graph {
     pub fn value(&self, key: u32) -> Option<&Value>
         ensures { option_copied result ≡ value_at self.now.values key }
     {
-        self.values.get(key)
+        self.contents.values.get(key)
     }
 
     /// The contents of the graph, with its own keys, which ascend in both lists.
@@ -72,7 +58,7 @@ impl Graph {
         ensures graph { IsGraph self.now }
         ensures ascending { HasAscendingKeys self.now }
     {
-        let _ = &self.objects;
+        let _ = &self.contents;
         self.entries(alloc)
     }
 
@@ -80,14 +66,14 @@ impl Graph {
     fn entries(&self, alloc: Global) -> Result<Parts, NoMemory>
         ensures { IfOk result (λ parts. parts ≡ self.now) }
     {
-        Ok(Parts {
-            objects: keyed_objects(alloc, &self.objects)?,
-            values: keyed_values(alloc, &self.values)?,
-            variables: copied_items(alloc, &self.variables)?,
-            registers: copied_items(alloc, &self.registers)?,
-            ports: copied_items(alloc, &self.ports)?,
-            unequal: copied_items(alloc, &self.unequal)?,
-        })
+        let mut parts = no_parts(alloc);
+        match key_contents(alloc, &self.contents, &mut parts) {
+            Ok(()) => Ok(parts),
+            Err(error) => {
+                drop(parts);
+                Err(error)
+            }
+        }
     }
 
     /// An equal graph with the same keys. It is never too large.
@@ -108,35 +94,27 @@ impl Graph {
         requires within_limits { is_within_limits parts.now ≡ true }
         ensures { IfOk result (λ graph. graph ≡ numbered parts.now) }
     {
-        let objects = object_keys(alloc, parts.objects.as_slice())?;
-        let values = value_keys(alloc, parts.values.as_slice())?;
-        if objects.len() >= MOST_KEYS {
-            return Err(NoMemory);
+        let mut contents = Contents::new(alloc);
+        match place_parts(alloc, parts, &mut contents) {
+            Ok(()) => Ok(Graph { contents }),
+            Err(error) => {
+                drop(contents);
+                Err(error)
+            }
         }
-        if values.len() >= MOST_KEYS {
-            return Err(NoMemory);
-        }
-        Ok(Graph {
-            objects: placed_objects(alloc, values.as_slice(), parts.objects.as_slice())?,
-            values: placed_values(alloc, objects.as_slice(), parts.values.as_slice())?,
-            variables: placed_variables(alloc, objects.as_slice(), parts.variables.as_slice())?,
-            registers: placed_registers(alloc, values.as_slice(), parts.registers.as_slice())?,
-            ports: placed_ports(alloc, values.as_slice(), parts.ports.as_slice())?,
-            unequal: placed_pairs(alloc, values.as_slice(), parts.unequal.as_slice())?,
-        })
     }
 
     /// An equal graph.
     fn duplicate(&self, alloc: Global) -> Result<Graph, NoMemory>
         ensures { IfOk result (λ copy. copy ≡ self.now) }
     {
-        Ok(Graph {
-            objects: copied_objects(alloc, &self.objects)?,
-            values: copied_values(alloc, &self.values)?,
-            variables: copied_items(alloc, &self.variables)?,
-            registers: copied_items(alloc, &self.registers)?,
-            ports: copied_items(alloc, &self.ports)?,
-            unequal: copied_items(alloc, &self.unequal)?,
-        })
+        let mut contents = Contents::new(alloc);
+        match copy_contents(alloc, &self.contents, &mut contents) {
+            Ok(()) => Ok(Graph { contents }),
+            Err(error) => {
+                drop(contents);
+                Err(error)
+            }
+        }
     }
 }

@@ -7,6 +7,7 @@
 
 mod ascending;
 mod build;
+mod contents;
 mod copies;
 mod disjoint;
 mod distinct;
@@ -25,8 +26,9 @@ mod sizes;
 mod value;
 
 pub use build::{built, graph_of};
+pub use contents::{Objects, Values};
 pub use edges::{Edges, HasValue};
-pub use graph::{Graph, Objects, Values};
+pub use graph::Graph;
 pub use keyed::Keyed;
 pub use object::{Object, Shape};
 pub use parts::{Held, KeyedObject, KeyedValue, Named, Pair, Parts};

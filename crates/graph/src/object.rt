@@ -3,7 +3,7 @@ use bytes_core::BlockKind;
 use planes::Plane;
 
 /// What an object stands for.
-#[derive(Clone, Copy, Debug, PartialEq, Eq)]
+#[derive(Clone, Copy, PartialEq, Eq)]
 pub enum Shape {
     /// One block.
     Region,

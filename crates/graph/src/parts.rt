@@ -1,6 +1,10 @@
+ghost use Rattle.std.specs.Prelude.{◌≡◌};
+ghost use Rattle.graph.specs.Whole.{no_parts};
+
 use crate::object::Object;
 use crate::value::Value;
 use cbase::List;
+use std::alloc::Global;
 
 /// An object and its key.
 #[derive(Drop)]
@@ -10,14 +14,14 @@ pub struct KeyedObject {
 }
 
 /// A value and its key.
-#[derive(Clone, Copy, Debug, PartialEq, Eq)]
+#[derive(Clone, Copy, PartialEq, Eq)]
 pub struct KeyedValue {
     pub key: u32,
     pub value: Value,
 }
 
 /// A variable of the program, and the object that is its storage.
-#[derive(Clone, Copy, Debug, PartialEq, Eq)]
+#[derive(Clone, Copy, PartialEq, Eq)]
 pub struct Named {
     pub variable: u32,
     /// The key of the object.
@@ -25,7 +29,7 @@ pub struct Named {
 }
 
 /// A register of the flow machine, and the value that it holds.
-#[derive(Clone, Copy, Debug, PartialEq, Eq)]
+#[derive(Clone, Copy, PartialEq, Eq)]
 pub struct Held {
     pub register: u32,
     /// The key of the value.
@@ -33,7 +37,7 @@ pub struct Held {
 }
 
 /// Two keys.
-#[derive(Clone, Copy, Debug, PartialEq, Eq)]
+#[derive(Clone, Copy, PartialEq, Eq)]
 pub struct Pair {
     pub left: u32,
     pub right: u32,
@@ -52,4 +56,18 @@ pub struct Parts {
     pub ports: List<u32>,
     /// The keys of values whose words differ.
     pub unequal: List<Pair>,
+}
+
+/// Parts of which there is none. It takes no memory.
+pub(crate) fn no_parts(alloc: Global) -> Parts
+    ensures { result ≡ no_parts }
+{
+    Parts {
+        objects: List::new(alloc),
+        values: List::new(alloc),
+        variables: List::new(alloc),
+        registers: List::new(alloc),
+        ports: List::new(alloc),
+        unequal: List::new(alloc),
+    }
 }

@@ -1,12 +1,15 @@
-ghost use Rattle.std.specs.Prelude.{◌≡◌, ◌<◌, length, map, IfOk};
+ghost use Rattle.std.specs.Prelude.{◌≡◌, ◌<◌, [], length, map, IfOk, OnOk};
 ghost use Rattle.std.specs.List.{AllPairs};
-ghost use Rattle.graph.specs.Renaming.{place_among, renamed_edge, renamed_object, renamed_value, renamed_pair};
+ghost use Rattle.graph.specs.Renaming.{place_among, object_keys, value_keys, renamed_edge, renamed_object, renamed_value, renamed_pair};
+ghost use Rattle.graph.specs.WellFormed.{HasAscendingKeys};
+ghost use Rattle.graph.specs.Whole.{no_contents, placed};
 
+use crate::contents::{Contents, Objects, Values};
+use crate::copies::with_edges;
 use crate::edges::{Edges, HasValue};
-use crate::graph::{Objects, Values};
-use crate::keyed::Keyed;
+use crate::keyed::MOST_KEYS;
 use crate::object::Object;
-use crate::parts::{Held, KeyedObject, KeyedValue, Named, Pair};
+use crate::parts::{Held, KeyedObject, KeyedValue, Named, Pair, Parts};
 use crate::value::Value;
 use cbase::{List, NoMemory};
 use std::alloc::Global;
@@ -23,20 +26,88 @@ pub(crate) fn place_of(keys: &[u32], key: u32) -> u32
     }
 }
 
-/// The keys of objects, in order.
-pub(crate) fn object_keys(alloc: Global, objects: &[KeyedObject]) -> Result<Vec<u32>, NoMemory>
-    ensures { IfOk result (λ keys. keys.items ≡ map (λ entry. entry.key) objects.now) }
+/// Puts parts, with places in place of keys, into empty contents.
+pub(crate) fn place_parts(
+    alloc: Global,
+    parts: &Parts,
+    contents: &mut Contents,
+) -> Result<(), NoMemory>
+    requires ascending { HasAscendingKeys parts.now }
+    requires empty { contents.old ≡ no_contents }
+    ensures { OnOk result (contents.new ≡ placed parts.now) }
 {
-    let keys = objects.iter().map(|entry| entry.key).collect(alloc)?;
-    Ok(keys)
+    let mut objects = List::new(alloc);
+    let mut values = List::new(alloc);
+    push_object_keys(parts, &mut objects)?;
+    push_value_keys(parts, &mut values)?;
+    place_under(
+        alloc,
+        objects.as_slice(),
+        values.as_slice(),
+        parts,
+        contents,
+    )
 }
 
-/// The keys of values, in order.
-pub(crate) fn value_keys(alloc: Global, values: &[KeyedValue]) -> Result<Vec<u32>, NoMemory>
-    ensures { IfOk result (λ keys. keys.items ≡ map (λ entry. entry.key) values.now) }
+/// Puts the keys of objects, in order, into an empty list. Each place in it is a `u32`.
+fn push_object_keys(parts: &Parts, keys: &mut List<u32>) -> Result<(), NoMemory>
+    requires { keys.old ≡ [] }
+    ensures keys { OnOk result (keys.new ≡ object_keys parts.now) }
+    ensures few { OnOk result (length keys.new < 4294967296) }
 {
-    let keys = values.iter().map(|entry| entry.key).collect(alloc)?;
-    Ok(keys)
+    if parts.objects.len() >= MOST_KEYS {
+        return Err(NoMemory);
+    }
+    for entry in parts.objects.as_slice() {
+        keys.push(entry.key)?;
+    }
+    Ok(())
+}
+
+/// Puts the keys of values, in order, into an empty list. Each place in it is a `u32`.
+fn push_value_keys(parts: &Parts, keys: &mut List<u32>) -> Result<(), NoMemory>
+    requires { keys.old ≡ [] }
+    ensures keys { OnOk result (keys.new ≡ value_keys parts.now) }
+    ensures few { OnOk result (length keys.new < 4294967296) }
+{
+    if parts.values.len() >= MOST_KEYS {
+        return Err(NoMemory);
+    }
+    for entry in parts.values.as_slice() {
+        keys.push(entry.key)?;
+    }
+    Ok(())
+}
+
+/// Puts parts, with places among these keys in place of keys, into empty contents.
+fn place_under(
+    alloc: Global,
+    objects: &[u32],
+    values: &[u32],
+    parts: &Parts,
+    contents: &mut Contents,
+) -> Result<(), NoMemory>
+    requires objects { objects.now ≡ object_keys parts.now }
+    requires values { values.now ≡ value_keys parts.now }
+    requires few_objects { length objects.now < 4294967296 }
+    requires few_values { length values.now < 4294967296 }
+    requires objects_ascend { AllPairs (λ one other. one < other) objects.now }
+    requires values_ascend { AllPairs (λ one other. one < other) values.now }
+    requires empty { contents.old ≡ no_contents }
+    ensures { OnOk result (contents.new ≡ placed parts.now) }
+{
+    place_objects(
+        alloc,
+        values,
+        parts.objects.as_slice(),
+        &mut contents.objects,
+    )?;
+    place_values(objects, parts.values.as_slice(), &mut contents.values)?;
+    place_variables(objects, parts.variables.as_slice(), &mut contents.variables)?;
+    place_registers(values, parts.registers.as_slice(), &mut contents.registers)?;
+    place_ports(values, parts.ports.as_slice(), &mut contents.ports)?;
+    place_pairs(values, parts.unequal.as_slice(), &mut contents.unequal)?;
+    Ok(())
 }
 
 /// Edges that hold values by their places.
@@ -63,32 +134,25 @@ fn placed_object(alloc: Global, keys: &[u32], object: &Object) -> Result<Object,
     ensures { IfOk result (λ placed. placed ≡ renamed_object (place_among keys.now) object.now) }
 {
     let edges = placed_edges(alloc, keys, object.edges.as_slice())?;
-    let plane = object.plane.copied(alloc)?;
-    Ok(Object {
-        size: object.size,
-        kind: object.kind,
-        live: object.live,
-        shape: object.shape,
-        edges,
-        plane,
-    })
+    with_edges(alloc, object, edges)
 }
 
-/// Objects under their places, with edges that hold values by theirs.
-pub(crate) fn placed_objects(
+/// Puts objects under their places, with edges that hold values by theirs.
+fn place_objects(
     alloc: Global,
     keys: &[u32],
     objects: &[KeyedObject],
-) -> Result<Objects, NoMemory>
+    placed: &mut Objects,
+) -> Result<(), NoMemory>
     requires few { length keys.now < 4294967296 }
     requires ascending { AllPairs (λ one other. one < other) keys.now }
-    ensures { IfOk result (λ placed. placed ≡ map (λ entry. renamed_object (place_among keys.now) entry.object) objects.now) }
+    requires empty { placed.old ≡ [] }
+    ensures { OnOk result (placed.new ≡ map (λ entry. renamed_object (place_among keys.now) entry.object) objects.now) }
 {
-    let mut placed = Keyed::new(alloc);
     for entry in objects {
         placed.push(placed_object(alloc, keys, &entry.object)?)?;
     }
-    Ok(placed)
+    Ok(())
 }
 
 /// A value that leads to an object by its place.
@@ -113,96 +177,84 @@ fn placed_value(keys: &[u32], value: Value) -> Value
     }
 }
 
-/// Values under their places, that lead to objects by theirs.
-pub(crate) fn placed_values(
-    alloc: Global,
-    keys: &[u32],
-    values: &[KeyedValue],
-) -> Result<Values, NoMemory>
+/// Puts values under their places. They lead to objects by theirs.
+fn place_values(keys: &[u32], values: &[KeyedValue], placed: &mut Values) -> Result<(), NoMemory>
     requires few { length keys.now < 4294967296 }
     requires ascending { AllPairs (λ one other. one < other) keys.now }
-    ensures { IfOk result (λ placed. placed ≡ map (λ entry. renamed_value (place_among keys.now) entry.value) values.now) }
+    requires empty { placed.old ≡ [] }
+    ensures { OnOk result (placed.new ≡ map (λ entry. renamed_value (place_among keys.now) entry.value) values.now) }
 {
-    let mut placed = Keyed::new(alloc);
     for entry in values {
         placed.push(placed_value(keys, entry.value))?;
     }
-    Ok(placed)
+    Ok(())
 }
 
-/// Variables with the places of their objects.
-pub(crate) fn placed_variables(
-    alloc: Global,
+/// Puts variables with the places of their objects.
+fn place_variables(
     keys: &[u32],
     variables: &[Named],
-) -> Result<List<Named>, NoMemory>
+    placed: &mut List<Named>,
+) -> Result<(), NoMemory>
     requires few { length keys.now < 4294967296 }
     requires ascending { AllPairs (λ one other. one < other) keys.now }
-    ensures { IfOk result (λ placed. placed ≡ map {B = Named} (λ named. record { variable = named.variable; object = place_among keys.now named.object }) variables.now) }
+    requires empty { placed.old ≡ [] }
+    ensures { OnOk result (placed.new ≡ map {B = Named} (λ named. record { variable = named.variable; object = place_among keys.now named.object }) variables.now) }
 {
-    let mut placed = List::new(alloc);
     for named in variables {
         placed.push(Named {
             variable: named.variable,
             object: place_of(keys, named.object),
         })?;
     }
-    Ok(placed)
+    Ok(())
 }
 
-/// Registers with the places of their values.
-pub(crate) fn placed_registers(
-    alloc: Global,
+/// Puts registers with the places of their values.
+fn place_registers(
     keys: &[u32],
     registers: &[Held],
-) -> Result<List<Held>, NoMemory>
+    placed: &mut List<Held>,
+) -> Result<(), NoMemory>
     requires few { length keys.now < 4294967296 }
     requires ascending { AllPairs (λ one other. one < other) keys.now }
-    ensures { IfOk result (λ placed. placed ≡ map {B = Held} (λ held. record { register = held.register; value = place_among keys.now held.value }) registers.now) }
+    requires empty { placed.old ≡ [] }
+    ensures { OnOk result (placed.new ≡ map {B = Held} (λ held. record { register = held.register; value = place_among keys.now held.value }) registers.now) }
 {
-    let mut placed = List::new(alloc);
     for held in registers {
         placed.push(Held {
             register: held.register,
             value: place_of(keys, held.value),
         })?;
     }
-    Ok(placed)
+    Ok(())
 }
 
-/// Ports as the places of their values.
-pub(crate) fn placed_ports(
-    alloc: Global,
-    keys: &[u32],
-    ports: &[u32],
-) -> Result<List<u32>, NoMemory>
+/// Puts ports as the places of their values.
+fn place_ports(keys: &[u32], ports: &[u32], placed: &mut List<u32>) -> Result<(), NoMemory>
     requires few { length keys.now < 4294967296 }
     requires ascending { AllPairs (λ one other. one < other) keys.now }
-    ensures { IfOk result (λ placed. placed ≡ map (place_among keys.now) ports.now) }
+    requires empty { placed.old ≡ [] }
+    ensures { OnOk result (placed.new ≡ map (place_among keys.now) ports.now) }
 {
-    let mut placed = List::new(alloc);
     for port in ports {
         placed.push(place_of(keys, *port))?;
     }
-    Ok(placed)
+    Ok(())
 }
 
-/// Pairs of the places of values.
-pub(crate) fn placed_pairs(
-    alloc: Global,
-    keys: &[u32],
-    pairs: &[Pair],
-) -> Result<List<Pair>, NoMemory>
+/// Puts pairs of the places of values.
+fn place_pairs(keys: &[u32], pairs: &[Pair], placed: &mut List<Pair>) -> Result<(), NoMemory>
     requires few { length keys.now < 4294967296 }
     requires ascending { AllPairs (λ one other. one < other) keys.now }
-    ensures { IfOk result (λ placed. placed ≡ map (renamed_pair (place_among keys.now)) pairs.now) }
+    requires empty { placed.old ≡ [] }
+    ensures { OnOk result (placed.new ≡ map (renamed_pair (place_among keys.now)) pairs.now) }
 {
-    let mut placed = List::new(alloc);
     for pair in pairs {
         placed.push(Pair {
             left: place_of(keys, pair.left),
             right: place_of(keys, pair.right),
         })?;
     }
-    Ok(placed)
+    Ok(())
 }

@@ -1,12 +1,12 @@
 /// Which block of an object an address leads to.
-#[derive(Clone, Copy, Debug, PartialEq, Eq)]
+#[derive(Clone, Copy, PartialEq, Eq)]
 pub enum Target {
     /// The one block of an object that is a region.
     Region,
 }
 
 /// What is known of a word.
-#[derive(Clone, Copy, Debug, PartialEq, Eq)]
+#[derive(Clone, Copy, PartialEq, Eq)]
 pub enum Value {
     /// This plain number.
     Const {

@@ -1,0 +1,94 @@
+//! What is answered of a row.
+use crate::fault::Fault;
+use crate::shown::shown;
+use crate::spelled::parts_of_text;
+use cbase::{NoMemory, Stop};
+use graph::{Graph, Parts, graph_of};
+use std::alloc::Global;
+
+/// What is printed for a line.
+pub fn answer_of_line(alloc: Global, line: &str) -> Result<String, NoMemory> {
+    if line.starts_with("# ") {
+        return said(alloc, line);
+    }
+    let (kind, text) = line.split_once(' ').unwrap_or((line, ""));
+    match parts_of_text(alloc, text) {
+        Ok(parts) => answer_of_parts(alloc, kind, parts),
+        Err(Fault::NoRow) => said(alloc, "no row"),
+        Err(Fault::NoMemory) => Err(NoMemory),
+    }
+}
+
+/// A text as it stands.
+fn said(alloc: Global, text: &str) -> Result<String, NoMemory> {
+    Ok(String::from_str(alloc, text)?)
+}
+
+/// Whether parts make a graph, and what a kind answers of it. Where keys do not ascend, it is not asked.
+fn answer_of_parts(alloc: Global, kind: &str, parts: Parts) -> Result<String, NoMemory> {
+    if !parts.keys_ascend() {
+        drop(parts);
+        return said(alloc, "keys do not ascend");
+    }
+    match graph_of(alloc, parts) {
+        Ok(None) => said(alloc, "no graph"),
+        Ok(Some(graph)) => {
+            let answer = answer_of_graph(alloc, kind, &graph);
+            drop(graph);
+            answer
+        }
+        Err(Stop::Large) => said(alloc, "large"),
+        Err(Stop::NoMemory) => Err(NoMemory),
+    }
+}
+
+/// What a kind answers of a graph: `built` its parts, and `kept` at how many of the keys 0 to 3 an object and a value stand. All
+/// others ask for a copy.
+fn answer_of_graph(alloc: Global, kind: &str, graph: &Graph) -> Result<String, NoMemory> {
+    match kind {
+        "built" => built(alloc, graph),
+        "kept" => kept(alloc, graph),
+        _ => match graph.copied(alloc) {
+            Ok(copy) => {
+                let answer = answer_of_copy(alloc, kind, &copy);
+                drop(copy);
+                answer
+            }
+            Err(_) => Err(NoMemory),
+        },
+    }
+}
+
+/// What a kind answers of a copy: `copied` its parts, and `counted` how many objects and values it has.
+fn answer_of_copy(alloc: Global, kind: &str, copy: &Graph) -> Result<String, NoMemory> {
+    match kind {
+        "copied" => built(alloc, copy),
+        "counted" => counted(alloc, copy),
+        _ => said(alloc, "no row"),
+    }
+}
+
+fn built(alloc: Global, graph: &Graph) -> Result<String, NoMemory> {
+    let parts = graph.parts(alloc)?;
+    let text = shown(alloc, &parts);
+    drop(parts);
+    text
+}
+
+fn counted(alloc: Global, graph: &Graph) -> Result<String, NoMemory> {
+    let parts = graph.parts(alloc)?;
+    let objects = parts.objects.len();
+    let values = parts.values.len();
+    drop(parts);
+    Ok(format!(in alloc; "graph {objects} {values}")?)
+}
+
+fn kept(alloc: Global, graph: &Graph) -> Result<String, NoMemory> {
+    let mut objects: u32 = 0;
+    let mut values: u32 = 0;
+    for key in 0..4u32 {
+        objects = objects.wrapping_add(u32::from(graph.object(key).is_some()));
+        values = values.wrapping_add(u32::from(graph.value(key).is_some()));
+    }
+    Ok(format!(in alloc; "graph {objects} {values}")?)
+}
