@@ -72,6 +72,11 @@ def meaning(spelling, long_bytes):
     return "FitsNoType"
 
 
+def without_name(told):
+    """The bytes, sign and bits of what a constant means."""
+    return told[1:] if isinstance(told, tuple) else told
+
+
 def rows():
     """The rows of the definitions: a spelling, and what it means in both data layouts."""
     kinds = {"s4": (4, True), "u4": (4, False), "s8": (8, True), "u8": (8, False)}
@@ -146,7 +151,7 @@ def main():
     count, seed = [int(word) for word in sys.argv[1:]] + [300, 1][len(sys.argv) - 1:]
     known = list(rows())
     wrong = [(spelling, long_bytes, told) for spelling, *both in known for long_bytes, told in zip((8, 4), both)
-             if (lambda mine: mine[1:] if isinstance(mine, tuple) else mine)(meaning(spelling, long_bytes)) != told]
+             if without_name(meaning(spelling, long_bytes)) != told]
     chance = random.Random(seed)
     spellings = [random_constant(chance) for _ in range(count)]
     spellings += [spelling for spelling, told, _ in known if told != "NoConstant" and max(spelling) < 128]
