@@ -1,0 +1,10 @@
+pub mod Assigning
+pub mod Binary
+pub mod Broken
+pub mod Choosing
+pub mod Converting
+pub mod Integers
+pub mod Kinds
+pub mod Members
+pub mod Operands
+pub mod Unary
