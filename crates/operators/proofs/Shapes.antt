@@ -1,6 +1,7 @@
 -- The kind of a type that is made from its parts.
-use Rattle.std.proofs.Common.{◌≡◌, ℕ, Bool, true, false, List, refl, sym, ap, ◌∙◌, if◌then◌else◌}
+use Rattle.std.proofs.Common.{◌≡◌, Bool, List, refl, sym, ap, ◌∙◌, if◌then◌else◌}
 use Rattle.cbase.specs.declared.ctype.CType.{CType}
+use Rattle.cbase.specs.declared.ctype.CType.TheVariants.{Void as VoidType, Pointer as PointerType, Struct as StructType, Array as ArrayType}
 use Rattle.cbase.specs.declared.ctype.CType.TheViews.{out-CType, outs-Void, outs-Bool, outs-Int, outs-Pointer, outs-Struct, outs-Array}
 use Rattle.cbase.specs.declared.structs.StructDef.{StructDef}
 use Rattle.ctypes.specs.declared.shape.Shape.{Shape}
@@ -10,6 +11,7 @@ use Rattle.operators.specs.declared.kind.Target.{Target}
 use Rattle.operators.specs.declared.kind.Target.TheVariants.{Void as VoidTarget, Sized, Unsized}
 use Rattle.operators.specs.Integers.{integer, truth}
 use Rattle.operators.specs.Kinds.{Kind, Integer, Pointer, Array, Struct, Void, has_size, target_in, target_of, kind_in, kind_of}
+use Rattle.operators.specs.Laws.{AreKinds, AreTargets}
 
 -- the kind of a shape's type
 abbrev pub kind_of_shape : List StructDef → List CType → Shape → Kind
@@ -64,3 +66,22 @@ pub sized_target_is : (structs : List StructDef) (types : List CType) (t : CType
     → sized ≡ has_size structs t → (if sized then Sized else Unsized) ≡ target_of structs t
 sized_target_is structs types t shape sized e other same =
     sized_target shape sized other ∙ (ap (target_of_shape shape) same ∙ target_is structs types t shape e)
+
+-- each form of types
+pub are_kinds : (structs : List StructDef) → AreKinds structs
+are_kinds structs = record {
+  void = ap (kind_in structs) outs-Void;
+  bool = ap (kind_in structs) outs-Bool;
+  int = λ bytes signed. ap (kind_in structs) (outs-Int bytes signed);
+  pointer = λ item. ap (kind_in structs) (outs-Pointer item);
+  struct = λ number. ap (kind_in structs) (outs-Struct number);
+  array = λ item count. ap (kind_in structs) (outs-Array item count);
+}
+
+pub are_targets : (structs : List StructDef) → AreTargets structs
+are_targets structs = record {
+  void = ap (λ o. target_in o (has_size structs VoidType)) outs-Void;
+  pointer = λ item. ap (λ o. target_in o (has_size structs (PointerType item))) (outs-Pointer item);
+  struct = λ number. ap (λ o. target_in o (has_size structs (StructType number))) (outs-Struct number);
+  array = λ item count. ap (λ o. target_in o (has_size structs (ArrayType item count))) (outs-Array item count);
+}

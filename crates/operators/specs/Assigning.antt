@@ -1,11 +1,11 @@
 -- The types of assignments (C11 6.5.16).
-use Rattle.std.specs.Prelude.{Bool, true, false, ◌&&◌, [], ◌∷◌, List, if◌then◌else◌}
+use Rattle.std.specs.Prelude.{Bool, true, false, ◌&&◌, [], ◌∷◌, List}
 use Rattle.cbase.specs.declared.ctype.CType.{CType}
 use Rattle.cbase.specs.declared.ctype.CType.TheVariants.{Void as VoidType}
 use Rattle.cbase.specs.declared.tree.operators.BinaryOp.{BinaryOp}
 use Rattle.operators.specs.declared.binary.Group.{Group}
 use Rattle.operators.specs.declared.binary.Group.TheVariants.{Arithmetic, Shift, Sum, Difference, Order, Equality, Logic, Sequence}
-use Rattle.operators.specs.declared.found.Broken.TheVariants.{Construct, Rule}
+use Rattle.operators.specs.declared.found.Broken.TheVariants.{Rule}
 use Rattle.operators.specs.Binary.{group_of, operated}
 use Rattle.operators.specs.Broken.{Judgement, Typed, Breaks, Demand, judged}
 use Rattle.operators.specs.Converting.{converts}

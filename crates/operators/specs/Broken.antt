@@ -34,17 +34,27 @@ pub record IsLeast (broken : List Broken) (least : Broken) : Type 0 where
   pub here : Contains broken least
   pub first : All (ComesBefore least) broken
 
--- what is found at a node of which so much is asked, and that has this type where nothing is broken
-abbrev pub IsJudged : List Demand → CType → Judgement → Type 0
-IsJudged demands t (Typed found) = (all_broken demands ≡ []) × (found ≡ t)
-IsJudged demands t (Breaks broken) = IsLeast (all_broken demands) broken
+-- what is found at a node where so much is broken, and that has this type where nothing is
+abbrev pub IsJudged : List Broken → CType → Judgement → Type 0
+IsJudged broken t (Typed found) = (broken ≡ []) × (found ≡ t)
+IsJudged broken t (Breaks found) = IsLeast broken found
 
--- the same where the demands stand in their order: the first that does not hold decides
+-- the same of demands in their order: the first that does not hold decides
 abbrev pub judged : List Demand → CType → Judgement
 judged [] t = Typed t
 judged (demand ∷ rest) t = if demand.holds then judged rest t else Breaks demand.broken
 
+-- what comes before each of some demands
+abbrev pub ComesBeforeEach : Broken → List Demand → Type 0
+ComesBeforeEach first [] = Unit {0}
+ComesBeforeEach first (demand ∷ rest) = ComesBefore first demand.broken × ComesBeforeEach first rest
+
 -- demands in their order
 abbrev pub AreInOrder : List Demand → Type 0
 AreInOrder [] = Unit {0}
-AreInOrder (demand ∷ rest) = All (λ later. ComesBefore demand.broken later.broken) rest × AreInOrder rest
+AreInOrder (demand ∷ rest) = ComesBeforeEach demand.broken rest × AreInOrder rest
+
+-- what is found before anything after `last` is asked
+abbrev pub IsFoundBy : Broken → Judgement → Type 0
+IsFoundBy last (Typed t) = Unit {0}
+IsFoundBy last (Breaks broken) = ComesBefore broken last

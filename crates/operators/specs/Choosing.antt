@@ -4,11 +4,11 @@ use Rattle.cbase.specs.declared.ctype.CType.{CType}
 use Rattle.cbase.specs.declared.ctype.CType.TheVariants.{Void as VoidType, Pointer as PointerType}
 use Rattle.operators.specs.declared.kind.Target.{Target}
 use Rattle.operators.specs.declared.kind.Target.TheVariants.{Void as VoidTarget, Sized, Unsized}
-use Rattle.operators.specs.declared.found.Broken.TheVariants.{Construct, Rule}
+use Rattle.operators.specs.declared.found.Broken.TheVariants.{Rule}
 use Rattle.operators.specs.Binary.{is_scalar}
 use Rattle.operators.specs.Broken.{Judgement, Typed, Breaks}
 use Rattle.operators.specs.Integers.{common, type_of_integer}
-use Rattle.operators.specs.Kinds.{Kind, Integer, Pointer, Array, Struct, Void, decayed}
+use Rattle.operators.specs.Kinds.{Kind, Integer, Pointer, Void, decayed}
 use Rattle.operators.specs.Operands.{Operand}
 
 -- whether a pointer leads to `void`

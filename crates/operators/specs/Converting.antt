@@ -1,11 +1,9 @@
 -- Conversions without a cast (C11 6.5.16.1, 6.3.2.3), and casts (6.5.4).
-use Rattle.std.specs.Prelude.{ℕ, Bool, true, false, ◌||◌, nat_eq, if◌then◌else◌}
+use Rattle.std.specs.Prelude.{Bool, true, false, ◌||◌, nat_eq, if◌then◌else◌}
 use Rattle.cbase.specs.declared.ctype.CType.{CType}
-use Rattle.cbase.specs.declared.ctype.CType.TheVariants.{Void as VoidType}
 use Rattle.operators.specs.declared.found.Broken.TheVariants.{Construct, Rule}
 use Rattle.operators.specs.Broken.{Judgement, Typed, Breaks}
-use Rattle.operators.specs.Kinds.{Kind, Integer, Pointer, Array, Struct, Void, decayed}
-use Rattle.operators.specs.Operands.{Operand}
+use Rattle.operators.specs.Kinds.{Kind, Integer, Pointer, Struct, Void}
 
 -- whether a value converts without a cast: an integer to an integer, an object pointer to an object pointer, an integer constant
 -- expression 0 to a pointer, a pointer to `_Bool`, a struct to the same struct

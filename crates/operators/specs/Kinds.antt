@@ -1,8 +1,7 @@
 -- What operators ask of a type (C11 6.2.5).
-use Rattle.std.specs.Prelude.{ℕ, Bool, true, false, List, is_some, if◌then◌else◌}
+use Rattle.std.specs.Prelude.{ℕ, Bool, List, is_some, if◌then◌else◌}
 use Rattle.cbase.specs.declared.abi.Abi.TheVariants.{Lp64}
 use Rattle.cbase.specs.declared.ctype.CType.{CType}
-use Rattle.cbase.specs.declared.ctype.CType.TheVariants.{Pointer as PointerType}
 use Rattle.cbase.specs.declared.ctype.CType.TheOpen.{CType-F, Void as VoidOpen, Bool as BoolOpen, Int as IntOpen, Pointer as PointerOpen, Struct as StructOpen, Array as ArrayOpen}
 use Rattle.cbase.specs.declared.ctype.CType.TheViews.{out-CType}
 use Rattle.cbase.specs.declared.structs.StructDef.{StructDef}

@@ -1,14 +1,13 @@
 -- The types of `a[i]` (C11 6.5.2.1), and of members (6.5.2.3).
-use Rattle.std.specs.Prelude.{ℕ, Bool, true, false, List, Option, None, Some, option_map, option_and_then, slice_get, if◌then◌else◌}
+use Rattle.std.specs.Prelude.{ℕ, Bool, List, Option, None, Some, option_map, option_and_then, slice_get, if◌then◌else◌}
 use Rattle.cbase.specs.declared.ctype.CType.{CType}
 use Rattle.cbase.specs.declared.structs.StructDef.{StructDef}
 use Rattle.cbase.specs.Offset.{fields_of, index_of}
 use Rattle.operators.specs.declared.kind.Target.{Target}
 use Rattle.operators.specs.declared.kind.Target.TheVariants.{Void as VoidTarget, Sized, Unsized}
-use Rattle.operators.specs.declared.found.Broken.TheVariants.{Construct, Rule}
+use Rattle.operators.specs.declared.found.Broken.TheVariants.{Rule}
 use Rattle.operators.specs.Broken.{Judgement, Typed, Breaks}
-use Rattle.operators.specs.Kinds.{Kind, Integer, Pointer, Array, Struct, Void, decayed, kind_of, has_size}
-use Rattle.operators.specs.Operands.{Operand}
+use Rattle.operators.specs.Kinds.{Kind, Integer, Pointer, Array, Struct, Void, kind_of, has_size}
 
 -- an item behind a pointer: of an incomplete struct none can be counted, of `void` bytes are
 abbrev pub item_at : CType → Target → Judgement

@@ -1,8 +1,7 @@
 -- What is known of an operand, and how a table of types holds it.
-use Rattle.std.specs.Prelude.{◌≡◌, ℕ, ◌<◌, Bool, List, Some, slice_get, length}
+use Rattle.std.specs.Prelude.{◌≡◌, ℕ, ◌<◌, Bool, List, Some, slice_get}
 use Rattle.cbase.specs.declared.ctype.CType.{CType}
 use Rattle.cbase.specs.declared.ctype.CType.TheVariants.{Void as VoidType, Int as IntType, Pointer as PointerType}
-use Rattle.cbase.specs.declared.structs.StructDef.{StructDef}
 use Rattle.ctypes.specs.Table.{type_at, Grows}
 use Rattle.ctypes.specs.Structs.{TypeTable}
 use Rattle.operators.specs.declared.kind.Kind.{Kind as KindByNumber}

@@ -5,13 +5,12 @@ use Rattle.cbase.specs.declared.ctype.CType.TheVariants.{Int as IntType, Pointer
 use Rattle.cbase.specs.declared.tree.operators.UnaryOp.{UnaryOp}
 use Rattle.cbase.specs.declared.tree.operators.UnaryOp.TheVariants.{Address, Follow, Plus, Minus, Flip, Not}
 use Rattle.cbase.specs.declared.structs.StructDef.{StructDef}
-use Rattle.operators.specs.declared.kind.Target.{Target}
 use Rattle.operators.specs.declared.kind.Target.TheVariants.{Void as VoidTarget, Sized, Unsized}
-use Rattle.operators.specs.declared.found.Broken.TheVariants.{Construct, Rule}
+use Rattle.operators.specs.declared.found.Broken.TheVariants.{Rule}
 use Rattle.operators.specs.Binary.{int_type, is_scalar}
 use Rattle.operators.specs.Broken.{Judgement, Typed, Breaks, Demand, judged}
 use Rattle.operators.specs.Integers.{promoted, type_of_integer}
-use Rattle.operators.specs.Kinds.{Kind, Integer, Pointer, Array, Struct, Void, decayed, has_size}
+use Rattle.operators.specs.Kinds.{Kind, Integer, Pointer, Array, Struct, Void, has_size}
 use Rattle.operators.specs.Operands.{Operand}
 
 -- `+`, `-` and `~` take an integer, and give the promoted type (C11 6.5.3.3p1-4)

@@ -1,6 +1,5 @@
 -- The kind of a type follows from its shape.
 use Rattle.std.proofs.Common.{ap, ◌∙◌}
-use Rattle.cbase.specs.declared.ctype.CType.{CType}
 use Rattle.ctypes.specs.declared.shape.Shape.TheVariants.{Void as VoidShape, Bool as BoolShape, Int as IntShape, Pointer as PointerShape, Struct as StructShape, Array as ArrayShape}
 use Rattle.operators.specs.Kinds.{Integer, Pointer, Array}
 use Rattle.ctypes.specs.Table.{type_at}

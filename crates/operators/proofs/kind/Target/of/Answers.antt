@@ -1,7 +1,6 @@
 -- What a pointer leads to follows from the shape of the type.
 use Rattle.std.proofs.Common.{sym, ◌∙◌}
 use Rattle.ctypes.specs.declared.shape.Shape.TheVariants.{Void as VoidShape}
-use Rattle.operators.specs.Kinds.{has_size}
 use Rattle.ctypes.specs.Table.{type_at}
 use Rattle.operators.proofs.Shapes.{target_is, sized_target_is}
 use Rattle.operators.proofs.kind.Target.of.Goals as goal
