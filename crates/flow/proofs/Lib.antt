@@ -23,3 +23,5 @@ pub mod RenamedStepLaws
 pub mod PartLaws
 pub mod LossLaws
 pub mod RunLaws
+pub mod FittingWords
+pub mod FittingLaws

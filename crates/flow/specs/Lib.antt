@@ -7,6 +7,7 @@ pub mod Runs
 pub mod Standing
 pub mod Valid
 pub mod Keeping
+pub mod Fitting
 pub mod Choosing
 pub mod Hiding
 pub mod Renaming

@@ -1,5 +1,6 @@
 //! Laws of the flow machine. Each is the contract of a function that does nothing.
 ghost use Rattle.flow.specs.Choosing.{AreRunsByFirst, AreStepsByFirst, DoRunsGoAlong, DoRunsKeepMore};
+ghost use Rattle.flow.specs.Fitting.{DoRunsFit, DoStepsFit};
 ghost use Rattle.flow.specs.Hiding.{AreHiddenRightly, DoPartsFollow, DoRunsFollow, IsNoMoreLost};
 ghost use Rattle.flow.specs.Keeping.{DoRunsKeep, DoStartsKeep, DoStepsKeep};
 ghost use Rattle.flow.specs.RenamedSteps.{DoRunsRename, DoStepsRename};
@@ -21,6 +22,17 @@ pub fn a_run_begins_with_what_stands()
 #[tactic(auto, using(crate::proofs::KeepingLaws::runs_keep))]
 pub fn a_run_keeps_what_stands()
     ensures { DoRunsKeep }
+{}
+
+/// A step along an edge of a flow graph keeps what registers hold within its size, and what bytes hold below 256.
+pub fn a_step_keeps_values_within_their_sizes()
+    ensures { DoStepsFit }
+{}
+
+/// In each state of a run of a flow graph what registers hold fits its size, and what bytes hold is below 256.
+#[tactic(auto, using(crate::proofs::FittingLaws::runs_fit))]
+pub fn a_run_keeps_values_within_their_sizes()
+    ensures { DoRunsFit }
 {}
 
 /// What a step along an edge comes to is determined by as many choices as its instruction asks for, and the others are left.
