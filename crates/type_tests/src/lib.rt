@@ -1,11 +1,14 @@
-//! Tests of the types that every crate speaks with: lists, texts and boxes, and C's types with their layouts.
+//! Tests of the types that every crate speaks with: lists, texts and boxes, and C's types with their layouts; and of operators on
+//! types.
 //!
-//! A crate with tests is proved twice, so those of `cbase` stand here, where there is no other code.
+//! A crate with tests is proved twice, so those of `cbase` and `operators` stand here, where there is no other code.
 #![tactic(auto)]
 
 #[cfg(test)]
 mod containers;
 #[cfg(test)]
 mod layouts;
+#[cfg(test)]
+mod operations;
 #[cfg(test)]
 mod ranks;
