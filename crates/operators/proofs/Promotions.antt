@@ -4,7 +4,10 @@ use Rattle.std.proofs.lemmas.Bool.{ltb-true, ltb-false, le-ltb}
 use Rattle.std.specs.Prelude.{nat_lt}
 use Rattle.cbase.specs.declared.ctype.CType.TheVariants.{Int as IntType}
 use Rattle.operators.specs.declared.kind.IntegerType.{IntegerType}
+use Rattle.operators.specs.Broken.{Typed}
+use Rattle.operators.specs.Choosing.{joined}
 use Rattle.operators.specs.Integers.{integer, int, promoted, wider, common, type_of_integer}
+use Rattle.operators.specs.Kinds.{Integer}
 use Rattle.operators.specs.Ranks.{promotions_agree, conversions_agree}
 
 -- a type of the size of `int` or more is kept
@@ -78,3 +81,6 @@ promotions = refl
 
 pub conversions : conversions_agree ≡ true
 conversions = refl
+
+pub joined_self : (t : IntegerType) (first second : Bool) → joined (Integer t) first (Integer t) second ≡ Typed (type_of_integer (promoted t))
+joined_self t first second = ap Typed (common_self t)

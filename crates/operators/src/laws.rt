@@ -27,11 +27,12 @@ pub fn types_have_kinds()
 /// A type that is promoted stays so, and the usual arithmetic conversions do not ask which operand is the left one.
 ///
 /// Of one type they give the promoted type, and so does `?:`.
-#[tactic(auto, using(crate::proofs::Promotions::promoted_promoted, crate::proofs::Promotions::common_commutes, crate::proofs::Promotions::common_self, crate::proofs::Promotions::promoted_common))]
+#[tactic(auto, using(crate::proofs::Promotions::promoted_promoted, crate::proofs::Promotions::common_commutes, crate::proofs::Promotions::common_self, crate::proofs::Promotions::promoted_common, crate::proofs::Promotions::joined_self))]
 pub fn conversions_are_settled()
     ensures promotion { (t : IntegerType) → promoted (promoted t) ≡ promoted t }
     ensures symmetric { (left right : IntegerType) → type_of_integer (common left right) ≡ type_of_integer (common right left) }
     ensures itself { (t : IntegerType) → type_of_integer (common t t) ≡ type_of_integer (promoted t) }
+    ensures choice { (t : IntegerType) (first second : Bool) → joined (Kind.Integer t) first (Kind.Integer t) second ≡ Judgement.Typed (type_of_integer (promoted t)) }
     ensures again { (left right : IntegerType) → type_of_integer (promoted (common left right)) ≡ type_of_integer (common left right) }
 {}
 

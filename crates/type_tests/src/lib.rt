@@ -1,13 +1,15 @@
-//! Tests of the types that every crate speaks with: lists, texts and boxes, and C's types with their layouts; and of
-//! the types of constants.
+//! Tests of the types that every crate speaks with: lists, texts and boxes, and C's types with their layouts; of the types of
+//! constants; and of operators on types.
 //!
-//! A crate with tests is proved twice, so those of `cbase` and `constants` stand here, where there is no other code.
+//! A crate with tests is proved twice, so those of `cbase`, `constants` and `operators` stand here, where there is no other code.
 #![tactic(auto)]
 
 #[cfg(test)]
 mod containers;
 #[cfg(test)]
 mod layouts;
+#[cfg(test)]
+mod operations;
 #[cfg(test)]
 mod ranks;
 #[cfg(test)]
