@@ -9,3 +9,7 @@ pub mod Ranges
 pub mod Pointers
 pub mod Edges
 pub mod Moves
+pub mod Kept
+pub mod Addresses
+pub mod Copies
+pub mod Marked

@@ -19,7 +19,7 @@ rem_euclid (pos a) = refl
 rem_euclid (negsuc a) = omega arith
 
 -- a whole number that is the natural `m` once some multiple of 2^64 is added to it
-wrapped-is : (z : ℤ) (k m : ℕ) → z +ℤ pos (k * 2 ^ 64) ≡ pos m → wrapped z ≡ m % 2 ^ 64
+pub wrapped-is : (z : ℤ) (k m : ℕ) → z +ℤ pos (k * 2 ^ 64) ≡ pos m → wrapped z ≡ m % 2 ^ 64
 wrapped-is z k m e = sym (rem_euclid z) ∙ ap unsigned_abs (int_rem_euclid_is z (pos (2 ^ 64)) (2 ^ 64) k m (omega arith) refl e)
 
 -- some multiples of 2^64 make two whole numbers one

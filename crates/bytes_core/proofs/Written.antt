@@ -117,7 +117,7 @@ pub store_keeps_blocks : (memory : List Block) (number : ℕ) (offset : ℤ) (si
 store_keeps_blocks memory number offset size word = KeepsOthers-written_at memory number offset (take size (word_bytes word))
 
 -- a write keeps the bytes before it and after it
-KeepsOtherBytes-overwritten : (block : Block) (from : ℕ) (written : List Byte) → from + length written ≤ length block.bytes →
+pub KeepsOtherBytes-overwritten : (block : Block) (from : ℕ) (written : List Byte) → from + length written ≤ length block.bytes →
     KeepsOtherBytes block (block_after block from written) from (length written)
 KeepsOtherBytes-overwritten block from written room =
     let front = take from block.bytes in

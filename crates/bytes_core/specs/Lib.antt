@@ -1,10 +1,12 @@
 pub mod Fault
+pub mod Answer
 pub mod Value
 pub mod Placement
 pub mod Access
 pub mod Copying
 pub mod Release
 pub mod Loss
+pub mod Marking
 pub mod Valid
 pub mod Laws
 pub mod Examples

@@ -1,6 +1,6 @@
 -- Where blocks lie: at a base that is a multiple of 16, from 16 on, ending by 2^47, each taking at least 16
 -- bytes of addresses. Live blocks do not overlap. The addresses of dead blocks may be used again.
-use Rattle.std.specs.Prelude.{ℕ, ◌+◌, ◌^◌, ◌%◌, max, Bool, true, ◌&&◌, ◌||◌, not, List, [], ◌∷◌, ◌++◌, map, length, nat_eq, nat_le, nat_lt}
+use Rattle.std.specs.Prelude.{ℕ, ◌+◌, ◌^◌, ◌%◌, max, Bool, true, ◌&&◌, ◌||◌, not, List, [], ◌∷◌, ◌++◌, map, length, nat_eq, nat_le, nat_lt, Option, None, Some, if◌then◌else◌}
 use Rattle.std.specs.List.{list_all}
 use Rattle.bytes_core.specs.declared.byte.Byte.TheVariants.{Num}
 use Rattle.bytes_core.specs.declared.block.BlockKind.{BlockKind}
@@ -38,3 +38,7 @@ is_new_block memory kind size base contents =
 -- the memory with one more block, numbered by how many there were
 abbrev pub placed : List Block → Block → List Block
 placed memory block = memory ++ block ∷ []
+
+-- the number of the next block, if one is left: they have 32 bits
+abbrev pub next_number : List Block → Option ℕ
+next_number memory = if nat_lt (length memory) (2 ^ 32) then Some (length memory) else None

@@ -1,16 +1,24 @@
-//! What the memory of a C program is: bytes, blocks, words, and what an access, a fill, a copy, an
-//! allocation and a free do with them.
+//! The memory of a C program: bytes, blocks, words, and what an access, a fill, a copy, an allocation and a free
+//! do with them.
 //!
-//! The types stand here and their meaning in `specs/`, for the whole language, with the laws of that meaning
-//! in [`laws`]; no call works on a memory yet. The crate knows nothing of expressions, statements or the text
-//! of a program.
+//! A [`Memory`] is seen as the list of its blocks. Each call of it does exactly what a definition of `specs/` says, for
+//! the whole language; the laws of these definitions are in [`laws`]. The crate knows nothing of expressions,
+//! statements or the text of a program.
 #![tactic(auto)]
 
+mod access;
 mod block;
 mod byte;
+mod copying;
+mod fault;
 pub mod laws;
+mod loss;
 mod memory;
+mod placement;
+mod release;
+mod value;
 mod word;
+mod writing;
 
 pub use block::{Block, BlockKind};
 pub use byte::Byte;
