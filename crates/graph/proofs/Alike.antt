@@ -8,6 +8,8 @@ use Rattle.std.proofs.lemmas.Option.{same_Some, none-some, slice_get-map}
 use Rattle.std.proofs.lemmas.Simd.{map-map}
 use Rattle.bytes_core.specs.declared.byte.Byte.{Byte}
 use Rattle.bytes_core.specs.declared.byte.Byte.TheVariants.{Num, Part}
+use Rattle.bytes_core.specs.declared.block.BlockKind.{BlockKind}
+use Rattle.bytes_core.specs.declared.block.Block.{Block}
 use Rattle.bytes_core.specs.declared.word.Word.{Word}
 use Rattle.bytes_core.specs.declared.word.Word.TheVariants.{Plain, To}
 use Rattle.bytes_core.specs.Value.{word_bytes}
@@ -22,11 +24,11 @@ use Rattle.graph.specs.declared.value.Value.TheVariants.{Const, Number, Any, Add
 use Rattle.graph.specs.declared.parts.Pair.{Pair}
 use Rattle.graph.specs.declared.parts.Parts.{Parts}
 use Rattle.graph.specs.State.{State, IsWordBelow}
-use Rattle.graph.specs.Meaning.{HasClass, HaveClasses, HoldEdges, StandsAt, HasShape, HasBlocksAs, address_word, HasWord, IsRooted, AreRooted, AreUnequal, Maps, maps_of, Assignment, IsOwned, Meets, StandsForBy, StandsFor}
-use Rattle.graph.specs.Alike.{renumbered_word, renumbered_byte, WasLive, IsSeenAs}
+use Rattle.graph.specs.Meaning.{IsGone, HasClass, HaveClasses, HoldEdges, StandsAt, HasShape, HasBlocksAs, address_word, HasWord, IsRooted, AreRooted, AreUnequal, Maps, maps_of, Assignment, IsOwned, Meets, StandsForBy, StandsFor}
+use Rattle.graph.specs.Alike.{renumbered_word, renumbered_byte, Shows, IsLiveAt, IsSeenAs}
 use Rattle.graph.proofs.Pulled.{option_map-option_map}
 
-word_bytes-renumbered : (there : ℕ → ℕ) (word : Word) → map (renumbered_byte there) (word_bytes word) ≡ word_bytes (renumbered_word there word)
+pub word_bytes-renumbered : (there : ℕ → ℕ) (word : Word) → map (renumbered_byte there) (word_bytes word) ≡ word_bytes (renumbered_word there word)
 word_bytes-renumbered there (Plain number) = map-map (renumbered_byte there) Num (to_le_bytes w64 number)
 word_bytes-renumbered there (To block offset) = refl
 
@@ -60,7 +62,7 @@ address-renumbered there Region [] offset = refl
 address-renumbered there Region (number ∷ rest) offset = refl
 
 -- numbers and back
-word-back : (there back : ℕ → ℕ) → ((number : ℕ) → back (there number) ≡ number) → (word : Word) → renumbered_word back (renumbered_word there word) ≡ word
+pub word-back : (there back : ℕ → ℕ) → ((number : ℕ) → back (there number) ≡ number) → (word : Word) → renumbered_word back (renumbered_word there word) ≡ word
 word-back there back same (Plain number) = refl
 word-back there back same (To block offset) = ap (λ (b : ℕ). To b offset) (same block)
 
@@ -72,17 +74,24 @@ AreUnequal-renumbered there back same word (pair ∷ rest) differ = (
   AreUnequal-renumbered there back same word rest differ.1,
 )
 
-module _ (there back : ℕ → ℕ) (one other : State) (seen : IsSeenAs there back one other) where
-  IsWordBelow-renumbered : (word : Word) → IsWordBelow (length one.memory) word → IsWordBelow (length other.memory) (renumbered_word there word)
-  IsWordBelow-renumbered (Plain number) below = record { small = below.small; named = tt }
-  IsWordBelow-renumbered (To block offset) below = record { small = tt; named = seen.named block below.named }
+-- all that a graph sees, but for the blocks that one of them has and the other has not
+pub record IsSeenBut (there back : ℕ → ℕ) (one other : State) : Type 0 where
+  pub same : (number : ℕ) → back (there number) ≡ number
+  pub live : (number : ℕ) (block : Block) → slice_get one.memory number ≡ Some block → block.live ≡ true → Shows there block other.memory (there number)
+  pub was_live : (number : ℕ) (block : Block) → slice_get other.memory number ≡ Some block → block.live ≡ true → IsLiveAt one.memory (back number) × (there (back number) ≡ number)
+  pub gone : (number : ℕ) (kind : BlockKind) → IsGone kind (slice_get one.memory number) → IsGone kind (slice_get other.memory (there number))
+  pub variables : (variable : ℕ) → other.variables variable ≡ option_map there (one.variables variable)
+  pub registers : (register : ℕ) → other.registers register ≡ option_map (renumbered_word there) (one.registers register)
+  pub ports : other.ports ≡ map (renumbered_word there) one.ports
+  pub roots : (root : ℕ) → Contains one.roots root → Contains other.roots (there root)
 
-  HasWord-renumbered : (blocks : ℕ → List ℕ) (value : Value) (word : Word) → HasWord (length one.memory) blocks value word →
-      HasWord (length other.memory) (λ key. map there (blocks key)) value (renumbered_word there word)
-  HasWord-renumbered blocks (Const number size) word has = ap (renumbered_word there) has
-  HasWord-renumbered blocks (Number size) word has = (has.0, ap (renumbered_word there) has.1, has.2)
-  HasWord-renumbered blocks Any word has = IsWordBelow-renumbered word has
-  HasWord-renumbered blocks (Address object offset target) word has = ap (renumbered_word there) has ∙ address-renumbered there target (blocks object) offset
+module _ (there back : ℕ → ℕ) (one other : State) (seen : IsSeenBut there back one other) where
+  HasWord-renumbered : (blocks : ℕ → List ℕ) (value : Value) (word : Word) → (value ≡ Any → IsWordBelow (length other.memory) (renumbered_word there word)) →
+      HasWord (length one.memory) blocks value word → HasWord (length other.memory) (λ key. map there (blocks key)) value (renumbered_word there word)
+  HasWord-renumbered blocks (Const number size) word below has = ap (renumbered_word there) has
+  HasWord-renumbered blocks (Number size) word below has = (has.0, ap (renumbered_word there) has.1, has.2)
+  HasWord-renumbered blocks Any word below has = below refl
+  HasWord-renumbered blocks (Address object offset target) word below has = ap (renumbered_word there) has ∙ address-renumbered there target (blocks object) offset
 
   StandsAt-renumbered : (object : Object) (word : ℕ → Word) (number : ℕ) → StandsAt one.memory object word number →
       StandsAt other.memory object (λ key. renumbered_word there (word key)) (there number)
@@ -139,11 +148,12 @@ module _ (there back : ℕ → ℕ) (one other : State) (seen : IsSeenAs there b
     place = λ number. given.place (back number);
   }
 
-  pub Meets-seen : (maps : Maps) (given : Assignment) → Meets maps one given → StandsForBy maps other
-  Meets-seen maps given meets = record {
+  pub Meets-seen : (maps : Maps) (given : Assignment) → Meets maps one given →
+      ((key : ℕ) → maps.values key ≡ Some Any → IsWordBelow (length other.memory) (renumbered_word there (given.word key))) → StandsForBy maps other
+  Meets-seen maps given meets below = record {
     given = renumbered given;
     meets = record {
-      values = λ key value is. HasWord-renumbered given.blocks value (given.word key) (meets.values key value is);
+      values = λ key value is. HasWord-renumbered given.blocks value (given.word key) (λ any. below key (is ∙ ap Some any)) (meets.values key value is);
       objects = λ key object is. HasBlocks-renumbered object.live object given.word (given.blocks key) (meets.objects key object is);
       owners = λ key place number some stands. meets.owners key place (back number) some (was_in (given.blocks key) place number stands);
       places = λ key place number some stands. meets.places key place (back number) some (was_in (given.blocks key) place number stands);
@@ -166,7 +176,7 @@ module _ (there back : ℕ → ℕ) (one other : State) (seen : IsSeenAs there b
       one_block None = refl
       one_block (Some number) = refl
 
-      used : (number : ℕ) → WasLive one.memory (back number) × (there (back number) ≡ number) → IsOwned maps (renumbered given) number
+      used : (number : ℕ) → IsLiveAt one.memory (back number) × (there (back number) ≡ number) → IsOwned maps (renumbered given) number
       used number (was, is) =
           let owned = meets.used (back number) was.block was.stands was.live in
           record {
@@ -174,6 +184,23 @@ module _ (there back : ℕ → ℕ) (one other : State) (seen : IsSeenAs there b
             block = slice_get-map there (given.blocks (given.owner (back number))) (given.place (back number)) ∙ ap (option_map there) owned.block ∙ ap Some is;
           }
 
+IsWordBelow-renumbered : (there back : ℕ → ℕ) (one other : State) → IsSeenAs there back one other → (word : Word) → IsWordBelow (length one.memory) word →
+    IsWordBelow (length other.memory) (renumbered_word there word)
+IsWordBelow-renumbered there back one other seen (Plain number) below = record { small = below.small; named = tt }
+IsWordBelow-renumbered there back one other seen (To block offset) below = record { small = tt; named = seen.named block below.named }
+
 -- a state in which nothing that a graph sees is different is stood for as well
 pub unseen_may_differ : (there back : ℕ → ℕ) (parts : Parts) (one other : State) → IsSeenAs there back one other → StandsFor parts one → StandsFor parts other
-unseen_may_differ there back parts one other seen stands = Meets-seen there back one other seen (maps_of parts) stands.given stands.meets
+unseen_may_differ there back parts one other seen stands =
+    let given : Assignment = stands.given in
+    let meets : Meets (maps_of parts) one given = stands.meets in
+    Meets-seen there back one other (record {
+      same = seen.same;
+      live = seen.live;
+      was_live = seen.was_live;
+      gone = seen.gone;
+      variables = seen.variables;
+      registers = seen.registers;
+      ports = seen.ports;
+      roots = seen.roots;
+    }) (maps_of parts) given meets (λ key any. IsWordBelow-renumbered there back one other seen (given.word key) (meets.values key Any any))

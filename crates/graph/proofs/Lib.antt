@@ -5,6 +5,17 @@ pub mod Renamed
 pub mod Reformed
 pub mod Numbered
 pub mod Alike
+pub mod AlikeBlocks
+pub mod AlikeTurned
+pub mod AlikeReads
+pub mod AlikeAddresses
+pub mod AlikeLosses
+pub mod AlikeChanges
+pub mod AlikePlaced
+pub mod AlikeSteps
+pub mod AlikeLimits
+pub mod AlikeStates
+pub mod AlikeMeaning
 pub mod Chosen
 pub mod Table
 pub mod Placing

@@ -31,8 +31,8 @@ pub record Shows (there : ℕ → ℕ) (one : Block) (memory : List Block) (numb
   pub stands : slice_get memory number ≡ Some block
   pub looks : LooksLike there one block
 
--- a live block was one before
-pub record WasLive (memory : List Block) (number : ℕ) : Type 0 where
+-- a live block has this number
+pub record IsLiveAt (memory : List Block) (number : ℕ) : Type 0 where
   pub block : Block
   pub stands : slice_get memory number ≡ Some block
   pub live : block.live ≡ true
@@ -42,7 +42,7 @@ pub record IsSeenAs (there back : ℕ → ℕ) (one other : State) : Type 0 wher
   pub same : (number : ℕ) → back (there number) ≡ number
   -- the live blocks look alike, and there are no others
   pub live : (number : ℕ) (block : Block) → slice_get one.memory number ≡ Some block → block.live ≡ true → Shows there block other.memory (there number)
-  pub was_live : (number : ℕ) (block : Block) → slice_get other.memory number ≡ Some block → block.live ≡ true → WasLive one.memory (back number) × (there (back number) ≡ number)
+  pub was_live : (number : ℕ) (block : Block) → slice_get other.memory number ≡ Some block → block.live ≡ true → IsLiveAt one.memory (back number) × (there (back number) ≡ number)
   -- dead blocks are gone, or dead and of the same kind
   pub gone : (number : ℕ) (kind : BlockKind) → IsGone kind (slice_get one.memory number) → IsGone kind (slice_get other.memory (there number))
   -- each block of the one has a number of a block in the other

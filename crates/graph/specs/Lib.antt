@@ -8,4 +8,8 @@ pub mod State
 pub mod Meaning
 pub mod Laws
 pub mod Alike
+pub mod AlikeMemories
+pub mod AlikeSteps
+pub mod AlikeStates
+pub mod AlikeLimits
 pub mod Points

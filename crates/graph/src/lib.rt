@@ -16,6 +16,7 @@ mod graph;
 mod keyed;
 pub mod laws;
 mod look_up;
+pub mod memory_laws;
 mod object;
 mod object_points;
 mod parts;
