@@ -3,3 +3,4 @@ pub mod Stacks
 pub mod KeptRight
 pub mod Visible
 pub mod Worked
+pub mod Linkages

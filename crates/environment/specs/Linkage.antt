@@ -7,32 +7,36 @@ use Rattle.environment.specs.declared.entity.Entity.{Entity}
 use Rattle.environment.specs.declared.entity.Linked.{Linked}
 use Rattle.environment.specs.declared.entity.Binding.TheVariants.{Own, WithLinkage}
 use Rattle.environment.specs.declared.environment.Environment.{Environment}
+use Rattle.environment.specs.declared.linkage.Standing.{Standing}
+use Rattle.environment.specs.declared.linkage.Standing.TheVariants.{File, Block}
+use Rattle.environment.specs.declared.linkage.Kind.{Kind}
+use Rattle.environment.specs.declared.linkage.Kind.TheVariants.{Object, Function}
 use Rattle.environment.specs.Scopes.{found}
 use Rattle.environment.specs.Environment.{name_found, name_bound, name_linked, scope_left}
 
--- where a declaration stands: outside of functions, or in a block or a list of parameters
-pub data Standing : Type 0 where
-  InFile : Standing
-  InBlock : Standing
+-- the declaration gives its name linkage
+pub data HasLinkage : Standing → Storage → Kind → Type 0 where
+  -- outside of functions, by `static` (p3)
+  Internal : (kind : Kind) → HasLinkage File Static kind
+  -- by `extern`, wherever it stands (p4)
+  External : (standing : Standing) (kind : Kind) → HasLinkage standing Extern kind
+  -- a function without such a word, as if by `extern` (p5)
+  PlainFunction : (standing : Standing) → HasLinkage standing Plain Function
+  -- an object without such a word, outside of functions (p5)
+  PlainObject : HasLinkage File Plain Object
+  -- a function that a block declares by `static`, which 6.7.1p7 forbids: whether linkage is internal is not asked
+  BlockFunction : HasLinkage Block Static Function
 
--- what it declares
-pub data Kind : Type 0 where
-  Object : Kind
-  Function : Kind
-
--- whether the name has linkage (C11 6.2.2p3-6): no typedef, each function, each object outside of functions, and of those in blocks
--- the ones that are declared by `extern`. What is external and what internal is not asked.
+-- whether it does, as a table
 abbrev pub has_linkage : Standing → Storage → Kind → Bool
 has_linkage standing Typedef kind = false
+has_linkage standing Extern kind = true
 has_linkage standing Plain Function = true
-has_linkage standing Extern Function = true
 has_linkage standing Static Function = true
-has_linkage InFile Plain Object = true
-has_linkage InFile Extern Object = true
-has_linkage InFile Static Object = true
-has_linkage InBlock Plain Object = false
-has_linkage InBlock Extern Object = true
-has_linkage InBlock Static Object = false
+has_linkage File Plain Object = true
+has_linkage File Static Object = true
+has_linkage Block Plain Object = false
+has_linkage Block Static Object = false
 
 -- a declaration of a name that has linkage, and of one that has none
 abbrev pub linked_declared : List ℕ → Linked → Environment → Environment

@@ -1,7 +1,7 @@
 use cbase::List;
 
 /// What an identifier stands for that is no tag, no member and no label (C11 6.2.3p1).
-#[derive(Clone, Copy, Debug, PartialEq, Eq)]
+#[derive(Clone, Copy, PartialEq, Eq)]
 pub enum Entity {
     /// An object.
     Object {
@@ -39,7 +39,7 @@ pub struct Signature {
 }
 
 /// What has linkage under a name: one object or function in the whole text (C11 6.2.2p2).
-#[derive(Clone, Copy, Debug, PartialEq, Eq)]
+#[derive(Clone, Copy)]
 pub struct Linked {
     /// The object or function, with the type that all its declarations so far give.
     pub entity: Entity,
@@ -48,7 +48,7 @@ pub struct Linked {
 }
 
 /// What a scope says of a name that it declares.
-#[derive(Clone, Copy, Debug, PartialEq, Eq)]
+#[derive(Clone, Copy)]
 pub enum Binding {
     /// It stands for something that has no linkage (C11 6.2.2p6).
     Own(Entity),
@@ -57,7 +57,7 @@ pub enum Binding {
 }
 
 /// What a tag stands for (C11 6.7.2.3).
-#[derive(Clone, Copy, Debug, PartialEq, Eq)]
+#[derive(Clone, Copy, PartialEq, Eq)]
 pub enum Tag {
     /// The struct of that number.
     Struct(u32),
@@ -69,7 +69,7 @@ pub enum Tag {
 }
 
 /// How a tag stands in a text (C11 6.7.2.3).
-#[derive(Clone, Copy, Debug, PartialEq, Eq)]
+#[derive(Clone, Copy)]
 pub enum TagForm {
     /// As in `struct s;` and `struct s { .. }`, which declare it in the innermost scope (p6, p7).
     Declared,

@@ -1,13 +1,16 @@
 //! Laws of names in scope. Each is the contract of a function that does nothing.
-ghost use Rattle.std.specs.Prelude.{◌≡◌, ◌↔◌, ◌≢◌, ℕ, List, [], Option, Some};
+ghost use Rattle.std.specs.Prelude.{◌≡◌, ◌↔◌, ◌≢◌, ℕ, List, [], Option, Some, IsTrue};
+ghost use Rattle.cbase.specs.declared.tree.decl.Storage.{Storage};
 ghost use Rattle.environment.specs.declared.entity.Binding.{Binding};
 ghost use Rattle.environment.specs.declared.entity.Tag.{Tag};
 ghost use Rattle.environment.specs.declared.entity.TagForm.{TagForm};
 ghost use Rattle.environment.specs.declared.environment.Environment.{Environment};
+ghost use Rattle.environment.specs.declared.linkage.Kind.{Kind};
+ghost use Rattle.environment.specs.declared.linkage.Standing.{Standing};
 ghost use Rattle.environment.specs.Names.{Entries};
 ghost use Rattle.environment.specs.Scopes.{Scopes, IsVisible, found, declared, all_declared, entered, left};
 ghost use Rattle.environment.specs.Environment.{name_found, tag_found, name_bound, tag_declared};
-ghost use Rattle.environment.specs.Linkage.{LastIsFound, IsOneThing, OutlivesScopes};
+ghost use Rattle.environment.specs.Linkage.{HasLinkage, has_linkage, LastIsFound, IsOneThing, OutlivesScopes};
 ghost use Rattle.environment.specs.BuiltInRows.{AreBuiltIn};
 
 /// A name stands for what it is visible as, and for nothing where it is visible as nothing (C11 6.2.1p4).
@@ -43,6 +46,12 @@ pub fn linkage_is_of_the_whole_text()
     ensures last { LastIsFound }
     ensures one { IsOneThing }
     ensures kept { OutlivesScopes }
+{}
+
+/// The table of linkage says what the rules of C11 6.2.2p3-6 say.
+#[tactic(auto, using(crate::proofs::Linkages::table_is_right))]
+pub fn linkage_is_by_the_rules()
+    ensures { (standing : Standing) (storage : Storage) (kind : Kind) → IsTrue (has_linkage standing storage kind) ↔ HasLinkage standing storage kind }
 {}
 
 /// The functions that are built in have the types of `specs/BuiltInRows.antt`, in both data layouts.

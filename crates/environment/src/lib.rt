@@ -9,9 +9,11 @@ mod environment;
 mod keeping;
 mod kept;
 pub mod laws;
+mod linkage;
 mod names;
 mod scopes;
 
 pub use entity::{Binding, Entity, Linked, Signature, Tag, TagForm};
 pub use environment::Environment;
+pub use linkage::{Kind, Standing, has_linkage};
 pub use scopes::Scopes;
