@@ -1,0 +1,6 @@
+pub mod Tables
+pub mod Stacks
+pub mod KeptRight
+pub mod Visible
+pub mod Worked
+pub mod Linkages

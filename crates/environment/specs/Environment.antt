@@ -1,0 +1,60 @@
+-- What is declared at a place of a text: names and tags, which are two name spaces (C11 6.2.3), by scope; what has linkage under
+-- a name; and the signatures of functions, each at its number.
+use Rattle.std.specs.Prelude.{ℕ, List, [], ◌∷◌, ◌++◌, Option, None, Some, option_map}
+use Rattle.environment.specs.declared.entity.Entity.{Entity}
+use Rattle.environment.specs.declared.entity.Linked.{Linked}
+use Rattle.environment.specs.declared.entity.Binding.{Binding}
+use Rattle.environment.specs.declared.entity.Binding.TheVariants.{Own, WithLinkage}
+use Rattle.environment.specs.declared.entity.Signature.{Signature}
+use Rattle.environment.specs.declared.entity.Tag.{Tag}
+use Rattle.environment.specs.declared.entity.TagForm.{TagForm}
+use Rattle.environment.specs.declared.entity.TagForm.TheVariants.{Declared, Mentioned}
+use Rattle.environment.specs.declared.environment.Environment.{Environment}
+use Rattle.environment.specs.Names.{Entries, value_in, with_value}
+use Rattle.environment.specs.Scopes.{found, found_here, declared, entered, left}
+
+-- outside all scopes
+abbrev pub nothing_declared : Environment
+nothing_declared = record { names = []; tags = []; linked = []; signatures = [] }
+
+-- what a name that is bound so stands for: what has linkage has the type that all its declarations so far give
+abbrev pub resolved : List ℕ → Entries Linked → Option Binding → Option Entity
+resolved name linked None = None
+resolved name linked (Some (Own entity)) = Some entity
+resolved name linked (Some WithLinkage) = option_map (λ meaning. meaning.entity) (value_in name linked)
+
+-- what a name stands for (C11 6.2.1p4)
+abbrev pub name_found : List ℕ → Environment → Option Entity
+name_found name env = resolved name env.linked (found name env.names)
+
+-- what it stands for by a declaration of the innermost scope (C11 6.7p3)
+abbrev pub name_found_here : List ℕ → Environment → Option Entity
+name_found_here name env = resolved name env.linked (found_here name env.names)
+
+-- what a tag stands for: where it is declared, by a declaration of the innermost scope, and where it is mentioned, by the one that
+-- is visible (C11 6.7.2.3p4-9)
+abbrev pub tag_found : TagForm → List ℕ → Environment → Option Tag
+tag_found Declared tag env = found_here tag env.tags
+tag_found Mentioned tag env = found tag env.tags
+
+-- a scope has names and tags
+abbrev pub scope_entered : Environment → Environment
+scope_entered env = record env { names = entered env.names; tags = entered env.tags }
+
+abbrev pub scope_left : Environment → Environment
+scope_left env = record env { names = left env.names; tags = left env.tags }
+
+-- a name, and a tag, is declared in the innermost scope
+abbrev pub name_bound : List ℕ → Binding → Environment → Environment
+name_bound name binding env = record env { names = declared name binding env.names }
+
+abbrev pub tag_declared : List ℕ → Tag → Environment → Environment
+tag_declared tag meaning env = record env { tags = declared tag meaning env.tags }
+
+-- what has linkage under a name is that from here on, in the whole text
+abbrev pub name_linked : List ℕ → Linked → Environment → Environment
+name_linked name meaning env = record env { linked = with_value name meaning env.linked }
+
+-- a signature has the number of those before it
+abbrev pub signature_added : Signature → Environment → Environment
+signature_added signature env = record env { signatures = env.signatures ++ signature ∷ [] }

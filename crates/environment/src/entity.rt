@@ -1,0 +1,78 @@
+use cbase::List;
+
+/// What an identifier stands for that is no tag, no member and no label (C11 6.2.3p1).
+#[derive(Clone, Copy, PartialEq, Eq)]
+pub enum Entity {
+    /// An object.
+    Object {
+        /// The number of its type.
+        ctype: u32,
+        /// How many tokens stand before the name that declares it.
+        token: u32,
+        /// Whether it lives as long as the program runs (C11 6.2.4p3).
+        fixed: bool,
+    },
+    /// A type (C11 6.7.8).
+    Typedef {
+        /// The number of the type.
+        ctype: u32,
+    },
+    /// A constant of an enum, which is an int (C11 6.7.2.2p3).
+    Enumerator {
+        /// The lowest four bytes of its value.
+        bits: u32,
+    },
+    /// A function.
+    Function {
+        /// The number of its signature.
+        signature: u32,
+    },
+}
+
+/// What a function gives and takes (C11 6.7.6.3).
+#[derive(Drop)]
+pub struct Signature {
+    /// The number of the type of its result.
+    pub result: u32,
+    /// The numbers of the types of its parameters, in order.
+    pub parameters: List<u32>,
+}
+
+/// What has linkage under a name: one object or function in the whole text (C11 6.2.2p2).
+#[derive(Clone, Copy)]
+pub struct Linked {
+    /// The object or function, with the type that all its declarations so far give.
+    pub entity: Entity,
+    /// Whether it has a body or an initialiser by now (C11 6.9p5).
+    pub defined: bool,
+}
+
+/// What a scope says of a name that it declares.
+#[derive(Clone, Copy)]
+pub enum Binding {
+    /// It stands for something that has no linkage (C11 6.2.2p6).
+    Own(Entity),
+    /// It stands for what has linkage under that name.
+    WithLinkage,
+}
+
+/// What a tag stands for (C11 6.7.2.3).
+#[derive(Clone, Copy, PartialEq, Eq)]
+pub enum Tag {
+    /// The struct of that number.
+    Struct(u32),
+    /// An enum, whose type is int.
+    Enum {
+        /// Whether its constants are listed already.
+        listed: bool,
+    },
+}
+
+/// How a tag stands in a text (C11 6.7.2.3).
+#[derive(Clone, Copy)]
+pub enum TagForm {
+    /// As in `struct s;` and `struct s { .. }`, which declare it in the innermost scope (p6, p7).
+    Declared,
+    /// As in `struct s *p;`, which takes the one that is visible (p8, p9).
+    Mentioned,
+}

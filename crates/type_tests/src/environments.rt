@@ -1,0 +1,65 @@
+use cbase::{List, NoMemory};
+use environment::{Binding, Entity, Environment, Linked, Signature, Tag, TagForm};
+use std::alloc::Global;
+use std::test::Fail;
+
+/// Whether a typedef of a block is found in it, and that of the file behind it.
+fn inner_names_hide(alloc: Global, env: &mut Environment) -> Result<bool, NoMemory> {
+    let outer = Entity::Typedef { ctype: 1 };
+    let inner = Entity::Typedef { ctype: 2 };
+    env.declare(alloc, b"T", Binding::Own(outer))?;
+    env.open(alloc)?;
+    env.declare(alloc, b"T", Binding::Own(inner))?;
+    let inside = env.look_up(b"T") == Some(inner);
+    env.close();
+    Ok(inside && env.look_up(b"T") == Some(outer))
+}
+
+/// Whether a block that mentions a tag takes that of the file, and one that declares it does not.
+fn tags_are_found_by_form(alloc: Global, env: &mut Environment) -> Result<bool, NoMemory> {
+    env.declare_tag(alloc, b"s", Tag::Struct(0))?;
+    env.open(alloc)?;
+    let mentioned = env.tag(TagForm::Mentioned, b"s") == Some(Tag::Struct(0));
+    let declared = env.tag(TagForm::Declared, b"s").is_some();
+    env.close();
+    Ok(mentioned && !declared)
+}
+
+/// Whether a function that a block declares is that of the file, with its signature.
+fn linkage_is_of_the_text(alloc: Global, env: &mut Environment) -> Result<bool, NoMemory> {
+    let signature = env.add_signature(Signature {
+        result: 3,
+        parameters: List::new(alloc),
+    })?;
+    let entity = Entity::Function { signature };
+    env.open(alloc)?;
+    env.declare(alloc, b"f", Binding::WithLinkage)?;
+    env.link(
+        alloc,
+        b"f",
+        Linked {
+            entity,
+            defined: true,
+        },
+    )?;
+    let found = env.look_up(b"f") == Some(entity);
+    Ok(found && env.signature(signature).is_some())
+}
+
+/// What the three say in the scope of a file.
+fn all_three(alloc: Global, env: &mut Environment) -> Result<(bool, bool, bool), NoMemory> {
+    env.open(alloc)?;
+    let names = inner_names_hide(alloc, env)?;
+    let tags = tags_are_found_by_form(alloc, env)?;
+    let linkage = linkage_is_of_the_text(alloc, env)?;
+    Ok((names, tags, linkage))
+}
+
+#[test]
+fn names_and_tags_are_found_by_scope(rt: HostRuntime) -> Result<(), Fail> {
+    let mut env = Environment::new(rt.alloc());
+    let found = all_three(rt.alloc(), &mut env);
+    drop(env);
+    assert_eq!(rt; found?, (true, true, true));
+    Ok(())
+}
