@@ -19,14 +19,14 @@ All-cons P x xs here later zero d within = here
 All-cons P x xs here later (suc k) d within = later k d (omega arith)
 
 -- the block of an object with this number
-abbrev pub block_of : (Object → List Byte) → ℕ → Object → Block
-block_of bytes number object = record { base = 16 + 65536 * number; kind = object.kind; live = object.live; bytes = bytes object }
+abbrev pub block_of : (ℕ → Object → List Byte) → ℕ → Object → Block
+block_of bytes number object = record { base = 16 + 65536 * number; kind = object.kind; live = object.live; bytes = bytes number object }
 
-abbrev pub blocks_from : (Object → List Byte) → ℕ → List Object → List Block
+abbrev pub blocks_from : (ℕ → Object → List Byte) → ℕ → List Object → List Block
 blocks_from bytes number [] = []
 blocks_from bytes number (object ∷ rest) = block_of bytes number object ∷ blocks_from bytes (number + 1) rest
 
-pub slice_get-blocks : (bytes : Object → List Byte) (number : ℕ) (objects : List Object) (at : ℕ) →
+pub slice_get-blocks : (bytes : ℕ → Object → List Byte) (number : ℕ) (objects : List Object) (at : ℕ) →
     slice_get (blocks_from bytes number objects) at ≡ option_map (block_of bytes (number + at)) (slice_get objects at)
 slice_get-blocks bytes number [] at = refl
 slice_get-blocks bytes number (object ∷ rest) zero = ap (λ (n : ℕ). Some (block_of bytes n object)) (let e : number ≡ number + 0 = omega arith in e)
@@ -34,60 +34,63 @@ slice_get-blocks bytes number (object ∷ rest) (suc at) =
     slice_get-blocks bytes (number + 1) rest at
     ∙ ap (λ (n : ℕ). option_map (block_of bytes n) (slice_get rest at)) (let e : number + 1 + at ≡ number + suc at = omega arith in e)
 
-pub length-blocks : (bytes : Object → List Byte) (number : ℕ) (objects : List Object) → length (blocks_from bytes number objects) ≡ length objects
+pub length-blocks : (bytes : ℕ → Object → List Byte) (number : ℕ) (objects : List Object) → length (blocks_from bytes number objects) ≡ length objects
 length-blocks bytes number [] = refl
 length-blocks bytes number (object ∷ rest) = ap suc (length-blocks bytes (number + 1) rest)
 
-module _ (bytes : Object → List Byte) where
+-- each block has the size of its object
+module _ (bytes : ℕ → Object → List Byte) (sizes : (number : ℕ) (object : Object) → length (bytes number object) ≡ object.size) where
   -- a block of at most 65,536 bytes lies where a block may lie
-  is_placed-block : (number : ℕ) (object : Object) → number < 2 ^ 30 → length (bytes object) ≤ 65536 → is_placed (block_of bytes number object) ≡ true
+  is_placed-block : (number : ℕ) (object : Object) → number < 2 ^ 30 → object.size ≤ 65536 → is_placed (block_of bytes number object) ≡ true
   is_placed-block number object few small =
       let base : 16 + 65536 * number ≡ (1 + 4096 * number) * 16 = omega arith in
       let even : nat_eq ((16 + 65536 * number) % 16) 0 ≡ true = eq-eqb _ _ (ap (λ (n : ℕ). n % 16) base ∙ mul-mod_left (1 + 4096 * number) 16) in
       let low : nat_le 16 (16 + 65536 * number) ≡ true = le-leb _ _ (omega arith) in
-      let high : nat_le (16 + 65536 * number + max 16 (length (bytes object))) (2 ^ 47) ≡ true = le-leb _ _ (omega arith) in
+      let long : length (bytes number object) ≡ object.size = sizes number object in
+      let high : nat_le (16 + 65536 * number + max 16 (length (bytes number object))) (2 ^ 47) ≡ true = le-leb _ _ (omega arith) in
       rw (even, low, high) refl
 
-  placed : (number : ℕ) (objects : List Object) → number + length objects ≤ 2 ^ 30 → list_all (λ object. nat_le (length (bytes object)) 65536) objects ≡ true →
+  placed : (number : ℕ) (objects : List Object) → number + length objects ≤ 2 ^ 30 → list_all (λ object. nat_le object.size 65536) objects ≡ true →
       All (λ block. IsTrue (is_placed block)) (blocks_from bytes number objects)
   placed number [] few small = All-nil (λ block. IsTrue (is_placed block))
   placed number (object ∷ rest) few small =
       All-cons (λ block. IsTrue (is_placed block)) (block_of bytes number object) (blocks_from bytes (number + 1) rest)
-      (is_placed-block number object (omega arith) (leb-true _ _ (and_left (nat_le (length (bytes object)) 65536) (list_all (λ object. nat_le (length (bytes object)) 65536) rest) small)))
-      (placed (number + 1) rest (omega arith) (and_right (nat_le (length (bytes object)) 65536) (list_all (λ object. nat_le (length (bytes object)) 65536) rest) small))
+      (is_placed-block number object (omega arith) (leb-true _ _ (and_left (nat_le object.size 65536) (list_all (λ object. nat_le object.size 65536) rest) small)))
+      (placed (number + 1) rest (omega arith) (and_right (nat_le object.size 65536) (list_all (λ object. nat_le object.size 65536) rest) small))
 
   -- a block ends before each later one begins
-  compatible : (number later : ℕ) (one : Object) (objects : List Object) → length (bytes one) ≤ 65536 → number < later →
+  compatible : (number later : ℕ) (one : Object) (objects : List Object) → one.size ≤ 65536 → number < later →
       All (λ other. IsTrue (are_compatible (block_of bytes number one) other)) (blocks_from bytes later objects)
   compatible number later one [] small before = All-nil (λ other. IsTrue (are_compatible (block_of bytes number one) other))
   compatible number later one (object ∷ rest) small before =
       All-cons (λ other. IsTrue (are_compatible (block_of bytes number one) other)) (block_of bytes later object) (blocks_from bytes (later + 1) rest)
-      (let ends : nat_le (16 + 65536 * number + max 16 (length (bytes one))) (16 + 65536 * later) ≡ true = le-leb _ _ (omega arith) in
+      (let long : length (bytes number one) ≡ one.size = sizes number one in
+      let ends : nat_le (16 + 65536 * number + max 16 (length (bytes number one))) (16 + 65536 * later) ≡ true = le-leb _ _ (omega arith) in
       either one.live object.live ends)
       (compatible number (later + 1) one rest small (omega arith))
     where
-      either : (one_lives other_lives : Bool) → nat_le (16 + 65536 * number + max 16 (length (bytes one))) (16 + 65536 * later) ≡ true →
-          (not one_lives || (not other_lives || (nat_le (16 + 65536 * number + max 16 (length (bytes one))) (16 + 65536 * later) || nat_le (16 + 65536 * later + max 16 (length (bytes object))) (16 + 65536 * number)))) ≡ true
+      either : (one_lives other_lives : Bool) → nat_le (16 + 65536 * number + max 16 (length (bytes number one))) (16 + 65536 * later) ≡ true →
+          (not one_lives || (not other_lives || (nat_le (16 + 65536 * number + max 16 (length (bytes number one))) (16 + 65536 * later) || nat_le (16 + 65536 * later + max 16 (length (bytes later object))) (16 + 65536 * number)))) ≡ true
       either false other_lives ends = refl
       either true false ends = refl
       either true true ends = rw ends refl
 
-  apart : (number : ℕ) (objects : List Object) → list_all (λ object. nat_le (length (bytes object)) 65536) objects ≡ true →
+  apart : (number : ℕ) (objects : List Object) → list_all (λ object. nat_le object.size 65536) objects ≡ true →
       AllPairs (λ one other. IsTrue (are_compatible one other)) (blocks_from bytes number objects)
   apart number [] small = λ i j d before within. absurd (omega arith)
   apart number (object ∷ rest) small =
       AllPairs-cons (λ one other. IsTrue (are_compatible one other)) (block_of bytes number object) (blocks_from bytes (number + 1) rest)
-      (compatible number (number + 1) object rest (leb-true _ _ (and_left (nat_le (length (bytes object)) 65536) (list_all (λ object. nat_le (length (bytes object)) 65536) rest) small)) (omega arith))
-      (apart (number + 1) rest (and_right (nat_le (length (bytes object)) 65536) (list_all (λ object. nat_le (length (bytes object)) 65536) rest) small))
+      (compatible number (number + 1) object rest (leb-true _ _ (and_left (nat_le object.size 65536) (list_all (λ object. nat_le object.size 65536) rest) small)) (omega arith))
+      (apart (number + 1) rest (and_right (nat_le object.size 65536) (list_all (λ object. nat_le object.size 65536) rest) small))
 
-  named : (count number : ℕ) → ((object : Object) → All (NamesBelow count) (bytes object)) → (objects : List Object) → All (λ block. All (NamesBelow count) block.bytes) (blocks_from bytes number objects)
+  named : (count number : ℕ) → ((number : ℕ) (object : Object) → All (NamesBelow count) (bytes number object)) → (objects : List Object) → All (λ block. All (NamesBelow count) block.bytes) (blocks_from bytes number objects)
   named count number names [] = All-nil (λ block. All (NamesBelow count) block.bytes)
   named count number names (object ∷ rest) =
-      All-cons (λ block. All (NamesBelow count) block.bytes) (block_of bytes number object) (blocks_from bytes (number + 1) rest) (names object) (named count (number + 1) names rest)
+      All-cons (λ block. All (NamesBelow count) block.bytes) (block_of bytes number object) (blocks_from bytes (number + 1) rest) (names number object) (named count (number + 1) names rest)
 
   -- such blocks make a memory
-  pub IsMemory-blocks : (objects : List Object) → length objects < 2 ^ 30 → list_all (λ object. nat_le (length (bytes object)) 65536) objects ≡ true →
-      ((object : Object) → All (NamesBelow (length objects)) (bytes object)) → IsMemory (blocks_from bytes 0 objects)
+  pub IsMemory-blocks : (objects : List Object) → length objects < 2 ^ 30 → list_all (λ object. nat_le object.size 65536) objects ≡ true →
+      ((number : ℕ) (object : Object) → All (NamesBelow (length objects)) (bytes number object)) → IsMemory (blocks_from bytes 0 objects)
   IsMemory-blocks objects few small names = record {
     placed = placed 0 objects (omega arith) small;
     apart = apart 0 objects small;

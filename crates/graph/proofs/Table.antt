@@ -1,4 +1,4 @@
--- The bytes of an object: at each place the byte of the edge that covers it, or the number 0.
+-- The bytes of an object: at each place the byte of the edge that covers it, or one of choice.
 use Rattle.std.proofs.Common.{◌≡◌, ℕ, zero, suc, ◌+◌, ◌-◌, ◌<◌, ◌≤◌, Bool, true, false, ◌&&◌, ◌||◌, List, [], ◌∷◌, length, take, drop, get_or, nat_le, nat_lt, refl, ◌∙◌, ap, subst, le-leb, leb-true, lt-ltb, ltb-true, arith}
 use Rattle.std.specs.Prelude.{if◌then◌else◌}
 use Rattle.std.specs.List.{list_all}
@@ -21,9 +21,9 @@ covers edge place = nat_le edge.at place && nat_lt place (edge.at + edge.size)
 abbrev pub edge_byte : (ℕ → Word) → HasValue → ℕ → Byte
 edge_byte word edge place = get_or (word_bytes (word edge.value)) (place - edge.at) (Num 0)
 
-abbrev pub byte_at : (ℕ → Word) → List HasValue → ℕ → Byte
-byte_at word [] place = Num 0
-byte_at word (edge ∷ rest) place = if covers edge place then edge_byte word edge place else byte_at word rest place
+abbrev pub byte_at : (ℕ → Word) → (ℕ → Byte) → List HasValue → ℕ → Byte
+byte_at word fill [] place = fill place
+byte_at word fill (edge ∷ rest) place = if covers edge place then edge_byte word edge place else byte_at word fill rest place
 
 -- so many bytes from a place on
 abbrev pub table : (ℕ → Byte) → ℕ → ℕ → List Byte
@@ -68,12 +68,12 @@ take_of-table at from (suc count) (x ∷ xs) enough same =
     ap (λ (b : Byte). b ∷ table at (from + 1) count) here ∙ ap (λ (bs : List Byte). x ∷ bs) later
 
 -- an edge's bytes are found in its range
-pub record IsFound (word : ℕ → Word) (edges : List HasValue) (edge : HasValue) : Type 0 where
-  pub found : (i : ℕ) → i < edge.size → byte_at word edges (edge.at + i) ≡ get_or (word_bytes (word edge.value)) i (Num 0)
+pub record IsFound (word : ℕ → Word) (fill : ℕ → Byte) (edges : List HasValue) (edge : HasValue) : Type 0 where
+  pub found : (i : ℕ) → i < edge.size → byte_at word fill edges (edge.at + i) ≡ get_or (word_bytes (word edge.value)) i (Num 0)
 
-abbrev AreFound : (ℕ → Word) → List HasValue → List HasValue → Type 0
-AreFound word edges [] = Unit {0}
-AreFound word edges (edge ∷ rest) = IsFound word edges edge × AreFound word edges rest
+abbrev AreFound : (ℕ → Word) → (ℕ → Byte) → List HasValue → List HasValue → Type 0
+AreFound word fill edges [] = Unit {0}
+AreFound word fill edges (edge ∷ rest) = IsFound word fill edges edge × AreFound word fill edges rest
 
 covers-own : (edge : HasValue) (i : ℕ) → i < edge.size → covers edge (edge.at + i) ≡ true
 covers-own edge i below =
@@ -81,12 +81,12 @@ covers-own edge i below =
     let high : nat_lt (edge.at + i) (edge.at + edge.size) ≡ true = lt-ltb _ _ (omega arith) in
     rw (low, high) refl
 
-found_first : (word : ℕ → Word) (edge : HasValue) (rest : List HasValue) → IsFound word (edge ∷ rest) edge
-found_first word edge rest = record {
+found_first : (word : ℕ → Word) (fill : ℕ → Byte) (edge : HasValue) (rest : List HasValue) → IsFound word fill (edge ∷ rest) edge
+found_first word fill edge rest = record {
   found = λ i below.
       let own = covers-own edge i below in
       let place : edge.at + i - edge.at ≡ i = omega arith in
-      ap (λ (b : Bool). if b then edge_byte word edge (edge.at + i) else byte_at word rest (edge.at + i)) own
+      ap (λ (b : Bool). if b then edge_byte word edge (edge.at + i) else byte_at word fill rest (edge.at + i)) own
       ∙ ap (λ (n : ℕ). get_or (word_bytes (word edge.value)) n (Num 0)) place;
 }
 
@@ -112,45 +112,45 @@ misses first edge i apart below = by_cases (nat_le (first.at + first.size) edge.
         outside false b is beyond = refl
     by_cases false not_before false not_after either = absurd (false≢true either)
 
-found_later : (word : ℕ → Word) (first : HasValue) (rest edges : List HasValue) → list_all (share_no_byte first) edges ≡ true → AreFound word rest edges → AreFound word (first ∷ rest) edges
-found_later word first rest [] apart found = tt
-found_later word first rest (edge ∷ more) apart found = (
+found_later : (word : ℕ → Word) (fill : ℕ → Byte) (first : HasValue) (rest edges : List HasValue) → list_all (share_no_byte first) edges ≡ true → AreFound word fill rest edges → AreFound word fill (first ∷ rest) edges
+found_later word fill first rest [] apart found = tt
+found_later word fill first rest (edge ∷ more) apart found = (
   record {
     found = λ i below.
-        ap (λ (b : Bool). if b then edge_byte word first (edge.at + i) else byte_at word rest (edge.at + i)) (misses first edge i (and_left (share_no_byte first edge) (list_all (share_no_byte first) more) apart) below)
+        ap (λ (b : Bool). if b then edge_byte word first (edge.at + i) else byte_at word fill rest (edge.at + i)) (misses first edge i (and_left (share_no_byte first edge) (list_all (share_no_byte first) more) apart) below)
         ∙ found.0.found i below;
   },
-  found_later word first rest more (and_right (share_no_byte first edge) (list_all (share_no_byte first) more) apart) found.1,
+  found_later word fill first rest more (and_right (share_no_byte first edge) (list_all (share_no_byte first) more) apart) found.1,
 )
 
-all_found : (word : ℕ → Word) (edges : List HasValue) → are_disjoint edges ≡ true → AreFound word edges edges
-all_found word [] disjoint = tt
-all_found word (edge ∷ rest) disjoint = (
-  found_first word edge rest,
-  found_later word edge rest rest (and_left (list_all (share_no_byte edge) rest) (are_disjoint rest) disjoint)
-      (all_found word rest (and_right (list_all (share_no_byte edge) rest) (are_disjoint rest) disjoint)),
+all_found : (word : ℕ → Word) (fill : ℕ → Byte) (edges : List HasValue) → are_disjoint edges ≡ true → AreFound word fill edges edges
+all_found word fill [] disjoint = tt
+all_found word fill (edge ∷ rest) disjoint = (
+  found_first word fill edge rest,
+  found_later word fill edge rest rest (and_left (list_all (share_no_byte edge) rest) (are_disjoint rest) disjoint)
+      (all_found word fill rest (and_right (list_all (share_no_byte edge) rest) (are_disjoint rest) disjoint)),
 )
 
 length-word_bytes : (word : Word) → length (word_bytes word) ≡ 8
 length-word_bytes (Plain number) = refl
 length-word_bytes (To block offset) = refl
 
-holds : (word : ℕ → Word) (all : List HasValue) (size : ℕ) (edges : List HasValue) → AreFound word all edges → list_all (lies_in size) edges ≡ true → list_all (λ edge. nat_le edge.size 8) edges ≡ true →
-    HoldEdges (table (byte_at word all) 0 size) word edges
-holds word all size [] found inside small = tt
-holds word all size (edge ∷ rest) found inside small =
+holds : (word : ℕ → Word) (fill : ℕ → Byte) (all : List HasValue) (size : ℕ) (edges : List HasValue) → AreFound word fill all edges → list_all (lies_in size) edges ≡ true → list_all (λ edge. nat_le edge.size 8) edges ≡ true →
+    HoldEdges (table (byte_at word fill all) 0 size) word edges
+holds word fill all size [] found inside small = tt
+holds word fill all size (edge ∷ rest) found inside small =
     let within = leb-true _ _ (and_left (lies_in size edge) (list_all (lies_in size) rest) inside) in
     let eight = leb-true _ _ (and_left (nat_le edge.size 8) (list_all (λ edge. nat_le edge.size 8) rest) small) in
     let long = length-word_bytes (word edge.value) in (
-      range-table (byte_at word all) size edge.at edge.size within
-          ∙ take_of-table (byte_at word all) edge.at edge.size (word_bytes (word edge.value)) (omega arith) found.0.found,
-      holds word all size rest found.1 (and_right (lies_in size edge) (list_all (lies_in size) rest) inside) (and_right (nat_le edge.size 8) (list_all (λ edge. nat_le edge.size 8) rest) small),
+      range-table (byte_at word fill all) size edge.at edge.size within
+          ∙ take_of-table (byte_at word fill all) edge.at edge.size (word_bytes (word edge.value)) (omega arith) found.0.found,
+      holds word fill all size rest found.1 (and_right (lies_in size edge) (list_all (lies_in size) rest) inside) (and_right (nat_le edge.size 8) (list_all (λ edge. nat_le edge.size 8) rest) small),
     )
 
 -- the table holds the word of each edge
-pub HoldEdges-table : (word : ℕ → Word) (edges : List HasValue) (size : ℕ) → are_disjoint edges ≡ true → list_all (lies_in size) edges ≡ true → list_all (λ edge. nat_le edge.size 8) edges ≡ true →
-    HoldEdges (table (byte_at word edges) 0 size) word edges
-HoldEdges-table word edges size disjoint inside small = holds word edges size edges (all_found word edges disjoint) inside small
+pub HoldEdges-table : (word : ℕ → Word) (fill : ℕ → Byte) (edges : List HasValue) (size : ℕ) → are_disjoint edges ≡ true → list_all (lies_in size) edges ≡ true → list_all (λ edge. nat_le edge.size 8) edges ≡ true →
+    HoldEdges (table (byte_at word fill edges) 0 size) word edges
+HoldEdges-table word fill edges size disjoint inside small = holds word fill edges size edges (all_found word fill edges disjoint) inside small
 
 -- a table whose bytes have the classes
 pub HaveClasses-table : (at : ℕ → Byte) (from : ℕ) (plane : List ℕ) → ((i d : ℕ) → i < length plane → HasClass (get_or plane i d) (at (from + i))) → HaveClasses plane (table at from (length plane))

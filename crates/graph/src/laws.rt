@@ -1,7 +1,10 @@
 //! Laws of what graphs stand for. Each is the contract of a function that does nothing.
 ghost use Rattle.std.specs.Prelude.{◌≡◌, ℕ, ◌↔◌, IsTrue};
+ghost use Rattle.bytes_core.specs.declared.byte.Byte.{Byte};
+ghost use Rattle.bytes_core.specs.declared.word.Word.{Word};
 ghost use Rattle.graph.specs.declared.parts.Parts.{Parts};
 ghost use Rattle.graph.specs.Alike.{IsSeenAs};
+ghost use Rattle.graph.specs.Choices.{IsChoice, IsMadeWith};
 ghost use Rattle.graph.specs.Laws.{IsRenaming};
 ghost use Rattle.graph.specs.Meaning.{StandsFor};
 ghost use Rattle.graph.specs.Renaming.{renamed, numbered, object_place, value_place};
@@ -55,4 +58,15 @@ pub fn every_graph_stands_for_some_state()
         IsWellFormed parts →
         IsTrue (is_within_limits parts) →
         (state : State) × IsState state × StandsFor parts state }
+{}
+
+/// Every graph within the limits stands for a state with words and bytes of choice: the word of each value that may be any
+/// word, and each byte that no edge holds, within its class.
+pub fn words_and_bytes_may_be_chosen()
+    ensures { (parts : Parts) (word : ℕ → Word) (byte : ℕ → ℕ → Byte) →
+        HasAscendingKeys parts →
+        IsWellFormed parts →
+        IsTrue (is_within_limits parts) →
+        IsChoice (numbered parts) word byte →
+        (state : State) × IsState state × IsMadeWith (numbered parts) word byte state }
 {}
