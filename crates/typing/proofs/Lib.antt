@@ -1,0 +1,9 @@
+pub mod SampleFacts
+pub mod ExamplesNamed
+pub mod ExamplesUnary
+pub mod ExamplesBinary
+pub mod ExamplesAssigned
+pub mod ExamplesMembers
+pub mod ExamplesCalled
+pub mod ExamplesSizes
+pub mod ExamplesInner
