@@ -84,7 +84,7 @@ are_sizes = record {
   operand_first = (start, RefusedInside (outs-Cast _ _) (RefusedBehind (TypeInside (TypeNamed (out-roll-TypeName _) (outs-Basic (Integer Char true)) BasicSpecifier (MoreSizes (SizeOfItems (vn 0 3) (seen k_int) refl) NoSizes) (ap is_over (laid_chars 0)))) (RefusedHere (LoadedRefused (y 1 6)))));
   to_variable_array = (start, Walked (outs-Cast _ _) (two (TypeInside (TypeNamed (out-roll-TypeName _) (outs-Basic (Integer Char true)) BasicSpecifier (MoreSizes (SizeOfItems (vn 0 3) (seen k_int) refl) NoSizes) (ap is_over (laid_chars 0)))) (vn 1 6)) (CastToType (k_row 0) (seen k_int) (record { front = []; back = fault (token 0) (Rule 4) ∷ []; whole = refl; later = tt; behind = (tt, tt) })));
   idiom = (_, _, _, Walked (outs-Cast _ _) (two (TypeInside (TypeNamed (out-roll-TypeName _) (outs-Basic (Integer Long true)) BasicSpecifier NoSizes (ap is_over (laid_8 true)))) (LoadedValue (Walked (outs-Unary Address _) (one (UnloadedOperand (Walked (outs-ExprForm::Member _ _ true) (one (LoadedValue (Walked (outs-Cast _ _) (two (TypeInside (TypeNamed (out-roll-TypeName _) (outs-Struct _ _) (StructSpecifier refl) NoSizes (ap is_over (laid_pointer _)))) (v0 0 10)) (CastToType k_r (seen k_int) (refl, refl, refl))) refl)) (MemberOfPointed (seen k_r) (of_s (codes "b")) b_offset)))) (AddressOf (seen k_chars))) refl)) (CastToType k_long (seen k_char_pointers) (refl, refl, refl)), refl, refl);
-  member = (_, _, _, Walked (outs-OffsetOf _ _) (path_pieces (codes "b") 5 (TypeInside (TypeNamed (out-roll-TypeName _) (outs-Struct _ _) (StructSpecifier refl) NoSizes (ap is_over laid_s)))) (OffsetOfMember (lead_by (codes "b") 5 (ToFirst (of_s (codes "b")) b_offset Arrives)) (refl, refl, refl)), refl, refl);
-  no_struct = (start, Walked (outs-OffsetOf _ _) (path_pieces (codes "a") 4 (TypeInside (TypeNamed (out-roll-TypeName _) (outs-Basic (Integer Int true)) BasicSpecifier NoSizes (ap is_over (laid_4 true))))) (OffsetOfMember (lead_by (codes "a") 4 (NoFirst (ap (λ (kind : Kind). member_in structs (has_size structs int_type) kind (codes "a")) k_int))) (alone _)));
-  no_member = (start, Walked (outs-OffsetOf _ _) (path_pieces (codes "d") 5 (TypeInside (TypeNamed (out-roll-TypeName _) (outs-Struct _ _) (StructSpecifier refl) NoSizes (ap is_over laid_s)))) (OffsetOfMember (lead_by (codes "d") 5 (NoFirst (of_s (codes "d")))) (alone _)));
+  member = (_, _, _, Walked (outs-OffsetOf _ _) (path_pieces (codes "b") 5 (TypeInside (TypeNamed (out-roll-TypeName _) (outs-Struct _ _) (StructSpecifier refl) NoSizes (ap is_over laid_s)))) (OffsetOfMember {indices = []} refl (lead_by (codes "b") 5 (ToFirst (of_s (codes "b")) b_offset Arrives)) (refl, refl, refl)), refl, refl);
+  no_struct = (start, Walked (outs-OffsetOf _ _) (path_pieces (codes "a") 4 (TypeInside (TypeNamed (out-roll-TypeName _) (outs-Basic (Integer Int true)) BasicSpecifier NoSizes (ap is_over (laid_4 true))))) (OffsetOfMember {indices = []} refl (lead_by (codes "a") 4 (NoFirst (ap (λ (kind : Kind). member_in structs (has_size structs int_type) kind (codes "a")) k_int))) (alone _)));
+  no_member = (start, Walked (outs-OffsetOf _ _) (path_pieces (codes "d") 5 (TypeInside (TypeNamed (out-roll-TypeName _) (outs-Struct _ _) (StructSpecifier refl) NoSizes (ap is_over laid_s)))) (OffsetOfMember {indices = []} refl (lead_by (codes "d") 5 (NoFirst (of_s (codes "d")))) (alone _)));
 }

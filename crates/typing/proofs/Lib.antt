@@ -1,4 +1,7 @@
 pub mod SampleFacts
+pub mod OneFault
+pub mod OneRule
+pub mod OneWay
 pub mod ExamplesNamed
 pub mod ExamplesUnary
 pub mod ExamplesBinary

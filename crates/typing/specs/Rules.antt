@@ -151,10 +151,11 @@ pub data AtNode (l : Language) (env : l.Environment) (number : ℕ) (place : Pla
       → IsSettled (all_at place named.found ++ size_faults place bytes) (sized_known bytes) (behind handed number (sized_known bytes)) outcome
       → AtNode l env number place handed (SizeOfType to) (TypeIs named ∷ []) outcome
   -- `__builtin_offsetof` (7.19p3)
-  OffsetOfMember : {to : TypeName} {path : List Part} {named : NamedType} {indices : List ℤ} {way : Way} {outcome : Outcome Known}
+  OffsetOfMember : {to : TypeName} {path : List Part} {named : NamedType} {told : List Told} {indices : List ℤ} {way : Way} {outcome : Outcome Known}
+      → told ≡ map IndexIs indices
       → LeadsFrom l.abi (l.structs env) place named.ctype (map out-Part path) indices way
       → IsSettled (all_at place named.found ++ way_faults way) (offset_known (way_offset way)) (behind handed number (offset_known (way_offset way))) outcome
-      → AtNode l env number place handed (OffsetOf to path) (TypeIs named ∷ map IndexIs indices) outcome
+      → AtNode l env number place handed (OffsetOf to path) (TypeIs named ∷ told) outcome
   -- a cast (6.5.4)
   CastToType : {to : TypeName} {arg : Expr} {named : NamedType} {a : Known} {target : Kind} {left : Operand} {outcome : Outcome Known}
       → kind_of (l.structs env) named.ctype ≡ target
