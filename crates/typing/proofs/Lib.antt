@@ -1,5 +1,7 @@
 pub mod SampleFacts
 pub mod OneFault
+pub mod WalkRows
+pub mod OneOutcome
 pub mod OneRule
 pub mod OneWay
 pub mod ExamplesNamed

@@ -1,5 +1,5 @@
 -- Of what is broken at an expression one thing is named.
-use Rattle.std.proofs.Common.{◌≡◌, List, [], ◌∷◌, ◌++◌, refl, sym, ap, ◌∙◌, subst}
+use Rattle.std.proofs.Common.{◌≡◌, List, [], ◌∷◌, ◌++◌, sym, ap, ◌∙◌, subst}
 use Rattle.std.specs.List.{AllByRecursion}
 use Rattle.operators.specs.Broken.{ComesBefore}
 use Rattle.typing.specs.Faults.{Fault, IsFirst}

@@ -1,5 +1,5 @@
 -- At an expression whose parts pass one thing is found.
-use Rattle.std.proofs.Common.{◌≡◌, ℕ, Bool, true, false, List, [], ◌∷◌, ◌++◌, Option, Some, None, map, refl, sym, ap, ◌∙◌, subst}
+use Rattle.std.proofs.Common.{◌≡◌, ℕ, Bool, true, List, [], ◌∷◌, ◌++◌, Option, Some, None, map, refl, sym, ap, ◌∙◌, subst}
 use Rattle.std.specs.Prelude.{ℤ}
 use Rattle.cbase.specs.declared.ctype.CType.{CType}
 use Rattle.cbase.specs.declared.place.Place.{Place}
@@ -12,31 +12,29 @@ use Rattle.cbase.specs.declared.tree.operators.UnaryOp.{UnaryOp}
 use Rattle.cbase.specs.declared.tree.operators.UnaryOp.TheVariants.{Address, Follow, Plus, Minus, Flip, Not}
 use Rattle.constants.specs.declared.meaning.Constant.{Constant as ConstantMeant}
 use Rattle.constants.specs.declared.meaning.Meaning.TheVariants.{FitsNoType, Known as Meant}
-use Rattle.constants.specs.Meanings.{Reading, Reads, Means, constant_of}
+use Rattle.constants.specs.Meanings.{Means, constant_of}
 use Rattle.constants.proofs.Exact.{one_reading}
 use Rattle.operators.specs.declared.binary.Group.{Group}
-use Rattle.operators.specs.declared.found.Broken.{Broken}
 use Rattle.operators.specs.declared.found.Broken.TheVariants.{Construct, Rule}
 use Rattle.operators.specs.Assigning.{assigned, updated}
 use Rattle.operators.specs.Binary.{group_of, operated}
-use Rattle.operators.specs.Broken.{Judgement}
 use Rattle.operators.specs.Choosing.{chosen}
 use Rattle.operators.specs.Converting.{cast}
 use Rattle.operators.specs.Kinds.{Kind, Integer, Pointer, Array, Struct, Void, decayed}
 use Rattle.operators.specs.Members.{indexed, member_through}
 use Rattle.operators.specs.Operands.{Operand}
 use Rattle.operators.specs.Unary.{unary, counted}
-use Rattle.typing.specs.Calls.{Argument, call_faults}
-use Rattle.typing.specs.Entities.{Entity, ObjectEntity, ObjectIs, FunctionIs, EnumeratorIs, TypedefIs}
+use Rattle.typing.specs.Calls.{call_faults}
+use Rattle.typing.specs.Entities.{Entity, ObjectIs, FunctionIs, EnumeratorIs, TypedefIs}
 use Rattle.typing.specs.Faults.{Fault, fault, all_at, faults_of, IsFirst}
 use Rattle.typing.specs.Forms.{Form}
 use Rattle.typing.specs.Idiom.{Outside, address, at_index, through, within, is_idiom, item_bytes}
 use Rattle.typing.specs.Known.{Known, plain, located, valued, operand, number_of, behind, found_at}
 use Rattle.typing.specs.Language.{Language}
-use Rattle.typing.specs.Nodes.{is_sized, object_faults, object_known, enumerator_known, function_faults, constant_known, place_of_member, pointed_offset, is_arithmetic, bytes_of, size_faults, sized_known, offset_known, cast_known, place_of_assignment}
+use Rattle.typing.specs.Nodes.{is_sized, object_faults, object_known, enumerator_known, function_faults, constant_known, place_of_member, pointed_offset, is_arithmetic, size_faults, sized_known, offset_known, cast_known, place_of_assignment}
 use Rattle.typing.specs.Outcomes.{Outcome, Handed, Passes, Refused, IsSettled}
 use Rattle.typing.specs.Paths.{Way, LeadsFrom, way_faults, way_offset}
-use Rattle.typing.specs.Rules.{AtNode, AreArguments, UndeclaredName, TypeAsOperand, ObjectName, EnumeratorName, FunctionAsOperand, ConstantOfType, ConstantOfNoType, StatementExpression, AssertionFailed, Subscript, CallOfFunction, CallOfOther, MemberOfStruct, MemberOfPointed, Counting, AddressOf, Indirection, UnaryArithmetic, SizeOfExpression, SizeOfTypeName, OffsetOfMember, CastToType, ArithmeticOperator, AdditionOperator, SubtractionOperator, ShiftOperator, RelationalOperator, EqualityOperator, LogicalOperator, ConditionalOperator, Assignment, CompoundAssignment, CommaOperator}
+use Rattle.typing.specs.Rules.{AtNode, UndeclaredName, TypeAsOperand, ObjectName, EnumeratorName, FunctionAsOperand, ConstantOfType, ConstantOfNoType, StatementExpression, AssertionFailed, Subscript, CallOfFunction, CallOfOther, MemberOfStruct, MemberOfPointed, Counting, AddressOf, Indirection, UnaryArithmetic, SizeOfExpression, SizeOfTypeName, OffsetOfMember, CastToType, ArithmeticOperator, AdditionOperator, SubtractionOperator, ShiftOperator, RelationalOperator, EqualityOperator, LogicalOperator, ConditionalOperator, Assignment, CompoundAssignment, CommaOperator}
 use Rattle.typing.specs.Told.{Told, OperandIs, IndexIs}
 use Rattle.typing.specs.Values.{unary_value, binary_value, choice_value}
 use Rattle.typing.proofs.OneFault.{one_first, one_settled, settled_alike}
@@ -161,10 +159,13 @@ binary_row {l} {env} {number} {place} {handed} (ShiftOperator {a = a} {b = b} {l
 binary_row {l} {env} {number} {place} {handed} (RelationalOperator {a = a} {b = b} {left = left} {right = right} {op = op} g e f) = grouped l env number place handed op a b _ left right g e f
 binary_row {l} {env} {number} {place} {handed} (EqualityOperator {a = a} {b = b} {left = left} {right = right} {op = op} g e f) = grouped l env number place handed op a b _ left right g e f
 binary_row {l} {env} {number} {place} {handed} (LogicalOperator {a = a} {b = b} {left = left} {right = right} {op = op} g e f) = grouped l env number place handed op a b _ left right g e f
-binary_row {l} {env} {number} {place} {handed} (CommaOperator {a = a} {b = b} {left = left} {right = right} e f) =
-    (a, b, refl,
-    ap (λ (value : Option ℕ). found_at (λ broken. place) (operated (group_of Comma) left right) (valued value) handed number) (sym (comma_value left.kind a.value right.kind b.value))
-    ∙ (λ i. binary_found number place handed Comma a b (group_of Comma) (sym e i) (sym f i)))
+binary_row {l} {env} {number} {place} {handed} (CommaOperator {a = a} {b = b} {left = left} {right = right} e f) = (
+  a,
+  b,
+  refl,
+  ap (λ (value : Option ℕ). found_at (λ broken. place) (operated (group_of Comma) left right) (valued value) handed number) (sym (comma_value left.kind a.value right.kind b.value))
+      ∙ (λ i. binary_found number place handed Comma a b (group_of Comma) (sym e i) (sym f i)),
+)
 
 operands_told : (a b c d : Known) (told : List Told) → told ≡ OperandIs a ∷ OperandIs b ∷ [] → told ≡ OperandIs c ∷ OperandIs d ∷ [] → (a ≡ c) × (b ≡ d)
 operands_told a b c d told e f = let same : OperandIs a ∷ OperandIs b ∷ [] ≡ OperandIs c ∷ OperandIs d ∷ [] = sym e ∙ f in (cc same, cc same)

@@ -1,5 +1,5 @@
 -- A way to a member leads to one place, and arguments are read in one way.
-use Rattle.std.proofs.Common.{◌≡◌, ℕ, List, [], ◌∷◌, Option, Some, None, refl, sym, ap, ◌∙◌, subst}
+use Rattle.std.proofs.Common.{◌≡◌, ℕ, List, ◌∷◌, Option, Some, None, refl, sym, ap, ◌∙◌, subst}
 use Rattle.std.specs.Prelude.{ℤ, pos, ◌+ℤ◌, ◌*ℤ◌}
 use Rattle.cbase.specs.declared.abi.Abi.{Abi}
 use Rattle.cbase.specs.declared.ctype.CType.{CType}
@@ -10,7 +10,7 @@ use Rattle.operators.specs.declared.found.Broken.{Broken}
 use Rattle.operators.specs.Broken.{Judgement, Typed, Breaks}
 use Rattle.typing.specs.Calls.{Argument}
 use Rattle.typing.specs.Forms.{Step}
-use Rattle.typing.specs.Paths.{Way, Offset, Stops, first_fault, Leads, LeadsFrom, Arrives, ToMember, NoMember, ToItem, NoItem, ToFirst, NoFirst}
+use Rattle.typing.specs.Paths.{Way, Stops, first_fault, Leads, LeadsFrom, Arrives, ToMember, NoMember, ToItem, NoItem, ToFirst, NoFirst}
 use Rattle.typing.specs.Rules.{AreArguments, NoArguments, MoreArguments}
 use Rattle.typing.specs.Told.{Told}
 

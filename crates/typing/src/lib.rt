@@ -5,8 +5,10 @@
 //! functions here are its laws.
 #![tactic(auto)]
 
+mod laws;
 mod rows;
 
+pub use laws::expressions_have_one_outcome;
 pub use rows::{
     rows_of_names, rows_of_operators, rows_of_postfixes, rows_of_statement_expressions,
     rows_of_types,
