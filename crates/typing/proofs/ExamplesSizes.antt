@@ -53,14 +53,14 @@ k_char_pointers = (are_kinds structs).pointer (PointerType char_type) ∙ ap (Po
 no_indices : (bytes : List ℕ) (at : ℕ) → indices_in (NamedPart (identifier bytes at) ∷ []) ≡ []
 no_indices bytes at = ap (λ (step : Step). index_in step ++ []) (outs-Part::Member (identifier bytes at))
 
-path_pieces : {to : TypeName} {named : NamedType} {handed : List Handed} (bytes : List ℕ) (at : ℕ)
+pub path_pieces : {to : TypeName} {named : NamedType} {handed : List Handed} (bytes : List ℕ) (at : ℕ)
     → Finds sample start (PieceIs (OfType to) (Passes (TypeIs named) handed)) start
     → Finds sample start (PiecesAre (OfType to ∷ indices_in (NamedPart (identifier bytes at) ∷ [])) (Passes (TypeIs named ∷ []) (handed ++ []))) start
 path_pieces {to} {named} {handed} bytes at found =
     subst (λ (pieces : List Piece). Finds sample start (PiecesAre (OfType to ∷ pieces) (Passes (TypeIs named ∷ []) (handed ++ []))) start) (sym (no_indices bytes at)) (one found)
 
 -- and leads by that name
-lead_by : {t : CType} {way : Way} (bytes : List ℕ) (at : ℕ)
+pub lead_by : {t : CType} {way : Way} (bytes : List ℕ) (at : ℕ)
     → LeadsFrom Lp64 structs (token 0) t (Part::Member (identifier bytes at) ∷ []) [] way
     → LeadsFrom Lp64 structs (token 0) t (map out-Part (NamedPart (identifier bytes at) ∷ [])) [] way
 lead_by {t} {way} bytes at leads = subst (λ (step : Step). LeadsFrom Lp64 structs (token 0) t (step ∷ []) [] way) (sym (outs-Part::Member (identifier bytes at))) leads

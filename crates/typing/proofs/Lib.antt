@@ -5,6 +5,7 @@ pub mod OneOutcome
 pub mod OneRule
 pub mod OneWay
 pub mod ExamplesNamed
+pub mod ExamplesTypeNames
 pub mod ExamplesUnary
 pub mod ExamplesBinary
 pub mod ExamplesAssigned

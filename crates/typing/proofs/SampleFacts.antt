@@ -3,7 +3,7 @@ use Rattle.std.proofs.Common.{◌≡◌, ℕ, suc, Bool, true, false, List, [], 
 use Rattle.std.specs.Prelude.{is_some, option_map, codes, if◌then◌else◌}
 use Rattle.cbase.specs.declared.abi.Abi.TheVariants.{Lp64}
 use Rattle.cbase.specs.declared.ctype.CType.{CType}
-use Rattle.cbase.specs.declared.ctype.CType.TheVariants.{Void as VoidType, Int as IntType, Pointer as PointerType, Struct as StructType, Array as ArrayType}
+use Rattle.cbase.specs.declared.ctype.CType.TheVariants.{Void as VoidType, Bool as BoolType, Int as IntType, Pointer as PointerType, Struct as StructType, Array as ArrayType}
 use Rattle.cbase.specs.declared.ctype.CType.TheViews.{outs-Int}
 use Rattle.cbase.specs.declared.layout.Layout.{Layout}
 use Rattle.cbase.specs.declared.structs.StructDef.{StructDef}
@@ -12,7 +12,7 @@ use Rattle.cbase.specs.declared.tree.expr.ExprForm.TheVariants.{Unary}
 use Rattle.cbase.specs.declared.tree.expr.ExprForm.TheViews.{outs-Name, outs-Constant, outs-Unary}
 use Rattle.cbase.specs.declared.tree.operators.UnaryOp.TheVariants.{Minus}
 use Rattle.cbase.specs.Layout.{layout_of, struct_at, fields_layout, no_fields, scalar, repeated}
-use Rattle.cbase.proofs.Types.{type_layout-Void, type_layout-Int, type_layout-Pointer, type_layout-Array, type_layout-Struct}
+use Rattle.cbase.proofs.Types.{type_layout-Void, type_layout-Bool, type_layout-Int, type_layout-Pointer, type_layout-Array, type_layout-Struct}
 use Rattle.constants.specs.declared.meaning.Constant.{Constant}
 use Rattle.constants.specs.declared.meaning.Meaning.TheVariants.{Known as Meant}
 use Rattle.constants.specs.Deciding.{letter, integer, meaning_of}
@@ -22,7 +22,7 @@ use Rattle.operators.specs.declared.found.Broken.{Broken}
 use Rattle.operators.specs.declared.found.Broken.TheVariants.{Rule}
 use Rattle.operators.specs.declared.kind.Target.TheVariants.{Void as VoidTarget, Sized, Unsized}
 use Rattle.operators.specs.Binary.{int_type}
-use Rattle.operators.specs.Integers.{integer as integer_of}
+use Rattle.operators.specs.Integers.{integer as integer_of, truth}
 use Rattle.operators.specs.Kinds.{Kind, Integer, Pointer, Array, Struct, Void, kind_of, target_in, target_of, has_size}
 use Rattle.operators.specs.Operands.{Operand}
 use Rattle.operators.specs.Unary.{size_type}
@@ -72,7 +72,21 @@ laid_s =
 pub laid_t : layout_of Lp64 structs (StructType 1) ≡ None
 laid_t = type_layout-Struct Lp64 (struct_at Lp64 2 structs) 1
 
+pub laid_bool : layout_of Lp64 structs BoolType ≡ Some (scalar 1)
+laid_bool = type_layout-Bool Lp64 (struct_at Lp64 2 structs)
+
+pub laid_rows : (rows count : ℕ) → layout_of Lp64 structs (ArrayType (ArrayType char_type count) rows) ≡ Some (repeated rows (repeated count (scalar 1)))
+laid_rows rows count = type_layout-Array Lp64 (struct_at Lp64 2 structs) (ArrayType char_type count) rows ∙ ap (option_map (repeated rows)) (laid_chars count)
+
 -- kinds
+pub k_bool : kind_of structs BoolType ≡ Integer truth
+k_bool = (are_kinds structs).bool
+
+pub k_pointer_to_none : kind_of structs (PointerType (ArrayType char_type 0)) ≡ Pointer (ArrayType char_type 0) Sized
+k_pointer_to_none =
+    (are_kinds structs).pointer (ArrayType char_type 0)
+    ∙ ap (Pointer (ArrayType char_type 0)) ((are_targets structs).array char_type 0 ∙ ap (λ (sized : Bool). if sized then Sized else Unsized) (ap is_some (laid_chars 0)))
+
 pub k_int : kind_of structs int_type ≡ Integer (integer_of 4 true)
 k_int = (are_kinds structs).int 4 true
 
@@ -252,6 +266,10 @@ m_0 = refl
 pub m_1 : meaning_of Lp64 (codes "1") ≡ Meant (int_of 1)
 unfolding letter integer
 m_1 = refl
+
+pub m_2 : meaning_of Lp64 (codes "2") ≡ Meant (int_of 2)
+unfolding letter integer
+m_2 = refl
 
 pub m_3 : meaning_of Lp64 (codes "3") ≡ Meant (int_of 3)
 unfolding letter integer

@@ -1,13 +1,13 @@
 -- Expressions with what is found of them, worked out by hand from C11. Tokens are counted from 0.
 use Rattle.std.specs.Prelude.{true, false, [], ◌∷◌, None, Some, codes}
-use Rattle.cbase.specs.declared.ctype.CType.TheVariants.{Void as VoidType, Pointer as PointerType, Array as ArrayType}
+use Rattle.cbase.specs.declared.ctype.CType.TheVariants.{Void as VoidType, Bool as BoolType, Pointer as PointerType, Array as ArrayType}
 use Rattle.cbase.specs.declared.tree.expr.ExprForm.TheVariants.{Unary, Binary, Assign, Count, Choose, Cast, SizeOf, SizeOfType, OffsetOf, Index, Member, Call, Inner, AssertFail}
 use Rattle.cbase.specs.declared.tree.expr.Part.TheVariants.{Member as NamedPart}
 use Rattle.cbase.specs.declared.tree.operators.BinaryOp.TheVariants.{Mul, Div, Add, Sub, Left, Less, Equal, Both, Comma}
 use Rattle.cbase.specs.declared.tree.operators.UnaryOp.TheVariants.{Address, Follow, Minus, Flip, Not}
-use Rattle.cbase.specs.declared.tree.spec.BasicType.TheVariants.{Void, Integer}
+use Rattle.cbase.specs.declared.tree.spec.BasicType.TheVariants.{Void, Bool as BoolWord, Integer}
 use Rattle.cbase.specs.declared.tree.spec.Rank.TheVariants.{Char, Int, Long}
-use Rattle.cbase.specs.declared.tree.spec.TypeSpec.TheVariants.{Basic, Struct as StructWords, OfExpr}
+use Rattle.cbase.specs.declared.tree.spec.TypeSpec.TheVariants.{Basic, Named, Struct as StructWords, Enum as EnumWords, OfExpr, OfType}
 use Rattle.cbase.specs.declared.tree.stmt.StmtForm.TheVariants.{Eval}
 use Rattle.operators.specs.declared.found.Broken.TheVariants.{Construct, Rule}
 use Rattle.operators.specs.Binary.{int_type}
@@ -249,3 +249,40 @@ pub record AreInner : Type 0 where
   pub struct : IsRefused (node 1 0 (Inner (statement (Eval (Some (name (codes "x") 0 2))) ∷ []) (token 9))) 2 (Rule 4)
   -- ({ n; }) + 1
   pub of_statement : HasType (node 3 6 (Binary Add (node 1 0 (Inner (statement (Eval (Some (name (codes "n") 0 2))) ∷ []) (token 9))) (constant (codes "1") 2 7))) int_type
+
+-- type names, and what they hold (C11 6.7.7)
+pub record AreTypeNames : Type 0 where
+  -- sizeof(T)
+  pub of_typedef : HasValue (node 0 0 (SizeOfType (type_name (Named (codes "T")) 0 []))) size_type 1
+  -- sizeof(struct s)
+  pub of_struct : HasValue (node 0 0 (SizeOfType (type_name (StructWords (Some (identifier (codes "s") 3)) None) 0 []))) size_type 16
+  -- sizeof(struct t)
+  pub of_incomplete : IsRefused (node 0 0 (SizeOfType (type_name (StructWords (Some (identifier (codes "t") 3)) None) 0 []))) 0 (Rule 3)
+  -- sizeof(enum e)
+  pub of_new_enum : HasValue (node 0 0 (SizeOfType (type_name (EnumWords (Some (identifier (codes "e") 3)) None) 0 []))) size_type 4
+  -- sizeof(enum s)
+  pub of_other_kind : IsRefused (node 0 0 (SizeOfType (type_name (EnumWords (Some (identifier (codes "s") 3)) None) 0 []))) 3 (Rule 2)
+  -- sizeof(char[])
+  pub of_size_left_out : IsRefused (node 0 0 (SizeOfType (type_name (Basic (Integer Char true)) 0 (None ∷ [])))) 0 (Rule 3)
+  -- sizeof(char[2][3])
+  pub of_rows : HasValue (node 2 0 (SizeOfType (type_name (Basic (Integer Char true)) 0 (Some (constant (codes "2") 0 4) ∷ Some (constant (codes "3") 1 7) ∷ [])))) size_type 6
+  -- sizeof(typeof(char[n]))
+  pub of_variable_typeof : IsRefused (node 1 0 (SizeOfType (type_name (OfType (type_name (Basic (Integer Char true)) 0 (Some (name (codes "n") 0 6) ∷ []))) 0 []))) 0 (Construct 18)
+  -- sizeof(typeof(char[n]) *)
+  pub of_pointer_to_variable : IsRefused (node 1 0 (SizeOfType (type_name (OfType (type_name (Basic (Integer Char true)) 0 (Some (name (codes "n") 0 6) ∷ []))) 1 []))) 0 (Construct 18)
+  -- (typeof(char[n]) *)n
+  pub pointer_cast_first : IsRefused (node 2 0 (Cast (type_name (OfType (type_name (Basic (Integer Char true)) 0 (Some (name (codes "n") 0 5) ∷ []))) 1 []) (name (codes "n") 1 10))) 0 (Construct 15)
+  -- sizeof count
+  pub of_parameter : IsRefused (node 1 0 (SizeOf (name (codes "count") 0 1))) 1 (Rule 12)
+  -- sizeof missing
+  pub of_undefined : IsRefused (node 1 0 (SizeOf (name (codes "missing") 0 1))) 1 (Construct 12)
+  -- sizeof(typeof(f) *)
+  pub of_function : IsRefused (node 1 0 (SizeOfType (type_name (OfExpr (name (codes "f") 0 4)) 1 []))) 4 (Construct 20)
+  -- (_Bool)p
+  pub to_bool : HasType (node 1 0 (Cast (type_name (Basic BoolWord) 0 []) (name (codes "p") 0 3))) BoolType
+  -- (void)x
+  pub struct_to_void : IsRefused (node 1 0 (Cast (type_name (Basic Void) 0 []) (name (codes "x") 0 3))) 0 (Rule 4)
+  -- (int)g()
+  pub void_to_int : IsRefused (node 2 0 (Cast (type_name (Basic (Integer Int true)) 0 []) (node 1 3 (Call (name (codes "g") 0 3) [])))) 0 (Rule 4)
+  -- __builtin_offsetof(struct t, a)
+  pub in_incomplete : IsRefused (node 0 0 (OffsetOf (type_name (StructWords (Some (identifier (codes "t") 3)) None) 0 []) (NamedPart (identifier (codes "a") 5) ∷ []))) 0 (Rule 3)

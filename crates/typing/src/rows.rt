@@ -1,6 +1,6 @@
 //! Expressions with what is found of them, worked out by hand from the standard. Each table is the contract of a function that does
 //! nothing.
-ghost use Rattle.typing.specs.Examples.{AreNamed, AreUnary, AreBinary, AreAssigned, AreMembers, AreCalled, AreSizes, AreInner};
+ghost use Rattle.typing.specs.Examples.{AreNamed, AreUnary, AreBinary, AreAssigned, AreMembers, AreCalled, AreSizes, AreTypeNames, AreInner};
 
 /// Names and constants (C11 6.5.1).
 #[tactic(auto, using(crate::proofs::ExamplesNamed::are_named))]
@@ -23,10 +23,11 @@ pub fn rows_of_postfixes()
     ensures called { AreCalled }
 {}
 
-/// `sizeof`, casts, `__builtin_offsetof` and the offsetof idiom (C11 6.5.3.4, 6.5.4, 7.19).
-#[tactic(auto, using(crate::proofs::ExamplesSizes::are_sizes))]
+/// `sizeof`, casts, `__builtin_offsetof` and the offsetof idiom (C11 6.5.3.4, 6.5.4, 7.19), and type names (6.7.7).
+#[tactic(auto, using(crate::proofs::ExamplesSizes::are_sizes, crate::proofs::ExamplesTypeNames::are_type_names))]
 pub fn rows_of_types()
-    ensures { AreSizes }
+    ensures sizes { AreSizes }
+    ensures names { AreTypeNames }
 {}
 
 /// Statement expressions, which C11 has not.
