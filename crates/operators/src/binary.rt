@@ -12,7 +12,7 @@ use ctypes::Types;
 
 /// The binary operators that ask the same of their operands.
 #[derive(Clone, Copy)]
-pub(crate) enum Group {
+pub enum Group {
     /// `*`, `/`, `%`, `&`, `^` and `|`.
     Arithmetic,
     /// `<<` and `>>`.

@@ -9,18 +9,18 @@ use ctypes::{Shape, Types};
 
 /// A type of integers.
 #[derive(Clone, Copy)]
-pub(crate) struct IntegerType {
+pub struct IntegerType {
     /// How many bytes they have.
-    pub(crate) bytes: u8,
+    pub bytes: u8,
     /// Whether they have a sign.
-    pub(crate) signed: bool,
+    pub signed: bool,
     /// Whether it is `_Bool`.
-    pub(crate) truth: bool,
+    pub truth: bool,
 }
 
 /// What a pointer leads to.
 #[derive(Clone, Copy)]
-pub(crate) enum Target {
+pub enum Target {
     /// `void`, whose pointers count bytes.
     Void,
     /// A complete type.

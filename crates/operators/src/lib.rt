@@ -17,10 +17,11 @@ mod rows;
 mod unary;
 
 pub use assigning::{assignment_type, update_type};
-pub use binary::binary_type;
+pub use binary::{Group, binary_type};
 pub use casting::{cast_type, converts, is_condition};
 pub use choosing::choice_type;
 pub use found::{Broken, Outcome};
+pub use kind::{IntegerType, Target};
 pub use laws::{
     bytes_say_what_ranks_say, complete_types_have_sizes, conversions_are_settled,
     demands_stand_in_order, one_answer_is_given, one_thing_is_found, types_have_kinds,

@@ -1,0 +1,15 @@
+pub mod SampleFacts
+pub mod OneFault
+pub mod WalkRows
+pub mod OneOutcome
+pub mod OneRule
+pub mod OneWay
+pub mod ExamplesNamed
+pub mod ExamplesTypeNames
+pub mod ExamplesUnary
+pub mod ExamplesBinary
+pub mod ExamplesAssigned
+pub mod ExamplesMembers
+pub mod ExamplesCalled
+pub mod ExamplesSizes
+pub mod ExamplesInner

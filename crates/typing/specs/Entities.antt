@@ -1,0 +1,31 @@
+-- What names and tags stand for (C11 6.2.3), as far as expressions ask.
+use Rattle.std.specs.Prelude.{ℕ, Bool, List, Option}
+use Rattle.cbase.specs.declared.ctype.CType.{CType}
+
+-- an object: its type, and none where that is an array whose size is not known; how many tokens stand before the name that
+-- declares it; whether it needs no definition or the text has one (C11 6.9p5); whether it is a parameter of `main`
+pub record ObjectEntity : Type 0 where
+  pub ctype : Option CType
+  pub token : ℕ
+  pub defined : Bool
+  pub of_main : Bool
+
+-- a function: its result and its parameters; whether the text has a body for it; whether it is built in
+pub record FunctionEntity : Type 0 where
+  pub result : CType
+  pub params : List CType
+  pub defined : Bool
+  pub built_in : Bool
+
+-- a typedef of an array whose size is left out has no type that can be written down
+pub data Entity : Type 0 where
+  ObjectIs : ObjectEntity → Entity
+  FunctionIs : FunctionEntity → Entity
+  -- the bits of an int (C11 6.7.2.2p3)
+  EnumeratorIs : ℕ → Entity
+  TypedefIs : Option CType → Entity
+
+-- the struct of a number, or an enum, whose type is int
+pub data Tag : Type 0 where
+  StructTag : ℕ → Tag
+  EnumTag : Tag

@@ -1,0 +1,22 @@
+-- What holds of the relation as a whole.
+use Rattle.std.specs.Prelude.{◌≡◌}
+use Rattle.cbase.specs.declared.tree.expr.Expr.{Expr}
+use Rattle.cbase.specs.declared.tree.stmt.Stmt.{Stmt}
+use Rattle.typing.specs.Forms.{Words}
+use Rattle.typing.specs.Known.{Known}
+use Rattle.typing.specs.Language.{Language}
+use Rattle.typing.specs.NamedTypes.{NamedType}
+use Rattle.typing.specs.Outcomes.{Outcome}
+use Rattle.typing.specs.Typing.{ExpressionIs, Finds}
+
+-- what is found of braces and of statements is one
+pub record IsDetermined (l : Language) : Type 0 where
+  pub braces : (before : l.Environment) (words : Words) (first second : Outcome NamedType) (after other : l.Environment)
+      → l.Braces before words first after → l.Braces before words second other → (first ≡ second) × (after ≡ other)
+  pub statements : (before : l.Environment) (stmt : Stmt) (first second : Outcome (Unit {0})) (after other : l.Environment)
+      → l.Statement before stmt first after → l.Statement before stmt second other → (first ≡ second) × (after ≡ other)
+
+-- an expression has at most one outcome in an environment
+abbrev pub HasOneOutcome : Language → Type 0
+HasOneOutcome l = IsDetermined l → (before : l.Environment) (expr : Expr) (first second : Outcome Known) (after other : l.Environment)
+    → Finds l before (ExpressionIs expr first) after → Finds l before (ExpressionIs expr second) other → (first ≡ second) × (after ≡ other)

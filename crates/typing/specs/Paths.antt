@@ -1,0 +1,75 @@
+-- The way to a member in `__builtin_offsetof` (C11 7.19p3).
+use Rattle.std.specs.Prelude.{◌≡◌, ℕ, List, [], ◌∷◌, Option, None, Some, nat_eq, if◌then◌else◌, ℤ, pos, ◌+ℤ◌, ◌*ℤ◌}
+use Rattle.cbase.specs.declared.abi.Abi.{Abi}
+use Rattle.cbase.specs.declared.ctype.CType.{CType}
+use Rattle.cbase.specs.declared.place.Place.{Place}
+use Rattle.cbase.specs.declared.structs.StructDef.{StructDef}
+use Rattle.cbase.specs.declared.tree.expr.Expr.{Expr}
+use Rattle.cbase.specs.declared.tree.expr.ExprForm.TheOpen.{Part::Member, At}
+use Rattle.cbase.specs.declared.tree.identifier.Identifier.{Identifier}
+use Rattle.operators.specs.declared.found.Broken.{Broken}
+use Rattle.operators.specs.declared.found.Broken.TheVariants.{Construct, Rule}
+use Rattle.operators.specs.Broken.{Typed, Breaks}
+use Rattle.operators.specs.Kinds.{Kind, Integer, Pointer, Array, Struct, Void, kind_of}
+use Rattle.operators.specs.Members.{member_of}
+use Rattle.typing.specs.Faults.{Fault, fault}
+use Rattle.typing.specs.Forms.{Step}
+use Rattle.typing.specs.Idiom.{item_bytes, member_offset}
+
+-- where a way leads: so many bytes behind the front of the struct, or what is broken on it
+pub data Way : Type 0 where
+  Offset : ℤ → Way
+  Stops : Fault → Way
+
+abbrev pub way_faults : Way → List Fault
+way_faults (Offset offset) = []
+way_faults (Stops stop) = stop ∷ []
+
+abbrev pub way_offset : Way → ℤ
+way_offset (Offset offset) = offset
+way_offset (Stops stop) = pos 0
+
+-- what is broken at the first name: of what is no struct, or an incomplete one, at the word `__builtin_offsetof`
+abbrev pub first_fault : Place → Place → Broken → Fault
+first_fault word name (Construct number) = fault word (Construct number)
+first_fault word name (Rule number) = fault (if nat_eq number 6 then name else word) (Rule number)
+
+-- the items of an array
+abbrev pub item_in : Kind → Option CType
+item_in (Array item target) = Some item
+item_in (Integer t) = None
+item_in (Pointer item target) = None
+item_in (Struct number) = None
+item_in Void = None
+
+-- from a type on, so many bytes behind the front, the parts of a way with the values of its indices lead there. A name that is no
+-- member of what is reached is rule 6 at it; an index on what is no array is rule 4 at the word
+pub data Leads (abi : Abi) (structs : List StructDef) (word : Place) : CType → ℤ → List Step → List ℤ → Way → Type 0 where
+  Arrives : {t : CType} {offset : ℤ} → Leads abi structs word t offset [] [] (Offset offset)
+  ToMember : {t next : CType} {offset : ℤ} {bytes : ℕ} {path : List Step} {indices : List ℤ} {way : Way} {name : Identifier}
+      → member_of structs t name.name ≡ Typed next
+      → member_offset abi structs t name.name ≡ Some bytes
+      → Leads abi structs word next (offset +ℤ pos bytes) path indices way
+      → Leads abi structs word t offset (Part::Member name ∷ path) indices way
+  NoMember : {t : CType} {offset : ℤ} {broken : Broken} {path : List Step} {indices : List ℤ} {name : Identifier}
+      → member_of structs t name.name ≡ Breaks broken
+      → Leads abi structs word t offset (Part::Member name ∷ path) indices (Stops (fault name.place (Rule 6)))
+  ToItem : {t item : CType} {offset : ℤ} {bytes : ℕ} {value : ℤ} {path : List Step} {indices : List ℤ} {way : Way} {index : Expr}
+      → item_in (kind_of structs t) ≡ Some item
+      → item_bytes abi structs (kind_of structs t) ≡ Some bytes
+      → Leads abi structs word item (offset +ℤ (value *ℤ pos bytes)) path indices way
+      → Leads abi structs word t offset (At index ∷ path) (value ∷ indices) way
+  NoItem : {t : CType} {offset : ℤ} {value : ℤ} {path : List Step} {indices : List ℤ} {index : Expr}
+      → item_in (kind_of structs t) ≡ None
+      → Leads abi structs word t offset (At index ∷ path) (value ∷ indices) (Stops (fault word (Rule 4)))
+
+-- a whole way, which begins with a name
+pub data LeadsFrom (abi : Abi) (structs : List StructDef) (word : Place) : CType → List Step → List ℤ → Way → Type 0 where
+  ToFirst : {t next : CType} {bytes : ℕ} {path : List Step} {indices : List ℤ} {way : Way} {name : Identifier}
+      → member_of structs t name.name ≡ Typed next
+      → member_offset abi structs t name.name ≡ Some bytes
+      → Leads abi structs word next (pos bytes) path indices way
+      → LeadsFrom abi structs word t (Part::Member name ∷ path) indices way
+  NoFirst : {t : CType} {broken : Broken} {path : List Step} {indices : List ℤ} {name : Identifier}
+      → member_of structs t name.name ≡ Breaks broken
+      → LeadsFrom abi structs word t (Part::Member name ∷ path) indices (Stops (first_fault word name.place broken))

@@ -1,0 +1,37 @@
+//! Expressions with what is found of them, worked out by hand from the standard. Each table is the contract of a function that does
+//! nothing.
+ghost use Rattle.typing.specs.Examples.{AreNamed, AreUnary, AreBinary, AreAssigned, AreMembers, AreCalled, AreSizes, AreTypeNames, AreInner};
+
+/// Names and constants (C11 6.5.1).
+#[tactic(auto, using(crate::proofs::ExamplesNamed::are_named))]
+pub fn rows_of_names()
+    ensures { AreNamed }
+{}
+
+/// Operators and assignments (C11 6.5.3, 6.5.5 to 6.5.17).
+#[tactic(auto, using(crate::proofs::ExamplesUnary::are_unary, crate::proofs::ExamplesBinary::are_binary, crate::proofs::ExamplesAssigned::are_assigned))]
+pub fn rows_of_operators()
+    ensures unary { AreUnary }
+    ensures binary { AreBinary }
+    ensures assigned { AreAssigned }
+{}
+
+/// Indices, members and calls (C11 6.5.2).
+#[tactic(auto, using(crate::proofs::ExamplesMembers::are_members, crate::proofs::ExamplesCalled::are_called))]
+pub fn rows_of_postfixes()
+    ensures members { AreMembers }
+    ensures called { AreCalled }
+{}
+
+/// `sizeof`, casts, `__builtin_offsetof` and the offsetof idiom (C11 6.5.3.4, 6.5.4, 7.19), and type names (6.7.7).
+#[tactic(auto, using(crate::proofs::ExamplesSizes::are_sizes, crate::proofs::ExamplesTypeNames::are_type_names))]
+pub fn rows_of_types()
+    ensures sizes { AreSizes }
+    ensures names { AreTypeNames }
+{}
+
+/// Statement expressions, which C11 has not.
+#[tactic(auto, using(crate::proofs::ExamplesInner::are_inner))]
+pub fn rows_of_statement_expressions()
+    ensures { AreInner }
+{}
