@@ -36,7 +36,7 @@ use Rattle.typing.specs.Outcomes.{Outcome, Handed, Passes, Refused, IsSettled}
 use Rattle.typing.specs.Paths.{Way, LeadsFrom, way_faults, way_offset}
 use Rattle.typing.specs.Rules.{AtNode, UndeclaredName, TypeAsOperand, ObjectName, EnumeratorName, FunctionAsOperand, ConstantOfType, ConstantOfNoType, StatementExpression, AssertionFailed, Subscript, CallOfFunction, CallOfOther, MemberOfStruct, MemberOfPointed, Counting, AddressOf, Indirection, UnaryArithmetic, SizeOfExpression, SizeOfTypeName, OffsetOfMember, CastToType, ArithmeticOperator, AdditionOperator, SubtractionOperator, ShiftOperator, RelationalOperator, EqualityOperator, LogicalOperator, ConditionalOperator, Assignment, CompoundAssignment, CommaOperator}
 use Rattle.typing.specs.Told.{Told, OperandIs, IndexIs}
-use Rattle.typing.specs.Values.{unary_value, binary_value, choice_value}
+use Rattle.values.specs.Values.{unary_value, binary_value, choice_value}
 use Rattle.typing.proofs.OneFault.{one_first, one_settled, settled_alike}
 use Rattle.typing.proofs.OneWay.{one_way, one_arguments}
 

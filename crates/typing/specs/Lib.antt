@@ -16,4 +16,3 @@ pub mod Rules
 pub mod Sample
 pub mod Told
 pub mod Typing
-pub mod Values

@@ -25,7 +25,7 @@ use Rattle.typing.specs.Faults.{Fault, unless}
 use Rattle.typing.specs.Idiom.{Outside, offset_in, null_cast, member_offset}
 use Rattle.typing.specs.Known.{Known, valued, is_zero}
 use Rattle.typing.specs.Forms.{value_in}
-use Rattle.typing.specs.Values.{cast_value}
+use Rattle.values.specs.Values.{cast_value}
 
 -- an object by its name (C11 6.5.1p2)
 abbrev pub object_type : Option CType → CType

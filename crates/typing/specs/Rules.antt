@@ -39,7 +39,7 @@ use Rattle.typing.specs.NamedTypes.{NamedType}
 use Rattle.typing.specs.Nodes.{is_sized, object_faults, object_known, enumerator_known, function_faults, constant_known, place_of_member, pointed_offset, is_arithmetic, bytes_of, size_faults, sized_known, offset_known, cast_known, place_of_assignment}
 use Rattle.typing.specs.Outcomes.{Outcome, Handed, Passes, Refused, IsSettled}
 use Rattle.typing.specs.Paths.{Way, LeadsFrom, way_faults, way_offset}
-use Rattle.typing.specs.Values.{unary_value, binary_value, choice_value}
+use Rattle.values.specs.Values.{unary_value, binary_value, choice_value}
 use Rattle.typing.specs.Forms.{Form}
 use Rattle.typing.specs.Told.{Told, OperandIs, FunctionNamed, NoFunction, TypeIs, IndexIs, ValueIs}
 

@@ -1,6 +1,6 @@
 -- The values of integer constant expressions (C11 6.6p3, p6): there is one where each operand has one, also where it would never be
 -- evaluated. A value is given by the bits of its type.
-use Rattle.std.specs.Prelude.{ℕ, Bool, true, false, not, ◌&&◌, ◌||◌, Option, None, Some, nat_eq, if◌then◌else◌}
+use Rattle.std.specs.Prelude.{ℕ, Bool, true, false, not, ◌&&◌, ◌||◌, Option, None, Some, is_some, nat_eq, if◌then◌else◌}
 use Rattle.cbase.specs.declared.tree.operators.BinaryOp.{BinaryOp}
 use Rattle.cbase.specs.declared.tree.operators.BinaryOp.TheVariants.{Mul, Div, Rem, Add, Sub, Left, Right, Less, Greater, LessEqual, GreaterEqual, Equal, NotEqual, And, Xor, Or, Both, Either, Comma}
 use Rattle.cbase.specs.declared.tree.operators.UnaryOp.{UnaryOp}
@@ -10,9 +10,14 @@ use Rattle.arithmetic.specs.declared.op.Op.TheVariants as op
 use Rattle.arithmetic.specs.Comparing.{is_equal, answer}
 use Rattle.arithmetic.specs.Computing.{computed, negated, complemented}
 use Rattle.arithmetic.specs.Conversion.{converted, truth}
+use Rattle.arithmetic.specs.Size.{size_of}
 use Rattle.operators.specs.declared.kind.IntegerType.{IntegerType}
 use Rattle.operators.specs.Integers.{promoted, common}
 use Rattle.operators.specs.Kinds.{Kind, Integer}
+
+-- a type that the data layouts have: one of 1, 2, 4 or 8 bytes. Integers of others have no value, and no program has them
+abbrev pub is_whole : IntegerType → Bool
+is_whole t = is_some (size_of t.bytes)
 
 -- an integer of one type as one of another (C11 6.3.1.2, 6.3.1.3)
 abbrev pub as_type : IntegerType → IntegerType → ℕ → ℕ
@@ -31,7 +36,7 @@ of_unary Flip t bits = Some (complemented (promoted t).bytes (as_type t (promote
 of_unary Not t bits = Some (answer (not (is_true bits)))
 
 abbrev pub unary_value : UnaryOp → Kind → Option ℕ → Option ℕ
-unary_value op (Integer t) (Some bits) = of_unary op t bits
+unary_value op (Integer t) (Some bits) = if is_whole t then of_unary op t bits else None
 unary_value op kind bits = None
 
 -- an operation in the type of the usual arithmetic conversions
@@ -71,7 +76,8 @@ of_binary Either left x right y = Some (answer (is_true x || is_true y))
 of_binary Comma left x right y = None
 
 abbrev pub binary_value : BinaryOp → Kind → Option ℕ → Kind → Option ℕ → Option ℕ
-binary_value what (Integer left) (Some x) (Integer right) (Some y) = of_binary what left x right y
+binary_value what (Integer left) (Some x) (Integer right) (Some y) =
+    if is_whole left && is_whole right then of_binary what left x right y else None
 binary_value what left x right y = None
 
 -- `?:`: the arm that is chosen, in the type of both (C11 6.5.15p4-5)
@@ -80,10 +86,16 @@ of_choice true left x right y = as_type left (common left right) x
 of_choice false left x right y = as_type right (common left right) y
 
 abbrev pub choice_value : Kind → Option ℕ → Kind → Option ℕ → Kind → Option ℕ → Option ℕ
-choice_value (Integer t) (Some test) (Integer left) (Some x) (Integer right) (Some y) = Some (of_choice (is_true test) left x right y)
+choice_value (Integer t) (Some test) (Integer left) (Some x) (Integer right) (Some y) =
+    if is_whole left && is_whole right then Some (of_choice (is_true test) left x right y) else None
 choice_value test chooses left x right y = None
 
 -- a cast to an integer type (C11 6.6p6)
 abbrev pub cast_value : Kind → Kind → Option ℕ → Option ℕ
-cast_value (Integer to) (Integer from) (Some bits) = Some (as_type from to bits)
+cast_value (Integer to) (Integer from) (Some bits) = if is_whole to && is_whole from then Some (as_type from to bits) else None
 cast_value to from bits = None
+
+-- the value as a word of 64 bits, which wraps
+abbrev pub word_of : Kind → Option ℕ → Option ℕ
+word_of (Integer t) (Some bits) = if is_whole t then Some (converted t.bytes t.signed 8 bits) else None
+word_of kind bits = None
