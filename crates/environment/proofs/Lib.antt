@@ -4,3 +4,4 @@ pub mod KeptRight
 pub mod Visible
 pub mod Worked
 pub mod Linkages
+pub mod Bounds

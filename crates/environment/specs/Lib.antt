@@ -5,3 +5,4 @@ pub mod Environment
 pub mod Linkage
 pub mod BuiltIns
 pub mod BuiltInRows
+pub mod Bounds

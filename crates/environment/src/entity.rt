@@ -1,21 +1,44 @@
 use cbase::List;
 
+/// The type that a declaration gives an object or a typedef.
+#[derive(Clone, Copy, PartialEq, Eq)]
+pub enum DeclaredType {
+    /// The type of that number.
+    Whole(u32),
+    /// An array of items of the type of that number, whose size is not known (C11 6.7.6.2p4): it is incomplete, and has
+    /// no number of its own.
+    UnsizedArray(u32),
+}
+
+/// How long an object lives (C11 6.2.4), and whether it may be named.
+#[derive(Clone, Copy, PartialEq, Eq)]
+pub enum Lifetime {
+    /// As long as its block runs (C11 6.2.4p5).
+    Automatic,
+    /// As long as the program runs (C11 6.2.4p3).
+    Static,
+    /// As long as `main` runs, of which it is a parameter: the body of `main` may not name it.
+    MainParameter,
+}
+
 /// What an identifier stands for that is no tag, no member and no label (C11 6.2.3p1).
 #[derive(Clone, Copy, PartialEq, Eq)]
 pub enum Entity {
     /// An object.
     Object {
-        /// The number of its type.
-        ctype: u32,
+        /// Its type.
+        ctype: DeclaredType,
         /// How many tokens stand before the name that declares it.
         token: u32,
-        /// Whether it lives as long as the program runs (C11 6.2.4p3).
-        fixed: bool,
+        /// How long it lives.
+        lifetime: Lifetime,
+        /// Whether it needs no definition elsewhere, or the text has one (C11 6.9p5).
+        defined: bool,
     },
     /// A type (C11 6.7.8).
     Typedef {
-        /// The number of the type.
-        ctype: u32,
+        /// The type.
+        ctype: DeclaredType,
     },
     /// A constant of an enum, which is an int (C11 6.7.2.2p3).
     Enumerator {
@@ -26,6 +49,10 @@ pub enum Entity {
     Function {
         /// The number of its signature.
         signature: u32,
+        /// Whether the text has a body for it.
+        defined: bool,
+        /// Whether it is one of the functions that are built in.
+        built_in: bool,
     },
 }
 

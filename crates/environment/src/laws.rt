@@ -1,17 +1,21 @@
 //! Laws of names in scope. Each is the contract of a function that does nothing.
-ghost use Rattle.std.specs.Prelude.{◌≡◌, ◌↔◌, ◌≢◌, ℕ, List, [], Option, Some, IsTrue};
+ghost use Rattle.std.specs.Prelude.{◌≡◌, ◌↔◌, ◌≢◌, ◌≤◌, ℕ, List, [], Option, Some, IsTrue, slice_get};
 ghost use Rattle.cbase.specs.declared.tree.decl.Storage.{Storage};
 ghost use Rattle.environment.specs.declared.entity.Binding.{Binding};
+ghost use Rattle.environment.specs.declared.entity.Entity.{Entity};
+ghost use Rattle.environment.specs.declared.entity.Linked.{Linked};
+ghost use Rattle.environment.specs.declared.entity.Signature.{Signature};
 ghost use Rattle.environment.specs.declared.entity.Tag.{Tag};
 ghost use Rattle.environment.specs.declared.entity.TagForm.{TagForm};
 ghost use Rattle.environment.specs.declared.environment.Environment.{Environment};
 ghost use Rattle.environment.specs.declared.linkage.Kind.{Kind};
 ghost use Rattle.environment.specs.declared.linkage.Standing.{Standing};
-ghost use Rattle.environment.specs.Names.{Entries};
+ghost use Rattle.environment.specs.Names.{Entries, value_in};
 ghost use Rattle.environment.specs.Scopes.{Scopes, IsVisible, found, declared, all_declared, entered, left};
-ghost use Rattle.environment.specs.Environment.{name_found, tag_found, name_bound, tag_declared};
+ghost use Rattle.environment.specs.Environment.{nothing_declared, name_found, name_found_here, tag_found, scope_entered, scope_left, name_bound, tag_declared, name_linked, signature_added};
 ghost use Rattle.environment.specs.Linkage.{HasLinkage, has_linkage, LastIsFound, IsOneThing, OutlivesScopes};
 ghost use Rattle.environment.specs.BuiltInRows.{AreBuiltIn};
+ghost use Rattle.environment.specs.Bounds.{SignatureBelow, EntityBelow, BindingBelow, AreBelow};
 
 /// A name stands for what it is visible as, and for nothing where it is visible as nothing (C11 6.2.1p4).
 pub fn found_is_what_is_visible<A>()
@@ -58,4 +62,43 @@ pub fn linkage_is_by_the_rules()
 #[tactic(auto, using(crate::proofs::Worked::built_in_rows))]
 pub fn built_in_rows_hold()
     ensures { AreBuiltIn }
+{}
+
+/// Where the numbers of an environment are in range, so are those of what is found in it.
+#[tactic(auto, using(crate::proofs::Bounds::found_is_below, crate::proofs::Bounds::found_here_is_below))]
+pub fn what_is_found_is_below()
+    ensures name { (count : ℕ) (name : List ℕ) (env : Environment) (entity : Entity) → AreBelow count env →
+        name_found name env ≡ Some entity → EntityBelow count env.signatures entity }
+    ensures here { (count : ℕ) (name : List ℕ) (env : Environment) (entity : Entity) → AreBelow count env →
+        name_found_here name env ≡ Some entity → EntityBelow count env.signatures entity }
+    ensures linked { (count : ℕ) (name : List ℕ) (env : Environment) (meaning : Linked) → AreBelow count env →
+        value_in name env.linked ≡ Some meaning → EntityBelow count env.signatures meaning.entity }
+    ensures signature { (count number : ℕ) (env : Environment) (signature : Signature) → AreBelow count env →
+        slice_get env.signatures number ≡ Some signature → SignatureBelow count signature }
+{}
+
+/// Numbers that are in range stay so where there are more types.
+#[tactic(auto, using(crate::proofs::Bounds::bounds_grow))]
+pub fn bounds_grow()
+    ensures { (count more : ℕ) (env : Environment) → count ≤ more → AreBelow count env → AreBelow more env }
+{}
+
+/// Outside all scopes no number is out of range, and none comes to be by a scope or a tag.
+#[tactic(auto, using(crate::proofs::Bounds::nothing_below, crate::proofs::Bounds::entered_below, crate::proofs::Bounds::tagged_below))]
+pub fn scopes_keep_bounds()
+    ensures nothing { (count : ℕ) → AreBelow count nothing_declared }
+    ensures entered { (count : ℕ) (env : Environment) → AreBelow count env → AreBelow count (scope_entered env) }
+    ensures left { (count : ℕ) (env : Environment) → AreBelow count env → AreBelow count (scope_left env) }
+    ensures tag { (count : ℕ) (name : List ℕ) (tag : Tag) (env : Environment) → AreBelow count env → AreBelow count (tag_declared name tag env) }
+{}
+
+/// All numbers stay in range where one more thing is declared whose numbers are.
+#[tactic(auto, using(crate::proofs::Bounds::added_below))]
+pub fn declarations_keep_bounds()
+    ensures bound { (count : ℕ) (name : List ℕ) (binding : Binding) (env : Environment) → AreBelow count env →
+        BindingBelow count env.signatures binding → AreBelow count (name_bound name binding env) }
+    ensures linked { (count : ℕ) (name : List ℕ) (meaning : Linked) (env : Environment) → AreBelow count env →
+        EntityBelow count env.signatures meaning.entity → AreBelow count (name_linked name meaning env) }
+    ensures signature { (count : ℕ) (signature : Signature) (env : Environment) → AreBelow count env →
+        SignatureBelow count signature → AreBelow count (signature_added signature env) }
 {}

@@ -13,7 +13,7 @@ mod linkage;
 mod names;
 mod scopes;
 
-pub use entity::{Binding, Entity, Linked, Signature, Tag, TagForm};
+pub use entity::{Binding, DeclaredType, Entity, Lifetime, Linked, Signature, Tag, TagForm};
 pub use environment::Environment;
 pub use linkage::{Kind, Standing, has_linkage};
 pub use scopes::Scopes;

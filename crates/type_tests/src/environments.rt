@@ -1,12 +1,16 @@
 use cbase::{List, NoMemory};
-use environment::{Binding, Entity, Environment, Linked, Signature, Tag, TagForm};
+use environment::{Binding, DeclaredType, Entity, Environment, Linked, Signature, Tag, TagForm};
 use std::alloc::Global;
 use std::test::Fail;
 
 /// Whether a typedef of a block is found in it, and that of the file behind it.
 fn inner_names_hide(alloc: Global, env: &mut Environment) -> Result<bool, NoMemory> {
-    let outer = Entity::Typedef { ctype: 1 };
-    let inner = Entity::Typedef { ctype: 2 };
+    let outer = Entity::Typedef {
+        ctype: DeclaredType::Whole(1),
+    };
+    let inner = Entity::Typedef {
+        ctype: DeclaredType::UnsizedArray(1),
+    };
     env.declare(alloc, b"T", Binding::Own(outer))?;
     env.open(alloc)?;
     env.declare(alloc, b"T", Binding::Own(inner))?;
@@ -31,7 +35,11 @@ fn linkage_is_of_the_text(alloc: Global, env: &mut Environment) -> Result<bool, 
         result: 3,
         parameters: List::new(alloc),
     })?;
-    let entity = Entity::Function { signature };
+    let entity = Entity::Function {
+        signature,
+        defined: true,
+        built_in: false,
+    };
     env.open(alloc)?;
     env.declare(alloc, b"f", Binding::WithLinkage)?;
     env.link(

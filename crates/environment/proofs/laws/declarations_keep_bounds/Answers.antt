@@ -1,0 +1,8 @@
+use Rattle.environment.proofs.Bounds.{bound_below, linked_below}
+use Rattle.environment.proofs.laws.declarations_keep_bounds.Goals as goal
+
+pub returns-clause-bound : goal.returns-clause-bound
+returns-clause-bound c = bound_below
+
+pub returns-clause-linked : goal.returns-clause-linked
+returns-clause-linked c = linked_below
