@@ -1,4 +1,5 @@
 pub mod SampleFacts
+pub mod Least
 pub mod OneFault
 pub mod WalkRows
 pub mod OneOutcome

@@ -1,7 +1,10 @@
 -- What holds of the relation as a whole.
-use Rattle.std.specs.Prelude.{◌≡◌}
+use Rattle.std.specs.Prelude.{◌≡◌, [], ◌++◌, Option, None, Some}
+use Rattle.cbase.specs.declared.place.Place.{Place}
 use Rattle.cbase.specs.declared.tree.expr.Expr.{Expr}
 use Rattle.cbase.specs.declared.tree.stmt.Stmt.{Stmt}
+use Rattle.operators.specs.declared.found.Broken.{Broken}
+use Rattle.typing.specs.Faults.{fault, least, all_at, IsFirst}
 use Rattle.typing.specs.Forms.{Words}
 use Rattle.typing.specs.Known.{Known}
 use Rattle.typing.specs.Language.{Language}
@@ -20,3 +23,12 @@ pub record IsDetermined (l : Language) : Type 0 where
 abbrev pub HasOneOutcome : Language → Type 0
 HasOneOutcome l = IsDetermined l → (before : l.Environment) (expr : Expr) (first second : Outcome Known) (after other : l.Environment)
     → Finds l before (ExpressionIs expr first) after → Finds l before (ExpressionIs expr second) other → (first ≡ second) × (after ≡ other)
+
+-- of what is found twice at one place this is named: nothing where neither is anything
+abbrev pub IsNamedOf : Place → Option Broken → Option Broken → Option Broken → Type 0
+IsNamedOf place one other None = all_at place one ++ all_at place other ≡ []
+IsNamedOf place one other (Some first) = IsFirst (all_at place one ++ all_at place other) (fault place first)
+
+-- the least of the two
+abbrev pub TheLeastIsNamed : Type 0
+TheLeastIsNamed = (place : Place) (one other : Option Broken) → IsNamedOf place one other (least one other)

@@ -1,5 +1,5 @@
 //! Laws of the relation. Each is the contract of a function that does nothing.
-ghost use Rattle.typing.specs.Laws.{HasOneOutcome};
+ghost use Rattle.typing.specs.Laws.{HasOneOutcome, TheLeastIsNamed};
 ghost use Rattle.typing.specs.Sample.{sample};
 
 /// An expression has at most one outcome in an environment: a type with all that is handed on, or what is refused in it first.
@@ -8,4 +8,10 @@ ghost use Rattle.typing.specs.Sample.{sample};
 #[tactic(auto, using(crate::proofs::OneOutcome::one_outcome))]
 pub fn expressions_have_one_outcome()
     ensures { HasOneOutcome sample }
+{}
+
+/// Of two things that are found at one place the least is named.
+#[tactic(auto, using(crate::proofs::Least::the_least))]
+pub fn the_least_is_named()
+    ensures { TheLeastIsNamed }
 {}

@@ -5,11 +5,17 @@
 //! functions here are its laws.
 #![tactic(auto)]
 
+mod fault;
+mod idiom;
 mod laws;
 mod rows;
+mod size;
 
-pub use laws::expressions_have_one_outcome;
+pub use fault::Fault;
+pub use idiom::Idiom;
+pub use laws::{expressions_have_one_outcome, the_least_is_named};
 pub use rows::{
     rows_of_names, rows_of_operators, rows_of_postfixes, rows_of_statement_expressions,
     rows_of_types,
 };
+pub use size::Size;
