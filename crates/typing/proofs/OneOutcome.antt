@@ -21,7 +21,7 @@ use Rattle.typing.specs.Outcomes.{Outcome, Handed, Passes, Refused, IsSettled}
 use Rattle.typing.specs.Pieces.{Piece, Loaded, SizeOfArray, pieces_in}
 use Rattle.typing.specs.Rules.{AtNode}
 use Rattle.typing.specs.Told.{Told, OperandIs, FunctionNamed, SizeIs}
-use Rattle.typing.specs.Typing.{Saying, ExpressionIs, PieceIs, PiecesAre, WordsAre, SizesAre, NameOfTypeIs, StatementsAre, named, Finds, RefusedInside, Walked, NoPieces, MorePieces, RefusedHere, RefusedBehind, LoadedValue, LoadOfIncomplete, LoadedRefused, UnloadedOperand, UnloadedRefused, CalledFunction, CalledOther, CalledRefused, TypeInside, TypeRefused, IndexOfPath, IndexNotConstant, IndexRefused, SizeOfItems, SizeUnderOne, SizeRefused, BlockInside, BlockRefused, NoStatements, LastExpression, LastStruct, LastRefused, MoreStatements, StatementRefused, StatementsRefused, BasicSpecifier, TypedefSpecifier, StructSpecifier, StructDeclared, StructIsEnum, EnumSpecifier, EnumDeclared, EnumIsStruct, BracedStruct, BracedEnum, TypeofExpression, TypeofRefused, TypeofType, NoSizes, SizeLeftOut, SizeLeftOutRefused, MoreSizes, SizesRefusedHere, SizesRefusedBehind, TypeNamed, WordsRefused, SizesRefused}
+use Rattle.typing.specs.Typing.{Saying, ExpressionIs, PieceIs, PiecesAre, WordsAre, SizesAre, NameOfTypeIs, StatementsAre, named, Finds, RefusedInside, Walked, NoPieces, MorePieces, RefusedHere, RefusedBehind, LoadedValue, LoadOfIncomplete, LoadedRefused, UnloadedOperand, UnloadedRefused, CalledFunction, CalledOther, CalledRefused, TypeInside, TypeRefused, IndexOfPath, IndexNotConstant, IndexRefused, SizeOfItems, SizeUnderOne, SizeRefused, BlockInside, BlockRefused, NoStatements, LastExpression, LastStruct, LastRefused, MoreStatements, StatementRefused, StatementsRefused, BasicSpecifier, TypedefSpecifier, StructSpecifier, StructDeclared, StructIsEnum, EnumSpecifier, EnumDeclared, EnumIsStruct, StructOfNothing, EnumOfNothing, BracedStruct, BracedEnum, TypeofExpression, TypeofRefused, TypeofType, NoSizes, SizeLeftOut, SizeLeftOutRefused, MoreSizes, SizesRefusedHere, SizesRefusedBehind, TypeNamed, WordsRefused, SizesRefused}
 use Rattle.values.specs.Values.{word_of}
 use Rattle.typing.proofs.OneFault.{settled_alike}
 use Rattle.typing.proofs.WalkRows as row
@@ -245,6 +245,8 @@ one l is before _ after (StructIsEnum {name = name} e) = λ second other found. 
 one l is before _ after (EnumSpecifier {name = name} e) = λ second other found. row.one_enum l is before (Some name) None _ second after other (EnumSpecifier e) found
 one l is before _ after (EnumDeclared {name = name} e) = λ second other found. row.one_enum l is before (Some name) None _ second after other (EnumDeclared e) found
 one l is before _ after (EnumIsStruct {name = name} e) = λ second other found. row.one_enum l is before (Some name) None _ second after other (EnumIsStruct e) found
+one l is before _ after StructOfNothing = λ second other found. row.one_struct l is before None None _ second after other StructOfNothing found
+one l is before _ after EnumOfNothing = λ second other found. row.one_enum l is before None None _ second after other EnumOfNothing found
 one l is before _ after (BracedStruct {name = name} {fields = fields} it) = λ second other found. row.one_struct l is before name (Some fields) _ second after other (BracedStruct it) found
 one l is before _ after (BracedEnum {name = name} {values = values} it) = λ second other found. row.one_enum l is before name (Some values) _ second after other (BracedEnum it) found
 one l is before _ after (TypeofExpression found) = λ second other also.

@@ -39,7 +39,7 @@ abbrev pub typedef_type : Option CType → NamedType
 typedef_type None = record { ctype = VoidType; found = Some (Rule 3) }
 typedef_type (Some t) = whole t
 
--- the name of no type is rule 1
+-- what names no type is rule 1
 abbrev pub no_type : NamedType
 no_type = record { ctype = VoidType; found = Some (Rule 1) }
 

@@ -1,5 +1,5 @@
 -- The way to a member in `__builtin_offsetof` (C11 7.19p3).
-use Rattle.std.specs.Prelude.{◌≡◌, ℕ, List, [], ◌∷◌, Option, None, Some, nat_eq, if◌then◌else◌}
+use Rattle.std.specs.Prelude.{◌≡◌, ℕ, suc, List, [], ◌∷◌, Option, None, Some, nat_eq, if◌then◌else◌}
 use Rattle.cbase.specs.declared.abi.Abi.{Abi}
 use Rattle.cbase.specs.declared.ctype.CType.{CType}
 use Rattle.cbase.specs.declared.place.Place.{Place}
@@ -42,6 +42,12 @@ item_in (Integer t) = None
 item_in (Pointer item target) = None
 item_in (Struct number) = None
 item_in Void = None
+
+-- how many indices stand on a way
+abbrev pub indices_on : List Step → ℕ
+indices_on [] = 0
+indices_on (Part::Member name ∷ path) = indices_on path
+indices_on (At index ∷ path) = suc (indices_on path)
 
 -- from a type on, so many bytes behind the front, the parts of a way with the values of its indices lead there. A name that is no
 -- member of what is reached is rule 6 at it; an index on what is no array is rule 4 at the word, and a member or an item that no object

@@ -27,7 +27,7 @@ use Rattle.typing.specs.Faults.{fault}
 use Rattle.typing.specs.Forms.{Form, Words, NameParts, name_in, value_in}
 use Rattle.typing.specs.Known.{Known, operand, can_load, value_type, behind}
 use Rattle.typing.specs.Language.{Language}
-use Rattle.typing.specs.NamedTypes.{NamedType, whole, basic_type, typedef_of, size_of, declared_type, declared, is_large}
+use Rattle.typing.specs.NamedTypes.{NamedType, whole, basic_type, no_type, typedef_of, size_of, declared_type, declared, is_large}
 use Rattle.typing.specs.Nodes.{function_faults, is_function, called_of, is_last_value}
 use Rattle.typing.specs.Outcomes.{Outcome, Handed, Passes, Refused, IsSettled}
 use Rattle.typing.specs.Pieces.{Piece, Loaded, Unloaded, Called, OfType as OfTypeName, ConstantIndex, SizeOfArray, BlockOf, pieces_in}
@@ -210,6 +210,9 @@ pub data Finds (l : Language) : l.Environment → Saying → l.Environment → T
   EnumIsStruct : {env : l.Environment} {number : ℕ} {name : Identifier}
       → l.tag name.name env ≡ Some (StructTag number)
       → Finds l env (WordsAre (Enum (Some name) None) (Refused (fault name.place (Rule 2)))) env
+  -- neither a tag nor braces name no type; the grammar reads none
+  StructOfNothing : {env : l.Environment} → Finds l env (WordsAre (Struct None None) (Passes no_type [])) env
+  EnumOfNothing : {env : l.Environment} → Finds l env (WordsAre (Enum None None) (Passes no_type [])) env
   -- braces have rules of their own
   BracedStruct : {before after : l.Environment} {outcome : Outcome NamedType} {name : Option Identifier} {fields : List FieldDecl}
       → l.Braces before (Struct name (Some fields)) outcome after
