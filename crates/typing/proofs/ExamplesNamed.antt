@@ -2,7 +2,7 @@
 use Rattle.std.proofs.Common.{◌≡◌, true, [], ◌∷◌, refl, ap, subst, arith}
 use Rattle.std.specs.Prelude.{is_some, codes}
 use Rattle.cbase.specs.declared.abi.Abi.TheVariants.{Lp64}
-use Rattle.constants.specs.declared.meaning.Meaning.TheVariants.{FitsNoType, Known as Meant}
+use Rattle.constants.specs.declared.meaning.Meaning.TheVariants.{NoConstant, FitsNoType, Known as Meant}
 use Rattle.constants.specs.Deciding.{letter, integer, meaning_of}
 use Rattle.constants.specs.Meanings.{Means}
 use Rattle.constants.proofs.Exact.{means}
@@ -11,7 +11,7 @@ use Rattle.typing.specs.Faults.{fault}
 use Rattle.operators.specs.declared.found.Broken.TheVariants.{Construct}
 use Rattle.typing.specs.Examples.{AreNamed}
 use Rattle.typing.specs.Sample.{start, token}
-use Rattle.typing.specs.Rules.{TypeAsOperand, ObjectName, FunctionAsOperand, ConstantOfNoType, AssertionFailed}
+use Rattle.typing.specs.Rules.{TypeAsOperand, ObjectName, FunctionAsOperand, ConstantOfNoType, SpellingOfNoConstant, AssertionFailed}
 use Rattle.typing.specs.Typing.{Walked, NoPieces}
 use Rattle.typing.proofs.SampleFacts.{laid_4, alone, n, row, five, y, read, int_of, unsigned_of, m_1}
 
@@ -26,6 +26,10 @@ m_letter = refl
 m_too_large : meaning_of Lp64 (codes "9223372036854775808") ≡ FitsNoType
 unfolding letter integer
 m_too_large = refl
+
+m_none : meaning_of Lp64 (codes "1x") ≡ NoConstant
+unfolding letter integer
+m_none = refl
 
 pub are_named : AreNamed
 are_named = record {
@@ -43,5 +47,6 @@ are_named = record {
   hexadecimal = (_, _, _, read (codes "0x80000000") (unsigned_of 2147483648) 0 0 m_hexadecimal, refl, refl);
   letter = (_, _, _, read (codes "'\\377'") (int_of 4294967295) 0 0 m_letter, refl, refl);
   too_large = (start, Walked (outs-Constant (codes "9223372036854775808")) NoPieces (ConstantOfNoType (subst (Means Lp64 (codes "9223372036854775808")) m_too_large (means Lp64 (codes "9223372036854775808")))));
+  of_no_constant = (start, Walked (outs-Constant (codes "1x")) NoPieces (SpellingOfNoConstant (subst (Means Lp64 (codes "1x")) m_none (means Lp64 (codes "1x")))));
   assertion = (_, _, _, Walked outs-AssertFail NoPieces AssertionFailed, refl);
 }

@@ -1,4 +1,6 @@
 pub mod SampleFacts
+pub mod Least
+pub mod EachPath
 pub mod OneFault
 pub mod WalkRows
 pub mod OneOutcome

@@ -2,7 +2,8 @@
 use Rattle.std.proofs.Common.{◌≡◌, List, [], ◌∷◌, ◌++◌, sym, ap, ◌∙◌, subst}
 use Rattle.std.specs.List.{AllByRecursion}
 use Rattle.operators.specs.Broken.{ComesBefore}
-use Rattle.typing.specs.Faults.{Fault, IsFirst}
+use Rattle.typing.specs.declared.fault.Fault.{Fault}
+use Rattle.typing.specs.Faults.{IsFirst}
 use Rattle.typing.specs.Outcomes.{Outcome, Passes, Refused, Handed, IsSettled}
 
 in_middle : {A : Type 0} (P : A → Type 0) (front : List A) (x : A) (back : List A) → AllByRecursion P (front ++ x ∷ back) → P x

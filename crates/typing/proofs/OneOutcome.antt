@@ -1,26 +1,28 @@
 -- An expression has one outcome in an environment, and so has each part of the walk: a derivation is compared with any other one of the same part.
 use Rattle.std.proofs.Common.{◌≡◌, ℕ, Bool, true, false, List, [], ◌∷◌, ◌++◌, Option, Some, None, refl, sym, ap, ◌∙◌, subst}
-use Rattle.std.specs.Prelude.{ℤ, is_some}
+use Rattle.std.specs.Prelude.{is_some}
 use Rattle.cbase.specs.declared.ctype.CType.{CType}
 use Rattle.cbase.specs.declared.tree.decl.TypeName.{TypeName}
 use Rattle.cbase.specs.declared.tree.expr.Expr.{Expr}
 use Rattle.cbase.specs.declared.tree.expr.ExprForm.TheViews.{out-ExprForm, out-StmtForm, out-TypeName, out-TypeSpec}
 use Rattle.cbase.specs.declared.tree.stmt.Stmt.{Stmt}
 use Rattle.operators.specs.Operands.{Operand}
+use Rattle.typing.specs.declared.fault.Fault.{Fault}
+use Rattle.typing.specs.declared.size.Size.{Size}
 use Rattle.typing.specs.Calls.{is_struct}
-use Rattle.typing.specs.Entities.{FunctionEntity, FunctionIs, TypedefIs}
-use Rattle.typing.specs.Faults.{Fault}
+use Rattle.typing.specs.Entities.{FunctionEntity, FunctionIs}
 use Rattle.typing.specs.Forms.{Form, Words, NameParts, value_in}
-use Rattle.typing.specs.Known.{Known, number_of, behind}
+use Rattle.typing.specs.Known.{Known, behind}
 use Rattle.typing.specs.Language.{Language}
 use Rattle.typing.specs.Laws.{IsDetermined, HasOneOutcome}
-use Rattle.typing.specs.NamedTypes.{NamedType, typedef_type, Size, size_of, declared}
+use Rattle.typing.specs.NamedTypes.{NamedType, size_of, declared}
 use Rattle.typing.specs.Nodes.{function_faults, called_of, is_last_value}
 use Rattle.typing.specs.Outcomes.{Outcome, Handed, Passes, Refused, IsSettled}
 use Rattle.typing.specs.Pieces.{Piece, Loaded, SizeOfArray, pieces_in}
 use Rattle.typing.specs.Rules.{AtNode}
 use Rattle.typing.specs.Told.{Told, OperandIs, FunctionNamed, SizeIs}
-use Rattle.typing.specs.Typing.{Saying, ExpressionIs, PieceIs, PiecesAre, WordsAre, SizesAre, NameOfTypeIs, StatementsAre, named, Finds, RefusedInside, Walked, NoPieces, MorePieces, RefusedHere, RefusedBehind, LoadedValue, LoadOfIncomplete, LoadedRefused, UnloadedOperand, UnloadedRefused, CalledFunction, CalledOther, CalledRefused, TypeInside, TypeRefused, IndexOfPath, IndexNotConstant, IndexRefused, SizeOfItems, SizeUnderOne, SizeRefused, BlockInside, BlockRefused, NoStatements, LastExpression, LastStruct, LastRefused, MoreStatements, StatementRefused, StatementsRefused, BasicSpecifier, TypedefSpecifier, StructSpecifier, StructDeclared, StructIsEnum, EnumSpecifier, EnumDeclared, EnumIsStruct, BracedStruct, BracedEnum, TypeofExpression, TypeofRefused, TypeofType, NoSizes, SizeLeftOut, SizeLeftOutRefused, MoreSizes, SizesRefusedHere, SizesRefusedBehind, TypeNamed, WordsRefused, SizesRefused}
+use Rattle.typing.specs.Typing.{Saying, ExpressionIs, PieceIs, PiecesAre, WordsAre, SizesAre, NameOfTypeIs, StatementsAre, named, Finds, RefusedInside, Walked, NoPieces, MorePieces, RefusedHere, RefusedBehind, LoadedValue, LoadOfIncomplete, LoadedRefused, UnloadedOperand, UnloadedRefused, CalledFunction, CalledOther, CalledRefused, TypeInside, TypeRefused, IndexOfPath, IndexNotConstant, IndexRefused, SizeOfItems, SizeUnderOne, SizeRefused, BlockInside, BlockRefused, NoStatements, LastExpression, LastStruct, LastRefused, MoreStatements, StatementRefused, StatementsRefused, BasicSpecifier, TypedefSpecifier, StructSpecifier, StructDeclared, StructIsEnum, EnumSpecifier, EnumDeclared, EnumIsStruct, StructOfNothing, EnumOfNothing, BracedStruct, BracedEnum, TypeofExpression, TypeofRefused, TypeofType, NoSizes, SizeLeftOut, SizeLeftOutRefused, MoreSizes, SizesRefusedHere, SizesRefusedBehind, TypeNamed, WordsRefused, SizesRefused}
+use Rattle.values.specs.Values.{word_of}
 use Rattle.typing.proofs.OneFault.{settled_alike}
 use Rattle.typing.proofs.WalkRows as row
 use Rattle.typing.proofs.WalkRows.{Same, via, IsNode, IsRest, IsCall, Direct, Otherwise, IsBlock, Last, Front, IsRestOfBlock, IsRestOfSizes, IsTypeName, IsRestOfType, load_found, if_loaded, unload_found, called_found, names_function, type_found, if_index, index_found, if_size, size_found, block_found, if_struct, last_found, statement_joined, typeof_found, sizes_joined, left_out, type_joined, joined}
@@ -157,17 +159,10 @@ one_type_name l before middle after to name words base handed counts first e f m
     subst (λ (o : Outcome NamedType). IsRestOfType l middle o name second other) (sym same.0) (subst (λ (env : l.Environment). IsRestOfType l env is.0 name second other) (sym same.1) is.3) in
     via (type_joined l base name.stars handed) made rest.2 (more rest.0 other rest.1)
 
--- blocks, and typedefs
+-- blocks
 one_block : (l : Language) (inside : l.Environment) (inner : Outcome CType) (body : List Stmt) {before : l.Environment} (second : Outcome Told) (other : l.Environment)
     (is : row.IsBlockPiece l before body second other) → Same inner is.0 inside is.1 → Same (block_found inner) second (l.left inside) other
 one_block l inside inner body second other is same = (ap block_found same.0 ∙ sym is.3, ap l.left same.1 ∙ is.4)
-
-one_typedef : (l : Language) (before : l.Environment) (name : List ℕ) (t : Option CType) → l.entity name before ≡ Some (TypedefIs t) → (second : Outcome NamedType) (other : l.Environment)
-    → (u : Option CType) × (l.entity name before ≡ Some (TypedefIs u)) × (second ≡ Passes (typedef_type u) []) × (before ≡ other)
-    → Same (Passes (typedef_type t) []) second before other
-one_typedef l before name t e second other is =
-    let types : t ≡ is.0 = (let both : Some (TypedefIs t) ≡ Some (TypedefIs is.0) = sym e ∙ is.1 in cc both) in
-    (ap (λ (u : Option CType). Passes (typedef_type u) []) types ∙ sym is.2, is.3)
 
 -- every derivation of a part finds the same
 one : (l : Language) (is : IsDetermined l) (before : l.Environment) (saying : Saying) (after : l.Environment) → Finds l before saying after → One l before saying after
@@ -206,10 +201,10 @@ one l is before _ after (TypeInside found) = λ second other also.
 one l is before _ after (TypeRefused found) = λ second other also.
     via (λ env o. type_found o) refl (row.type_row also).2 (one l is before _ after found (row.type_row also).0 other (row.type_row also).1)
 one l is before _ after (IndexOfPath {expr = expr} {known = known} {handed = handed} found e value) = λ second other also.
-    via (λ env o. index_found (l.structs env) expr o) (ap (λ (o : Option ℤ). if_index expr o handed) (sym (ap (λ (op : Operand). number_of op.kind known.value) e ∙ value))) (row.index_row also).2
+    via (λ env o. index_found (l.structs env) expr o) (ap (λ (o : Option ℕ). if_index expr o handed) (sym (ap (λ (op : Operand). word_of op.kind known.value) e ∙ value))) (row.index_row also).2
     (one l is before _ after found (row.index_row also).0 other (row.index_row also).1)
 one l is before _ after (IndexNotConstant {expr = expr} {known = known} {handed = handed} found e value) = λ second other also.
-    via (λ env o. index_found (l.structs env) expr o) (ap (λ (o : Option ℤ). if_index expr o handed) (sym (ap (λ (op : Operand). number_of op.kind known.value) e ∙ value))) (row.index_row also).2
+    via (λ env o. index_found (l.structs env) expr o) (ap (λ (o : Option ℕ). if_index expr o handed) (sym (ap (λ (op : Operand). word_of op.kind known.value) e ∙ value))) (row.index_row also).2
     (one l is before _ after found (row.index_row also).0 other (row.index_row also).1)
 one l is before _ after (IndexRefused {expr = expr} found) = λ second other also.
     via (λ env o. index_found (l.structs env) expr o) refl (row.index_row also).2 (one l is before _ after found (row.index_row also).0 other (row.index_row also).1)
@@ -243,13 +238,15 @@ one l is before _ after (StatementRefused {stmt = stmt} {stmts = stmts} {first =
 one l is before _ after (StatementsRefused {middle = middle} {stmt = stmt} {stmts = stmts} {first = first} handed not_last it rest) = λ second other also.
     one_front l is before middle after stmt stmts handed (Refused first) not_last it (one l is middle _ after rest) second other (row.block_rows also)
 one l is before _ after BasicSpecifier = λ second other found. (sym (row.basic_row found).0, (row.basic_row found).1)
-one l is before _ after (TypedefSpecifier {t = t} e) = λ second other found. one_typedef l before _ t e second other (row.named_row found)
+one l is before _ after TypedefSpecifier = λ second other found. (sym (row.named_row found).0, (row.named_row found).1)
 one l is before _ after (StructSpecifier {name = name} e) = λ second other found. row.one_struct l is before (Some name) None _ second after other (StructSpecifier e) found
-one l is before _ after (StructDeclared {name = name} e f) = λ second other found. row.one_struct l is before (Some name) None _ second after other (StructDeclared e f) found
+one l is before _ after (StructDeclared {name = name} e) = λ second other found. row.one_struct l is before (Some name) None _ second after other (StructDeclared e) found
 one l is before _ after (StructIsEnum {name = name} e) = λ second other found. row.one_struct l is before (Some name) None _ second after other (StructIsEnum e) found
 one l is before _ after (EnumSpecifier {name = name} e) = λ second other found. row.one_enum l is before (Some name) None _ second after other (EnumSpecifier e) found
 one l is before _ after (EnumDeclared {name = name} e) = λ second other found. row.one_enum l is before (Some name) None _ second after other (EnumDeclared e) found
 one l is before _ after (EnumIsStruct {name = name} e) = λ second other found. row.one_enum l is before (Some name) None _ second after other (EnumIsStruct e) found
+one l is before _ after StructOfNothing = λ second other found. row.one_struct l is before None None _ second after other StructOfNothing found
+one l is before _ after EnumOfNothing = λ second other found. row.one_enum l is before None None _ second after other EnumOfNothing found
 one l is before _ after (BracedStruct {name = name} {fields = fields} it) = λ second other found. row.one_struct l is before name (Some fields) _ second after other (BracedStruct it) found
 one l is before _ after (BracedEnum {name = name} {values = values} it) = λ second other found. row.one_enum l is before name (Some values) _ second after other (BracedEnum it) found
 one l is before _ after (TypeofExpression found) = λ second other also.

@@ -1,7 +1,8 @@
 -- At an expression whose parts pass one thing is found.
-use Rattle.std.proofs.Common.{◌≡◌, ℕ, Bool, true, List, [], ◌∷◌, ◌++◌, Option, Some, None, map, refl, sym, ap, ◌∙◌, subst}
-use Rattle.std.specs.Prelude.{ℤ}
+use Rattle.std.proofs.Common.{◌≡◌, ℕ, Bool, true, false, List, [], ◌∷◌, ◌++◌, Option, Some, None, map, refl, sym, ap, ◌∙◌, subst}
+use Rattle.std.specs.Prelude.{◌&&◌, if◌then◌else◌}
 use Rattle.cbase.specs.declared.ctype.CType.{CType}
+use Rattle.cbase.specs.declared.measure.Extent.{Extent}
 use Rattle.cbase.specs.declared.place.Place.{Place}
 use Rattle.cbase.specs.declared.tree.expr.Expr.{Expr}
 use Rattle.cbase.specs.declared.tree.expr.ExprForm.TheOpen.{Name, Constant, Unary, Binary, Assign, Count, Choose, Cast, SizeOf, SizeOfType, OffsetOf, Index, ExprForm::Member, Call, Inner, AssertFail}
@@ -11,7 +12,7 @@ use Rattle.cbase.specs.declared.tree.operators.BinaryOp.TheVariants.{Comma}
 use Rattle.cbase.specs.declared.tree.operators.UnaryOp.{UnaryOp}
 use Rattle.cbase.specs.declared.tree.operators.UnaryOp.TheVariants.{Address, Follow, Plus, Minus, Flip, Not}
 use Rattle.constants.specs.declared.meaning.Constant.{Constant as ConstantMeant}
-use Rattle.constants.specs.declared.meaning.Meaning.TheVariants.{FitsNoType, Known as Meant}
+use Rattle.constants.specs.declared.meaning.Meaning.TheVariants.{NoConstant, FitsNoType, Known as Meant}
 use Rattle.constants.specs.Meanings.{Means, constant_of}
 use Rattle.constants.proofs.Exact.{one_reading}
 use Rattle.operators.specs.declared.binary.Group.{Group}
@@ -26,17 +27,19 @@ use Rattle.operators.specs.Operands.{Operand}
 use Rattle.operators.specs.Unary.{unary, counted}
 use Rattle.typing.specs.Calls.{call_faults}
 use Rattle.typing.specs.Entities.{Entity, ObjectIs, FunctionIs, EnumeratorIs, TypedefIs}
-use Rattle.typing.specs.Faults.{Fault, fault, all_at, faults_of, IsFirst}
+use Rattle.typing.specs.declared.fault.Fault.{Fault}
+use Rattle.typing.specs.declared.idiom.Idiom.TheVariants.{Outside}
+use Rattle.typing.specs.Faults.{fault, all_at, faults_of, IsFirst}
 use Rattle.typing.specs.Forms.{Form}
-use Rattle.typing.specs.Idiom.{Outside, address, at_index, through, within, is_idiom, item_bytes}
-use Rattle.typing.specs.Known.{Known, plain, located, valued, operand, number_of, behind, found_at}
+use Rattle.typing.specs.Idiom.{address, at_index, through, within, is_idiom, item_bytes}
+use Rattle.typing.specs.Known.{Known, plain, located, valued, operand, behind, found_at}
 use Rattle.typing.specs.Language.{Language}
 use Rattle.typing.specs.Nodes.{is_sized, object_faults, object_known, enumerator_known, function_faults, constant_known, place_of_member, pointed_offset, is_arithmetic, size_faults, sized_known, offset_known, cast_known, place_of_assignment}
 use Rattle.typing.specs.Outcomes.{Outcome, Handed, Passes, Refused, IsSettled}
 use Rattle.typing.specs.Paths.{Way, LeadsFrom, way_faults, way_offset}
-use Rattle.typing.specs.Rules.{AtNode, UndeclaredName, TypeAsOperand, ObjectName, EnumeratorName, FunctionAsOperand, ConstantOfType, ConstantOfNoType, StatementExpression, AssertionFailed, Subscript, CallOfFunction, CallOfOther, MemberOfStruct, MemberOfPointed, Counting, AddressOf, Indirection, UnaryArithmetic, SizeOfExpression, SizeOfTypeName, OffsetOfMember, CastToType, ArithmeticOperator, AdditionOperator, SubtractionOperator, ShiftOperator, RelationalOperator, EqualityOperator, LogicalOperator, ConditionalOperator, Assignment, CompoundAssignment, CommaOperator}
+use Rattle.typing.specs.Rules.{AtNode, UndeclaredName, TypeAsOperand, ObjectName, EnumeratorName, FunctionAsOperand, ConstantOfType, ConstantOfNoType, SpellingOfNoConstant, StatementExpression, AssertionFailed, Subscript, CallOfFunction, CallOfOther, MemberOfStruct, MemberOfPointed, Counting, AddressOf, Indirection, UnaryArithmetic, SizeOfExpression, SizeOfTypeName, OffsetOfMember, CastToType, ArithmeticOperator, AdditionOperator, SubtractionOperator, ShiftOperator, RelationalOperator, EqualityOperator, LogicalOperator, ConditionalOperator, Assignment, CompoundAssignment, CommaOperator}
 use Rattle.typing.specs.Told.{Told, OperandIs, IndexIs}
-use Rattle.values.specs.Values.{unary_value, binary_value, choice_value}
+use Rattle.values.specs.Values.{is_whole, unary_value, binary_value, choice_value, word_of}
 use Rattle.typing.proofs.OneFault.{one_first, one_settled, settled_alike}
 use Rattle.typing.proofs.OneWay.{one_way, one_arguments}
 
@@ -82,6 +85,9 @@ fits_or_not l spelling a e f =
     let reading : e.0 ≡ f.0 = one_reading spelling e.0 f.0 e.1 f.1 in
     let same : Some a ≡ None = sym e.2 ∙ (ap (constant_of l.abi) reading ∙ f.2) in absurd (cc same)
 
+means_or_not : {A : Type 0} (l : Language) (spelling : List ℕ) (a : ConstantMeant) → Means l.abi spelling (Meant a) → Means l.abi spelling NoConstant → A
+means_or_not l spelling a e f = absurd (f e.0 e.1)
+
 -- unary operators: what is known of one that passes, beside its type
 abbrev unary_known : UnaryOp → Known → Operand → CType → Known
 unary_known Address a left t = record (plain t) { idiom = address a.idiom }
@@ -123,8 +129,12 @@ one_unary l env number place handed op told first second e f =
     e.2 ∙ (ap (λ (a : Known). unary_found number place handed op a (operand (l.structs env) a)) (operand_told e.0 f.0 told e.1 f.1) ∙ sym f.2)
 
 -- binary operators
+whatever : {A : Type 0} (b : Bool) (a : A) → (if b then a else a) ≡ a
+whatever true a = refl
+whatever false a = refl
+
 comma_value : (left : Kind) (x : Option ℕ) (right : Kind) (y : Option ℕ) → binary_value Comma left x right y ≡ None
-comma_value (Integer s) (Some x) (Integer t) (Some y) = refl
+comma_value (Integer s) (Some x) (Integer t) (Some y) = whatever (is_whole s && is_whole t) None
 comma_value (Integer s) (Some x) (Integer t) None = refl
 comma_value (Integer s) (Some x) (Pointer item target) y = refl
 comma_value (Integer s) (Some x) (Array item target) y = refl
@@ -177,7 +187,7 @@ one_binary l env number place handed op told first second e f =
     e.3 ∙ ((λ i. binary_found number place handed op (same.0 i) (same.1 i) (group_of op) (operand (l.structs env) (same.0 i)) (operand (l.structs env) (same.1 i))) ∙ sym f.3)
 
 -- the values of indices
-one_index : (xs ys : List ℤ) → map IndexIs xs ≡ map IndexIs ys → xs ≡ ys
+one_index : (xs ys : List ℕ) → map IndexIs xs ≡ map IndexIs ys → xs ≡ ys
 one_index [] [] e = refl
 one_index [] (y ∷ ys) e = absurd (cc e)
 one_index (x ∷ xs) [] e = absurd (cc e)
@@ -196,13 +206,18 @@ one_rule l env number place handed (Constant text) told first second (ConstantOf
 one_rule l env number place handed (Constant text) told first second (ConstantOfType {meant = a} {spelling = spelling} e) (ConstantOfNoType f) = fits_or_not l spelling a e f
 one_rule l env number place handed (Constant text) told first second (ConstantOfNoType e) (ConstantOfType {meant = b} {spelling = spelling} f) = fits_or_not l spelling b f e
 one_rule l env number place handed (Constant text) told first second (ConstantOfNoType e) (ConstantOfNoType f) = refl
+one_rule l env number place handed (Constant text) told first second (ConstantOfType {meant = a} {spelling = spelling} e) (SpellingOfNoConstant f) = means_or_not l spelling a e f
+one_rule l env number place handed (Constant text) told first second (SpellingOfNoConstant e) (ConstantOfType {meant = b} {spelling = spelling} f) = means_or_not l spelling b f e
+one_rule l env number place handed (Constant text) told first second (ConstantOfNoType e) (SpellingOfNoConstant f) = refl
+one_rule l env number place handed (Constant text) told first second (SpellingOfNoConstant e) (ConstantOfNoType f) = refl
+one_rule l env number place handed (Constant text) told first second (SpellingOfNoConstant e) (SpellingOfNoConstant f) = refl
 one_rule l env number place handed (Inner body close) told first second StatementExpression StatementExpression = refl
 one_rule l env number place handed AssertFail told first second AssertionFailed AssertionFailed = refl
 one_rule l env number place handed (Index base index) told first second (Subscript {b = b} {i = i} e f g) (Subscript e' f' g') =
     let lefts = sym e ∙ e' in
     let rights = sym f ∙ f' in
     let counts = sym g ∙ (ap (λ (left : Operand). item_bytes l.abi (l.structs env) left.kind) lefts ∙ g') in
-    λ j. found_at (λ broken. place) (indexed (decayed (lefts j).kind) (decayed (rights j).kind)) (located (at_index b.idiom (number_of (rights j).kind i.value) (counts j))) handed number
+    λ j. found_at (λ broken. place) (indexed (decayed (lefts j).kind) (decayed (rights j).kind)) (located (at_index b.idiom (word_of (rights j).kind i.value) (counts j))) handed number
 one_rule l env number place handed (Call calls with) told first second (CallOfFunction {callee = callee} {name = name} {function = function} args e f settled) (CallOfFunction others e' f' also) =
     let results = sym e ∙ e' in
     let params = sym f ∙ f' in
@@ -221,13 +236,13 @@ one_rule l env number place handed (ExprForm::Member base member thus) told firs
 one_rule l env number place handed (Count up after arg) told first second (Counting e) (Counting f) = ap (λ (left : Operand). found_at (λ broken. place) (counted left) plain handed number) (sym e ∙ f)
 one_rule l env number place handed (SizeOf arg) told first second (SizeOfExpression e settled) (SizeOfExpression f also) =
     let same = sym e ∙ f in
-    settled_alike _ _ _ _ _ _ first second (ap (size_faults place) same) (ap sized_known same) (ap (λ (bytes : Option ℕ). behind handed number (sized_known bytes)) same) settled also
+    settled_alike _ _ _ _ _ _ first second (ap (size_faults place) same) (ap sized_known same) (ap (λ (size : Extent). behind handed number (sized_known size)) same) settled also
 one_rule l env number place handed (SizeOfType to) told first second (SizeOfTypeName {named = named} e settled) (SizeOfTypeName f also) =
     let same = sym e ∙ f in
-    settled_alike _ _ _ _ _ _ first second (ap (λ (bytes : Option ℕ). all_at place named.found ++ size_faults place bytes) same) (ap sized_known same) (ap (λ (bytes : Option ℕ). behind handed number (sized_known bytes)) same) settled also
+    settled_alike _ _ _ _ _ _ first second (ap (λ (size : Extent). all_at place named.found ++ size_faults place size) same) (ap sized_known same) (ap (λ (size : Extent). behind handed number (sized_known size)) same) settled also
 one_rule l env number place handed (OffsetOf to way_to) _ first second (OffsetOfMember {path = path} {named = named} {indices = indices} {way = way} told leads settled) (OffsetOfMember {indices = others} {way = other} also leading further) =
     let same = one_index others indices (sym also ∙ told) in
-    let ways = one_way leads (subst (λ (xs : List ℤ). LeadsFrom l.abi (l.structs env) place named.ctype (map out-Part path) xs other) same leading) in
+    let ways = one_way leads (subst (λ (xs : List ℕ). LeadsFrom l.abi (l.structs env) place named.ctype (map out-Part path) xs other) same leading) in
     settled_alike _ _ _ _ _ _ first second (ap (λ (w : Way). all_at place named.found ++ way_faults w) ways) (ap (λ (w : Way). offset_known (way_offset w)) ways) (ap (λ (w : Way). behind handed number (offset_known (way_offset w))) ways) settled further
 one_rule l env number place handed (Cast to arg) told first second (CastToType {named = named} {a = a} e f settled) (CastToType e' f' also) =
     let targets = sym e ∙ e' in

@@ -1,6 +1,6 @@
 -- What is known of the declarations of the examples, and derivations of single names and constants.
 use Rattle.std.proofs.Common.{◌≡◌, ℕ, suc, Bool, true, false, List, [], ◌∷◌, ◌++◌, Option, Some, None, refl, ap, ◌∙◌, subst}
-use Rattle.std.specs.Prelude.{is_some, option_map, codes, if◌then◌else◌}
+use Rattle.std.specs.Prelude.{is_some, option_map, codes, length, if◌then◌else◌}
 use Rattle.cbase.specs.declared.abi.Abi.TheVariants.{Lp64}
 use Rattle.cbase.specs.declared.ctype.CType.{CType}
 use Rattle.cbase.specs.declared.ctype.CType.TheVariants.{Void as VoidType, Bool as BoolType, Int as IntType, Pointer as PointerType, Struct as StructType, Array as ArrayType}
@@ -28,7 +28,8 @@ use Rattle.operators.specs.Operands.{Operand}
 use Rattle.operators.specs.Unary.{size_type}
 use Rattle.operators.proofs.Shapes.{are_kinds, are_targets}
 use Rattle.typing.specs.Entities.{ObjectIs}
-use Rattle.typing.specs.Faults.{Fault, fault, IsFirst}
+use Rattle.typing.specs.declared.fault.Fault.{Fault}
+use Rattle.typing.specs.Faults.{fault, IsFirst}
 use Rattle.typing.specs.Known.{Known, can_load, behind, valued}
 use Rattle.typing.specs.Nodes.{object_known, enumerator_known, constant_known}
 use Rattle.typing.specs.Outcomes.{Handed, Passes, Refused}
@@ -47,36 +48,46 @@ structs = start.structs
 
 -- layouts
 pub laid_4 : (signed : Bool) → layout_of Lp64 structs (IntType 4 signed) ≡ Some (scalar 4)
-laid_4 signed = type_layout-Int Lp64 (struct_at Lp64 2 structs) 4 signed
+laid_4 signed = type_layout-Int Lp64 (struct_at Lp64 3 structs) 4 signed
 
 pub laid_1 : (signed : Bool) → layout_of Lp64 structs (IntType 1 signed) ≡ Some (scalar 1)
-laid_1 signed = type_layout-Int Lp64 (struct_at Lp64 2 structs) 1 signed
+laid_1 signed = type_layout-Int Lp64 (struct_at Lp64 3 structs) 1 signed
 
 pub laid_8 : (signed : Bool) → layout_of Lp64 structs (IntType 8 signed) ≡ Some (scalar 8)
-laid_8 signed = type_layout-Int Lp64 (struct_at Lp64 2 structs) 8 signed
+laid_8 signed = type_layout-Int Lp64 (struct_at Lp64 3 structs) 8 signed
 
 pub laid_void : layout_of Lp64 structs VoidType ≡ None
-laid_void = type_layout-Void Lp64 (struct_at Lp64 2 structs)
+laid_void = type_layout-Void Lp64 (struct_at Lp64 3 structs)
 
 pub laid_pointer : (item : CType) → layout_of Lp64 structs (PointerType item) ≡ Some (scalar 8)
-laid_pointer item = type_layout-Pointer Lp64 (struct_at Lp64 2 structs) item
+laid_pointer item = type_layout-Pointer Lp64 (struct_at Lp64 3 structs) item
+
+-- and whatever else is declared
+pub pointer_laid : (among : List StructDef) (item : CType) → layout_of Lp64 among (PointerType item) ≡ Some (scalar 8)
+pointer_laid among item = type_layout-Pointer Lp64 (struct_at Lp64 (length among) among) item
 
 pub laid_chars : (count : ℕ) → layout_of Lp64 structs (ArrayType char_type count) ≡ Some (repeated count (scalar 1))
-laid_chars count = type_layout-Array Lp64 (struct_at Lp64 2 structs) char_type count ∙ ap (option_map (repeated count)) (laid_1 true)
+laid_chars count = type_layout-Array Lp64 (struct_at Lp64 3 structs) char_type count ∙ ap (option_map (repeated count)) (laid_1 true)
 
 pub laid_s : layout_of Lp64 structs (StructType 0) ≡ Some (record { size = 16; alignment = 8 })
 laid_s =
-    type_layout-Struct Lp64 (struct_at Lp64 2 structs) 0
-    ∙ both (λ (a b : Option Layout). fields_layout no_fields (a ∷ b ∷ [])) _ _ _ _ (type_layout-Int Lp64 (struct_at Lp64 1 structs) 4 true) (type_layout-Pointer Lp64 (struct_at Lp64 1 structs) char_type)
+    type_layout-Struct Lp64 (struct_at Lp64 3 structs) 0
+    ∙ both (λ (a b : Option Layout). fields_layout no_fields (a ∷ b ∷ [])) _ _ _ _ (type_layout-Int Lp64 (struct_at Lp64 2 structs) 4 true) (type_layout-Pointer Lp64 (struct_at Lp64 2 structs) char_type)
 
 pub laid_t : layout_of Lp64 structs (StructType 1) ≡ None
-laid_t = type_layout-Struct Lp64 (struct_at Lp64 2 structs) 1
+laid_t = type_layout-Struct Lp64 (struct_at Lp64 3 structs) 1
+
+pub laid_v : layout_of Lp64 structs (StructType 2) ≡ Some (record { size = 8; alignment = 4 })
+laid_v =
+    type_layout-Struct Lp64 (struct_at Lp64 3 structs) 2
+    ∙ both (λ (a b : Option Layout). fields_layout no_fields (a ∷ b ∷ [])) _ _ _ _ (type_layout-Int Lp64 (struct_at Lp64 2 structs) 4 true)
+    (type_layout-Array Lp64 (struct_at Lp64 2 structs) char_type 3 ∙ ap (option_map (repeated 3)) (type_layout-Int Lp64 (struct_at Lp64 2 structs) 1 true))
 
 pub laid_bool : layout_of Lp64 structs BoolType ≡ Some (scalar 1)
-laid_bool = type_layout-Bool Lp64 (struct_at Lp64 2 structs)
+laid_bool = type_layout-Bool Lp64 (struct_at Lp64 3 structs)
 
 pub laid_rows : (rows count : ℕ) → layout_of Lp64 structs (ArrayType (ArrayType char_type count) rows) ≡ Some (repeated rows (repeated count (scalar 1)))
-laid_rows rows count = type_layout-Array Lp64 (struct_at Lp64 2 structs) (ArrayType char_type count) rows ∙ ap (option_map (repeated rows)) (laid_chars count)
+laid_rows rows count = type_layout-Array Lp64 (struct_at Lp64 3 structs) (ArrayType char_type count) rows ∙ ap (option_map (repeated rows)) (laid_chars count)
 
 -- kinds
 pub k_bool : kind_of structs BoolType ≡ Integer truth
@@ -107,6 +118,9 @@ k_void = (are_kinds structs).void
 
 pub k_s : kind_of structs (StructType 0) ≡ Struct 0
 k_s = (are_kinds structs).struct 0
+
+pub k_v : kind_of structs (StructType 2) ≡ Struct 2
+k_v = (are_kinds structs).struct 2
 
 target_int : (bytes : ℕ) (signed : Bool) → has_size structs (IntType bytes signed) ≡ true → target_of structs (IntType bytes signed) ≡ Sized
 target_int bytes signed sized =
@@ -176,6 +190,9 @@ q number at = object_is (codes "q") (PointerType int_type) number at refl (ap is
 
 pub row : (number at : ℕ) → Is (name (codes "row") number at) (object_known (object (ArrayType char_type 3))) (behind [] number (object_known (object (ArrayType char_type 3))))
 row number at = object_is (codes "row") (ArrayType char_type 3) number at refl (ap is_some (laid_chars 3))
+
+pub vast : (number at : ℕ) → Is (name (codes "vast") number at) (object_known (object (ArrayType char_type 70000))) (behind [] number (object_known (object (ArrayType char_type 70000))))
+vast number at = object_is (codes "vast") (ArrayType char_type 70000) number at refl (ap is_some (laid_chars 70000))
 
 pub x : (number at : ℕ) → Is (name (codes "x") number at) (object_known (object (StructType 0))) (behind [] number (object_known (object (StructType 0))))
 x number at = object_is (codes "x") (StructType 0) number at refl (ap is_some laid_s)
@@ -316,3 +333,7 @@ v1 number at = vread (codes "1") (int_of 1) number at m_1
 -- `-1`
 pub negative_one : (number at mark : ℕ) → IsLoaded (node (suc number) mark (Unary Minus (constant (codes "1") number at))) (valued (Some 4294967295) int_type) (behind (behind [] number (constant_known (int_of 1))) (suc number) (valued (Some 4294967295) int_type))
 negative_one number at mark = load (Walked (outs-Unary Minus (constant (codes "1") number at)) (one (v1 number at)) (UnaryArithmetic refl (seen k_int))) refl
+
+-- `-8`
+pub negative_eight : (number at mark : ℕ) → IsLoaded (node (suc number) mark (Unary Minus (constant (codes "8") number at))) (valued (Some 4294967288) int_type) (behind (behind [] number (constant_known (int_of 8))) (suc number) (valued (Some 4294967288) int_type))
+negative_eight number at mark = load (Walked (outs-Unary Minus (constant (codes "8") number at)) (one (vread (codes "8") (int_of 8) number at m_8)) (UnaryArithmetic refl (seen k_int))) refl

@@ -3,7 +3,7 @@
 -- Of each part a lemma says what a derivation of it holds: what is found of the parts below, and what is made of that. So a derivation is compared
 -- with any other one of the same part.
 use Rattle.std.proofs.Common.{◌≡◌, ℕ, Bool, true, false, List, [], ◌∷◌, ◌++◌, Option, Some, None, refl, sym, ap, ◌∙◌, subst}
-use Rattle.std.specs.Prelude.{ℤ, is_some, option_and_then, if◌then◌else◌}
+use Rattle.std.specs.Prelude.{is_some, length, option_and_then, if◌then◌else◌}
 use Rattle.cbase.specs.declared.ctype.CType.{CType}
 use Rattle.cbase.specs.declared.ctype.CType.TheVariants.{Void as VoidType, Struct as StructType}
 use Rattle.cbase.specs.declared.structs.StructDef.{StructDef}
@@ -21,19 +21,22 @@ use Rattle.operators.specs.Binary.{int_type}
 use Rattle.operators.specs.Kinds.{Kind}
 use Rattle.operators.specs.Operands.{Operand}
 use Rattle.typing.specs.Calls.{is_struct}
-use Rattle.typing.specs.Entities.{FunctionEntity, FunctionIs, TypedefIs, Tag, StructTag, EnumTag}
+use Rattle.typing.specs.declared.size.Size.{Size}
+use Rattle.typing.specs.declared.size.Size.TheVariants.{LeftOut}
+use Rattle.typing.specs.Entities.{FunctionEntity, FunctionIs, Tag, StructTag, EnumTag}
 use Rattle.typing.specs.Faults.{fault}
 use Rattle.typing.specs.Forms.{Form, Words, NameParts, value_in}
-use Rattle.typing.specs.Known.{Known, operand, can_load, value_type, number_of, behind}
+use Rattle.typing.specs.Known.{Known, operand, can_load, value_type, behind}
 use Rattle.typing.specs.Language.{Language}
 use Rattle.typing.specs.Laws.{IsDetermined}
-use Rattle.typing.specs.NamedTypes.{NamedType, whole, basic_type, typedef_type, Size, LeftOut, size_of, declared_type, declared, is_large}
+use Rattle.typing.specs.NamedTypes.{NamedType, whole, basic_type, no_type, typedef_of, size_of, declared_type, declared, is_large}
 use Rattle.typing.specs.Nodes.{function_faults, is_function, called_of, is_last_value}
 use Rattle.typing.specs.Outcomes.{Outcome, Handed, Passes, Refused, IsSettled}
 use Rattle.typing.specs.Pieces.{Piece, Loaded, Unloaded, Called, OfType, ConstantIndex, SizeOfArray, BlockOf, pieces_in}
 use Rattle.typing.specs.Rules.{AtNode}
 use Rattle.typing.specs.Told.{Told, OperandIs, FunctionNamed, NoFunction, TypeIs, IndexIs, SizeIs, ValueIs}
-use Rattle.typing.specs.Typing.{ExpressionIs, PieceIs, PiecesAre, WordsAre, SizesAre, NameOfTypeIs, StatementsAre, named, Finds, RefusedInside, Walked, NoPieces, MorePieces, RefusedHere, RefusedBehind, LoadedValue, LoadOfIncomplete, LoadedRefused, UnloadedOperand, UnloadedRefused, CalledFunction, CalledOther, CalledRefused, TypeInside, TypeRefused, IndexOfPath, IndexNotConstant, IndexRefused, SizeOfItems, SizeUnderOne, SizeRefused, BlockInside, BlockRefused, NoStatements, LastExpression, LastStruct, LastRefused, MoreStatements, StatementRefused, StatementsRefused, BasicSpecifier, TypedefSpecifier, StructSpecifier, StructDeclared, StructIsEnum, EnumSpecifier, EnumDeclared, EnumIsStruct, BracedStruct, BracedEnum, TypeofExpression, TypeofRefused, TypeofType, NoSizes, SizeLeftOut, SizeLeftOutRefused, MoreSizes, SizesRefusedHere, SizesRefusedBehind, TypeNamed, WordsRefused, SizesRefused}
+use Rattle.typing.specs.Typing.{ExpressionIs, PieceIs, PiecesAre, WordsAre, SizesAre, NameOfTypeIs, StatementsAre, named, Finds, RefusedInside, Walked, NoPieces, MorePieces, RefusedHere, RefusedBehind, LoadedValue, LoadOfIncomplete, LoadedRefused, UnloadedOperand, UnloadedRefused, CalledFunction, CalledOther, CalledRefused, TypeInside, TypeRefused, IndexOfPath, IndexNotConstant, IndexRefused, SizeOfItems, SizeUnderOne, SizeRefused, BlockInside, BlockRefused, NoStatements, LastExpression, LastStruct, LastRefused, MoreStatements, StatementRefused, StatementsRefused, BasicSpecifier, TypedefSpecifier, StructSpecifier, StructDeclared, StructIsEnum, EnumSpecifier, EnumDeclared, EnumIsStruct, StructOfNothing, EnumOfNothing, BracedStruct, BracedEnum, TypeofExpression, TypeofRefused, TypeofType, NoSizes, SizeLeftOut, SizeLeftOutRefused, MoreSizes, SizesRefusedHere, SizesRefusedBehind, TypeNamed, WordsRefused, SizesRefused}
+use Rattle.values.specs.Values.{word_of}
 use Rattle.typing.proofs.OneRule.{one_rule}
 
 -- the same is found, and the same is declared behind it
@@ -179,13 +182,13 @@ type_row (TypeInside {named = name} {handed = handed} found) = (Passes name hand
 type_row (TypeRefused {first = first} found) = (Refused first, found, refl)
 
 -- an index, and a size
-abbrev pub if_index : Expr → Option ℤ → List Handed → Outcome Told
+abbrev pub if_index : Expr → Option ℕ → List Handed → Outcome Told
 if_index expr (Some value) handed = Passes (IndexIs value) handed
 if_index expr None handed = Refused (fault expr.place (Rule 9))
 
 abbrev pub index_found : List StructDef → Expr → Outcome Told → Outcome Told
 index_found structs expr (Refused first) = Refused first
-index_found structs expr (Passes (OperandIs known) handed) = if_index expr (number_of (operand structs known).kind known.value) handed
+index_found structs expr (Passes (OperandIs known) handed) = if_index expr (word_of (operand structs known).kind known.value) handed
 index_found structs expr (Passes other handed) = Refused (fault expr.place (Rule 9))
 
 abbrev pub IsIndexPiece : (l : Language) → l.Environment → Expr → Outcome Told → l.Environment → Type 0
@@ -194,9 +197,9 @@ IsIndexPiece l before expr outcome after = (inner : Outcome Told) × Finds l bef
 pub index_row : {l : Language} {before after : l.Environment} {expr : Expr} {outcome : Outcome Told}
     → Finds l before (PieceIs (ConstantIndex expr) outcome) after → IsIndexPiece l before expr outcome after
 index_row (IndexOfPath {expr = expr} {known = known} {index = index} {handed = handed} found e is) =
-    (Passes (OperandIs known) handed, found, ap (λ (o : Option ℤ). if_index expr o handed) (sym (ap (λ (op : Operand). number_of op.kind known.value) e ∙ is)))
+    (Passes (OperandIs known) handed, found, ap (λ (o : Option ℕ). if_index expr o handed) (sym (ap (λ (op : Operand). word_of op.kind known.value) e ∙ is)))
 index_row (IndexNotConstant {expr = expr} {known = known} {index = index} {handed = handed} found e is) =
-    (Passes (OperandIs known) handed, found, ap (λ (o : Option ℤ). if_index expr o handed) (sym (ap (λ (op : Operand). number_of op.kind known.value) e ∙ is)))
+    (Passes (OperandIs known) handed, found, ap (λ (o : Option ℕ). if_index expr o handed) (sym (ap (λ (op : Operand). word_of op.kind known.value) e ∙ is)))
 index_row (IndexRefused {first = first} found) = (Refused first, found, refl)
 
 abbrev pub if_size : Expr → Option Size → List Handed → Outcome Told
@@ -283,7 +286,7 @@ typeof_found (Passes other handed) = Passes (whole VoidType) handed
 
 abbrev pub IsStructTag : (l : Language) → l.Environment → Identifier → Option Tag → Outcome NamedType → l.Environment → Type 0
 IsStructTag l before name None outcome after =
-    (number : ℕ) × (l.tag name.name (l.struct_declared name.name before) ≡ Some (StructTag number)) × (outcome ≡ Passes (whole (StructType number)) []) × (l.struct_declared name.name before ≡ after)
+    (outcome ≡ Passes (whole (StructType (length (l.structs before)))) []) × (l.struct_declared name.name before ≡ after)
 IsStructTag l before name (Some (StructTag number)) outcome after = (outcome ≡ Passes (whole (StructType number)) []) × (before ≡ after)
 IsStructTag l before name (Some EnumTag) outcome after = (outcome ≡ Refused (fault name.place (Rule 2))) × (before ≡ after)
 
@@ -296,18 +299,19 @@ IsEnumTag l before name (Some EnumTag) outcome after = (outcome ≡ Passes (whol
 abbrev pub IsStructWords : (l : Language) → l.Environment → Option Identifier → Option (List FieldDecl) → Outcome NamedType → l.Environment → Type 0
 IsStructWords l before name (Some fields) outcome after = l.Braces before (Struct name (Some fields)) outcome after
 IsStructWords l before (Some name) None outcome after = IsStructTag l before name (l.tag name.name before) outcome after
-IsStructWords l before None None outcome after = ⊥
+IsStructWords l before None None outcome after = (outcome ≡ Passes no_type []) × (before ≡ after)
 
 abbrev pub IsEnumWords : (l : Language) → l.Environment → Option Identifier → Option (List Enumerator) → Outcome NamedType → l.Environment → Type 0
 IsEnumWords l before name (Some values) outcome after = l.Braces before (Enum name (Some values)) outcome after
 IsEnumWords l before (Some name) None outcome after = IsEnumTag l before name (l.tag name.name before) outcome after
-IsEnumWords l before None None outcome after = ⊥
+IsEnumWords l before None None outcome after = (outcome ≡ Passes no_type []) × (before ≡ after)
 
 pub struct_row : {l : Language} {before after : l.Environment} {name : Option Identifier} {fields : Option (List FieldDecl)} {outcome : Outcome NamedType}
     → Finds l before (WordsAre (Struct name fields) outcome) after → IsStructWords l before name fields outcome after
 struct_row {l} {before} {outcome = outcome} (StructSpecifier {number = number} {name = name} e) = subst (λ (tag : Option Tag). IsStructTag l before name tag (Passes (whole (StructType number)) []) before) (sym e) (refl, refl)
-struct_row {l} {before} {after} (StructDeclared {number = number} {name = name} e is) = subst (λ (tag : Option Tag). IsStructTag l before name tag (Passes (whole (StructType number)) []) after) (sym e) (number, is, refl, refl)
+struct_row {l} {before} {after} (StructDeclared {name = name} e) = subst (λ (tag : Option Tag). IsStructTag l before name tag (Passes (whole (StructType (length (l.structs before)))) []) after) (sym e) (refl, refl)
 struct_row {l} {before} (StructIsEnum {name = name} e) = subst (λ (tag : Option Tag). IsStructTag l before name tag (Refused (fault name.place (Rule 2))) before) (sym e) (refl, refl)
+struct_row StructOfNothing = (refl, refl)
 struct_row (BracedStruct is) = is
 
 pub enum_row : {l : Language} {before after : l.Environment} {name : Option Identifier} {values : Option (List Enumerator)} {outcome : Outcome NamedType}
@@ -315,14 +319,12 @@ pub enum_row : {l : Language} {before after : l.Environment} {name : Option Iden
 enum_row {l} {before} (EnumSpecifier {name = name} e) = subst (λ (tag : Option Tag). IsEnumTag l before name tag (Passes (whole int_type) []) before) (sym e) (refl, refl)
 enum_row {l} {before} {after} (EnumDeclared {name = name} e) = subst (λ (tag : Option Tag). IsEnumTag l before name tag (Passes (whole int_type) []) after) (sym e) (refl, refl)
 enum_row {l} {before} (EnumIsStruct {name = name} e) = subst (λ (tag : Option Tag). IsEnumTag l before name tag (Refused (fault name.place (Rule 2))) before) (sym e) (refl, refl)
+enum_row EnumOfNothing = (refl, refl)
 enum_row (BracedEnum is) = is
 
 pub one_struct_tag : (l : Language) (before : l.Environment) (name : Identifier) (tag : Option Tag) (first second : Outcome NamedType) (after other : l.Environment)
     → IsStructTag l before name tag first after → IsStructTag l before name tag second other → Same first second after other
-one_struct_tag l before name None first second after other a b =
-    let same : Some (StructTag a.0) ≡ Some (StructTag b.0) = sym a.1 ∙ b.1 in
-    let numbers : a.0 ≡ b.0 = cc same in
-    (a.2 ∙ (ap (λ (n : ℕ). Passes (whole (StructType n)) []) numbers ∙ sym b.2), sym a.3 ∙ b.3)
+one_struct_tag l before name None first second after other a b = (a.0 ∙ sym b.0, sym a.1 ∙ b.1)
 one_struct_tag l before name (Some (StructTag number)) first second after other a b = (a.0 ∙ sym b.0, sym a.1 ∙ b.1)
 one_struct_tag l before name (Some EnumTag) first second after other a b = (a.0 ∙ sym b.0, sym a.1 ∙ b.1)
 
@@ -332,25 +334,29 @@ one_enum_tag l before name None first second after other a b = (a.0 ∙ sym b.0,
 one_enum_tag l before name (Some (StructTag number)) first second after other a b = (a.0 ∙ sym b.0, sym a.1 ∙ b.1)
 one_enum_tag l before name (Some EnumTag) first second after other a b = (a.0 ∙ sym b.0, sym a.1 ∙ b.1)
 
+both_made : {E : Type 0} {made first second : Outcome NamedType} {before after other : E}
+    → (first ≡ made) × (before ≡ after) → (second ≡ made) × (before ≡ other) → Same first second after other
+both_made a b = (a.0 ∙ sym b.0, sym a.1 ∙ b.1)
+
 pub one_struct : (l : Language) (is : IsDetermined l) (before : l.Environment) (name : Option Identifier) (fields : Option (List FieldDecl)) (first second : Outcome NamedType) (after other : l.Environment)
     → Finds l before (WordsAre (Struct name fields) first) after → Finds l before (WordsAre (Struct name fields) second) other → Same first second after other
 one_struct l is before name (Some fields) first second after other a b = is.braces before (Struct name (Some fields)) first second after other (struct_row a) (struct_row b)
 one_struct l is before (Some name) None first second after other a b = one_struct_tag l before name (l.tag name.name before) first second after other (struct_row a) (struct_row b)
-one_struct l is before None None first second after other a b = absurd (struct_row a)
+one_struct l is before None None first second after other a b = both_made (struct_row a) (struct_row b)
 
 pub one_enum : (l : Language) (is : IsDetermined l) (before : l.Environment) (name : Option Identifier) (values : Option (List Enumerator)) (first second : Outcome NamedType) (after other : l.Environment)
     → Finds l before (WordsAre (Enum name values) first) after → Finds l before (WordsAre (Enum name values) second) other → Same first second after other
 one_enum l is before name (Some values) first second after other a b = is.braces before (Enum name (Some values)) first second after other (enum_row a) (enum_row b)
 one_enum l is before (Some name) None first second after other a b = one_enum_tag l before name (l.tag name.name before) first second after other (enum_row a) (enum_row b)
-one_enum l is before None None first second after other a b = absurd (enum_row a)
+one_enum l is before None None first second after other a b = both_made (enum_row a) (enum_row b)
 
 pub basic_row : {l : Language} {before after : l.Environment} {basic : BasicType} {outcome : Outcome NamedType}
     → Finds l before (WordsAre (Basic basic) outcome) after → (outcome ≡ Passes (whole (basic_type l.abi basic)) []) × (before ≡ after)
 basic_row BasicSpecifier = (refl, refl)
 
 pub named_row : {l : Language} {before after : l.Environment} {name : List ℕ} {outcome : Outcome NamedType}
-    → Finds l before (WordsAre (Named name) outcome) after → (t : Option CType) × (l.entity name before ≡ Some (TypedefIs t)) × (outcome ≡ Passes (typedef_type t) []) × (before ≡ after)
-named_row (TypedefSpecifier {t = t} e) = (t, e, refl, refl)
+    → Finds l before (WordsAre (Named name) outcome) after → (outcome ≡ Passes (typedef_of (l.entity name before)) []) × (before ≡ after)
+named_row TypedefSpecifier = (refl, refl)
 
 abbrev pub IsTypeof : (l : Language) → l.Environment → Expr → Outcome NamedType → l.Environment → Type 0
 IsTypeof l before expr outcome after = (inner : Outcome Told) × Finds l before (PieceIs (Unloaded expr) inner) after × (outcome ≡ typeof_found inner)

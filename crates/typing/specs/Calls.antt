@@ -7,7 +7,8 @@ use Rattle.operators.specs.declared.found.Broken.TheVariants.{Construct, Rule}
 use Rattle.operators.specs.Converting.{converts}
 use Rattle.operators.specs.Kinds.{Kind, Integer, Pointer, Array, Struct, Void, decayed}
 use Rattle.operators.specs.Operands.{Operand}
-use Rattle.typing.specs.Faults.{Fault, unless}
+use Rattle.typing.specs.declared.fault.Fault.{Fault}
+use Rattle.typing.specs.Faults.{unless}
 use Rattle.values.specs.Values.{cast_value}
 
 -- an argument: its place, what it is as an operand, and its value where it is an integer constant expression

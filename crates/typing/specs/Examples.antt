@@ -2,7 +2,7 @@
 use Rattle.std.specs.Prelude.{true, false, [], ◌∷◌, None, Some, codes}
 use Rattle.cbase.specs.declared.ctype.CType.TheVariants.{Void as VoidType, Bool as BoolType, Pointer as PointerType, Array as ArrayType}
 use Rattle.cbase.specs.declared.tree.expr.ExprForm.TheVariants.{Unary, Binary, Assign, Count, Choose, Cast, SizeOf, SizeOfType, OffsetOf, Index, Member, Call, Inner, AssertFail}
-use Rattle.cbase.specs.declared.tree.expr.Part.TheVariants.{Member as NamedPart}
+use Rattle.cbase.specs.declared.tree.expr.Part.TheVariants.{Member as NamedPart, At as IndexedPart}
 use Rattle.cbase.specs.declared.tree.operators.BinaryOp.TheVariants.{Mul, Div, Add, Sub, Left, Less, Equal, Both, Comma}
 use Rattle.cbase.specs.declared.tree.operators.UnaryOp.TheVariants.{Address, Follow, Minus, Flip, Not}
 use Rattle.cbase.specs.declared.tree.spec.BasicType.TheVariants.{Void, Bool as BoolWord, Integer}
@@ -44,6 +44,8 @@ pub record AreNamed : Type 0 where
   pub letter : HasValue (constant (codes "'\\377'") 0 0) int_type 4294967295
   -- 9223372036854775808
   pub too_large : IsRefused (constant (codes "9223372036854775808") 0 0) 0 (Rule 9)
+  -- 1x
+  pub of_no_constant : IsRefused (constant (codes "1x") 0 0) 0 (Rule 9)
   -- __assert_fail("", "", 1, "")
   pub assertion : HasType (node 0 0 AssertFail) VoidType
 
@@ -200,6 +202,8 @@ pub record AreSizes : Type 0 where
   pub of_expression : HasValue (node 1 0 (SizeOf (name (codes "n") 0 1))) size_type 4
   -- sizeof row
   pub of_array : HasValue (node 1 0 (SizeOf (name (codes "row") 0 1))) size_type 3
+  -- sizeof vast
+  pub of_large_object : IsRefused (node 1 0 (SizeOf (name (codes "vast") 0 1))) 0 (Construct 19)
   -- sizeof *p
   pub of_void : IsRefused (node 2 0 (SizeOf (node 1 1 (Unary Follow (name (codes "p") 0 2))))) 0 (Rule 3)
   -- sizeof(long)
@@ -232,6 +236,14 @@ pub record AreSizes : Type 0 where
   pub idiom : HasValue (node 4 0 (Cast (type_name (Basic (Integer Long true)) 0 ([])) (node 3 3 (Unary Address (node 2 12 (Member (node 1 5 (Cast (type_name (StructWords (Some (identifier (codes "s") 7)) None) 1 ([])) (constant (codes "0") 0 10))) (identifier (codes "b") 13) true)))))) long_type 8
   -- __builtin_offsetof(struct s, b)
   pub member : HasValue (node 0 0 (OffsetOf (type_name (StructWords (Some (identifier (codes "s") 3)) None) 0 ([])) (NamedPart (identifier (codes "b") 5) ∷ []))) size_type 8
+  -- __builtin_offsetof(struct v, e[2])
+  pub item : HasValue (node 1 0 (OffsetOf (type_name (StructWords (Some (identifier (codes "v") 3)) None) 0 ([])) (NamedPart (identifier (codes "e") 5) ∷ IndexedPart (constant (codes "2") 0 7) ∷ []))) size_type 6
+  -- __builtin_offsetof(struct v, e[-1])
+  pub item_before : HasValue (node 2 0 (OffsetOf (type_name (StructWords (Some (identifier (codes "v") 3)) None) 0 ([])) (NamedPart (identifier (codes "e") 5) ∷ IndexedPart (node 1 7 (Unary Minus (constant (codes "1") 0 8))) ∷ []))) size_type 3
+  -- __builtin_offsetof(struct v, e[-8])
+  pub item_in_front : HasValue (node 2 0 (OffsetOf (type_name (StructWords (Some (identifier (codes "v") 3)) None) 0 ([])) (NamedPart (identifier (codes "e") 5) ∷ IndexedPart (node 1 7 (Unary Minus (constant (codes "8") 0 8))) ∷ []))) size_type 18446744073709551612
+  -- __builtin_offsetof(struct v, a[2])
+  pub item_of_number : IsRefused (node 1 0 (OffsetOf (type_name (StructWords (Some (identifier (codes "v") 3)) None) 0 ([])) (NamedPart (identifier (codes "a") 5) ∷ IndexedPart (constant (codes "2") 0 7) ∷ []))) 0 (Rule 4)
   -- __builtin_offsetof(int, a)
   pub no_struct : IsRefused (node 0 0 (OffsetOf (type_name (Basic (Integer Int true)) 0 ([])) (NamedPart (identifier (codes "a") 4) ∷ []))) 0 (Rule 4)
   -- __builtin_offsetof(struct s, d)
@@ -254,16 +266,24 @@ pub record AreInner : Type 0 where
 pub record AreTypeNames : Type 0 where
   -- sizeof(T)
   pub of_typedef : HasValue (node 0 0 (SizeOfType (type_name (Named (codes "T")) 0 []))) size_type 1
+  -- sizeof(y)
+  pub of_undeclared : IsRefused (node 0 0 (SizeOfType (type_name (Named (codes "y")) 0 []))) 0 (Rule 1)
+  -- sizeof(n *)
+  pub of_object : IsRefused (node 0 0 (SizeOfType (type_name (Named (codes "n")) 1 []))) 0 (Rule 1)
   -- sizeof(struct s)
   pub of_struct : HasValue (node 0 0 (SizeOfType (type_name (StructWords (Some (identifier (codes "s") 3)) None) 0 []))) size_type 16
   -- sizeof(struct t)
   pub of_incomplete : IsRefused (node 0 0 (SizeOfType (type_name (StructWords (Some (identifier (codes "t") 3)) None) 0 []))) 0 (Rule 3)
+  -- sizeof(struct w *)
+  pub of_new_struct : HasValue (node 0 0 (SizeOfType (type_name (StructWords (Some (identifier (codes "w") 3)) None) 1 []))) size_type 8
   -- sizeof(enum e)
   pub of_new_enum : HasValue (node 0 0 (SizeOfType (type_name (EnumWords (Some (identifier (codes "e") 3)) None) 0 []))) size_type 4
   -- sizeof(enum s)
   pub of_other_kind : IsRefused (node 0 0 (SizeOfType (type_name (EnumWords (Some (identifier (codes "s") 3)) None) 0 []))) 3 (Rule 2)
   -- sizeof(char[])
   pub of_size_left_out : IsRefused (node 0 0 (SizeOfType (type_name (Basic (Integer Char true)) 0 (None ∷ [])))) 0 (Rule 3)
+  -- sizeof(char[][n])
+  pub of_sizes_by_order : IsRefused (node 1 0 (SizeOfType (type_name (Basic (Integer Char true)) 0 (None ∷ Some (name (codes "n") 0 6) ∷ [])))) 0 (Construct 18)
   -- sizeof(char[2][3])
   pub of_rows : HasValue (node 2 0 (SizeOfType (type_name (Basic (Integer Char true)) 0 (Some (constant (codes "2") 0 4) ∷ Some (constant (codes "3") 1 7) ∷ [])))) size_type 6
   -- sizeof(typeof(char[n]))

@@ -1,17 +1,17 @@
 -- What is known of an expression that passes.
-use Rattle.std.specs.Prelude.{ℕ, ◌++◌, Bool, true, false, if◌then◌else◌, List, [], ◌∷◌, Option, None, Some, nat_eq, ℤ}
+use Rattle.std.specs.Prelude.{ℕ, ◌++◌, Bool, true, false, if◌then◌else◌, List, [], ◌∷◌, Option, None, Some, nat_eq}
 use Rattle.cbase.specs.declared.ctype.CType.{CType}
 use Rattle.cbase.specs.declared.ctype.CType.TheVariants.{Pointer as PointerType}
 use Rattle.cbase.specs.declared.place.Place.{Place}
 use Rattle.cbase.specs.declared.structs.StructDef.{StructDef}
-use Rattle.arithmetic.specs.Value.{value}
 use Rattle.operators.specs.declared.found.Broken.{Broken}
 use Rattle.operators.specs.Broken.{Judgement, Typed, Breaks}
 use Rattle.operators.specs.Kinds.{Kind, Integer, Pointer, Array, Struct, Void, kind_of, has_size}
 use Rattle.operators.specs.Operands.{Operand}
 use Rattle.typing.specs.Entities.{Entity}
 use Rattle.typing.specs.Faults.{fault}
-use Rattle.typing.specs.Idiom.{Idiom, Outside}
+use Rattle.typing.specs.declared.idiom.Idiom.{Idiom}
+use Rattle.typing.specs.declared.idiom.Idiom.TheVariants.{Outside}
 use Rattle.typing.specs.Outcomes.{Handed, Outcome, Passes, Refused}
 
 -- its own type, before an array becomes a pointer; whether it is an lvalue (C11 6.3.2.1p1); whether it is a null pointer constant
@@ -56,11 +56,6 @@ value_type (Integer of) t = t
 value_type (Pointer item target) t = t
 value_type (Struct number) t = t
 value_type Void t = t
-
--- the value of an integer constant expression as a whole number
-abbrev pub number_of : Kind → Option ℕ → Option ℤ
-number_of (Integer t) (Some bits) = Some (value t.bytes t.signed bits)
-number_of kind bits = None
 
 -- what is handed on of an expression
 abbrev pub handed_of : ℕ → Known → Handed

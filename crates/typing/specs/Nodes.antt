@@ -1,17 +1,18 @@
 -- What is asked at single nodes, and what is known of an expression that passes.
-use Rattle.std.specs.Prelude.{ℕ, ◌++◌, ◌||◌, not, Bool, true, false, List, [], ◌∷◌, Option, None, Some, is_some, option_map, nat_eq, if◌then◌else◌, ℤ}
+use Rattle.std.specs.Prelude.{ℕ, ◌++◌, ◌||◌, not, Bool, true, false, List, [], ◌∷◌, Option, None, Some, is_some, nat_eq, if◌then◌else◌}
 use Rattle.cbase.specs.declared.abi.Abi.{Abi}
 use Rattle.cbase.specs.declared.ctype.CType.{CType}
 use Rattle.cbase.specs.declared.ctype.CType.TheVariants.{Void as VoidType, Int as IntType}
+use Rattle.cbase.specs.declared.measure.Extent.{Extent}
+use Rattle.cbase.specs.declared.measure.Extent.TheVariants.{Bytes, Incomplete, TooLarge}
 use Rattle.cbase.specs.declared.place.Place.{Place}
 use Rattle.cbase.specs.declared.structs.StructDef.{StructDef}
 use Rattle.cbase.specs.declared.tree.expr.ExprForm.TheViews.{out-StmtForm}
 use Rattle.cbase.specs.declared.tree.operators.UnaryOp.{UnaryOp}
 use Rattle.cbase.specs.declared.tree.operators.UnaryOp.TheVariants.{Address, Follow, Plus, Minus, Flip, Not}
 use Rattle.cbase.specs.declared.tree.stmt.Stmt.{Stmt}
-use Rattle.cbase.specs.Layout.{layout_of}
-use Rattle.arithmetic.specs.Conversion.{truth}
-use Rattle.arithmetic.specs.Value.{bits}
+use Rattle.cbase.specs.Layout.{layout_of, extent_of}
+use Rattle.arithmetic.specs.Conversion.{converted, truth}
 use Rattle.constants.specs.declared.meaning.Constant.{Constant}
 use Rattle.operators.specs.declared.found.Broken.{Broken}
 use Rattle.operators.specs.declared.found.Broken.TheVariants.{Construct, Rule}
@@ -21,11 +22,13 @@ use Rattle.operators.specs.Binary.{int_type}
 use Rattle.operators.specs.Kinds.{Kind, Integer, Pointer, Array, Struct, Void, has_size}
 use Rattle.operators.specs.Unary.{size_type}
 use Rattle.typing.specs.Entities.{Entity, ObjectEntity, FunctionEntity, ObjectIs, FunctionIs, EnumeratorIs, TypedefIs}
-use Rattle.typing.specs.Faults.{Fault, unless}
-use Rattle.typing.specs.Idiom.{Outside, offset_in, null_cast, member_offset}
+use Rattle.typing.specs.declared.fault.Fault.{Fault}
+use Rattle.typing.specs.declared.idiom.Idiom.TheVariants.{Outside}
+use Rattle.typing.specs.Faults.{fault, unless}
+use Rattle.typing.specs.Idiom.{offset_in, null_cast, member_offset}
 use Rattle.typing.specs.Known.{Known, valued, is_zero}
 use Rattle.typing.specs.Forms.{value_in}
-use Rattle.values.specs.Values.{cast_value}
+use Rattle.values.specs.Values.{is_whole, cast_value}
 
 -- an object by its name (C11 6.5.1p2)
 abbrev pub object_type : Option CType → CType
@@ -86,26 +89,33 @@ is_arithmetic Minus = true
 is_arithmetic Flip = true
 is_arithmetic Not = true
 
--- `sizeof` (6.5.3.4): an incomplete type has no size
-abbrev pub bytes_of : Abi → List StructDef → CType → Option ℕ
-bytes_of abi structs t = option_map (λ layout. layout.size) (layout_of abi structs t)
+-- `sizeof` (6.5.3.4): an incomplete type has no size, which is rule 3, and no object has more than 65,536 bytes, which is construct 19
+abbrev pub size_in : Abi → List StructDef → CType → Extent
+size_in abi structs t = extent_of (layout_of abi structs t)
 
-abbrev pub size_faults : Place → Option ℕ → List Fault
-size_faults place bytes = unless (is_some bytes) place (Rule 3)
+abbrev pub size_faults : Place → Extent → List Fault
+size_faults place (Bytes count) = []
+size_faults place Incomplete = fault place (Rule 3) ∷ []
+size_faults place TooLarge = fault place (Construct 19) ∷ []
 
-abbrev pub sized_known : Option ℕ → Known
-sized_known bytes = valued bytes size_type
+abbrev pub size_told : Extent → Option ℕ
+size_told (Bytes count) = Some count
+size_told Incomplete = None
+size_told TooLarge = None
+
+abbrev pub sized_known : Extent → Known
+sized_known size = valued (size_told size) size_type
 
 -- `__builtin_offsetof` (7.19p3)
-abbrev pub offset_known : ℤ → Known
-offset_known offset = valued (Some (bits 8 offset)) size_type
+abbrev pub offset_known : ℕ → Known
+offset_known offset = valued (Some offset) size_type
 
 -- casts (6.5.4): the offset that the idiom has
-abbrev pub offset_as : IntegerType → ℤ → ℕ
-offset_as to offset = if to.truth then truth 8 (bits 8 offset) else bits to.bytes offset
+abbrev pub offset_as : IntegerType → ℕ → ℕ
+offset_as to offset = if to.truth then truth 8 offset else converted 8 false to.bytes offset
 
-abbrev pub value_of_cast : Kind → Kind → Option ℕ → Option ℤ → Option ℕ
-value_of_cast (Integer to) from value (Some offset) = Some (offset_as to offset)
+abbrev pub value_of_cast : Kind → Kind → Option ℕ → Option ℕ → Option ℕ
+value_of_cast (Integer to) from value (Some offset) = if is_whole to then Some (offset_as to offset) else None
 value_of_cast to from value offset = cast_value to from value
 
 -- a null pointer constant: a constant 0, or one cast to `void *` once (6.3.2.3p3)

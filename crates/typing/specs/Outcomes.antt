@@ -2,7 +2,8 @@
 use Rattle.std.specs.Prelude.{◌≡◌, ℕ, List, [], Option}
 use Rattle.cbase.specs.declared.ctype.CType.{CType}
 use Rattle.typing.specs.Entities.{Entity}
-use Rattle.typing.specs.Faults.{Fault, IsFirst}
+use Rattle.typing.specs.declared.fault.Fault.{Fault}
+use Rattle.typing.specs.Faults.{IsFirst}
 
 -- what is handed on of an expression: its number; its own type, before an array becomes a pointer, where the name that is
 -- called has the type of the call; what its name stands for, where it is one; its value, where it is an integer constant

@@ -1,7 +1,8 @@
 -- The rules of expressions: what is found at each of them, where its parts pass (C11 6.3, 6.5 and 6.6).
-use Rattle.std.specs.Prelude.{◌≡◌, ℕ, Bool, true, false, List, [], ◌∷◌, ◌++◌, map, Option, None, Some, ℤ}
+use Rattle.std.specs.Prelude.{◌≡◌, ℕ, Bool, true, false, List, [], ◌∷◌, ◌++◌, map, Option, None, Some}
 use Rattle.cbase.specs.declared.ctype.CType.{CType}
 use Rattle.cbase.specs.declared.ctype.CType.TheVariants.{Void as VoidType}
+use Rattle.cbase.specs.declared.measure.Extent.{Extent}
 use Rattle.cbase.specs.declared.place.Place.{Place}
 use Rattle.cbase.specs.declared.structs.StructDef.{StructDef}
 use Rattle.cbase.specs.declared.tree.decl.TypeName.{TypeName}
@@ -16,7 +17,7 @@ use Rattle.cbase.specs.declared.tree.operators.UnaryOp.{UnaryOp}
 use Rattle.cbase.specs.declared.tree.operators.UnaryOp.TheVariants.{Address, Follow}
 use Rattle.cbase.specs.declared.tree.stmt.Stmt.{Stmt}
 use Rattle.constants.specs.declared.meaning.Constant.{Constant as ConstantMeant}
-use Rattle.constants.specs.declared.meaning.Meaning.TheVariants.{FitsNoType, Known as Meant}
+use Rattle.constants.specs.declared.meaning.Meaning.TheVariants.{NoConstant, FitsNoType, Known as Meant}
 use Rattle.constants.specs.Meanings.{Means}
 use Rattle.operators.specs.declared.binary.Group.TheVariants.{Arithmetic, Shift, Sum, Difference, Order, Equality, Logic, Sequence}
 use Rattle.operators.specs.declared.found.Broken.TheVariants.{Construct, Rule}
@@ -31,17 +32,19 @@ use Rattle.operators.specs.Operands.{Operand}
 use Rattle.operators.specs.Unary.{unary, counted}
 use Rattle.typing.specs.Calls.{Argument, call_faults}
 use Rattle.typing.specs.Entities.{ObjectEntity, FunctionEntity, ObjectIs, FunctionIs, EnumeratorIs, TypedefIs}
-use Rattle.typing.specs.Faults.{Fault, fault, all_at, faults_of, IsFirst}
-use Rattle.typing.specs.Idiom.{Outside, through, within, at_index, address, is_idiom, item_bytes, member_offset}
-use Rattle.typing.specs.Known.{Known, plain, located, valued, operand, number_of, behind, found_at}
+use Rattle.typing.specs.declared.fault.Fault.{Fault}
+use Rattle.typing.specs.declared.idiom.Idiom.TheVariants.{Outside}
+use Rattle.typing.specs.Faults.{fault, all_at, faults_of, IsFirst}
+use Rattle.typing.specs.Idiom.{through, within, at_index, address, is_idiom, item_bytes, member_offset}
+use Rattle.typing.specs.Known.{Known, plain, located, valued, operand, behind, found_at}
 use Rattle.typing.specs.Language.{Language}
 use Rattle.typing.specs.NamedTypes.{NamedType}
-use Rattle.typing.specs.Nodes.{is_sized, object_faults, object_known, enumerator_known, function_faults, constant_known, place_of_member, pointed_offset, is_arithmetic, bytes_of, size_faults, sized_known, offset_known, cast_known, place_of_assignment}
+use Rattle.typing.specs.Nodes.{is_sized, object_faults, object_known, enumerator_known, function_faults, constant_known, place_of_member, pointed_offset, is_arithmetic, size_in, size_faults, sized_known, offset_known, cast_known, place_of_assignment}
 use Rattle.typing.specs.Outcomes.{Outcome, Handed, Passes, Refused, IsSettled}
 use Rattle.typing.specs.Paths.{Way, LeadsFrom, way_faults, way_offset}
-use Rattle.values.specs.Values.{unary_value, binary_value, choice_value}
 use Rattle.typing.specs.Forms.{Form}
 use Rattle.typing.specs.Told.{Told, OperandIs, FunctionNamed, NoFunction, TypeIs, IndexIs, ValueIs}
+use Rattle.values.specs.Values.{unary_value, binary_value, choice_value, word_of}
 
 -- arguments with their expressions, where the structs are these
 pub data AreArguments (structs : List StructDef) : List Expr → List Told → List Argument → Type 0 where
@@ -77,13 +80,16 @@ pub data AtNode (l : Language) (env : l.Environment) (number : ℕ) (place : Pla
       → l.entity name env ≡ Some (FunctionIs function)
       → IsFirst (function_faults place function ++ fault place (Construct 20) ∷ []) first
       → AtNode l env number place handed (Name name) [] (Refused first)
-  -- a constant (6.4.4, 6.5.1p3); one that fits no type is rule 9 (6.4.4p2)
+  -- a constant (6.4.4, 6.5.1p3); one that fits no type is rule 9 (6.4.4p2), and so is what is no constant
   ConstantOfType : {meant : ConstantMeant} {spelling : List ℕ}
       → Means l.abi spelling (Meant meant)
       → AtNode l env number place handed (Constant spelling) []
       (Passes (constant_known meant) (behind handed number (constant_known meant)))
   ConstantOfNoType : {spelling : List ℕ}
       → Means l.abi spelling FitsNoType
+      → AtNode l env number place handed (Constant spelling) [] (Refused (fault place (Rule 9)))
+  SpellingOfNoConstant : {spelling : List ℕ}
+      → Means l.abi spelling NoConstant
       → AtNode l env number place handed (Constant spelling) [] (Refused (fault place (Rule 9)))
   -- a statement expression has the type of its value; C11 has none
   StatementExpression : {body : List Stmt} {t : CType} {close : Place}
@@ -96,7 +102,7 @@ pub data AtNode (l : Language) (env : l.Environment) (number : ℕ) (place : Pla
       → operand (l.structs env) i ≡ right
       → item_bytes l.abi (l.structs env) left.kind ≡ bytes
       → AtNode l env number place handed (Index base index) (OperandIs b ∷ OperandIs i ∷ [])
-      (found_at (λ broken. place) (indexed (decayed left.kind) (decayed right.kind)) (located (at_index b.idiom (number_of right.kind i.value) bytes)) handed number)
+      (found_at (λ broken. place) (indexed (decayed left.kind) (decayed right.kind)) (located (at_index b.idiom (word_of right.kind i.value) bytes)) handed number)
   -- a call of a function (6.5.2.2)
   CallOfFunction : {callee : Expr} {args : List Expr} {name : List ℕ} {function : FunctionEntity} {told : List Told} {arguments : List Argument} {result : Kind} {params : List Kind} {outcome : Outcome Known}
       → AreArguments (l.structs env) args told arguments
@@ -142,16 +148,16 @@ pub data AtNode (l : Language) (env : l.Environment) (number : ℕ) (place : Pla
       → AtNode l env number place handed (Unary op arg) (OperandIs a ∷ [])
       (found_at (λ broken. place) (unary op left) (valued (unary_value op left.kind a.value)) handed number)
   -- `sizeof` (6.5.3.4): its operand is not evaluated, and an array stays one
-  SizeOfExpression : {arg : Expr} {a : Known} {bytes : Option ℕ} {outcome : Outcome Known}
-      → bytes_of l.abi (l.structs env) a.ctype ≡ bytes
-      → IsSettled (size_faults place bytes) (sized_known bytes) (behind handed number (sized_known bytes)) outcome
+  SizeOfExpression : {arg : Expr} {a : Known} {size : Extent} {outcome : Outcome Known}
+      → size_in l.abi (l.structs env) a.ctype ≡ size
+      → IsSettled (size_faults place size) (sized_known size) (behind handed number (sized_known size)) outcome
       → AtNode l env number place handed (SizeOf arg) (OperandIs a ∷ []) outcome
-  SizeOfTypeName : {to : TypeName} {named : NamedType} {bytes : Option ℕ} {outcome : Outcome Known}
-      → bytes_of l.abi (l.structs env) named.ctype ≡ bytes
-      → IsSettled (all_at place named.found ++ size_faults place bytes) (sized_known bytes) (behind handed number (sized_known bytes)) outcome
+  SizeOfTypeName : {to : TypeName} {named : NamedType} {size : Extent} {outcome : Outcome Known}
+      → size_in l.abi (l.structs env) named.ctype ≡ size
+      → IsSettled (all_at place named.found ++ size_faults place size) (sized_known size) (behind handed number (sized_known size)) outcome
       → AtNode l env number place handed (SizeOfType to) (TypeIs named ∷ []) outcome
   -- `__builtin_offsetof` (7.19p3)
-  OffsetOfMember : {to : TypeName} {path : List Part} {named : NamedType} {told : List Told} {indices : List ℤ} {way : Way} {outcome : Outcome Known}
+  OffsetOfMember : {to : TypeName} {path : List Part} {named : NamedType} {told : List Told} {indices : List ℕ} {way : Way} {outcome : Outcome Known}
       → told ≡ map IndexIs indices
       → LeadsFrom l.abi (l.structs env) place named.ctype (map out-Part path) indices way
       → IsSettled (all_at place named.found ++ way_faults way) (offset_known (way_offset way)) (behind handed number (offset_known (way_offset way))) outcome

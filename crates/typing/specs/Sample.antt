@@ -1,11 +1,12 @@
 -- What is declared where the expressions of the examples stand, by LP64:
 --
---     enum { five = 5, none };    typedef char T;    struct s { int a; char *b; };    struct t;
---     int n; unsigned u; char c; long w; _Bool truth; void *p; int *q; char row[3]; struct s x; struct s *r; struct t *z;
+--     enum { five = 5, none };    typedef char T;    struct s { int a; char *b; };    struct t;    struct v { int a; char e[3]; };
+--     int n; unsigned u; char c; long w; _Bool truth; void *p; int *q; char row[3]; char vast[70000];
+--     struct s x; struct s *r; struct t *z;
 --     extern int open[];    int f(int, char *); void g(void);    extern int missing; int lost(void);
 --
 -- and the built-in functions `malloc`, `calloc` and `free`. The last two have no definition, and `open` has its size behind this
--- place. `count` is a parameter of `main`.
+-- place. `count` is a parameter of `main`. `vast` is larger than an object can be.
 use Rattle.std.specs.Prelude.{◌≡◌, ℕ, true, false, List, [], ◌∷◌, ◌++◌, Option, None, Some, codes, length, if◌then◌else◌}
 use Rattle.std.specs.Str.{bytes_eq}
 use Rattle.cbase.specs.declared.abi.Abi.TheVariants.{Lp64}
@@ -67,6 +68,7 @@ names =
     ∷ (codes "p", ObjectIs (object (PointerType VoidType)))
     ∷ (codes "q", ObjectIs (object (PointerType int_type)))
     ∷ (codes "row", ObjectIs (object (ArrayType char_type 3)))
+    ∷ (codes "vast", ObjectIs (object (ArrayType char_type 70000)))
     ∷ (codes "x", ObjectIs (object (StructType 0)))
     ∷ (codes "r", ObjectIs (object (PointerType (StructType 0))))
     ∷ (codes "z", ObjectIs (object (PointerType (StructType 1))))
@@ -93,12 +95,16 @@ pub record Declarations : Type 0 where
 
 abbrev pub start : Declarations
 start = record {
-  tags = (codes "s", StructTag 0) ∷ (codes "t", StructTag 1) ∷ [];
+  tags = (codes "s", StructTag 0) ∷ (codes "t", StructTag 1) ∷ (codes "v", StructTag 2) ∷ [];
   structs = record {
     name = codes "s";
     complete = true;
     fields = record { name = codes "a"; ctype = int_type } ∷ record { name = codes "b"; ctype = PointerType char_type } ∷ [];
-  } ∷ fieldless (codes "t") ∷ [];
+  } ∷ fieldless (codes "t") ∷ record {
+    name = codes "v";
+    complete = true;
+    fields = record { name = codes "a"; ctype = int_type } ∷ record { name = codes "e"; ctype = ArrayType char_type 3 } ∷ [];
+  } ∷ [];
 }
 
 -- `;` is the one statement

@@ -3,7 +3,7 @@
 -- `Finds before saying after` says what is found of a part of a tree, where `before` is declared in front of it and `after` behind
 -- it. The parts of an expression are walked in the order of the text, and the expression itself behind them: what is found in a part
 -- is found of the whole, and where all parts pass, what is named of all that is broken at the expression itself.
-use Rattle.std.specs.Prelude.{◌≡◌, ℕ, Bool, true, false, List, [], ◌∷◌, ◌++◌, Option, None, Some, option_and_then, ℤ}
+use Rattle.std.specs.Prelude.{◌≡◌, ℕ, Bool, true, false, List, [], ◌∷◌, ◌++◌, Option, None, Some, option_and_then, length}
 use Rattle.cbase.specs.declared.ctype.CType.{CType}
 use Rattle.cbase.specs.declared.ctype.CType.TheVariants.{Void as VoidType, Struct as StructType}
 use Rattle.cbase.specs.declared.tree.decl.TypeName.{TypeName}
@@ -18,18 +18,22 @@ use Rattle.cbase.specs.declared.tree.stmt.Stmt.{Stmt}
 use Rattle.operators.specs.declared.found.Broken.TheVariants.{Rule}
 use Rattle.operators.specs.Binary.{int_type}
 use Rattle.operators.specs.Operands.{Operand}
+use Rattle.typing.specs.declared.fault.Fault.{Fault}
+use Rattle.typing.specs.declared.size.Size.{Size}
+use Rattle.typing.specs.declared.size.Size.TheVariants.{LeftOut}
 use Rattle.typing.specs.Calls.{is_struct}
-use Rattle.typing.specs.Entities.{FunctionEntity, FunctionIs, TypedefIs, StructTag, EnumTag}
-use Rattle.typing.specs.Faults.{Fault, fault}
+use Rattle.typing.specs.Entities.{FunctionEntity, FunctionIs, StructTag, EnumTag}
+use Rattle.typing.specs.Faults.{fault}
 use Rattle.typing.specs.Forms.{Form, Words, NameParts, name_in, value_in}
-use Rattle.typing.specs.Known.{Known, operand, can_load, value_type, number_of, behind}
+use Rattle.typing.specs.Known.{Known, operand, can_load, value_type, behind}
 use Rattle.typing.specs.Language.{Language}
-use Rattle.typing.specs.NamedTypes.{NamedType, whole, basic_type, typedef_type, Size, LeftOut, size_of, declared_type, declared, is_large}
+use Rattle.typing.specs.NamedTypes.{NamedType, whole, basic_type, no_type, typedef_of, size_of, declared_type, declared, is_large}
 use Rattle.typing.specs.Nodes.{function_faults, is_function, called_of, is_last_value}
 use Rattle.typing.specs.Outcomes.{Outcome, Handed, Passes, Refused, IsSettled}
 use Rattle.typing.specs.Pieces.{Piece, Loaded, Unloaded, Called, OfType as OfTypeName, ConstantIndex, SizeOfArray, BlockOf, pieces_in}
 use Rattle.typing.specs.Rules.{AtNode}
 use Rattle.typing.specs.Told.{Told, OperandIs, FunctionNamed, NoFunction, TypeIs, IndexIs, SizeIs, ValueIs}
+use Rattle.values.specs.Values.{word_of}
 
 -- what is said of which part of a tree
 pub data Saying : Type 0 where
@@ -112,15 +116,15 @@ pub data Finds (l : Language) : l.Environment → Saying → l.Environment → T
       → Finds l before (NameOfTypeIs to (Refused first)) after
       → Finds l before (PieceIs (OfTypeName to) (Refused first)) after
   -- an index of `__builtin_offsetof` that is no integer constant expression is rule 9 at it
-  IndexOfPath : {before after : l.Environment} {expr : Expr} {known : Known} {index : Operand} {value : ℤ} {handed : List Handed}
+  IndexOfPath : {before after : l.Environment} {expr : Expr} {known : Known} {index : Operand} {word : ℕ} {handed : List Handed}
       → Finds l before (PieceIs (Loaded expr) (Passes (OperandIs known) handed)) after
       → operand (l.structs after) known ≡ index
-      → number_of index.kind known.value ≡ Some value
-      → Finds l before (PieceIs (ConstantIndex expr) (Passes (IndexIs value) handed)) after
+      → word_of index.kind known.value ≡ Some word
+      → Finds l before (PieceIs (ConstantIndex expr) (Passes (IndexIs word) handed)) after
   IndexNotConstant : {before after : l.Environment} {expr : Expr} {known : Known} {index : Operand} {handed : List Handed}
       → Finds l before (PieceIs (Loaded expr) (Passes (OperandIs known) handed)) after
       → operand (l.structs after) known ≡ index
-      → number_of index.kind known.value ≡ None
+      → word_of index.kind known.value ≡ None
       → Finds l before (PieceIs (ConstantIndex expr) (Refused (fault expr.place (Rule 9)))) after
   IndexRefused : {before after : l.Environment} {expr : Expr} {first : Fault}
       → Finds l before (PieceIs (Loaded expr) (Refused first)) after
@@ -183,17 +187,17 @@ pub data Finds (l : Language) : l.Environment → Saying → l.Environment → T
   -- the words of a type (6.7.2)
   BasicSpecifier : {env : l.Environment} {basic : BasicType}
       → Finds l env (WordsAre (Basic basic) (Passes (whole (basic_type l.abi basic)) [])) env
-  TypedefSpecifier : {env : l.Environment} {t : Option CType} {name : List ℕ}
-      → l.entity name env ≡ Some (TypedefIs t)
-      → Finds l env (WordsAre (Named name) (Passes (typedef_type t) [])) env
-  -- a tag that is visible, one that is not and is declared here, one of another kind (6.7.2.3p3, p8)
+  -- a name, of a type or of none
+  TypedefSpecifier : {env : l.Environment} {name : List ℕ}
+      → Finds l env (WordsAre (Named name) (Passes (typedef_of (l.entity name env)) [])) env
+  -- a tag that is visible, one that is not and is declared here, one of another kind (6.7.2.3p3, p8). Structs have their numbers in the
+  -- order in which they are declared
   StructSpecifier : {env : l.Environment} {number : ℕ} {name : Identifier}
       → l.tag name.name env ≡ Some (StructTag number)
       → Finds l env (WordsAre (Struct (Some name) None) (Passes (whole (StructType number)) [])) env
-  StructDeclared : {env : l.Environment} {number : ℕ} {name : Identifier}
+  StructDeclared : {env : l.Environment} {name : Identifier}
       → l.tag name.name env ≡ None
-      → l.tag name.name (l.struct_declared name.name env) ≡ Some (StructTag number)
-      → Finds l env (WordsAre (Struct (Some name) None) (Passes (whole (StructType number)) [])) (l.struct_declared name.name env)
+      → Finds l env (WordsAre (Struct (Some name) None) (Passes (whole (StructType (length (l.structs env)))) [])) (l.struct_declared name.name env)
   StructIsEnum : {env : l.Environment} {name : Identifier}
       → l.tag name.name env ≡ Some EnumTag
       → Finds l env (WordsAre (Struct (Some name) None) (Refused (fault name.place (Rule 2)))) env
@@ -206,6 +210,9 @@ pub data Finds (l : Language) : l.Environment → Saying → l.Environment → T
   EnumIsStruct : {env : l.Environment} {number : ℕ} {name : Identifier}
       → l.tag name.name env ≡ Some (StructTag number)
       → Finds l env (WordsAre (Enum (Some name) None) (Refused (fault name.place (Rule 2)))) env
+  -- neither a tag nor braces name no type; the grammar reads none
+  StructOfNothing : {env : l.Environment} → Finds l env (WordsAre (Struct None None) (Passes no_type [])) env
+  EnumOfNothing : {env : l.Environment} → Finds l env (WordsAre (Enum None None) (Passes no_type [])) env
   -- braces have rules of their own
   BracedStruct : {before after : l.Environment} {outcome : Outcome NamedType} {name : Option Identifier} {fields : List FieldDecl}
       → l.Braces before (Struct name (Some fields)) outcome after

@@ -1,0 +1,11 @@
+use cbase::Place;
+use operators::Broken;
+
+/// What is broken in a text, with the place where it is.
+#[derive(Clone, Copy, Debug, PartialEq, Eq)]
+pub struct Fault {
+    /// Where it stands.
+    pub place: Place,
+    /// What is broken there.
+    pub broken: Broken,
+}
