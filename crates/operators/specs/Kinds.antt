@@ -1,5 +1,5 @@
 -- What operators ask of a type (C11 6.2.5).
-use Rattle.std.specs.Prelude.{ℕ, Bool, List, is_some, if◌then◌else◌}
+use Rattle.std.specs.Prelude.{ℕ, Bool, List, Option, None, Some, is_some, if◌then◌else◌}
 use Rattle.cbase.specs.declared.abi.Abi.TheVariants.{Lp64}
 use Rattle.cbase.specs.declared.ctype.CType.{CType}
 use Rattle.cbase.specs.declared.ctype.CType.TheOpen.{CType-F, Void as VoidOpen, Bool as BoolOpen, Int as IntOpen, Pointer as PointerOpen, Struct as StructOpen, Array as ArrayOpen}
@@ -54,3 +54,11 @@ decayed (Pointer item target) = Pointer item target
 decayed (Array item target) = Pointer item target
 decayed (Struct number) = Struct number
 decayed Void = Void
+
+-- the type of integers that a kind is of, if it is of one
+abbrev pub integer_in : Kind → Option IntegerType
+integer_in (Integer t) = Some t
+integer_in (Pointer item target) = None
+integer_in (Array item target) = None
+integer_in (Struct number) = None
+integer_in Void = None

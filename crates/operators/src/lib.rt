@@ -21,6 +21,7 @@ pub use binary::{Group, binary_type};
 pub use casting::{cast_type, converts, is_condition};
 pub use choosing::choice_type;
 pub use found::{Broken, Outcome};
+pub use integers::integer_type;
 pub use kind::{IntegerType, Target};
 pub use laws::{
     bytes_say_what_ranks_say, complete_types_have_sizes, conversions_are_settled,

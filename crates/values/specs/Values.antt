@@ -1,6 +1,6 @@
 -- The values of integer constant expressions (C11 6.6p3, p6): there is one where each operand has one, also where it would never be
 -- evaluated. A value is given by the bits of its type.
-use Rattle.std.specs.Prelude.{ℕ, Bool, true, false, not, ◌&&◌, ◌||◌, Option, None, Some, is_some, nat_eq, if◌then◌else◌}
+use Rattle.std.specs.Prelude.{ℕ, Bool, true, false, not, ◌&&◌, ◌||◌, Option, None, Some, is_some, nat_eq, ℤ, pos, negsuc, if◌then◌else◌}
 use Rattle.cbase.specs.declared.tree.operators.BinaryOp.{BinaryOp}
 use Rattle.cbase.specs.declared.tree.operators.BinaryOp.TheVariants.{Mul, Div, Rem, Add, Sub, Left, Right, Less, Greater, LessEqual, GreaterEqual, Equal, NotEqual, And, Xor, Or, Both, Either, Comma}
 use Rattle.cbase.specs.declared.tree.operators.UnaryOp.{UnaryOp}
@@ -11,6 +11,7 @@ use Rattle.arithmetic.specs.Comparing.{is_equal, answer}
 use Rattle.arithmetic.specs.Computing.{computed, negated, complemented}
 use Rattle.arithmetic.specs.Conversion.{converted, truth}
 use Rattle.arithmetic.specs.Size.{size_of}
+use Rattle.arithmetic.specs.Value.{value}
 use Rattle.operators.specs.declared.kind.IntegerType.{IntegerType}
 use Rattle.operators.specs.Integers.{promoted, common}
 use Rattle.operators.specs.Kinds.{Kind, Integer}
@@ -18,6 +19,11 @@ use Rattle.operators.specs.Kinds.{Kind, Integer}
 -- a type that the data layouts have: one of 1, 2, 4 or 8 bytes. Integers of others have no value, and no program has them
 abbrev pub is_whole : IntegerType → Bool
 is_whole t = is_some (size_of t.bytes)
+
+-- a type of integers, where it is there and the data layouts have it
+abbrev pub whole_in : Option IntegerType → Option IntegerType
+whole_in (Some t) = if is_whole t then Some t else None
+whole_in None = None
 
 -- an integer of one type as one of another (C11 6.3.1.2, 6.3.1.3)
 abbrev pub as_type : IntegerType → IntegerType → ℕ → ℕ
@@ -99,3 +105,16 @@ cast_value to from bits = None
 abbrev pub word_of : Kind → Option ℕ → Option ℕ
 word_of (Integer t) (Some bits) = if is_whole t then Some (converted t.bytes t.signed 8 bits) else None
 word_of kind bits = None
+
+-- a word of 64 bits, without sign, as an integer of a type (C11 6.3.1.2, 6.3.1.3)
+abbrev pub offset_as : IntegerType → ℕ → ℕ
+offset_as to offset = if to.truth then truth 8 offset else converted 8 false to.bytes offset
+
+-- a whole number that is 1 or more
+abbrev pub at_least_one : ℤ → Option ℕ
+at_least_one (pos number) = if nat_eq number 0 then None else Some number
+at_least_one (negsuc before) = None
+
+-- the value of an integer that is 1 or more
+abbrev pub count_of : IntegerType → ℕ → Option ℕ
+count_of t bits = if is_whole t then at_least_one (value t.bytes t.signed bits) else None

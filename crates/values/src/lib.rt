@@ -2,3 +2,19 @@
 //!
 //! It knows types of integers and their bits, and nothing of trees or names.
 #![tactic(auto)]
+
+mod binary;
+mod casting;
+mod choosing;
+mod condition;
+mod converting;
+mod counting;
+mod unary;
+mod whole;
+
+pub use binary::binary_value;
+pub use casting::{cast_value, offset_as, word_of};
+pub use choosing::choice_value;
+pub use counting::count_of;
+pub use unary::unary_value;
+pub use whole::is_whole;
