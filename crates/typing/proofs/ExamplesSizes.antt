@@ -111,15 +111,15 @@ are_sizes = record {
   of_void_type = (start, Walked (outs-SizeOfType _) (one (TypeInside (TypeNamed (out-roll-TypeName _) (outs-Basic Void) BasicSpecifier NoSizes (ap is_over laid_void)))) (SizeOfTypeName (ap extent_of laid_void) (alone _)));
   of_typeof = (_, _, _, Walked (outs-SizeOfType _) (one (TypeInside (TypeNamed (out-roll-TypeName _) (outs-OfExpr _) (TypeofExpression (UnloadedOperand (row 0 4))) NoSizes (ap is_over (laid_chars 3))))) (SizeOfTypeName (ap extent_of (laid_chars 3)) (refl, refl, refl)), refl, refl);
   of_constant_array = (_, _, _, Walked (outs-SizeOfType _) (one (TypeInside (TypeNamed (out-roll-TypeName _) (outs-Basic (Integer Char true)) BasicSpecifier (MoreSizes (SizeOfItems (vread (codes "5") (int_of 5) 0 4 m_5) (seen k_int) refl) NoSizes) (ap is_over (laid_chars 5))))) (SizeOfTypeName (ap extent_of (laid_chars 5)) (refl, refl, refl)), refl, refl);
-  of_variable_array = (start, Walked (outs-SizeOfType _) (one (TypeInside (TypeNamed (out-roll-TypeName _) (outs-Basic (Integer Char true)) BasicSpecifier (MoreSizes (SizeOfItems (vn 0 4) (seen k_int) refl) NoSizes) (ap is_over (laid_chars 0))))) (SizeOfTypeName (ap extent_of (laid_chars 0)) (alone _)));
+  of_variable_array = (start, Walked (outs-SizeOfType _) (one (TypeInside (TypeNamed (out-roll-TypeName _) (outs-Basic (Integer Char true)) BasicSpecifier (MoreSizes (SizeOfItems (vn 0 4) (seen k_int) refl) NoSizes) (ap is_over (laid_chars 1))))) (SizeOfTypeName (ap extent_of (laid_chars 1)) (alone _)));
   of_large_array = (start, Walked (outs-SizeOfType _) (one (TypeInside (TypeNamed (out-roll-TypeName _) (outs-Basic (Integer Char true)) BasicSpecifier (MoreSizes (SizeOfItems (vread (codes "70000") (int_of 70000) 0 4 m_70000) (seen k_int) refl) NoSizes) (ap is_over (laid_chars 70000))))) (SizeOfTypeName (ap extent_of (laid_chars 70000)) (record { front = []; back = fault (token 0) (Construct 19) ∷ []; whole = refl; later = tt; behind = (omega arith, tt) })));
   of_empty_array = (start, RefusedInside (outs-SizeOfType _) (RefusedHere (TypeRefused (SizesRefused (out-roll-TypeName _) (outs-Basic (Integer Char true)) BasicSpecifier (SizesRefusedHere (SizeUnderOne (v0 0 4) (seen k_int) refl))))));
   cast = (_, _, _, Walked (outs-Cast _ _) (two (TypeInside (TypeNamed (out-roll-TypeName _) (outs-Basic (Integer Char true)) BasicSpecifier NoSizes (ap is_over (laid_1 true)))) (vread (codes "300") (int_of 300) 0 3 m_300)) (CastToType k_char (seen k_int) (refl, refl, refl)), refl, refl);
   null_pointer = (_, _, _, Walked (outs-Cast _ _) (two (TypeInside (TypeNamed (out-roll-TypeName _) (outs-Basic Void) BasicSpecifier NoSizes (ap is_over (laid_pointer _)))) (v0 0 4)) (CastToType k_p (seen k_int) (refl, refl, refl)), refl, refl);
   of_number = (start, Walked (outs-Cast _ _) (two (TypeInside (TypeNamed (out-roll-TypeName _) (outs-Basic (Integer Char true)) BasicSpecifier NoSizes (ap is_over (laid_pointer _)))) (vn 0 4)) (CastToType k_chars (seen k_int) (alone _)));
   of_pointer = (start, Walked (outs-Cast _ _) (two (TypeInside (TypeNamed (out-roll-TypeName _) (outs-Basic (Integer Long true)) BasicSpecifier NoSizes (ap is_over (laid_8 true)))) (vp 0 3)) (CastToType k_long (seen k_p) (alone _)));
-  operand_first = (start, RefusedInside (outs-Cast _ _) (RefusedBehind (TypeInside (TypeNamed (out-roll-TypeName _) (outs-Basic (Integer Char true)) BasicSpecifier (MoreSizes (SizeOfItems (vn 0 3) (seen k_int) refl) NoSizes) (ap is_over (laid_chars 0)))) (RefusedHere (LoadedRefused (y 1 6)))));
-  to_variable_array = (start, Walked (outs-Cast _ _) (two (TypeInside (TypeNamed (out-roll-TypeName _) (outs-Basic (Integer Char true)) BasicSpecifier (MoreSizes (SizeOfItems (vn 0 3) (seen k_int) refl) NoSizes) (ap is_over (laid_chars 0)))) (vn 1 6)) (CastToType (k_row 0) (seen k_int) (record { front = []; back = fault (token 0) (Rule 4) ∷ []; whole = refl; later = tt; behind = (tt, tt) })));
+  operand_first = (start, RefusedInside (outs-Cast _ _) (RefusedBehind (TypeInside (TypeNamed (out-roll-TypeName _) (outs-Basic (Integer Char true)) BasicSpecifier (MoreSizes (SizeOfItems (vn 0 3) (seen k_int) refl) NoSizes) (ap is_over (laid_chars 1)))) (RefusedHere (LoadedRefused (y 1 6)))));
+  to_variable_array = (start, Walked (outs-Cast _ _) (two (TypeInside (TypeNamed (out-roll-TypeName _) (outs-Basic (Integer Char true)) BasicSpecifier (MoreSizes (SizeOfItems (vn 0 3) (seen k_int) refl) NoSizes) (ap is_over (laid_chars 1)))) (vn 1 6)) (CastToType (k_row 1) (seen k_int) (record { front = []; back = fault (token 0) (Rule 4) ∷ []; whole = refl; later = tt; behind = (tt, tt) })));
   idiom = (_, _, _, Walked (outs-Cast _ _) (two (TypeInside (TypeNamed (out-roll-TypeName _) (outs-Basic (Integer Long true)) BasicSpecifier NoSizes (ap is_over (laid_8 true)))) (LoadedValue (Walked (outs-Unary Address _) (one (UnloadedOperand (Walked (outs-ExprForm::Member _ _ true) (one (LoadedValue (Walked (outs-Cast _ _) (two (TypeInside (TypeNamed (out-roll-TypeName _) (outs-Struct _ _) (StructSpecifier refl) NoSizes (ap is_over (laid_pointer _)))) (v0 0 10)) (CastToType k_r (seen k_int) (refl, refl, refl))) refl)) (MemberOfPointed (seen k_r) (of_s (codes "b")) b_offset)))) (AddressOf (seen k_chars))) refl)) (CastToType k_long (seen k_char_pointers) (refl, refl, refl)), refl, refl);
   member = (_, _, _, Walked (outs-OffsetOf _ _) (path_pieces (codes "b") 5 (TypeInside (TypeNamed (out-roll-TypeName _) (outs-Struct _ _) (StructSpecifier refl) NoSizes (ap is_over laid_s)))) (OffsetOfMember {indices = []} refl (lead_by (codes "b") 5 (ToFirst (of_s (codes "b")) b_offset Arrives)) (refl, refl, refl)), refl, refl);
   item = (_, _, _, Walked (outs-OffsetOf _ _) (index_pieces (codes "e") 5 (constant (codes "2") 0 7) (TypeInside (TypeNamed (out-roll-TypeName _) (outs-Struct _ _) (StructSpecifier refl) NoSizes (ap is_over laid_v))) (IndexOfPath (vread (codes "2") (int_of 2) 0 7 m_2) (seen k_int) refl)) (OffsetOfMember {indices = 2 ∷ []} refl (lead_by_index (codes "e") 5 (constant (codes "2") 0 7) (ToFirst (of_v (codes "e")) e_offset (ToItem (ap item_in (k_row 3)) char_bytes Arrives))) (refl, refl, refl)), refl, refl);

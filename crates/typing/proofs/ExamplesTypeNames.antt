@@ -39,12 +39,12 @@ are_type_names = record {
   of_new_struct = (_, _, _, Walked (outs-SizeOfType _) (one (TypeInside (TypeNamed (out-roll-TypeName _) (outs-Struct _ _) (StructDeclared refl) NoSizes (ap is_over (pointer_laid new_structs (StructType 3)))))) (SizeOfTypeName (ap extent_of (pointer_laid new_structs (StructType 3))) (refl, refl, refl)), refl, refl);
   of_new_enum = (_, _, _, Walked (outs-SizeOfType _) (one (TypeInside (TypeNamed (out-roll-TypeName _) (outs-Enum _ _) (EnumDeclared refl) NoSizes (ap is_over (laid_4 true))))) (SizeOfTypeName (ap extent_of (laid_4 true)) (refl, refl, refl)), refl, refl);
   of_other_kind = (start, RefusedInside (outs-SizeOfType _) (RefusedHere (TypeRefused (WordsRefused (out-roll-TypeName _) (outs-Enum _ _) (EnumIsStruct refl)))));
-  of_size_left_out = (start, Walked (outs-SizeOfType _) (one (TypeInside (TypeNamed (out-roll-TypeName _) (outs-Basic (Integer Char true)) BasicSpecifier (SizeLeftOut NoSizes) (ap is_over (laid_chars 0))))) (SizeOfTypeName (ap extent_of (laid_chars 0)) (alone _)));
-  of_sizes_by_order = (start, Walked (outs-SizeOfType _) (one (TypeInside (TypeNamed (out-roll-TypeName _) (outs-Basic (Integer Char true)) BasicSpecifier (SizeLeftOut (MoreSizes (SizeOfItems (vn 0 6) (seen k_int) refl) NoSizes)) (ap is_over (laid_rows 0 0))))) (SizeOfTypeName (ap extent_of (laid_rows 0 0)) (alone _)));
+  of_size_left_out = (start, Walked (outs-SizeOfType _) (one (TypeInside (TypeNamed (out-roll-TypeName _) (outs-Basic (Integer Char true)) BasicSpecifier (SizeLeftOut NoSizes) (ap is_over (laid_chars 1))))) (SizeOfTypeName (ap extent_of (laid_chars 1)) (alone _)));
+  of_sizes_by_order = (start, Walked (outs-SizeOfType _) (one (TypeInside (TypeNamed (out-roll-TypeName _) (outs-Basic (Integer Char true)) BasicSpecifier (SizeLeftOut (MoreSizes (SizeOfItems (vn 0 6) (seen k_int) refl) NoSizes)) (ap is_over (laid_rows 1 1))))) (SizeOfTypeName (ap extent_of (laid_rows 1 1)) (alone _)));
   of_rows = (_, _, _, Walked (outs-SizeOfType _) (one (TypeInside (TypeNamed (out-roll-TypeName _) (outs-Basic (Integer Char true)) BasicSpecifier (MoreSizes (SizeOfItems (vread (codes "2") (int_of 2) 0 4 m_2) (seen k_int) refl) (MoreSizes (SizeOfItems (vread (codes "3") (int_of 3) 1 7 m_3) (seen k_int) refl) NoSizes)) (ap is_over (laid_rows 2 3))))) (SizeOfTypeName (ap extent_of (laid_rows 2 3)) (refl, refl, refl)), refl, refl);
-  of_variable_typeof = (start, Walked (outs-SizeOfType _) (one (TypeInside (TypeNamed (out-roll-TypeName _) (outs-OfType _) (TypeofType (TypeNamed (out-roll-TypeName _) (outs-Basic (Integer Char true)) BasicSpecifier (MoreSizes (SizeOfItems (vn 0 6) (seen k_int) refl) NoSizes) (ap is_over (laid_chars 0)))) NoSizes (ap is_over (laid_chars 0))))) (SizeOfTypeName (ap extent_of (laid_chars 0)) (alone _)));
-  of_pointer_to_variable = (start, Walked (outs-SizeOfType _) (one (TypeInside (TypeNamed (out-roll-TypeName _) (outs-OfType _) (TypeofType (TypeNamed (out-roll-TypeName _) (outs-Basic (Integer Char true)) BasicSpecifier (MoreSizes (SizeOfItems (vn 0 6) (seen k_int) refl) NoSizes) (ap is_over (laid_chars 0)))) NoSizes (ap is_over (laid_pointer _))))) (SizeOfTypeName (ap extent_of (laid_pointer _)) (alone _)));
-  pointer_cast_first = (start, Walked (outs-Cast _ _) (two (TypeInside (TypeNamed (out-roll-TypeName _) (outs-OfType _) (TypeofType (TypeNamed (out-roll-TypeName _) (outs-Basic (Integer Char true)) BasicSpecifier (MoreSizes (SizeOfItems (vn 0 5) (seen k_int) refl) NoSizes) (ap is_over (laid_chars 0)))) NoSizes (ap is_over (laid_pointer _)))) (vn 1 10)) (CastToType k_pointer_to_none (seen k_int) (record { front = fault (token 0) (Construct 18) ∷ []; back = []; whole = refl; later = (λ comes. omega arith, tt); behind = tt })));
+  of_variable_typeof = (start, Walked (outs-SizeOfType _) (one (TypeInside (TypeNamed (out-roll-TypeName _) (outs-OfType _) (TypeofType (TypeNamed (out-roll-TypeName _) (outs-Basic (Integer Char true)) BasicSpecifier (MoreSizes (SizeOfItems (vn 0 6) (seen k_int) refl) NoSizes) (ap is_over (laid_chars 1)))) NoSizes (ap is_over (laid_chars 1))))) (SizeOfTypeName (ap extent_of (laid_chars 1)) (alone _)));
+  of_pointer_to_variable = (start, Walked (outs-SizeOfType _) (one (TypeInside (TypeNamed (out-roll-TypeName _) (outs-OfType _) (TypeofType (TypeNamed (out-roll-TypeName _) (outs-Basic (Integer Char true)) BasicSpecifier (MoreSizes (SizeOfItems (vn 0 6) (seen k_int) refl) NoSizes) (ap is_over (laid_chars 1)))) NoSizes (ap is_over (laid_pointer _))))) (SizeOfTypeName (ap extent_of (laid_pointer _)) (alone _)));
+  pointer_cast_first = (start, Walked (outs-Cast _ _) (two (TypeInside (TypeNamed (out-roll-TypeName _) (outs-OfType _) (TypeofType (TypeNamed (out-roll-TypeName _) (outs-Basic (Integer Char true)) BasicSpecifier (MoreSizes (SizeOfItems (vn 0 5) (seen k_int) refl) NoSizes) (ap is_over (laid_chars 1)))) NoSizes (ap is_over (laid_pointer _)))) (vn 1 10)) (CastToType k_pointer_to_none (seen k_int) (record { front = fault (token 0) (Construct 18) ∷ []; back = []; whole = refl; later = (λ comes. omega arith, tt); behind = tt })));
   of_parameter = (start, RefusedInside (outs-SizeOf _) (RefusedHere (UnloadedRefused (Walked (outs-Name (codes "count")) NoPieces (ObjectName refl (ap is_some (laid_4 true)) (alone _))))));
   of_undefined = (start, RefusedInside (outs-SizeOf _) (RefusedHere (UnloadedRefused (Walked (outs-Name (codes "missing")) NoPieces (ObjectName refl (ap is_some (laid_4 true)) (alone _))))));
   of_function = (start, RefusedInside (outs-SizeOfType _) (RefusedHere (TypeRefused (WordsRefused (out-roll-TypeName _) (outs-OfExpr _) (TypeofRefused (UnloadedRefused (Walked (outs-Name (codes "f")) NoPieces (FunctionAsOperand refl (alone _)))))))));

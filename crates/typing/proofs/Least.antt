@@ -21,13 +21,13 @@ not_at_most : (a b : ℕ) → nat_le a b ≡ false → a ≤ b → ⊥
 not_at_most a b test below = grind (arith, nat_tests)
 
 -- what the test tells: one comes before the other, or it does not, and the other before it
-comes : (one other : Broken) → comes_before one other ≡ true → ComesBefore one other
+pub comes : (one other : Broken) → comes_before one other ≡ true → ComesBefore one other
 comes (Construct a) (Construct b) test = at_most a b test
 comes (Construct a) (Rule b) test = tt
 comes (Rule a) (Construct b) test = cc test
 comes (Rule a) (Rule b) test = at_most a b test
 
-comes_not : (one other : Broken) → comes_before one other ≡ false → ComesBefore one other → ⊥
+pub comes_not : (one other : Broken) → comes_before one other ≡ false → ComesBefore one other → ⊥
 comes_not (Construct a) (Construct b) test before = not_at_most a b test before
 comes_not (Construct a) (Rule b) test before = cc test
 comes_not (Rule a) (Construct b) test before = before
@@ -56,7 +56,7 @@ either one other true is not = absurd (not (comes one other is))
 either one other false is not = other_comes one other is
 
 -- of three in a row
-comes_far : (one middle last : Broken) → ComesBefore one middle → ComesBefore middle last → ComesBefore one last
+pub comes_far : (one middle last : Broken) → ComesBefore one middle → ComesBefore middle last → ComesBefore one last
 comes_far (Construct a) (Construct b) (Construct c) near far = omega arith
 comes_far (Construct a) (Construct b) (Rule c) near far = tt
 comes_far (Construct a) (Rule b) (Construct c) near far = absurd far
@@ -73,7 +73,7 @@ before_back : (one first : Fault) (back : List Fault) → IsBefore one first →
 before_back one first [] comes all = tt
 before_back one first (next ∷ back) comes all = (comes_far one.broken first.broken next.broken comes all.0, before_back one first back comes all.1)
 
-before_all : (one first : Fault) (front back : List Fault) → IsBefore one first
+pub before_all : (one first : Fault) (front back : List Fault) → IsBefore one first
     → AllByRecursion (λ other. ComesBefore other.broken first.broken → ⊥) front → AllByRecursion (IsBefore first) back
     → AllByRecursion (IsBefore one) (front ++ first ∷ back)
 before_all one first [] back comes later behind = (comes, before_back one first back comes behind)

@@ -93,10 +93,10 @@ laid_rows rows count = type_layout-Array Lp64 (struct_at Lp64 3 structs) (ArrayT
 pub k_bool : kind_of structs BoolType ≡ Integer truth
 k_bool = (are_kinds structs).bool
 
-pub k_pointer_to_none : kind_of structs (PointerType (ArrayType char_type 0)) ≡ Pointer (ArrayType char_type 0) Sized
+pub k_pointer_to_none : kind_of structs (PointerType (ArrayType char_type 1)) ≡ Pointer (ArrayType char_type 1) Sized
 k_pointer_to_none =
-    (are_kinds structs).pointer (ArrayType char_type 0)
-    ∙ ap (Pointer (ArrayType char_type 0)) ((are_targets structs).array char_type 0 ∙ ap (λ (sized : Bool). if sized then Sized else Unsized) (ap is_some (laid_chars 0)))
+    (are_kinds structs).pointer (ArrayType char_type 1)
+    ∙ ap (Pointer (ArrayType char_type 1)) ((are_targets structs).array char_type 1 ∙ ap (λ (sized : Bool). if sized then Sized else Unsized) (ap is_some (laid_chars 1)))
 
 pub k_int : kind_of structs int_type ≡ Integer (integer_of 4 true)
 k_int = (are_kinds structs).int 4 true

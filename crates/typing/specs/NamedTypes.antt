@@ -19,7 +19,7 @@ use Rattle.typing.specs.declared.size.Size.TheVariants.{Counted, NotConstant, Le
 use Rattle.typing.specs.Entities.{Entity, ObjectIs, FunctionIs, EnumeratorIs, TypedefIs}
 use Rattle.typing.specs.Faults.{least}
 
--- the least of what is found is named (`least`). An array whose size is no constant, or is left out, is taken as one of no items, and a
+-- the least of what is found is named (`least`). An array whose size is no constant, or is left out, is taken as one of one item, and a
 -- name of no type as `void`: what holds them is refused
 pub record NamedType : Type 0 where
   pub ctype : CType
@@ -64,8 +64,8 @@ size_of kind bits = Some NotConstant
 
 abbrev pub items : Size → ℕ
 items (Counted count) = count
-items NotConstant = 0
-items LeftOut = 0
+items NotConstant = 1
+items LeftOut = 1
 
 -- stars behind a type, and sizes behind these, the outermost first
 abbrev pub with_stars : ℕ → CType → CType

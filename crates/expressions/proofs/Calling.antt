@@ -1,0 +1,202 @@
+-- A call: what is found of its callee, and of the whole behind its arguments.
+use Rattle.std.proofs.Common.{◌≡◌, ℕ, ◌<◌, Bool, false, List, [], ◌∷◌, map, length, Option, None, Some, refl, sym, ap, subst, ◌∙◌, Result, IfOk, arith}
+use Rattle.std.specs.Prelude.{option_map, option_and_then}
+use Rattle.cbase.specs.declared.abi.Abi.{Abi}
+use Rattle.cbase.specs.declared.no_memory.NoMemory.{NoMemory}
+use Rattle.cbase.specs.declared.place.Place.{Place}
+use Rattle.cbase.specs.declared.structs.StructDef.{StructDef}
+use Rattle.cbase.specs.declared.tree.expr.Expr.{Expr}
+use Rattle.cbase.specs.declared.tree.expr.ExprForm.TheOpen.{Call}
+use Rattle.environment.specs.declared.entity.Entity.{Entity}
+use Rattle.environment.specs.declared.entity.Entity.TheVariants.{Object, Typedef, Enumerator, Function}
+use Rattle.environment.specs.Environment.{name_found}
+use Rattle.operators.specs.Kinds.{kind_of}
+use Rattle.operators.specs.declared.found.Broken.TheVariants.{Construct}
+use Rattle.typing.specs.Calls.{call_faults}
+use Rattle.typing.specs.declared.fault.Fault.{Fault}
+use Rattle.typing.specs.Faults.{fault}
+use Rattle.typing.specs.Known.{Known, plain, behind}
+use Rattle.typing.specs.Nodes.{is_function, function_faults, called_of}
+use Rattle.typing.specs.Outcomes.{Passes, Refused}
+use Rattle.typing.specs.Pieces.{Loaded, Called}
+use Rattle.typing.specs.Rules.{AreArguments, NoArguments, MoreArguments, CallOfFunction, CallOfOther}
+use Rattle.typing.specs.Told.{Told, FunctionNamed, NoFunction}
+use Rattle.typing.specs.Typing.{named, PieceIs, PiecesAre, Finds, CalledFunction, CalledOther, CalledRefused}
+use Rattle.expressions.specs.declared.found.Found.{Found}
+use Rattle.expressions.specs.declared.found.Found.TheVariants.{Passes as FoundToPass, Refused as FoundRefused}
+use Rattle.expressions.specs.declared.known.Known.{Known as KnownByNumber}
+use Rattle.expressions.specs.Arguments.{arguments_at}
+use Rattle.expressions.specs.Counted.{IsCounted}
+use Rattle.expressions.specs.Context.{Context, Declared, declared}
+use Rattle.expressions.specs.Found.{Reading, an_expression, an_operand, operands_at, some_operands, no_function}
+use Rattle.expressions.specs.Numbers.{Numbering, entity_at, function_at, handed_at, row_of}
+use Rattle.expressions.specs.Others.{Others, language}
+use Rattle.expressions.specs.Settled.{Settled}
+use Rattle.expressions.specs.Walked.{Passed, Stopped, Walked, Says, SaysForm}
+use Rattle.expressions.proofs.Growth.{hands_on_grows, keeps_length}
+use Rattle.expressions.proofs.Several.{pieces_refused, then_passes, then_refused}
+use Rattle.expressions.proofs.Walking.{declared_same, settled_result}
+
+-- a callee that names a function
+abbrev pub a_function : List ℕ → ℕ → Bool → Bool → Reading KnownByNumber Told
+a_function name signature defined built_in = record {
+  means = λ n known. FunctionNamed name (function_at n (n.signature signature) defined built_in);
+  IsBelow = λ count known. Unit {0};
+}
+
+-- arguments that are told of are those of the call
+pub are_arguments : (n : Numbering) (structs : List StructDef) (args : List Expr) (known : List KnownByNumber) → length known ≡ length args
+    → AreArguments structs args (operands_at n known) (arguments_at n structs args known)
+are_arguments n structs [] [] count = NoArguments
+are_arguments n structs [] (one ∷ known) count = cc count
+are_arguments n structs (arg ∷ args) [] count = cc count
+are_arguments n structs (arg ∷ args) (one ∷ known) count = MoreArguments refl (are_arguments n structs args known (cc count))
+
+-- what a callee stands for that names no function
+names_no_function : (n : Numbering) (entity : Option Entity) → ((signature : ℕ) (defined built_in : Bool) → entity ≡ Some (Function signature defined built_in) → ⊥)
+    → is_function (option_map (entity_at n) entity) ≡ false
+names_no_function n None other = refl
+names_no_function n (Some (Object ctype token lifetime defined)) other = refl
+names_no_function n (Some (Typedef ctype)) other = refl
+names_no_function n (Some (Enumerator bits)) other = refl
+names_no_function n (Some (Function signature defined built_in)) other = absurd (other signature defined built_in refl)
+
+-- what is found, where what is known of it is not used
+abbrev pub without : {A : Type 0} → Found A → Found (Unit {0})
+without (FoundToPass told) = FoundToPass tt
+without (FoundRefused first) = FoundRefused first
+
+-- as many are known of as are counted
+pub counted_of : {A : Type 0} (found : Found A) (told : A) (count wanted : ℕ) → found ≡ FoundToPass told → IsCounted found count wanted → count ≡ wanted
+counted_of {A} found told count wanted is counted = subst (λ (f : Found A). IsCounted f count wanted) is counted
+
+-- a callee names no function
+abbrev pub IsOther : Expr → Context → Type 0
+IsOther callee context = (name : List ℕ) (signature : ℕ) (defined built_in : Bool) → named callee ≡ Some name
+    → name_found name context.environment ≡ Some (Function signature defined built_in) → ⊥
+
+is_other : (n : Numbering) (context : Context) (name : Option (List ℕ))
+    → ((given : List ℕ) (signature : ℕ) (defined built_in : Bool) → name ≡ Some given → name_found given context.environment ≡ Some (Function signature defined built_in) → ⊥)
+    → is_function (option_and_then (λ given. option_map (entity_at n) (name_found given context.environment)) name) ≡ false
+is_other n context None other = refl
+is_other n context (Some name) other = names_no_function n (name_found name context.environment) (λ signature defined built_in. other name signature defined built_in refl)
+
+module _ (others : Others) (abi : Abi) (callee : Expr) (old new : Context) where
+  -- a callee that names a function
+  pub called_piece : (name : List ℕ) (signature : ℕ) (defined built_in : Bool) (found : Found KnownByNumber)
+      → named callee ≡ Some name → name_found name old.environment ≡ Some (Function signature defined built_in)
+      → Settled (λ n. function_faults callee.place (function_at n (n.signature signature) defined built_in)) (λ n. called_of (function_at n (n.signature signature) defined built_in)) callee.number old new found
+      → Walked (Says others abi (λ o. PieceIs (Called callee) o)) (a_function name signature defined built_in) old new found
+  called_piece name signature defined built_in (FoundToPass known) is stands settled = record {
+    rows = row_of callee.number known ∷ [];
+    handed = settled.hands_on.handed;
+    grows = hands_on_grows old new callee.number known settled.hands_on;
+    below = tt;
+    found = λ n agrees.
+        subst (λ (after : Declared). Finds (language others abi n) (declared old) (PieceIs (Called callee) (Passes (FunctionNamed name (function_at n (n.signature signature) defined built_in)) (map (handed_at n) (row_of callee.number known ∷ [])))) after)
+        (sym (declared_same old new settled.hands_on.structs settled.hands_on.environment))
+        (CalledFunction is (ap (option_map (entity_at n)) stands) (settled.nothing n agrees, refl, ap (λ (k : Known). behind [] callee.number k) (settled.meant n agrees)));
+  }
+  called_piece name signature defined built_in (FoundRefused first) is stands settled = record {
+    grows = record { types = settled.stays.types; signatures = λ at s found. rw settled.stays.environment found };
+    found = λ n agrees.
+        subst (λ (after : Declared). Finds (language others abi n) (declared old) (PieceIs (Called callee) (Refused first)) after)
+        (sym (declared_same old new settled.stays.structs settled.stays.environment))
+        (CalledFunction is (ap (option_map (entity_at n)) stands) (settled.is_first n agrees));
+  }
+
+  -- one that names none
+  other_passes : (known : KnownByNumber) → IsOther callee old → Passed (Says others abi (λ o. PieceIs (Loaded callee) o)) an_operand old new known
+      → Passed (Says others abi (λ o. PieceIs (Called callee) o)) no_function old new tt
+  other_passes known other passed = record {
+    rows = passed.rows;
+    handed = passed.handed;
+    grows = passed.grows;
+    below = tt;
+    found = λ n agrees. CalledOther (is_other n old (named callee) other) (passed.found n agrees);
+  }
+
+  other_refused : (first : Fault) → IsOther callee old → Stopped (Says others abi (λ o. PieceIs (Loaded callee) o)) old new first
+      → Stopped (Says others abi (λ o. PieceIs (Called callee) o)) old new first
+  other_refused first other stopped = record { grows = stopped.grows; found = λ n agrees. CalledRefused (is_other n old (named callee) other) (stopped.found n agrees) }
+
+  pub other_piece : (found : Found KnownByNumber) → IsOther callee old → Walked (Says others abi (λ o. PieceIs (Loaded callee) o)) an_operand old new found
+      → Walked (Says others abi (λ o. PieceIs (Called callee) o)) no_function old new (without found)
+  other_piece (FoundToPass known) other passed = other_passes known other passed
+  other_piece (FoundRefused first) other stopped = other_refused first other stopped
+
+-- a function by its name and its arguments, and arguments of what is none
+abbrev pub a_call : List ℕ → ℕ → Bool → Bool → List KnownByNumber → Reading (Unit {0}) (List Told)
+a_call name signature defined built_in known = record {
+  means = λ n told. FunctionNamed name (function_at n (n.signature signature) defined built_in) ∷ operands_at n known;
+  IsBelow = λ count told. Unit {0};
+}
+
+abbrev pub another_call : List KnownByNumber → Reading (Unit {0}) (List Told)
+another_call known = record { means = λ n told. NoFunction ∷ operands_at n known; IsBelow = λ count told. Unit {0} }
+
+module _ (others : Others) (abi : Abi) (number : ℕ) (place : Place) (callee : Expr) (args : List Expr) where
+  -- all parts of the call pass
+  abbrev pub PartsPass : Reading (Unit {0}) (List Told) → Context → Context → Type 0
+  PartsPass reading old mid = Passed (Says others abi (λ o. PiecesAre (Called callee ∷ map Loaded args) o)) reading old mid tt
+
+  -- what is refused in one of them is refused in the call
+  refused_in_call : (old new : Context) (first : Fault) → Stopped (Says others abi (λ o. PiecesAre (Called callee ∷ map Loaded args) o)) old new first
+      → Stopped (SaysForm others abi number place (Call callee args)) old new first
+  refused_in_call old new first stopped = record { grows = stopped.grows; found = λ n agrees. (Refused first, stopped.found n agrees, refl) }
+
+  -- the callee is refused
+  pub callee_refused : {B : Type 0} (reading : Reading B Told) (old new : Context) (first : Fault) (found : Found B) → found ≡ FoundRefused first
+      → Walked (Says others abi (λ o. PieceIs (Called callee) o)) reading old new found → Stopped (SaysForm others abi number place (Call callee args)) old new first
+  callee_refused reading old new first found is walked =
+      refused_in_call old new first (pieces_refused others abi (Called callee) (map Loaded args) reading old new first found is walked)
+
+  -- an argument is refused
+  pub argument_refused : {B : Type 0} (reading : Reading B Told) (known : List KnownByNumber) (old mid new : Context) (one : B) (first : Fault) (called : Found B) (found : Found (Unit {0}))
+      → called ≡ FoundToPass one → Walked (Says others abi (λ o. PieceIs (Called callee) o)) reading old mid called
+      → found ≡ FoundRefused first → Walked (Says others abi (λ o. PiecesAre (map Loaded args) o)) (some_operands known) mid new found
+      → Stopped (SaysForm others abi number place (Call callee args)) old new first
+  argument_refused reading known old mid new one first called found is walked refused arguments =
+      refused_in_call old new first (then_refused others abi (Called callee) (map Loaded args) reading (some_operands known) old mid new one first called found is walked refused arguments)
+
+  -- a function and its arguments pass
+  pub parts_pass : (name : List ℕ) (signature : ℕ) (defined built_in : Bool) (known : List KnownByNumber) (old mid new : Context) (one : KnownByNumber) (last : Unit {0})
+      (called : Found KnownByNumber) (found : Found (Unit {0}))
+      → called ≡ FoundToPass one → Walked (Says others abi (λ o. PieceIs (Called callee) o)) (a_function name signature defined built_in) old mid called
+      → found ≡ FoundToPass last → Walked (Says others abi (λ o. PiecesAre (map Loaded args) o)) (some_operands known) mid new found
+      → PartsPass (a_call name signature defined built_in known) old new
+  parts_pass name signature defined built_in known old mid new one last called found is walked passes arguments =
+      then_passes others abi (Called callee) (map Loaded args) (a_function name signature defined built_in) (some_operands known) (a_call name signature defined built_in known)
+      old mid new one last tt called found is walked passes arguments (λ n. refl) (λ grows first rest. tt)
+
+  -- a number of a signature is one behind them
+  pub signature_below : (reading : Reading (Unit {0}) (List Told)) (signature : ℕ) (old new : Context) → PartsPass reading old new
+      → signature < length old.environment.signatures → signature < length new.environment.signatures
+  signature_below reading signature old new passed below = omega (arith, below, keeps_length old.environment.signatures new.environment.signatures passed.grows.signatures)
+
+  -- what is asked of a call of a function, behind its parts; code gives its arguments in other words
+  pub call_result : (name : List ℕ) (signature : ℕ) (defined built_in : Bool) (known given : List KnownByNumber) (old mid new : Context) (r : Result (Found KnownByNumber) NoMemory)
+      → given ≡ known → length known ≡ length args
+      → IfOk r (λ found. Settled (λ n. call_faults place callee.place name built_in (kind_of mid.structs (n.ctype (n.signature signature).result)) (map (kind_of mid.structs) (map n.ctype (n.signature signature).parameters)) (arguments_at n mid.structs args given)) (λ n. plain (n.ctype (n.signature signature).result)) number mid new found)
+      → PartsPass (a_call name signature defined built_in known) old mid
+      → IfOk r (λ found. Walked (SaysForm others abi number place (Call callee args)) an_expression old new found)
+  call_result name signature defined built_in known given old mid new r same count settled passed =
+      settled_result others abi number place (Call callee args) (a_call name signature defined built_in known) old mid new tt
+      (λ n. call_faults place callee.place name built_in (kind_of mid.structs (n.ctype (n.signature signature).result)) (map (kind_of mid.structs) (map n.ctype (n.signature signature).parameters)) (arguments_at n mid.structs args given))
+      (λ n. plain (n.ctype (n.signature signature).result)) r settled passed
+      (λ n handed outcome agrees is. CallOfFunction
+      (subst (λ (all : List KnownByNumber). AreArguments mid.structs args (operands_at n all) (arguments_at n mid.structs args given)) same (are_arguments n mid.structs args given (ap length same ∙ count)))
+      refl refl is)
+
+  -- a call of what is no function name, behind its arguments
+  pub other_call : (known : List KnownByNumber) (old mid new : Context) (last : Unit {0}) (called found : Found (Unit {0}))
+      → called ≡ FoundToPass tt → Walked (Says others abi (λ o. PieceIs (Called callee) o)) no_function old mid called
+      → found ≡ FoundToPass last → Walked (Says others abi (λ o. PiecesAre (map Loaded args) o)) (some_operands known) mid new found
+      → Stopped (SaysForm others abi number place (Call callee args)) old new (fault place (Construct 11))
+  other_call known old mid new last called found is walked passes arguments =
+      let passed = then_passes others abi (Called callee) (map Loaded args) no_function (some_operands known) (another_call known)
+      old mid new tt last tt called found is walked passes arguments (λ n. refl) (λ grows first rest. tt) in
+      record {
+        grows = passed.grows;
+        found = λ n agrees. (Passes (NoFunction ∷ operands_at n known) (map (handed_at n) passed.rows), passed.found n agrees, CallOfOther);
+      }

@@ -1,0 +1,7 @@
+-- What is left declared keeps the numbers below.
+use Rattle.std.proofs.Common.{length}
+use Rattle.environment.proofs.Bounds.{left_below}
+use Rattle.expressions.proofs.context.Context.leave.Goals as goal
+
+pub invariant_of-self : goal.invariant_of-self
+invariant_of-self c = rw c.close.ensures (left_below (length c.self.inside.types.types) c.self.inside.environment c.self.invariant)

@@ -1,0 +1,29 @@
+use Rattle.std.proofs.Common.{ℕ, Bool, arith, get_or, ◌∙◌, refl, subst}
+use Rattle.cbase.specs.declared.tree.expr.Expr.{Expr as ExprTree}
+use Rattle.operators.specs.Converting.{converts}
+use Rattle.operators.specs.declared.found.Broken.TheVariants.{Rule}
+use Rattle.operators.specs.Kinds.{kind_of, decayed}
+use Rattle.typing.specs.Calls.{unconverted}
+use Rattle.typing.specs.Faults.{unless}
+use Rattle.expressions.specs.declared.known.Known.{Known as KnownByNumber}
+use Rattle.expressions.specs.Settled.{IsFirstOf}
+use Rattle.expressions.proofs.EachArgument.{past_known, next_asked, all_asked}
+use Rattle.expressions.proofs.nodes.arguments.unconverted.Goals as goal
+
+pub loop-at-preserved : goal.loop-at-preserved
+loop-at-preserved c n agrees =
+    let at : ℕ = c.loop-at.at in
+    let one : KnownByNumber = get_or c.args.known.now at past_known in
+    let arg : ExprTree = get_or c.args.args.now at c.index-args-at.result in
+    let o = c.operand.ensures in
+    let h = c.converts-fits.ensures n agrees ∙ (λ i. converts (kind_of c.args.context.now.structs (n.ctype (get_or c.args.params.now at 0))) (decayed (kind_of c.args.context.now.structs (n.ctype (o i).ctype))) (o i).null) in
+    next_asked (λ at. unconverted) (λ at param arg. unless (converts param (decayed arg.operand.kind) arg.operand.null) arg.place (Rule 5)) (λ at param params arg args. refl)
+    n c.args.context.now.structs c.args.params.now c.args.args.now c.args.known.now at c.index-args-at.result
+    _ c.loop-at.first c.unless.result c.first_of-first.result (omega arith) (omega arith) c.requires.count (c.loop-at.invariant n agrees)
+    (subst (λ (holds : Bool). IsFirstOf (unless holds arg.place (Rule 5)) c.unless.result) h c.unless.ensures)
+    c.first_of-first.ensures
+
+pub returns : goal.returns
+returns c n agrees =
+    all_asked (λ at. unconverted) (λ at args. refl) (λ at param params. refl)
+    n c.args.context.now.structs c.args.params.now c.args.args.now c.args.known.now c.loop-at.at _ c.loop-at.first (omega arith) (c.loop-at.invariant n agrees)

@@ -1,0 +1,14 @@
+use Rattle.std.proofs.Common.{ℕ, ap, ◌∙◌}
+use Rattle.std.proofs.lemmas.Result.{IfOk-weaker}
+use Rattle.typing.specs.Known.{plain}
+use Rattle.expressions.proofs.SettledBehind.{only_none, settled_behind}
+use Rattle.expressions.proofs.nodes.calling.call_node.Goals as goal
+
+pub returns : goal.returns
+returns c =
+    let old = c.args.context.now in
+    let number : ℕ = c.args.callee.signature in
+    IfOk-weaker c.settle.result _ _
+    (settled_behind _ (λ n. plain (n.ctype (n.signature number).result)) c.args.node.number old old c.settle.new.context (only_none old) c.call_fault-broken.result c.plain.result
+    c.call_fault-broken.ensures (λ n agrees. c.plain.ensures.is n ∙ ap plain (c.result_of-result.ensures.is n agrees)))
+    c.settle.ensures

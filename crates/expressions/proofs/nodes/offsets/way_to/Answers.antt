@@ -1,0 +1,38 @@
+use Rattle.std.proofs.Common.{◌≡◌, ◌-◌, List, ◌∷◌, drop, take, map, length, sym, ap, ◌∙◌, subst}
+use Rattle.cbase.specs.declared.tree.expr.ExprForm.TheOpen.{Part::Member as NamedStep, At as IndexedStep}
+use Rattle.cbase.specs.declared.tree.expr.ExprForm.TheViews.{out-Part, outs-Part::Member, outs-At}
+use Rattle.cbase.specs.declared.tree.expr.Part.{Part}
+use Rattle.typing.specs.Forms.{Step}
+use Rattle.typing.specs.Paths.{Leads, LeadsFrom, FromItem}
+use Rattle.expressions.specs.Ways.{way_of}
+use Rattle.expressions.proofs.Stepping.{no_parts, first_and_rest}
+use Rattle.expressions.proofs.nodes.offsets.way_to.Goals as goal
+
+pub returns-in-empty : goal.returns-in-empty
+returns-in-empty c abi n agrees =
+    no_parts abi c.args.context.now.structs c.args.word (n.ctype c.args.ctype) c.args.path.now c.args.indices.now c.in-empty.len_below c.requires.indices
+
+pub returns-in-Ok : goal.returns-in-Ok
+returns-in-Ok c abi n agrees =
+    let path : List Part = c.args.path.now in
+    let rest : List Step = map out-Part (take (length path - 1) (drop 1 path)) in
+    let is : out-Part c.first-item.result ≡ NamedStep c.in-Member.name = ap out-Part c.in-Member.is ∙ outs-Part::Member c.in-Member.name in
+    let whole : NamedStep c.in-Member.name ∷ rest ≡ map out-Part path =
+    ap (λ (step : Step). step ∷ rest) (sym is) ∙ first_and_rest path c.first-item.result c.in-len1-up.len_at_least c.first-item.is
+    in
+    subst (λ (steps : List Step). LeadsFrom abi c.args.context.now.structs c.args.word (n.ctype c.args.ctype) steps c.args.indices.now (way_of c.leads.result)) whole
+    (c.in-Ok.ensures.is abi n rest c.args.indices.now agrees (way_of c.leads.result) (c.leads.ensures abi n agrees))
+
+pub returns-in-At : goal.returns-in-At
+returns-in-At c abi n agrees =
+    let path : List Part = c.args.path.now in
+    let rest : List Step = map out-Part (take (length path - 1) (drop 1 path)) in
+    let is : out-Part c.first-item.result ≡ IndexedStep c.in-At.field-0 = ap out-Part c.in-At.is ∙ outs-At c.in-At.field-0 in
+    let whole : IndexedStep c.in-At.field-0 ∷ rest ≡ map out-Part path =
+    ap (λ (step : Step). step ∷ rest) (sym is) ∙ first_and_rest path c.first-item.result c.in-len1-up.len_at_least c.first-item.is
+    in
+    let way = way_of c.leads-in-At.result in
+    subst (λ (steps : List Step). LeadsFrom abi c.args.context.now.structs c.args.word (n.ctype c.args.ctype) steps c.args.indices.now way) whole
+    (FromItem
+    (subst (λ (steps : List Step). Leads abi c.args.context.now.structs c.args.word (n.ctype c.args.ctype) 0 steps c.args.indices.now way) (sym whole)
+    (c.leads-in-At.ensures abi n agrees)))

@@ -1,0 +1,40 @@
+-- What is known at a place of a text: types and structs by their numbers, what names and tags are declared as, and what was handed on of the expressions
+-- before it.
+use Rattle.std.specs.Prelude.{◌≡◌, ℕ, List, Some, slice_get}
+use Rattle.cbase.specs.declared.ctype.CType.{CType}
+use Rattle.cbase.specs.declared.structs.StructDef.{StructDef}
+use Rattle.environment.specs.declared.entity.Signature.{Signature}
+use Rattle.environment.specs.declared.environment.Environment.{Environment}
+use Rattle.expressions.specs.declared.handed_row.HandedRow.{HandedRow}
+use Rattle.expressions.specs.Numbers.{Numbering}
+
+pub record Context : Type 0 where
+  pub types : List CType
+  pub structs : List StructDef
+  pub environment : Environment
+  pub handed : List HandedRow
+
+-- what is declared there
+pub record Declared : Type 0 where
+  pub environment : Environment
+  pub structs : List StructDef
+
+abbrev pub declared : Context → Declared
+declared context = record { environment = context.environment; structs = context.structs }
+
+-- a numbering has what a context has so far
+pub record Agrees (n : Numbering) (context : Context) : Type 0 where
+  pub types : (number : ℕ) (t : CType) → slice_get context.types number ≡ Some t → n.ctype number ≡ t
+  pub signatures : (number : ℕ) (s : Signature) → slice_get context.environment.signatures number ≡ Some s → n.signature number ≡ s
+
+-- what had a number has it still
+pub record Grows (old new : Context) : Type 0 where
+  pub types : (number : ℕ) (t : CType) → slice_get old.types number ≡ Some t → slice_get new.types number ≡ Some t
+  pub signatures : (number : ℕ) (s : Signature) → slice_get old.environment.signatures number ≡ Some s → slice_get new.environment.signatures number ≡ Some s
+
+-- only types got numbers
+pub record OnlyTypes (old new : Context) : Type 0 where
+  pub types : (number : ℕ) (t : CType) → slice_get old.types number ≡ Some t → slice_get new.types number ≡ Some t
+  pub structs : new.structs ≡ old.structs
+  pub environment : new.environment ≡ old.environment
+  pub handed : new.handed ≡ old.handed

@@ -1,0 +1,107 @@
+-- What the numbers stand for that types and signatures have in a context.
+--
+-- A number keeps what it stands for, and more are only given out behind the others. So a numbering of all that will ever be there says what is
+-- meant by a number now and later alike.
+use Rattle.std.specs.Prelude.{◌<◌, ℕ, Bool, true, false, List, map, Option, None, Some, option_map}
+use Rattle.cbase.specs.declared.ctype.CType.{CType}
+use Rattle.cbase.specs.declared.structs.StructDef.{StructDef}
+use Rattle.environment.specs.declared.entity.DeclaredType.{DeclaredType}
+use Rattle.environment.specs.declared.entity.DeclaredType.TheVariants.{Whole, UnsizedArray}
+use Rattle.environment.specs.declared.entity.Lifetime.{Lifetime}
+use Rattle.environment.specs.declared.entity.Lifetime.TheVariants.{Automatic, Static, MainParameter}
+use Rattle.environment.specs.declared.entity.Entity.{Entity as EntityByNumber}
+use Rattle.environment.specs.declared.entity.Entity.TheVariants.{Object, Typedef, Enumerator, Function}
+use Rattle.environment.specs.declared.entity.Signature.{Signature}
+use Rattle.environment.specs.declared.entity.Tag.{Tag as TagByNumber}
+use Rattle.environment.specs.declared.entity.Tag.TheVariants.{Struct, Enum}
+use Rattle.operators.specs.declared.found.Outcome.{Outcome as Operated}
+use Rattle.operators.specs.declared.found.Outcome.TheVariants.{Typed as TypedByNumber, Broken as BrokenHere}
+use Rattle.operators.specs.declared.operand.Operand.{Operand as OperandByNumber}
+use Rattle.operators.specs.Broken.{Judgement, Typed, Breaks}
+use Rattle.operators.specs.Kinds.{kind_of}
+use Rattle.operators.specs.Operands.{Operand}
+use Rattle.typing.specs.Entities.{Entity, ObjectIs, FunctionIs, EnumeratorIs, TypedefIs, FunctionEntity, Tag, StructTag, EnumTag}
+use Rattle.typing.specs.Known.{Known}
+use Rattle.typing.specs.NamedTypes.{NamedType}
+use Rattle.typing.specs.Outcomes.{Handed}
+use Rattle.expressions.specs.declared.known.Known.{Known as KnownByNumber}
+use Rattle.expressions.specs.declared.handed_row.HandedRow.{HandedRow}
+use Rattle.expressions.specs.declared.named_type.NamedType.{NamedType as NamedByNumber}
+
+pub record Numbering : Type 0 where
+  pub ctype : ℕ → CType
+  pub signature : ℕ → Signature
+
+-- the type of an object or a typedef; an array whose size is not known has none that can be written down
+abbrev pub declared_at : Numbering → DeclaredType → Option CType
+declared_at n (Whole number) = Some (n.ctype number)
+declared_at n (UnsizedArray item) = None
+
+abbrev pub is_of_main : Lifetime → Bool
+is_of_main Automatic = false
+is_of_main Static = false
+is_of_main MainParameter = true
+
+abbrev pub function_at : Numbering → Signature → Bool → Bool → FunctionEntity
+function_at n signature defined built_in = record {
+  result = n.ctype signature.result;
+  params = map n.ctype signature.parameters;
+  defined = defined;
+  built_in = built_in;
+}
+
+-- what a name stands for
+abbrev pub entity_at : Numbering → EntityByNumber → Entity
+entity_at n (Object ctype token lifetime defined) =
+    ObjectIs (record { ctype = declared_at n ctype; token = token; defined = defined; of_main = is_of_main lifetime })
+entity_at n (Typedef ctype) = TypedefIs (declared_at n ctype)
+entity_at n (Enumerator bits) = EnumeratorIs bits
+entity_at n (Function signature defined built_in) = FunctionIs (function_at n (n.signature signature) defined built_in)
+
+-- what a tag stands for
+abbrev pub tag_at : TagByNumber → Tag
+tag_at (Struct number) = StructTag number
+tag_at (Enum listed) = EnumTag
+
+-- what is known of an expression, and what is handed on of it
+abbrev pub known_at : Numbering → KnownByNumber → Known
+known_at n known = record {
+  ctype = n.ctype known.ctype;
+  lvalue = known.lvalue;
+  null = known.null;
+  value = known.value;
+  idiom = known.idiom;
+  stands = option_map (entity_at n) known.stands;
+}
+
+abbrev pub handed_at : Numbering → HandedRow → Handed
+handed_at n row = record { number = row.number; ctype = n.ctype row.ctype; stands = option_map (entity_at n) row.stands; value = row.value }
+
+abbrev pub row_of : ℕ → KnownByNumber → HandedRow
+row_of number known = record { number = number; ctype = known.ctype; stands = known.stands; value = known.value }
+
+-- a type with what is found of it
+abbrev pub named_at : Numbering → NamedByNumber → NamedType
+named_at n named = record { ctype = n.ctype named.ctype; found = named.found }
+
+-- an operand of an operator
+abbrev pub operand_at : Numbering → List StructDef → OperandByNumber → Operand
+operand_at n structs operand = record {
+  ctype = n.ctype operand.ctype;
+  kind = kind_of structs (n.ctype operand.ctype);
+  lvalue = operand.lvalue;
+  null = operand.null;
+}
+
+abbrev pub operand_in : KnownByNumber → OperandByNumber
+operand_in known = record { ctype = known.ctype; lvalue = known.lvalue; null = known.null }
+
+-- what is found at an operator
+abbrev pub judgement_at : Numbering → Operated → Judgement
+judgement_at n (TypedByNumber number) = Typed (n.ctype number)
+judgement_at n (BrokenHere broken) = Breaks broken
+
+-- the number that an operation's type has is that of a type among so many
+abbrev pub IsTypedBelow : ℕ → Operated → Type 0
+IsTypedBelow count (TypedByNumber number) = number < count
+IsTypedBelow count (BrokenHere broken) = Unit {0}

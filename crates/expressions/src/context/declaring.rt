@@ -1,0 +1,74 @@
+ghost use Rattle.std.specs.Prelude.{◌≡◌, ◌<◌, ◌++◌, ◌∷◌, [], ℕ, length, All, IfOk, OnOk, if◌then◌else◌};
+ghost use Rattle.cbase.specs.Completing.{fieldless, may_complete, completed};
+ghost use Rattle.ctypes.specs.Structs.{fields_of};
+ghost use Rattle.environment.specs.Bounds.{EntityBelow, SignatureBelow};
+ghost use Rattle.environment.specs.Environment.{name_bound, tag_declared, signature_added};
+ghost use Rattle.environment.specs.declared.entity.Binding.TheVariants.{Own};
+ghost use Rattle.environment.specs.declared.entity.Tag.TheVariants.{Struct, Enum};
+ghost use Rattle.expressions.specs.Context.{declared};
+ghost use Rattle.expressions.specs.Others.{struct_declared, enum_declared};
+
+use crate::context::Context;
+use cbase::{List, NoMemory, Text};
+use ctypes::Member;
+use environment::{Binding, Entity, Signature, Tag};
+use std::alloc::Global;
+
+impl Context {
+    /// Declares a name without linkage in the innermost scope (C11 6.2.1). Where there is no scope it changes nothing.
+    pub fn declare(&mut self, alloc: Global, name: &[u8], entity: Entity) -> Result<(), NoMemory>
+        requires { EntityBelow (length self.old.types) self.old.environment.signatures entity }
+        ensures { OnOk result (self.new ≡ record self.old { environment = name_bound name.now (Own entity) self.old.environment }) }
+    {
+        self.environment.declare(alloc, name, Binding::Own(entity))
+    }
+
+    /// Gives a signature a number, behind the others.
+    pub fn add_signature(&mut self, signature: Signature) -> Result<u32, NoMemory>
+        requires { SignatureBelow (length self.old.types) signature }
+        ensures number { IfOk result (λ number. number ≡ length self.old.environment.signatures) }
+        ensures ok { OnOk result (self.new ≡ record self.old { environment = signature_added signature self.old.environment }) }
+    {
+        self.environment.add_signature(signature)
+    }
+
+    /// Declares a tag of a struct in the innermost scope: a struct without members, whose number stands behind the others (C11 6.7.2.3p8).
+    pub fn declare_struct(&mut self, alloc: Global, name: &[u8]) -> Result<u32, NoMemory>
+        ensures number { IfOk result (λ number. number ≡ length self.old.structs) }
+        ensures ok { OnOk result (declared self.new ≡ struct_declared name.now (declared self.old)) }
+        ensures types { OnOk result (self.new.types ≡ self.old.types) }
+        ensures handed { OnOk result (self.new.handed ≡ self.old.handed) }
+    {
+        let number = self.types.declare(alloc, Text::from_slice(alloc, name)?)?;
+        self.environment
+            .declare_tag(alloc, name, Tag::Struct(number))?;
+        Ok(number)
+    }
+
+    /// Declares a tag of an enum in the innermost scope (C11 6.7.2.3).
+    pub fn declare_enum(&mut self, alloc: Global, name: &[u8]) -> Result<(), NoMemory>
+        ensures ok { OnOk result (declared self.new ≡ enum_declared name.now (declared self.old)) }
+        ensures types { OnOk result (self.new.types ≡ self.old.types) }
+        ensures handed { OnOk result (self.new.handed ≡ self.old.handed) }
+    {
+        self.environment
+            .declare_tag(alloc, name, Tag::Enum { listed: false })
+    }
+
+    /// Gives the struct of that number its members, with which it is complete, and says whether it has done so (C11 6.7.2.1p8).
+    ///
+    /// It has not, and all stays as it was, exactly where there is no such struct, where its members were given before, and where a member's type
+    /// is incomplete.
+    pub fn complete(
+        &mut self,
+        alloc: Global,
+        number: u32,
+        members: List<Member>,
+    ) -> Result<bool, NoMemory>
+        requires { All (λ member. member.ctype < length self.old.types) members }
+        ensures answer { IfOk result (λ done. done ≡ may_complete self.old.structs number (fields_of self.old.types members)) }
+        ensures after { IfOk result (λ done. self.new ≡ record self.old { structs = (if done then completed self.old.structs number (fields_of self.old.types members) else self.old.structs) }) }
+    {
+        self.types.complete(alloc, number, members)
+    }
+}

@@ -1,0 +1,60 @@
+ghost use Rattle.std.specs.Prelude.{◌≡◌, ◌<◌, ℕ, length, Some, IfSome, slice_get};
+ghost use Rattle.ctypes.specs.Table.{type_at, type_of, NamesBelow};
+ghost use Rattle.environment.specs.Bounds.{EntityBelow, SignatureBelow};
+ghost use Rattle.environment.specs.Environment.{name_found, tag_found};
+ghost use Rattle.environment.specs.declared.entity.TagForm.TheVariants.{Mentioned};
+ghost use Rattle.expressions.specs.Context.{Agrees};
+ghost use Rattle.expressions.specs.Numbers.{Numbering};
+
+use crate::context::Context;
+use ctypes::Shape;
+use environment::{Entity, Signature, Tag, TagForm};
+
+impl Context {
+    /// The type of that number, taken apart: what it names has lower numbers.
+    pub fn shape(&self, number: u32) -> Shape
+        requires { number < length self.now.types }
+        ensures is { type_at self.now.types number ≡ type_of self.now.types result }
+        ensures below { NamesBelow number result }
+    {
+        self.types.shape(number)
+    }
+
+    /// What a name stands for: what the innermost scope that declares it says (C11 6.2.1p4).
+    pub fn look_up(&self, name: &[u8]) -> Option<Entity>
+        ensures is { result ≡ name_found name.now self.now.environment }
+        ensures below { IfSome result (EntityBelow (length self.now.types) self.now.environment.signatures) }
+    {
+        self.environment.look_up(name)
+    }
+
+    /// What a tag that is mentioned stands for (C11 6.7.2.3p8-9).
+    pub fn tag(&self, name: &[u8]) -> Option<Tag>
+        ensures { result ≡ tag_found Mentioned name.now self.now.environment }
+    {
+        self.environment.tag(TagForm::Mentioned, name)
+    }
+}
+
+impl Context {
+    /// The signature of a number.
+    pub(crate) fn signature(&self, number: u32) -> &Signature
+        requires { number < length self.now.environment.signatures }
+        ensures is { slice_get self.now.environment.signatures number ≡ Some result.now }
+        ensures below { SignatureBelow (length self.now.types) result.now }
+    {
+        match self.environment.signature(number) {
+            Some(signature) => signature,
+            None => unreachable!(),
+        }
+    }
+
+    /// The number of the type of the result of the function with the signature of that number.
+    pub(crate) fn result_of(&self, number: u32) -> u32
+        requires { number < length self.now.environment.signatures }
+        ensures is { (n : Numbering) → Agrees n self.now → n.ctype result ≡ n.ctype (n.signature number).result }
+        ensures below { result < length self.now.types }
+    {
+        self.signature(number).result
+    }
+}

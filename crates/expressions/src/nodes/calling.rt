@@ -1,0 +1,46 @@
+ghost use Rattle.std.specs.Prelude.{◌≡◌, ◌<◌, ℕ, length, map, All, Some, slice_get, IfOk};
+ghost use Rattle.environment.specs.declared.entity.Signature.{Signature};
+ghost use Rattle.operators.specs.Kinds.{kind_of};
+ghost use Rattle.typing.specs.Calls.{call_faults};
+ghost use Rattle.typing.specs.Known.{plain};
+ghost use Rattle.expressions.specs.Arguments.{arguments_at};
+ghost use Rattle.expressions.specs.Numbers.{Numbering};
+ghost use Rattle.expressions.specs.Settled.{Settled};
+
+use crate::context::Context;
+use crate::found::Found;
+use crate::known::Known;
+use crate::nodes::arguments::call_fault;
+use crate::nodes::finishing::{Node, settle};
+use cbase::{Expr, NoMemory, Place};
+
+/// A function that is called, by its name.
+#[derive(Clone, Copy)]
+pub(crate) struct Callee<'a> {
+    /// Its name.
+    pub(crate) name: &'a [u8],
+    /// The place of the name.
+    pub(crate) place: Place,
+    /// The number of its signature.
+    pub(crate) signature: u32,
+    /// Whether it is one of the functions that are built in.
+    pub(crate) built_in: bool,
+}
+
+/// What is found at a call of a function (C11 6.5.2.2), behind its arguments.
+pub(crate) fn call_node(
+    context: &mut Context,
+    node: Node,
+    callee: Callee<'_>,
+    args: &[Expr],
+    known: &[Known],
+) -> Result<Found<Known>, NoMemory>
+    requires signature { callee.signature < length context.old.environment.signatures }
+    requires known { All (λ one. one.ctype < length context.old.types) known.now }
+    requires count { length known.now ≡ length args.now }
+    ensures { IfOk result (λ found. Settled (λ n. call_faults node.place callee.entry.place callee.entry.name.now callee.entry.built_in (kind_of context.old.structs (n.ctype (n.signature callee.entry.signature).result)) (map (kind_of context.old.structs) (map n.ctype (n.signature callee.entry.signature).parameters)) (arguments_at n context.old.structs args.now known.now)) (λ n. plain (n.ctype (n.signature callee.entry.signature).result)) node.number context.old context.new found) }
+{
+    let broken = call_fault(context, node, callee, args, known);
+    let result = context.result_of(callee.signature);
+    settle(context, node.number, broken, Known::plain(result))
+}

@@ -1,0 +1,47 @@
+ghost use Rattle.std.specs.Prelude.{◌≡◌, ℕ, [], IfOk};
+ghost use Rattle.constants.specs.declared.meaning.Meaning.{Meaning};
+ghost use Rattle.constants.specs.declared.meaning.Meaning.TheVariants.{NoConstant, FitsNoType, Known as KnownConstant};
+ghost use Rattle.constants.specs.Meanings.{Means};
+ghost use Rattle.operators.specs.declared.found.Broken.TheVariants.{Rule};
+ghost use Rattle.typing.specs.Faults.{fault};
+ghost use Rattle.expressions.specs.Constants.{constant_faults, constant_told};
+ghost use Rattle.expressions.specs.Settled.{Settled};
+
+use crate::context::Context;
+use crate::found::Found;
+use crate::known::Known;
+use crate::nodes::finishing::{Node, pass};
+use cbase::{Abi, NoMemory, Place};
+use constants::{Meaning, read_constant};
+use operators::Broken;
+use typing::Fault;
+
+/// What is found at a constant (C11 6.4.4): one that fits no type is rule 9 (6.4.4p2).
+pub(crate) fn constant_node(
+    context: &mut Context,
+    node: Node,
+    abi: Abi,
+    spelling: &[u8],
+) -> Result<Found<Known>, NoMemory>
+    ensures { IfOk result (λ found. (meaning : Meaning) × Means abi spelling.now meaning × Settled (λ n. constant_faults node.place meaning) (λ n. constant_told meaning) node.number context.old context.new found) }
+{
+    match read_constant(spelling, abi) {
+        Meaning::Known(constant) => {
+            let ctype = context.integer(constant.bytes, constant.signed)?;
+            let known = Known::valued(Some(constant.bits), ctype);
+            pass(context, node.number, known)
+        }
+        Meaning::NoConstant => Ok(Found::Refused(no_type(node.place))),
+        Meaning::FitsNoType => Ok(Found::Refused(no_type(node.place))),
+    }
+}
+
+/// What fits no type.
+fn no_type(place: Place) -> Fault
+    ensures { result ≡ fault place (Rule 9) }
+{
+    Fault {
+        place,
+        broken: Broken::Rule(9),
+    }
+}

@@ -1,0 +1,125 @@
+ghost use Rattle.std.specs.Prelude.{◌≡◌, ◌<◌, ℕ, length, Option, None, Some, IfOk};
+ghost use Rattle.operators.specs.declared.found.Broken.{Broken};
+ghost use Rattle.expressions.specs.Blame.{blamed};
+ghost use Rattle.expressions.specs.Numbers.{IsTypedBelow};
+ghost use Rattle.expressions.specs.Operated.{Finished};
+ghost use Rattle.expressions.specs.Settled.{IsSettledBy};
+
+use crate::context::Context;
+use crate::found::Found;
+use crate::handed_row::HandedRow;
+use crate::known::Known;
+use cbase::{NoMemory, Place};
+use operators::{Broken, Outcome};
+use typing::Fault;
+
+/// An expression by its number and its place.
+#[derive(Clone, Copy)]
+pub(crate) struct Node {
+    /// Its number.
+    pub(crate) number: u32,
+    /// Its place.
+    pub(crate) place: Place,
+}
+
+/// Where what is broken at an expression stands: one rule at a part of it, and all else at its own place.
+#[derive(Clone, Copy)]
+pub(crate) struct Blame {
+    /// The place of the expression.
+    pub(crate) mark: Place,
+    /// The number of the rule.
+    pub(crate) rule: u8,
+    /// The place of the part.
+    pub(crate) part: Place,
+}
+
+impl Blame {
+    /// The place of what is broken.
+    pub(crate) fn place(self, broken: Broken) -> Place
+        ensures { result ≡ blamed self broken }
+    {
+        match broken {
+            Broken::Construct(_) => self.mark,
+            Broken::Rule(rule) => {
+                if rule == self.rule {
+                    self.part
+                } else {
+                    self.mark
+                }
+            }
+        }
+    }
+}
+
+/// Hands on an expression that passes.
+pub(crate) fn pass(
+    context: &mut Context,
+    number: u32,
+    known: Known,
+) -> Result<Found<Known>, NoMemory>
+    requires { known.ctype < length context.old.types }
+    ensures { IfOk result (λ found. IsSettledBy None known number context.old context.new found) }
+{
+    context.hand_on(HandedRow {
+        number,
+        ctype: known.ctype,
+        stands: known.stands,
+        value: known.value,
+    })?;
+    Ok(Found::Passes(known))
+}
+
+/// Finishes at an operator: what is broken is refused at the expression's place, and else the expression passes with its type.
+pub(crate) fn finish(
+    context: &mut Context,
+    node: Node,
+    outcome: Outcome,
+    rest: Known,
+) -> Result<Found<Known>, NoMemory>
+    requires { IsTypedBelow (length context.old.types) outcome }
+    ensures { IfOk result (λ found. Finished (λ broken. node.place) rest node.number context.old outcome context.new found) }
+{
+    match outcome {
+        Outcome::Typed(ctype) => pass(context, node.number, Known { ctype, ..rest }),
+        Outcome::Broken(broken) => Ok(Found::Refused(Fault {
+            place: node.place,
+            broken,
+        })),
+    }
+}
+
+/// The same, where one rule that is broken stands at a part.
+pub(crate) fn finish_blaming(
+    context: &mut Context,
+    number: u32,
+    blame: Blame,
+    outcome: Outcome,
+    rest: Known,
+) -> Result<Found<Known>, NoMemory>
+    requires { IsTypedBelow (length context.old.types) outcome }
+    ensures { IfOk result (λ found. Finished (blamed blame) rest number context.old outcome context.new found) }
+{
+    match outcome {
+        Outcome::Typed(ctype) => pass(context, number, Known { ctype, ..rest }),
+        Outcome::Broken(broken) => Ok(Found::Refused(Fault {
+            place: blame.place(broken),
+            broken,
+        })),
+    }
+}
+
+/// Finishes where several things are asked: the first that is broken is refused, and else the expression passes.
+pub(crate) fn settle(
+    context: &mut Context,
+    number: u32,
+    first: Option<Fault>,
+    known: Known,
+) -> Result<Found<Known>, NoMemory>
+    requires { known.ctype < length context.old.types }
+    ensures { IfOk result (λ found. IsSettledBy first known number context.old context.new found) }
+{
+    match first {
+        Some(fault) => Ok(Found::Refused(fault)),
+        None => pass(context, number, known),
+    }
+}

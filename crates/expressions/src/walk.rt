@@ -1,0 +1,12 @@
+//! The walk over the parts of an expression and of a type name.
+
+mod asking;
+mod blocks;
+mod calls;
+mod expressions;
+mod forms;
+mod pieces;
+mod several;
+mod sizes;
+mod type_names;
+mod type_words;

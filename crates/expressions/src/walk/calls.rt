@@ -1,0 +1,185 @@
+ghost use Rattle.std.specs.Prelude.{◌≡◌, ◌<◌, ◌≤◌, [], ℕ, Bool, List, All, Some, IfOk, IfSome, IfNone, length};
+ghost use Rattle.cbase.specs.declared.tree.expr.ExprForm.TheOpen.{Call};
+ghost use Rattle.ctrees.specs.Levels.{expr_levels};
+ghost use Rattle.environment.specs.Environment.{name_found};
+ghost use Rattle.environment.specs.declared.entity.Entity.TheVariants.{Function};
+ghost use Rattle.typing.specs.Nodes.{function_faults, called_of};
+ghost use Rattle.typing.specs.Typing.{named};
+ghost use Rattle.expressions.specs.Found.{an_expression};
+ghost use Rattle.expressions.specs.Nests.{Nests};
+ghost use Rattle.expressions.specs.Numbers.{function_at};
+ghost use Rattle.expressions.specs.Settled.{Settled};
+ghost use Rattle.expressions.specs.Walked.{Walked, SaysForm};
+
+use crate::checker::Checker;
+use crate::context::Context;
+use crate::found::Found;
+use crate::known::Known;
+use crate::nodes::calling::{Callee, call_node};
+use crate::nodes::finishing::{Node, settle};
+use crate::nodes::first::unless;
+use crate::part::{Part, Told};
+use crate::rules::Rules;
+use cbase::{Expr, ExprForm, NoMemory};
+use environment::Entity;
+use operators::Broken;
+use std::alloc::Global;
+use typing::Fault;
+
+/// A function that a callee names.
+#[derive(Clone, Copy)]
+struct NamedFunction<'a> {
+    /// Its name.
+    name: &'a [u8],
+    /// The number of its signature.
+    signature: u32,
+    /// Whether the text has a body for it.
+    defined: bool,
+    /// Whether it is one of the functions that are built in.
+    built_in: bool,
+}
+
+impl<R: Rules, F: Fn(&mut Context, u32, Part<'_>) -> Result<Found<Told>, NoMemory>> Checker<R, F> {
+    /// A call (C11 6.5.2.2).
+    pub(crate) fn call(
+        &self,
+        alloc: Global,
+        context: &mut Context,
+        node: Node,
+        callee: &Expr,
+        args: &[Expr],
+    ) -> Result<Found<Known>, NoMemory>
+        requires nests { Nests R.others self.now.abi self.now.depth (F.pre self.now.inner) (F.post self.now.inner) }
+        requires callee { expr_levels callee.now ≤ self.now.depth }
+        requires args { All (λ arg. expr_levels arg ≤ self.now.depth) args.now }
+        ensures { IfOk result (λ found. Walked (SaysForm R.others self.now.abi node.number node.place (Call callee.now args.now)) an_expression context.old context.new found) }
+    {
+        let mut known = Vec::new(alloc);
+        match named_function(context, callee) {
+            Some(function) => {
+                self.call_of_function(context, node, callee, function, args, &mut known)
+            }
+            None => self.call_of_other(context, node, callee, args, &mut known),
+        }
+    }
+
+    /// A call of a function by its name, where what is known of its arguments is put into an empty list.
+    fn call_of_function(
+        &self,
+        context: &mut Context,
+        node: Node,
+        callee: &Expr,
+        function: NamedFunction<'_>,
+        args: &[Expr],
+        known: &mut Vec<Known>,
+    ) -> Result<Found<Known>, NoMemory>
+        requires nests { Nests R.others self.now.abi self.now.depth (F.pre self.now.inner) (F.post self.now.inner) }
+        requires args { All (λ arg. expr_levels arg ≤ self.now.depth) args.now }
+        requires named { named callee.now ≡ Some function.name.now }
+        requires found { name_found function.name.now context.old.environment ≡ Some (Function function.signature function.defined function.built_in) }
+        requires signature { function.signature < length context.old.environment.signatures }
+        requires empty { known.old.items ≡ [] }
+        ensures { IfOk result (λ found. Walked (SaysForm R.others self.now.abi node.number node.place (Call callee.now args.now)) an_expression context.old context.new found) }
+    {
+        match called_function(context, callee, function)? {
+            Found::Passes(_) => {}
+            Found::Refused(fault) => return Ok(Found::Refused(fault)),
+        }
+        match self.arguments(context, args, known)? {
+            Found::Passes(()) => call_node(
+                context,
+                node,
+                Callee {
+                    name: function.name,
+                    place: callee.place,
+                    signature: function.signature,
+                    built_in: function.built_in,
+                },
+                args,
+                known,
+            ),
+            Found::Refused(fault) => Ok(Found::Refused(fault)),
+        }
+    }
+
+    /// A call of what names no function: construct 11, behind its arguments. What is known of them is put into an empty list.
+    fn call_of_other(
+        &self,
+        context: &mut Context,
+        node: Node,
+        callee: &Expr,
+        args: &[Expr],
+        known: &mut Vec<Known>,
+    ) -> Result<Found<Known>, NoMemory>
+        requires nests { Nests R.others self.now.abi self.now.depth (F.pre self.now.inner) (F.post self.now.inner) }
+        requires callee { expr_levels callee.now ≤ self.now.depth }
+        requires args { All (λ arg. expr_levels arg ≤ self.now.depth) args.now }
+        requires other { (name : List ℕ) (signature : ℕ) (defined built_in : Bool) → named callee.now ≡ Some name → name_found name context.old.environment ≡ Some (Function signature defined built_in) → ⊥ }
+        requires empty { known.old.items ≡ [] }
+        ensures { IfOk result (λ found. Walked (SaysForm R.others self.now.abi node.number node.place (Call callee.now args.now)) an_expression context.old context.new found) }
+    {
+        match self.loaded(context, callee)? {
+            Found::Passes(_) => {}
+            Found::Refused(fault) => return Ok(Found::Refused(fault)),
+        }
+        match self.arguments(context, args, known)? {
+            Found::Passes(()) => Ok(Found::Refused(Fault {
+                place: node.place,
+                broken: Broken::Construct(11),
+            })),
+            Found::Refused(fault) => Ok(Found::Refused(fault)),
+        }
+    }
+}
+
+/// What is found at the name of a function that is called. One without definition is construct 12. The name is handed on with the type of the call.
+fn called_function(
+    context: &mut Context,
+    callee: &Expr,
+    function: NamedFunction<'_>,
+) -> Result<Found<Known>, NoMemory>
+    requires { function.signature < length context.old.environment.signatures }
+    ensures { IfOk result (λ found. Settled (λ n. function_faults callee.now.place (function_at n (n.signature function.entry.signature) function.entry.defined function.entry.built_in)) (λ n. called_of (function_at n (n.signature function.entry.signature) function.entry.defined function.entry.built_in)) callee.now.number context.old context.new found) }
+{
+    let result = context.result_of(function.signature);
+    let broken = unless(
+        function.defined || function.built_in,
+        callee.place,
+        Broken::Construct(12),
+    );
+    let known = Known {
+        stands: Some(Entity::Function {
+            signature: function.signature,
+            defined: function.defined,
+            built_in: function.built_in,
+        }),
+        ..Known::plain(result)
+    };
+    settle(context, callee.number, broken, known)
+}
+
+/// The function that a callee names, if it names one.
+fn named_function<'a>(context: &Context, callee: &'a Expr) -> Option<NamedFunction<'a>>
+    ensures some { IfSome result (λ function. (named callee.now ≡ Some function.name.now) × (name_found function.name.now context.now.environment ≡ Some (Function function.signature function.defined function.built_in))) }
+    ensures signature { IfSome result (λ function. function.signature < length context.now.environment.signatures) }
+    ensures none { IfNone result ((name : List ℕ) (signature : ℕ) (defined built_in : Bool) → named callee.now ≡ Some name → name_found name context.now.environment ≡ Some (Function signature defined built_in) → ⊥) }
+{
+    let ExprForm::Name(name) = &callee.form else {
+        return None;
+    };
+    match context.look_up(name.as_slice()) {
+        Some(
+            Entity::Function {
+                signature,
+                defined,
+                built_in,
+            },
+        ) => Some(NamedFunction {
+            name: name.as_slice(),
+            signature,
+            defined,
+            built_in,
+        }),
+        _ => None,
+    }
+}

@@ -1,0 +1,104 @@
+ghost use Rattle.std.specs.Prelude.{◌≡◌, ◌≤◌, ◌+◌, ℕ, IfOk};
+ghost use Rattle.cbase.specs.declared.tree.expr.ExprForm.TheViews.{out-ExprForm};
+ghost use Rattle.ctrees.specs.Levels.{expr_levels, form_levels};
+ghost use Rattle.typing.specs.Typing.{ExpressionIs};
+ghost use Rattle.expressions.specs.Exact.{NothingElse};
+ghost use Rattle.expressions.specs.Found.{an_expression};
+ghost use Rattle.expressions.specs.Nests.{Nests};
+ghost use Rattle.expressions.specs.Walked.{Walked, Says, SaysForm};
+
+use crate::checker::Checker;
+use crate::context::Context;
+use crate::found::Found;
+use crate::known::Known;
+use crate::nodes::finishing::Node;
+use crate::part::{Part, Told};
+use crate::rules::Rules;
+use cbase::{Expr, ExprForm, NoMemory};
+use std::alloc::Global;
+
+impl<R: Rules, F: Fn(&mut Context, u32, Part<'_>) -> Result<Found<Told>, NoMemory>> Checker<R, F> {
+    /// What is found of an expression (C11 6.5): its type and what else is known of it, or the first thing that is refused in it.
+    ///
+    /// Its parts are walked in the order of the text, and the expression itself behind them. What is found of each expression in it that passes is
+    /// handed on in the context, in the order of their numbers. Want of memory is the only error, and nothing is said of the context then.
+    pub fn expression(
+        &self,
+        alloc: Global,
+        context: &mut Context,
+        expr: &Expr,
+    ) -> Result<Found<Known>, NoMemory>
+        requires nests { Nests R.others self.now.abi self.now.depth (F.pre self.now.inner) (F.post self.now.inner) }
+        requires deep { expr_levels expr.now ≤ self.now.depth + 1 }
+        ensures found { IfOk result (λ found. Walked (Says R.others self.now.abi (λ o. ExpressionIs expr.now o)) an_expression context.old context.new found) }
+        ensures nothing_else { IfOk result (λ found. NothingElse R.others self.now.abi expr.now context.old context.new found) }
+    {
+        let node = Node {
+            number: expr.number,
+            place: expr.place,
+        };
+        self.form(alloc, context, node, &expr.form)
+    }
+
+    /// What is found of an expression, by its form.
+    fn form(
+        &self,
+        alloc: Global,
+        context: &mut Context,
+        node: Node,
+        form: &ExprForm,
+    ) -> Result<Found<Known>, NoMemory>
+        requires nests { Nests R.others self.now.abi self.now.depth (F.pre self.now.inner) (F.post self.now.inner) }
+        requires deep { form_levels form.now ≤ self.now.depth }
+        ensures { IfOk result (λ found. Walked (SaysForm R.others self.now.abi node.number node.place (out-ExprForm form.now)) an_expression context.old context.new found) }
+    {
+        match form {
+            ExprForm::Name(name) => self.name(context, node, name.as_slice()),
+            ExprForm::Constant(spelling) => self.constant(context, node, spelling.as_slice()),
+            ExprForm::Unary { op, arg } => self.unary(context, node, *op, arg.get()),
+            ExprForm::Binary { op, left, right } => {
+                self.binary(context, node, *op, left.get(), right.get())
+            }
+            ExprForm::Assign {
+                op: None,
+                left,
+                right,
+            } => self.assignment(context, node, left.get(), right.get()),
+            ExprForm::Assign {
+                op: Some(op),
+                left,
+                right,
+            } => self.update(context, node, *op, left.get(), right.get()),
+            ExprForm::Count { arg, .. } => self.count(context, node, arg.get()),
+            ExprForm::Choose { test, yes, no } => {
+                self.choice(context, node, test.get(), yes.get(), no.get())
+            }
+            ExprForm::Cast { to, arg } => self.cast(alloc, context, node, to, arg.get()),
+            ExprForm::SizeOf(arg) => self.size(context, node, arg.get()),
+            ExprForm::SizeOfType(to) => self.type_size(alloc, context, node, to),
+            ExprForm::OffsetOf { to, path } => {
+                self.offset(context, node, to, path.as_slice(), alloc)
+            }
+            ExprForm::Index { base, index } => {
+                self.subscript(context, node, base.get(), index.get())
+            }
+            ExprForm::Member {
+                base,
+                name,
+                through: false,
+            } => self.member(context, node, base.get(), name),
+            ExprForm::Member {
+                base,
+                name,
+                through: true,
+            } => self.pointed_member(context, node, base.get(), name),
+            ExprForm::Call { callee, args } => {
+                self.call(alloc, context, node, callee.get(), args.as_slice())
+            }
+            ExprForm::Inner { body, .. } => {
+                self.statement_expression(alloc, context, node, body.as_slice())
+            }
+            ExprForm::AssertFail => self.failed_assertion(context, node),
+        }
+    }
+}

@@ -1,0 +1,198 @@
+ghost use Rattle.std.specs.Prelude.{◌≡◌, ◌≤◌, ◌∷◌, [], ℕ, length, map, All, IfOk};
+ghost use Rattle.ctrees.specs.Levels.{expr_levels, type_name_levels, part_levels};
+ghost use Rattle.typing.specs.Pieces.{Loaded, Unloaded, OfType, indices_in};
+ghost use Rattle.typing.specs.Typing.{PiecesAre};
+ghost use Rattle.expressions.specs.Counted.{IsCounted};
+ghost use Rattle.expressions.specs.Found.{one_operand, two_operands, three_operands, some_operands, one_type, a_type_and_operand, some_indices, a_type_and_indices};
+ghost use Rattle.expressions.specs.Nests.{Nests};
+ghost use Rattle.expressions.specs.Walked.{Walked, Says};
+
+use crate::checker::Checker;
+use crate::context::Context;
+use crate::found::Found;
+use crate::known::Known;
+use crate::named_type::NamedType;
+use crate::part::{Part, Told};
+use crate::rules::Rules;
+use cbase::{Expr, NoMemory, TypeName};
+use std::alloc::Global;
+
+impl<R: Rules, F: Fn(&mut Context, u32, Part<'_>) -> Result<Found<Told>, NoMemory>> Checker<R, F> {
+    /// One operand whose value is taken.
+    pub(crate) fn one(&self, context: &mut Context, expr: &Expr) -> Result<Found<Known>, NoMemory>
+        requires nests { Nests R.others self.now.abi self.now.depth (F.pre self.now.inner) (F.post self.now.inner) }
+        requires deep { expr_levels expr.now ≤ self.now.depth }
+        ensures { IfOk result (λ found. Walked (Says R.others self.now.abi (λ o. PiecesAre (Loaded expr.now ∷ []) o)) one_operand context.old context.new found) }
+    {
+        self.loaded(context, expr)
+    }
+
+    /// One operand of which only the place or the type is asked.
+    pub(crate) fn one_unloaded(
+        &self,
+        context: &mut Context,
+        expr: &Expr,
+    ) -> Result<Found<Known>, NoMemory>
+        requires nests { Nests R.others self.now.abi self.now.depth (F.pre self.now.inner) (F.post self.now.inner) }
+        requires deep { expr_levels expr.now ≤ self.now.depth }
+        ensures { IfOk result (λ found. Walked (Says R.others self.now.abi (λ o. PiecesAre (Unloaded expr.now ∷ []) o)) one_operand context.old context.new found) }
+    {
+        self.unloaded(context, expr)
+    }
+
+    /// Two operands.
+    pub(crate) fn two(
+        &self,
+        context: &mut Context,
+        left: &Expr,
+        right: &Expr,
+    ) -> Result<Found<(Known, Known)>, NoMemory>
+        requires nests { Nests R.others self.now.abi self.now.depth (F.pre self.now.inner) (F.post self.now.inner) }
+        requires left { expr_levels left.now ≤ self.now.depth }
+        requires right { expr_levels right.now ≤ self.now.depth }
+        ensures { IfOk result (λ found. Walked (Says R.others self.now.abi (λ o. PiecesAre (Loaded left.now ∷ Loaded right.now ∷ []) o)) two_operands context.old context.new found) }
+    {
+        let a = match self.loaded(context, left)? {
+            Found::Passes(known) => known,
+            Found::Refused(fault) => return Ok(Found::Refused(fault)),
+        };
+        match self.one(context, right)? {
+            Found::Passes(b) => Ok(Found::Passes((a, b))),
+            Found::Refused(fault) => Ok(Found::Refused(fault)),
+        }
+    }
+
+    /// Three operands.
+    pub(crate) fn three(
+        &self,
+        context: &mut Context,
+        test: &Expr,
+        one: &Expr,
+        other: &Expr,
+    ) -> Result<Found<(Known, Known, Known)>, NoMemory>
+        requires nests { Nests R.others self.now.abi self.now.depth (F.pre self.now.inner) (F.post self.now.inner) }
+        requires test { expr_levels test.now ≤ self.now.depth }
+        requires one { expr_levels one.now ≤ self.now.depth }
+        requires other { expr_levels other.now ≤ self.now.depth }
+        ensures { IfOk result (λ found. Walked (Says R.others self.now.abi (λ o. PiecesAre (Loaded test.now ∷ Loaded one.now ∷ Loaded other.now ∷ []) o)) three_operands context.old context.new found) }
+    {
+        let t = match self.loaded(context, test)? {
+            Found::Passes(known) => known,
+            Found::Refused(fault) => return Ok(Found::Refused(fault)),
+        };
+        match self.two(context, one, other)? {
+            Found::Passes((a, b)) => Ok(Found::Passes((t, a, b))),
+            Found::Refused(fault) => Ok(Found::Refused(fault)),
+        }
+    }
+
+    /// The arguments of a call, left to right. What is known of them is put behind one another.
+    pub(crate) fn arguments(
+        &self,
+        context: &mut Context,
+        args: &[Expr],
+        known: &mut Vec<Known>,
+    ) -> Result<Found<()>, NoMemory>
+        requires nests { Nests R.others self.now.abi self.now.depth (F.pre self.now.inner) (F.post self.now.inner) }
+        requires deep { All (λ arg. expr_levels arg ≤ self.now.depth) args.now }
+        requires empty { known.old.items ≡ [] }
+        ensures walk { IfOk result (λ found. Walked (Says R.others self.now.abi (λ o. PiecesAre (map Loaded args.now) o)) (some_operands known.new.items) context.old context.new found) }
+        ensures count { IfOk result (λ found. IsCounted found (length known.new.items) (length args.now)) }
+    {
+        for arg in args {
+            match self.loaded(context, arg)? {
+                Found::Passes(one) => known.push(one)?,
+                Found::Refused(fault) => return Ok(Found::Refused(fault)),
+            }
+        }
+        Ok(Found::Passes(()))
+    }
+
+    /// A type name.
+    pub(crate) fn one_type(
+        &self,
+        alloc: Global,
+        context: &mut Context,
+        to: &TypeName,
+    ) -> Result<Found<NamedType>, NoMemory>
+        requires nests { Nests R.others self.now.abi self.now.depth (F.pre self.now.inner) (F.post self.now.inner) }
+        requires deep { type_name_levels to.now ≤ self.now.depth }
+        ensures { IfOk result (λ found. Walked (Says R.others self.now.abi (λ o. PiecesAre (OfType to.now ∷ []) o)) one_type context.old context.new found) }
+    {
+        self.type_name(alloc, context, to)
+    }
+
+    /// A type name and an operand behind it.
+    pub(crate) fn type_and_operand(
+        &self,
+        alloc: Global,
+        context: &mut Context,
+        to: &TypeName,
+        arg: &Expr,
+    ) -> Result<Found<(NamedType, Known)>, NoMemory>
+        requires nests { Nests R.others self.now.abi self.now.depth (F.pre self.now.inner) (F.post self.now.inner) }
+        requires to { type_name_levels to.now ≤ self.now.depth }
+        requires arg { expr_levels arg.now ≤ self.now.depth }
+        ensures { IfOk result (λ found. Walked (Says R.others self.now.abi (λ o. PiecesAre (OfType to.now ∷ Loaded arg.now ∷ []) o)) a_type_and_operand context.old context.new found) }
+    {
+        let named = match self.type_name(alloc, context, to)? {
+            Found::Passes(named) => named,
+            Found::Refused(fault) => return Ok(Found::Refused(fault)),
+        };
+        match self.one(context, arg)? {
+            Found::Passes(known) => Ok(Found::Passes((named, known))),
+            Found::Refused(fault) => Ok(Found::Refused(fault)),
+        }
+    }
+
+    /// The indices on the way to a member, as words of 64 bits, which are put behind one another.
+    pub(crate) fn indices(
+        &self,
+        context: &mut Context,
+        path: &[cbase::Part],
+        words: &mut Vec<u64>,
+    ) -> Result<Found<()>, NoMemory>
+        requires nests { Nests R.others self.now.abi self.now.depth (F.pre self.now.inner) (F.post self.now.inner) }
+        requires deep { All (λ part. part_levels part ≤ self.now.depth) path.now }
+        requires empty { words.old.items ≡ [] }
+        ensures walk { IfOk result (λ found. Walked (Says R.others self.now.abi (λ o. PiecesAre (indices_in path.now) o)) (some_indices words.new.items) context.old context.new found) }
+        ensures count { IfOk result (λ found. IsCounted found (length words.new.items) (length (indices_in path.now))) }
+    {
+        for part in path {
+            match part {
+                cbase::Part::Member(_) => {}
+                cbase::Part::At(expr) => match self.index(context, expr)? {
+                    Found::Passes(word) => words.push(word)?,
+                    Found::Refused(fault) => return Ok(Found::Refused(fault)),
+                },
+            }
+        }
+        Ok(Found::Passes(()))
+    }
+
+    /// A type name and the indices on the way to a member of it.
+    pub(crate) fn type_and_indices(
+        &self,
+        alloc: Global,
+        context: &mut Context,
+        to: &TypeName,
+        path: &[cbase::Part],
+        words: &mut Vec<u64>,
+    ) -> Result<Found<NamedType>, NoMemory>
+        requires nests { Nests R.others self.now.abi self.now.depth (F.pre self.now.inner) (F.post self.now.inner) }
+        requires to { type_name_levels to.now ≤ self.now.depth }
+        requires deep { All (λ part. part_levels part ≤ self.now.depth) path.now }
+        requires empty { words.old.items ≡ [] }
+        ensures walk { IfOk result (λ found. Walked (Says R.others self.now.abi (λ o. PiecesAre (OfType to.now ∷ indices_in path.now) o)) (a_type_and_indices words.new.items) context.old context.new found) }
+        ensures count { IfOk result (λ found. IsCounted found (length words.new.items) (length (indices_in path.now))) }
+    {
+        let named = match self.type_name(alloc, context, to)? {
+            Found::Passes(named) => named,
+            Found::Refused(fault) => return Ok(Found::Refused(fault)),
+        };
+        match self.indices(context, path, words)? {
+            Found::Passes(()) => Ok(Found::Passes(named)),
+            Found::Refused(fault) => Ok(Found::Refused(fault)),
+        }
+    }
+}
