@@ -22,7 +22,6 @@ use std::marker::Model;
 /// Every number of a type that a name stands for, and every number of a signature, is one of the context.
 #[derive(Drop)]
 pub struct Context {
-    alloc: Global,
     types: Types,
     environment: Environment,
     handed: List<HandedRow>,
@@ -50,16 +49,10 @@ impl Context {
         ensures { result ≡ record { types = []; structs = []; environment = nothing_declared; handed = [] } }
     {
         Context {
-            alloc,
             types: Types::new(alloc),
             environment: Environment::new(alloc),
             handed: List::new(alloc),
         }
-    }
-
-    /// Where it takes its memory.
-    pub fn alloc(&self) -> Global {
-        self.alloc
     }
 
     /// What was handed on, in order.

@@ -1,4 +1,4 @@
-ghost use Rattle.std.specs.Prelude.{◌≡◌, ◌<◌, ◌++◌, ◌∷◌, [], ℕ, length, All, IfOk, OnOk, if◌then◌else◌};
+ghost use Rattle.std.specs.Prelude.{◌≡◌, ◌<◌, ◌++◌, ◌∷◌, [], ℕ, length, All, IfOk, OnErr, OnOk, if◌then◌else◌};
 ghost use Rattle.cbase.specs.Completing.{fieldless, may_complete, completed};
 ghost use Rattle.ctypes.specs.Structs.{fields_of};
 ghost use Rattle.environment.specs.Bounds.{EntityBelow, SignatureBelow};
@@ -15,24 +15,29 @@ use environment::{Binding, Entity, Signature, Tag};
 use std::alloc::Global;
 
 impl Context {
-    /// Declares a name without linkage in the innermost scope (C11 6.2.1). Where there is no scope it changes nothing.
+    /// Declares a name without linkage in the innermost scope (C11 6.2.1). Where there is no scope it changes nothing, and where memory is wanting
+    /// all stays as it was.
     pub fn declare(&mut self, alloc: Global, name: &[u8], entity: Entity) -> Result<(), NoMemory>
         requires { EntityBelow (length self.old.types) self.old.environment.signatures entity }
-        ensures { OnOk result (self.new ≡ record self.old { environment = name_bound name.now (Own entity) self.old.environment }) }
+        ensures ok { OnOk result (self.new ≡ record self.old { environment = name_bound name.now (Own entity) self.old.environment }) }
+        ensures err { OnErr result (self.new ≡ self.old) }
     {
         self.environment.declare(alloc, name, Binding::Own(entity))
     }
 
-    /// Gives a signature a number, behind the others.
+    /// Gives a signature a number, behind the others. Where memory is wanting all stays as it was.
     pub fn add_signature(&mut self, signature: Signature) -> Result<u32, NoMemory>
         requires { SignatureBelow (length self.old.types) signature }
         ensures number { IfOk result (λ number. number ≡ length self.old.environment.signatures) }
         ensures ok { OnOk result (self.new ≡ record self.old { environment = signature_added signature self.old.environment }) }
+        ensures err { OnErr result (self.new ≡ self.old) }
     {
         self.environment.add_signature(signature)
     }
 
     /// Declares a tag of a struct in the innermost scope: a struct without members, whose number stands behind the others (C11 6.7.2.3p8).
+    ///
+    /// Want of memory is the only error, and nothing is said of the context then: the struct may be there, and its tag not.
     pub fn declare_struct(&mut self, alloc: Global, name: &[u8]) -> Result<u32, NoMemory>
         ensures number { IfOk result (λ number. number ≡ length self.old.structs) }
         ensures ok { OnOk result (declared self.new ≡ struct_declared name.now (declared self.old)) }
@@ -45,9 +50,10 @@ impl Context {
         Ok(number)
     }
 
-    /// Declares a tag of an enum in the innermost scope (C11 6.7.2.3).
+    /// Declares a tag of an enum in the innermost scope (C11 6.7.2.3). Where memory is wanting all stays as it was.
     pub fn declare_enum(&mut self, alloc: Global, name: &[u8]) -> Result<(), NoMemory>
         ensures ok { OnOk result (declared self.new ≡ enum_declared name.now (declared self.old)) }
+        ensures err { OnErr result (self.new ≡ self.old) }
         ensures types { OnOk result (self.new.types ≡ self.old.types) }
         ensures handed { OnOk result (self.new.handed ≡ self.old.handed) }
     {
@@ -58,7 +64,7 @@ impl Context {
     /// Gives the struct of that number its members, with which it is complete, and says whether it has done so (C11 6.7.2.1p8).
     ///
     /// It has not, and all stays as it was, exactly where there is no such struct, where its members were given before, and where a member's type
-    /// is incomplete.
+    /// is incomplete. Where memory is wanting all stays as it was, too.
     pub fn complete(
         &mut self,
         alloc: Global,
@@ -68,6 +74,7 @@ impl Context {
         requires { All (λ member. member.ctype < length self.old.types) members }
         ensures answer { IfOk result (λ done. done ≡ may_complete self.old.structs number (fields_of self.old.types members)) }
         ensures after { IfOk result (λ done. self.new ≡ record self.old { structs = (if done then completed self.old.structs number (fields_of self.old.types members) else self.old.structs) }) }
+        ensures err { OnErr result (self.new ≡ self.old) }
     {
         self.types.complete(alloc, number, members)
     }

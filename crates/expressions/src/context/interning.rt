@@ -10,7 +10,7 @@ use cbase::{CType, NoMemory};
 use ctypes::Shape;
 
 impl Context {
-    /// The number of `void`. Only types get numbers, by each call here.
+    /// The number of `void`. Only types get numbers, by each call here. Want of memory is the only error, and nothing is said of the context then.
     pub fn void(&mut self) -> Result<u32, NoMemory>
         ensures { IfOk result (λ number. Numbers (λ n. CType.Void) self.old self.new number) }
     {
