@@ -1,5 +1,5 @@
-ghost use Rattle.std.specs.Prelude.{◌≡◌, ◌<◌, [], ◌∷◌, ◌++◌, All, length, IfOk, OnOk, OnErr, if◌then◌else◌};
-ghost use Rattle.cbase.specs.Completing.{fieldless, may_complete, completed};
+ghost use Rattle.std.specs.Prelude.{◌≡◌, ◌<◌, [], ◌∷◌, ◌++◌, All, length, slice_get, IfOk, OnOk, OnErr, if◌then◌else◌};
+ghost use Rattle.cbase.specs.Completing.{fieldless, is_open, may_complete, completed};
 ghost use Rattle.ctypes.specs.Structs.{fields_of};
 
 use crate::laying::lay;
@@ -31,6 +31,13 @@ impl Types {
             places: IndexMap::new(alloc),
         })?;
         Ok(number)
+    }
+
+    /// Whether there is a struct of that number whose members are to be given yet. It takes no memory and one step.
+    pub fn is_open(&self, number: u32) -> bool
+        ensures { result ≡ is_open (slice_get self.now.structs number) }
+    {
+        is_open(&self.structs, number as usize)
     }
 
     /// Gives the struct of that number its members, with which it is complete (C11 6.7.2.1p8).

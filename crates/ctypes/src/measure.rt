@@ -50,8 +50,10 @@ impl Types {
         kept.places.get(name).copied()
     }
 
-    /// The layout of the type of that number: so many times that of the part that its row has.
-    pub(crate) fn layout(&self, number: u32) -> Option<Layout>
+    /// The layout of the type of that number, whatever the data layout, where it has one (C11 6.5.3.4, 6.2.8).
+    ///
+    /// It is `None` exactly where `size` answers `Incomplete`. It takes no memory and one step.
+    pub fn layout(&self, number: u32) -> Option<Layout>
         requires { number < length self.now.types }
         ensures value { result ≡ option_map capped (layout_of Lp64 self.now.structs (type_at self.now.types number)) }
         ensures small { IfSome result IsSmall }

@@ -16,4 +16,5 @@ mod scopes;
 pub use entity::{Binding, DeclaredType, Entity, Lifetime, Linked, Signature, Tag, TagForm};
 pub use environment::Environment;
 pub use linkage::{Kind, Standing, has_linkage};
+pub use names::Names;
 pub use scopes::Scopes;

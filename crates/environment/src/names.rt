@@ -9,8 +9,10 @@ use std::alloc::Global;
 use std::marker::Model;
 
 /// A value for each of some names, in the order in which they came.
+///
+/// Contracts see it as the list of the names with their values.
 #[derive(Drop)]
-pub(crate) struct Names<A> {
+pub struct Names<A> {
     table: IndexMap<Vec<u8>, A>,
 }
 
@@ -27,7 +29,7 @@ impl<A> Model for Names<A> {
 
 impl<A> Names<A> {
     /// No names. It takes no memory.
-    pub(crate) fn new(alloc: Global) -> Names<A>
+    pub fn new(alloc: Global) -> Names<A>
         ensures { result ≡ [] }
     {
         Names {
@@ -37,15 +39,15 @@ impl<A> Names<A> {
 }
 
 impl<A: Copy> Names<A> {
-    /// The value of a name. It takes one look-up.
-    pub(crate) fn get(&self, name: &[u8]) -> Option<A>
+    /// The value of a name. It takes no memory, and one look-up by hash.
+    pub fn get(&self, name: &[u8]) -> Option<A>
         ensures { result ≡ value_in name.now self.now }
     {
         value_of(&self.table, name)
     }
 
     /// Gives a name a value. Where memory is wanting all stays as it was.
-    pub(crate) fn put(&mut self, alloc: Global, name: &[u8], value: A) -> Result<(), NoMemory>
+    pub fn put(&mut self, alloc: Global, name: &[u8], value: A) -> Result<(), NoMemory>
         ensures ok { OnOk result (self.new ≡ with_value name.now value self.old) }
         ensures err { OnErr result (self.new ≡ self.old) }
     {

@@ -1,6 +1,6 @@
 -- The values of integer constant expressions (C11 6.6p3, p6): there is one where each operand has one, also where it would never be
 -- evaluated. A value is given by the bits of its type.
-use Rattle.std.specs.Prelude.{ℕ, Bool, true, false, not, ◌&&◌, ◌||◌, Option, None, Some, is_some, nat_eq, ℤ, pos, negsuc, if◌then◌else◌}
+use Rattle.std.specs.Prelude.{ℕ, Bool, true, false, not, ◌&&◌, ◌||◌, Option, None, Some, is_some, nat_eq, ℤ, pos, negsuc, ◌+ℤ◌, if◌then◌else◌}
 use Rattle.cbase.specs.declared.tree.operators.BinaryOp.{BinaryOp}
 use Rattle.cbase.specs.declared.tree.operators.BinaryOp.TheVariants.{Mul, Div, Rem, Add, Sub, Left, Right, Less, Greater, LessEqual, GreaterEqual, Equal, NotEqual, And, Xor, Or, Both, Either, Comma}
 use Rattle.cbase.specs.declared.tree.operators.UnaryOp.{UnaryOp}
@@ -11,7 +11,7 @@ use Rattle.arithmetic.specs.Comparing.{is_equal, answer}
 use Rattle.arithmetic.specs.Computing.{computed, negated, complemented}
 use Rattle.arithmetic.specs.Conversion.{converted, truth}
 use Rattle.arithmetic.specs.Size.{size_of}
-use Rattle.arithmetic.specs.Value.{value}
+use Rattle.arithmetic.specs.Value.{value, bits as bits_of, is_in_range}
 use Rattle.operators.specs.declared.kind.IntegerType.{IntegerType}
 use Rattle.operators.specs.Integers.{promoted, common}
 use Rattle.operators.specs.Kinds.{Kind, Integer}
@@ -118,3 +118,16 @@ at_least_one (negsuc before) = None
 -- the value of an integer that is 1 or more
 abbrev pub count_of : IntegerType → ℕ → Option ℕ
 count_of t bits = if is_whole t then at_least_one (value t.bytes t.signed bits) else None
+
+-- the bits of an int for a whole number, where it has that value
+abbrev pub int_bits : ℤ → Option ℕ
+int_bits number = if is_in_range 4 true number then Some (bits_of 4 number) else None
+
+-- an expression as the value of a constant of an enum, by its value in its own type (C11 6.7.2.2p2)
+abbrev pub int_value : Kind → Option ℕ → Option ℕ
+int_value (Integer t) (Some given) = if is_whole t then int_bits (value t.bytes t.signed given) else None
+int_value kind given = None
+
+-- the value of the constant behind one of these bits, where it is not given (6.7.2.2p3)
+abbrev pub next_value : ℕ → Option ℕ
+next_value before = int_bits (value 4 true before +ℤ pos 1)

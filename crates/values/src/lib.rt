@@ -9,6 +9,7 @@ mod choosing;
 mod condition;
 mod converting;
 mod counting;
+mod enumerating;
 mod unary;
 mod whole;
 
@@ -16,5 +17,6 @@ pub use binary::binary_value;
 pub use casting::{cast_value, offset_as, word_of};
 pub use choosing::choice_value;
 pub use counting::count_of;
+pub use enumerating::{int_value, next_value};
 pub use unary::unary_value;
 pub use whole::is_whole;
