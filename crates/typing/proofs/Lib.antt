@@ -2,6 +2,8 @@ pub mod SampleFacts
 pub mod Least
 pub mod EachPath
 pub mod OneFault
+pub mod Sequences
+pub mod BraceRows
 pub mod WalkRows
 pub mod OneOutcome
 pub mod OneRule
@@ -15,3 +17,4 @@ pub mod ExamplesMembers
 pub mod ExamplesCalled
 pub mod ExamplesSizes
 pub mod ExamplesInner
+pub mod ExamplesBraces

@@ -1,31 +1,45 @@
 -- An expression has one outcome in an environment, and so has each part of the walk: a derivation is compared with any other one of the same part.
 use Rattle.std.proofs.Common.{◌≡◌, ℕ, Bool, true, false, List, [], ◌∷◌, ◌++◌, Option, Some, None, refl, sym, ap, ◌∙◌, subst}
-use Rattle.std.specs.Prelude.{is_some}
+use Rattle.std.specs.Prelude.{is_some, slice_get}
 use Rattle.cbase.specs.declared.ctype.CType.{CType}
+use Rattle.cbase.specs.declared.structs.Field.{Field}
 use Rattle.cbase.specs.declared.tree.decl.TypeName.{TypeName}
 use Rattle.cbase.specs.declared.tree.expr.Expr.{Expr}
-use Rattle.cbase.specs.declared.tree.expr.ExprForm.TheViews.{out-ExprForm, out-StmtForm, out-TypeName, out-TypeSpec}
+use Rattle.cbase.specs.declared.tree.expr.ExprForm.TheViews.{out-ExprForm, out-StmtForm, out-TypeName, out-TypeSpec, out-FieldName, out-Enumerator}
+use Rattle.cbase.specs.declared.tree.expr.ExprForm.TheOpen.{Struct, Enum}
+use Rattle.cbase.specs.declared.tree.identifier.Identifier.{Identifier}
+use Rattle.cbase.specs.declared.tree.spec.Enumerator.{Enumerator}
+use Rattle.cbase.specs.declared.tree.spec.FieldDecl.{FieldDecl}
+use Rattle.cbase.specs.declared.tree.spec.FieldName.{FieldName}
 use Rattle.cbase.specs.declared.tree.stmt.Stmt.{Stmt}
+use Rattle.cbase.specs.Completing.{is_open}
+use Rattle.operators.specs.declared.found.Broken.TheVariants.{Rule}
+use Rattle.operators.specs.Binary.{int_type}
 use Rattle.operators.specs.Operands.{Operand}
 use Rattle.typing.specs.declared.fault.Fault.{Fault}
 use Rattle.typing.specs.declared.size.Size.{Size}
+use Rattle.typing.specs.declared.size.Size.TheVariants.{LeftOut}
+use Rattle.typing.specs.Braces.{Opening, Opens, IsTwice, struct_opening, closing, enum_opening, width_found, member, member_type, faults_of_member}
 use Rattle.typing.specs.Calls.{is_struct}
 use Rattle.typing.specs.Entities.{FunctionEntity, FunctionIs}
-use Rattle.typing.specs.Forms.{Form, Words, NameParts, value_in}
+use Rattle.typing.specs.Faults.{fault}
+use Rattle.typing.specs.Forms.{Form, Words, NameParts, MemberParts, EnumeratorParts, value_in}
 use Rattle.typing.specs.Known.{Known, behind}
 use Rattle.typing.specs.Language.{Language}
 use Rattle.typing.specs.Laws.{IsDetermined, HasOneOutcome}
-use Rattle.typing.specs.NamedTypes.{NamedType, size_of, declared}
+use Rattle.typing.specs.NamedTypes.{NamedType, whole, size_of, declared}
 use Rattle.typing.specs.Nodes.{function_faults, called_of, is_last_value}
-use Rattle.typing.specs.Outcomes.{Outcome, Handed, Passes, Refused, IsSettled}
+use Rattle.typing.specs.Outcomes.{Outcome, Handed, Passes, Refused, IsSettled, with_front}
 use Rattle.typing.specs.Pieces.{Piece, Loaded, SizeOfArray, pieces_in}
 use Rattle.typing.specs.Rules.{AtNode}
 use Rattle.typing.specs.Told.{Told, OperandIs, FunctionNamed, SizeIs}
-use Rattle.typing.specs.Typing.{Saying, ExpressionIs, PieceIs, PiecesAre, WordsAre, SizesAre, NameOfTypeIs, StatementsAre, named, Finds, RefusedInside, Walked, NoPieces, MorePieces, RefusedHere, RefusedBehind, LoadedValue, LoadOfIncomplete, LoadedRefused, UnloadedOperand, UnloadedRefused, CalledFunction, CalledOther, CalledRefused, TypeInside, TypeRefused, IndexOfPath, IndexNotConstant, IndexRefused, SizeOfItems, SizeUnderOne, SizeRefused, BlockInside, BlockRefused, NoStatements, LastExpression, LastStruct, LastRefused, MoreStatements, StatementRefused, StatementsRefused, BasicSpecifier, TypedefSpecifier, StructSpecifier, StructDeclared, StructIsEnum, EnumSpecifier, EnumDeclared, EnumIsStruct, StructOfNothing, EnumOfNothing, BracedStruct, BracedEnum, TypeofExpression, TypeofRefused, TypeofType, NoSizes, SizeLeftOut, SizeLeftOutRefused, MoreSizes, SizesRefusedHere, SizesRefusedBehind, TypeNamed, WordsRefused, SizesRefused}
-use Rattle.values.specs.Values.{word_of}
-use Rattle.typing.proofs.OneFault.{settled_alike}
+use Rattle.typing.specs.Typing.{Saying, ExpressionIs, PieceIs, PiecesAre, WordsAre, SizesAre, NameOfTypeIs, StatementsAre, MembersAre, DeclarationIs, NamesAre, MemberIs, MemberSizesAre, MemberSizeIs, WidthIs, EnumeratorsAre, ValueOfEnumerator, named, Finds, RefusedInside, Walked, NoPieces, MorePieces, RefusedHere, RefusedBehind, LoadedValue, LoadOfIncomplete, LoadedRefused, UnloadedOperand, UnloadedRefused, CalledFunction, CalledOther, CalledRefused, TypeInside, TypeRefused, IndexOfPath, IndexNotConstant, IndexRefused, SizeOfItems, SizeUnderOne, SizeRefused, BlockInside, BlockRefused, NoStatements, LastExpression, LastStruct, LastRefused, MoreStatements, StatementRefused, StatementsRefused, BasicSpecifier, TypedefSpecifier, StructSpecifier, StructDeclared, StructIsEnum, EnumSpecifier, EnumDeclared, EnumIsStruct, StructOfNothing, EnumOfNothing, StructWithMembers, StructCompletedInside, MembersRefused, StructTwice, EnumWithConstants, EnumTwice, TypeofExpression, TypeofRefused, TypeofType, NoSizes, SizeLeftOut, SizeLeftOutRefused, MoreSizes, SizesRefusedHere, SizesRefusedBehind, TypeNamed, WordsRefused, SizesRefused, NoDeclarations, MoreDeclarations, DeclarationRefused, MembersDeclared, MemberWordsRefused, NoNames, MoreNames, NameRefused, MemberFound, MemberSizesRefused, MemberWidthRefused, NoMemberSizes, MoreMemberSizes, MemberSizeRefusedHere, MemberSizeRefusedBehind, MemberSizeLeftOut, MemberSizeGiven, MemberSizeRefused, NoWidth, WidthGiven, NoEnumerators, EnumeratorTwice, EnumeratorRefused, EnumeratorTwiceInside, MoreEnumerators, NextValue, NoNextValue, GivenValue, GivenNoInt, GivenRefused}
+use Rattle.values.specs.Values.{word_of, int_value, next_value}
+use Rattle.typing.proofs.OneFault.{one_settled, settled_alike}
+use Rattle.typing.proofs.BraceRows as braces
+use Rattle.typing.proofs.Sequences.{Same, via, OneOf, one_given, one_made, one_refused, one_both}
 use Rattle.typing.proofs.WalkRows as row
-use Rattle.typing.proofs.WalkRows.{Same, via, IsNode, IsRest, IsCall, Direct, Otherwise, IsBlock, Last, Front, IsRestOfBlock, IsRestOfSizes, IsTypeName, IsRestOfType, load_found, if_loaded, unload_found, called_found, names_function, type_found, if_index, index_found, if_size, size_found, block_found, if_struct, last_found, statement_joined, typeof_found, sizes_joined, left_out, type_joined, joined}
+use Rattle.typing.proofs.WalkRows.{IsNode, IsRest, IsCall, Direct, Otherwise, IsBlock, Last, Front, IsRestOfBlock, IsRestOfSizes, IsTypeName, IsRestOfType, load_found, if_loaded, unload_found, called_found, names_function, type_found, if_index, index_found, if_size, size_found, block_found, if_struct, last_found, statement_joined, typeof_found, sizes_joined, left_out, type_joined, joined}
 
 -- every other derivation of the same part finds the same
 abbrev One : (l : Language) → l.Environment → Saying → l.Environment → Type 0
@@ -36,6 +50,15 @@ One l before (WordsAre words first) after = (second : Outcome NamedType) (other 
 One l before (SizesAre sizes first) after = (second : Outcome (List Size)) (other : l.Environment) → Finds l before (SizesAre sizes second) other → Same first second after other
 One l before (NameOfTypeIs to first) after = (second : Outcome NamedType) (other : l.Environment) → Finds l before (NameOfTypeIs to second) other → Same first second after other
 One l before (StatementsAre stmts first) after = (second : Outcome CType) (other : l.Environment) → Finds l before (StatementsAre stmts second) other → Same first second after other
+One l before (MembersAre members fields first) after = (second : Outcome (List Field)) (other : l.Environment) → Finds l before (MembersAre members fields second) other → Same first second after other
+One l before (DeclarationIs members field first) after = (second : Outcome (List Field)) (other : l.Environment) → Finds l before (DeclarationIs members field second) other → Same first second after other
+One l before (NamesAre base members names first) after = (second : Outcome (List Field)) (other : l.Environment) → Finds l before (NamesAre base members names second) other → Same first second after other
+One l before (MemberIs base members name first) after = (second : Outcome (List Field)) (other : l.Environment) → Finds l before (MemberIs base members name second) other → Same first second after other
+One l before (MemberSizesAre sizes first) after = (second : Outcome (List Size)) (other : l.Environment) → Finds l before (MemberSizesAre sizes second) other → Same first second after other
+One l before (MemberSizeIs given first) after = (second : Outcome Size) (other : l.Environment) → Finds l before (MemberSizeIs given second) other → Same first second after other
+One l before (WidthIs given first) after = (second : Outcome (Unit {0})) (other : l.Environment) → Finds l before (WidthIs given second) other → Same first second after other
+One l before (EnumeratorsAre next constants first) after = (second : Outcome NamedType) (other : l.Environment) → Finds l before (EnumeratorsAre next constants second) other → Same first second after other
+One l before (ValueOfEnumerator place next given first) after = (second : Outcome ℕ) (other : l.Environment) → Finds l before (ValueOfEnumerator place next given second) other → Same first second after other
 
 -- an expression whose parts are found in one way
 one_expression : (l : Language) (before : l.Environment) (expr : Expr) (form : Form) (walked : Outcome (List Told)) (first : Outcome Known) (after : l.Environment)
@@ -164,6 +187,101 @@ one_block : (l : Language) (inside : l.Environment) (inner : Outcome CType) (bod
     (is : row.IsBlockPiece l before body second other) → Same inner is.0 inside is.1 → Same (block_found inner) second (l.left inside) other
 one_block l inside inner body second other is same = (ap block_found same.0 ∙ sym is.3, ap l.left same.1 ∙ is.4)
 
+-- a struct with braces, by its tag
+struct_by : (l : Language) (before : l.Environment) (name : Option Identifier) (fields : List FieldDecl) (opening : Opening (ℕ × l.Environment)) (second : Outcome NamedType) (other : l.Environment)
+    → struct_opening l name before ≡ opening → Finds l before (WordsAre (Struct name (Some fields)) second) other → braces.IsOpened l before name fields opening second other
+struct_by l before name fields opening second other e found =
+    subst (λ (o : Opening (ℕ × l.Environment)). braces.IsOpened l before name fields o second other) e (braces.struct_braces_row found)
+
+one_closed : (l : Language) (name : Option Identifier) (number : ℕ) (members : List Field) (handed : List Handed) (middle : l.Environment) (closes : Option Fault) (first : Outcome NamedType) (after : l.Environment)
+    → closing name (is_open (slice_get (l.structs middle) number)) ≡ closes → braces.IsClosed l number members handed middle closes first after
+    → OneOf (braces.Closes l name number members handed middle) first after
+one_closed l name number members handed middle None first after e is second other also =
+    let it : braces.IsClosed l number members handed middle None second other = subst (λ (f : Option Fault). braces.IsClosed l number members handed middle f second other) e also in
+    (is.0 ∙ sym it.0, sym is.1 ∙ it.1)
+one_closed l name number members handed middle (Some broken) first after e is second other also =
+    let it : braces.IsClosed l number members handed middle (Some broken) second other = subst (λ (f : Option Fault). braces.IsClosed l number members handed middle f second other) e also in
+    (is.0 ∙ sym it.0, sym is.1 ∙ it.1)
+
+one_struct_closed : (l : Language) (before inside middle : l.Environment) (number : ℕ) (members : List Field) (handed : List Handed) (name : Option Identifier) (fields : List FieldDecl) (closes : Option Fault) (first : Outcome NamedType) (after : l.Environment)
+    → struct_opening l name before ≡ Opens (number, inside) → One l inside (MembersAre [] fields (Passes members handed)) middle
+    → closing name (is_open (slice_get (l.structs middle) number)) ≡ closes → braces.IsClosed l number members handed middle closes first after
+    → One l before (WordsAre (Struct name (Some fields)) first) after
+one_struct_closed l before inside middle number members handed name fields closes first after e one closed is second other found =
+    one_both (braces.MembersFound l inside [] fields) (braces.Closes l name number) members handed middle first after one
+    (one_closed l name number members handed middle closes first after closed is) second other (struct_by l before name fields (Opens (number, inside)) second other e found)
+
+one_members_refused : (l : Language) (before inside after : l.Environment) (number : ℕ) (name : Option Identifier) (fields : List FieldDecl) (broken : Fault)
+    → struct_opening l name before ≡ Opens (number, inside) → One l inside (MembersAre [] fields (Refused broken)) after
+    → One l before (WordsAre (Struct name (Some fields)) (Refused broken)) after
+one_members_refused l before inside after number name fields broken e one second other found =
+    one_refused (braces.MembersFound l inside [] fields) (braces.Closes l name number) broken after one second other (struct_by l before name fields (Opens (number, inside)) second other e found)
+
+-- an enum with braces
+enum_by : (l : Language) (before : l.Environment) (name : Option Identifier) (values : List Enumerator) (opening : Opening l.Environment) (second : Outcome NamedType) (other : l.Environment)
+    → enum_opening l name before ≡ opening → Finds l before (WordsAre (Enum name (Some values)) second) other → braces.IsListed l before values opening second other
+enum_by l before name values opening second other e found =
+    subst (λ (o : Opening l.Environment). braces.IsListed l before values o second other) e (braces.enum_braces_row found)
+
+-- one member
+one_judged : (l : Language) (after : l.Environment) (base : NamedType) (members : List Field) (parts : MemberParts) (counts : List Size) (handed : List Handed) (told : Unit {0}) (further : List Handed) (first : Outcome (List Field))
+    → braces.IsJudgedMember l after members parts (member_type l.abi (l.structs after) base parts counts) (handed ++ further) first
+    → OneOf (braces.IsBehindWidth l base members parts counts handed told further after) first after
+one_judged l after base members parts counts handed told further first settled second other also = (one_settled _ _ _ first second settled also.0, also.1)
+
+one_member : (l : Language) (before middle after : l.Environment) (base named : NamedType) (members : List Field) (name : FieldName) (parts : MemberParts) (counts : List Size) (faults : List Fault) (handed further : List Handed) (first : Outcome (List Field))
+    → out-FieldName name ≡ parts → One l before (MemberSizesAre parts.sizes (Passes counts handed)) middle → One l middle (WidthIs parts.bits (Passes tt further)) after
+    → member_type l.abi (l.structs after) base parts counts ≡ named → faults_of_member l.abi (l.structs after) members parts named ≡ faults
+    → IsSettled faults (members ++ member parts.name named.ctype ∷ []) (handed ++ further) first → One l before (MemberIs base members name first) after
+one_member l before middle after base named members name parts counts faults handed further first e sizes width t f settled second other found =
+    let is : braces.IsMember l before base members parts second other = subst (λ (p : MemberParts). braces.IsMember l before base members p second other) e (braces.member_row found) in
+    one_both (braces.SizesFound l before parts.sizes) (braces.IsBehindSizes l base members parts) counts handed middle first after sizes
+    (one_both (braces.WidthFound l middle parts.bits) (braces.IsBehindWidth l base members parts counts handed) tt further after first after width
+    (one_judged l after base members parts counts handed tt further first (braces.judged_member l after base named members parts counts faults (handed ++ further) first t f settled))) second other is
+
+one_sizes_of_member : (l : Language) (before after : l.Environment) (base : NamedType) (members : List Field) (name : FieldName) (parts : MemberParts) (broken : Fault)
+    → out-FieldName name ≡ parts → One l before (MemberSizesAre parts.sizes (Refused broken)) after → One l before (MemberIs base members name (Refused broken)) after
+one_sizes_of_member l before after base members name parts broken e sizes second other found =
+    one_refused (braces.SizesFound l before parts.sizes) (braces.IsBehindSizes l base members parts) broken after sizes second other
+    (subst (λ (p : MemberParts). braces.IsMember l before base members p second other) e (braces.member_row found))
+
+one_width_of_member : (l : Language) (before middle after : l.Environment) (base : NamedType) (members : List Field) (name : FieldName) (parts : MemberParts) (counts : List Size) (handed : List Handed) (broken : Fault)
+    → out-FieldName name ≡ parts → One l before (MemberSizesAre parts.sizes (Passes counts handed)) middle → One l middle (WidthIs parts.bits (Refused broken)) after
+    → One l before (MemberIs base members name (Refused broken)) after
+one_width_of_member l before middle after base members name parts counts handed broken e sizes width second other found =
+    one_both (braces.SizesFound l before parts.sizes) (braces.IsBehindSizes l base members parts) counts handed middle (Refused broken) after sizes
+    (one_refused (braces.WidthFound l middle parts.bits) (braces.IsBehindWidth l base members parts counts handed) broken after width) second other
+    (subst (λ (p : MemberParts). braces.IsMember l before base members p second other) e (braces.member_row found))
+
+-- constants of an enum
+one_twice : (l : Language) (before : l.Environment) (next : Option ℕ) (constant : Enumerator) (parts : EnumeratorParts) (constants : List Enumerator)
+    → out-Enumerator constant ≡ parts → l.is_declared_here parts.name before ≡ true
+    → One l before (EnumeratorsAre next (constant ∷ constants) (Refused (fault parts.place (Rule 2)))) before
+one_twice l before next constant parts constants e here second other found =
+    one_given (Refused (fault parts.place (Rule 2))) before second other (braces.enumerators_by l before other next constant parts constants second true e here (braces.enumerators_row found))
+
+one_enumerator_refused : (l : Language) (before after : l.Environment) (next : Option ℕ) (constant : Enumerator) (parts : EnumeratorParts) (constants : List Enumerator) (broken : Fault)
+    → out-Enumerator constant ≡ parts → l.is_declared_here parts.name before ≡ false → One l before (ValueOfEnumerator parts.place next parts.value (Refused broken)) after
+    → One l before (EnumeratorsAre next (constant ∷ constants) (Refused broken)) after
+one_enumerator_refused l before after next constant parts constants broken e here one second other found =
+    one_refused (braces.ValueFound l before parts.place next parts.value) (braces.IsBehindValue l parts constants) broken after one second other
+    (braces.enumerators_by l before other next constant parts constants second false e here (braces.enumerators_row found))
+
+one_behind_value : (l : Language) (parts : EnumeratorParts) (constants : List Enumerator) (bits : ℕ) (handed : List Handed) (middle : l.Environment) (inside : Bool) (first : Outcome NamedType) (after : l.Environment)
+    → l.is_declared_here parts.name middle ≡ inside → OneOf (braces.IsDeclaredBehind l parts constants bits handed middle inside) first after
+    → OneOf (braces.IsBehindValue l parts constants bits handed middle) first after
+one_behind_value l parts constants bits handed middle inside first after e one second other is =
+    one second other (subst (λ (b : Bool). braces.IsDeclaredBehind l parts constants bits handed middle b second other) e is)
+
+one_enumerator : (l : Language) (before middle after : l.Environment) (next : Option ℕ) (constant : Enumerator) (parts : EnumeratorParts) (constants : List Enumerator) (bits : ℕ) (handed : List Handed) (inside : Bool) (first : Outcome NamedType)
+    → out-Enumerator constant ≡ parts → l.is_declared_here parts.name before ≡ false → One l before (ValueOfEnumerator parts.place next parts.value (Passes bits handed)) middle
+    → l.is_declared_here parts.name middle ≡ inside → OneOf (braces.IsDeclaredBehind l parts constants bits handed middle inside) first after
+    → One l before (EnumeratorsAre next (constant ∷ constants) first) after
+one_enumerator l before middle after next constant parts constants bits handed inside first e here one also more second other found =
+    one_both (braces.ValueFound l before parts.place next parts.value) (braces.IsBehindValue l parts constants) bits handed middle first after one
+    (one_behind_value l parts constants bits handed middle inside first after also more) second other
+    (braces.enumerators_by l before other next constant parts constants second false e here (braces.enumerators_row found))
+
 -- every derivation of a part finds the same
 one : (l : Language) (is : IsDetermined l) (before : l.Environment) (saying : Saying) (after : l.Environment) → Finds l before saying after → One l before saying after
 one l is before _ after (RefusedInside {expr = expr} {form = form} {first = first} e parts) =
@@ -239,16 +357,26 @@ one l is before _ after (StatementsRefused {middle = middle} {stmt = stmt} {stmt
     one_front l is before middle after stmt stmts handed (Refused first) not_last it (one l is middle _ after rest) second other (row.block_rows also)
 one l is before _ after BasicSpecifier = λ second other found. (sym (row.basic_row found).0, (row.basic_row found).1)
 one l is before _ after TypedefSpecifier = λ second other found. (sym (row.named_row found).0, (row.named_row found).1)
-one l is before _ after (StructSpecifier {name = name} e) = λ second other found. row.one_struct l is before (Some name) None _ second after other (StructSpecifier e) found
-one l is before _ after (StructDeclared {name = name} e) = λ second other found. row.one_struct l is before (Some name) None _ second after other (StructDeclared e) found
-one l is before _ after (StructIsEnum {name = name} e) = λ second other found. row.one_struct l is before (Some name) None _ second after other (StructIsEnum e) found
-one l is before _ after (EnumSpecifier {name = name} e) = λ second other found. row.one_enum l is before (Some name) None _ second after other (EnumSpecifier e) found
-one l is before _ after (EnumDeclared {name = name} e) = λ second other found. row.one_enum l is before (Some name) None _ second after other (EnumDeclared e) found
-one l is before _ after (EnumIsStruct {name = name} e) = λ second other found. row.one_enum l is before (Some name) None _ second after other (EnumIsStruct e) found
-one l is before _ after StructOfNothing = λ second other found. row.one_struct l is before None None _ second after other StructOfNothing found
-one l is before _ after EnumOfNothing = λ second other found. row.one_enum l is before None None _ second after other EnumOfNothing found
-one l is before _ after (BracedStruct {name = name} {fields = fields} it) = λ second other found. row.one_struct l is before name (Some fields) _ second after other (BracedStruct it) found
-one l is before _ after (BracedEnum {name = name} {values = values} it) = λ second other found. row.one_enum l is before name (Some values) _ second after other (BracedEnum it) found
+one l is before _ after (StructSpecifier {name = name} e) = λ second other found. row.one_struct l before (Some name) _ second after other (StructSpecifier e) found
+one l is before _ after (StructDeclared {name = name} e) = λ second other found. row.one_struct l before (Some name) _ second after other (StructDeclared e) found
+one l is before _ after (StructIsEnum {name = name} e) = λ second other found. row.one_struct l before (Some name) _ second after other (StructIsEnum e) found
+one l is before _ after (EnumSpecifier {name = name} e) = λ second other found. row.one_enum l before (Some name) _ second after other (EnumSpecifier e) found
+one l is before _ after (EnumDeclared {name = name} e) = λ second other found. row.one_enum l before (Some name) _ second after other (EnumDeclared e) found
+one l is before _ after (EnumIsStruct {name = name} e) = λ second other found. row.one_enum l before (Some name) _ second after other (EnumIsStruct e) found
+one l is before _ after StructOfNothing = λ second other found. row.one_struct l before None _ second after other StructOfNothing found
+one l is before _ after EnumOfNothing = λ second other found. row.one_enum l before None _ second after other EnumOfNothing found
+one l is before _ after (StructWithMembers {inside = inside} {middle = middle} {number = number} {members = members} {handed = handed} {name = name} {fields = fields} e found ends) =
+    one_struct_closed l before inside middle number members handed name fields None _ after e (one l is inside _ middle found) ends (refl, refl)
+one l is before _ after (StructCompletedInside {inside = inside} {number = number} {members = members} {handed = handed} {first = first} {name = name} {fields = fields} e found ends) =
+    one_struct_closed l before inside after number members handed name fields (Some first) _ after e (one l is inside _ after found) ends (refl, refl)
+one l is before _ after (MembersRefused {inside = inside} {number = number} {first = first} {name = name} {fields = fields} e found) =
+    one_members_refused l before inside after number name fields first e (one l is inside _ after found)
+one l is before _ after (StructTwice {first = first} {name = name} {fields = fields} e) = λ second other found.
+    one_given (Refused first) before second other (struct_by l before name fields (IsTwice first) second other e found)
+one l is before _ after (EnumWithConstants {inside = inside} {name = name} {values = values} e found) = λ second other also.
+    one l is inside _ after found second other (enum_by l before name values (Opens inside) second other e also)
+one l is before _ after (EnumTwice {first = first} {name = name} {values = values} e) = λ second other found.
+    one_given (Refused first) before second other (enum_by l before name values (IsTwice first) second other e found)
 one l is before _ after (TypeofExpression found) = λ second other also.
     via (λ env o. typeof_found o) refl (row.typeof_row also).2 (one l is before _ after found (row.typeof_row also).0 other (row.typeof_row also).1)
 one l is before _ after (TypeofRefused found) = λ second other also.
@@ -270,6 +398,67 @@ one l is before _ after (TypeNamed {middle = middle} {to = to} {name = name} {wo
 one l is before _ after (WordsRefused {to = to} {name = name} {words = words} {first = first} e f found) = one_words_refused l before to name words first after e f (one l is before _ after found)
 one l is before _ after (SizesRefused {middle = middle} {to = to} {name = name} {words = words} {base = base} {handed = handed} {first = first} e f found sizes) =
     one_type_name l before middle after to name words base handed (Refused first) _ e f refl (one l is before _ middle found) (one l is middle _ after sizes)
+one l is before _ after (NoDeclarations {members = members}) = λ second other found. one_given (Passes members []) before second other (braces.no_members found)
+one l is before _ after (MoreDeclarations {middle = middle} {members = members} {more = more} {field = field} {fields = fields} {handed = handed} {outcome = inner} found rest) = λ second other also.
+    one_both (braces.DeclarationFound l before members field) (braces.MembersBehind l fields) more handed middle (with_front handed inner) after (one l is before _ middle found)
+    (one_made (with_front handed) (braces.MembersFound l middle more fields) inner after (one l is middle _ after rest)) second other (braces.members_row also)
+one l is before _ after (DeclarationRefused {members = members} {field = field} {fields = fields} {first = first} found) = λ second other also.
+    one_refused (braces.DeclarationFound l before members field) (braces.MembersBehind l fields) first after (one l is before _ after found) second other (braces.members_row also)
+one l is before _ after (MembersDeclared {middle = middle} {members = members} {field = field} {parts = parts} {words = words} {base = base} {handed = handed} {outcome = inner} e f found names) = λ second other also.
+    one_both (braces.WordsFound l before words) (braces.NamesBehind l members parts.names) base handed middle (with_front handed inner) after (one l is before _ middle found)
+    (one_made (with_front handed) (braces.NamesFound l middle base members parts.names) inner after (one l is middle _ after names)) second other
+    (braces.declaration_by l before other members field parts words second e f (braces.declaration_row also))
+one l is before _ after (MemberWordsRefused {members = members} {field = field} {parts = parts} {words = words} {first = first} e f found) = λ second other also.
+    one_refused (braces.WordsFound l before words) (braces.NamesBehind l members parts.names) first after (one l is before _ after found) second other
+    (braces.declaration_by l before other members field parts words second e f (braces.declaration_row also))
+one l is before _ after (NoNames {members = members}) = λ second other found. one_given (Passes members []) before second other (braces.no_names found)
+one l is before _ after (MoreNames {middle = middle} {base = base} {members = members} {more = more} {name = name} {names = names} {handed = handed} {outcome = inner} found rest) = λ second other also.
+    one_both (braces.OneMemberFound l before base members name) (braces.MoreNamesBehind l base names) more handed middle (with_front handed inner) after (one l is before _ middle found)
+    (one_made (with_front handed) (braces.NamesFound l middle base more names) inner after (one l is middle _ after rest)) second other (braces.names_row also)
+one l is before _ after (NameRefused {base = base} {members = members} {name = name} {names = names} {first = first} found) = λ second other also.
+    one_refused (braces.OneMemberFound l before base members name) (braces.MoreNamesBehind l base names) first after (one l is before _ after found) second other (braces.names_row also)
+one l is before _ after (MemberFound {middle = middle} {base = base} {named = named} {members = members} {name = name} {parts = parts} {counts = counts} {faults = faults} {handed = handed} {further = further} {outcome = outcome} e sizes width t f settled) =
+    one_member l before middle after base named members name parts counts faults handed further outcome e (one l is before _ middle sizes) (one l is middle _ after width) t f settled
+one l is before _ after (MemberSizesRefused {base = base} {members = members} {name = name} {parts = parts} {first = first} e sizes) =
+    one_sizes_of_member l before after base members name parts first e (one l is before _ after sizes)
+one l is before _ after (MemberWidthRefused {middle = middle} {base = base} {members = members} {name = name} {parts = parts} {counts = counts} {handed = handed} {first = first} e sizes width) =
+    one_width_of_member l before middle after base members name parts counts handed first e (one l is before _ middle sizes) (one l is middle _ after width)
+one l is before _ after NoMemberSizes = λ second other found. one_given (Passes [] []) before second other (braces.no_member_sizes found)
+one l is before _ after (MoreMemberSizes {middle = middle} {given = given} {sizes = sizes} {size = size} {others = others} {handed = handed} {further = further} found rest) = λ second other also.
+    one_both (braces.SizeFound l before given) (braces.SizesBehind l sizes) size handed middle (Passes (size ∷ others) (handed ++ further)) after (one l is before _ middle found)
+    (one_made (braces.size_joined size handed) (braces.SizesFound l middle sizes) (Passes others further) after (one l is middle _ after rest)) second other (braces.member_sizes_row also)
+one l is before _ after (MemberSizeRefusedHere {given = given} {sizes = sizes} {first = first} found) = λ second other also.
+    one_refused (braces.SizeFound l before given) (braces.SizesBehind l sizes) first after (one l is before _ after found) second other (braces.member_sizes_row also)
+one l is before _ after (MemberSizeRefusedBehind {middle = middle} {given = given} {sizes = sizes} {size = size} {handed = handed} {first = first} found rest) = λ second other also.
+    one_both (braces.SizeFound l before given) (braces.SizesBehind l sizes) size handed middle (Refused first) after (one l is before _ middle found)
+    (one_made (braces.size_joined size handed) (braces.SizesFound l middle sizes) (Refused first) after (one l is middle _ after rest)) second other (braces.member_sizes_row also)
+one l is before _ after MemberSizeLeftOut = λ second other found. one_given (Passes LeftOut []) before second other (braces.member_size_row found)
+one l is before _ after (MemberSizeGiven {expr = expr} {size = size} {handed = handed} found) = λ second other also.
+    one_made (braces.fixed_found expr) (λ (o : Outcome Told) (e : l.Environment). Finds l before (PieceIs (SizeOfArray expr) o) e) (Passes (SizeIs size) handed) after (one l is before _ after found) second other (braces.member_size_row also)
+one l is before _ after (MemberSizeRefused {expr = expr} {first = first} found) = λ second other also.
+    one_made (braces.fixed_found expr) (λ (o : Outcome Told) (e : l.Environment). Finds l before (PieceIs (SizeOfArray expr) o) e) (Refused first) after (one l is before _ after found) second other (braces.member_size_row also)
+one l is before _ after NoWidth = λ second other found. one_given (Passes tt []) before second other (braces.width_row found)
+one l is before _ after (WidthGiven {expr = expr} {found = inner} found) = λ second other also.
+    one_made width_found (λ (o : Outcome Told) (e : l.Environment). Finds l before (PieceIs (Loaded expr) o) e) inner after (one l is before _ after found) second other (braces.width_row also)
+one l is before _ after NoEnumerators = λ second other found. one_given (Passes (whole int_type) []) before second other (braces.no_enumerators found)
+one l is before _ after (EnumeratorTwice {next = next} {constant = constant} {parts = parts} {constants = constants} e here) = one_twice l before next constant parts constants e here
+one l is before _ after (EnumeratorRefused {next = next} {constant = constant} {parts = parts} {constants = constants} {first = first} e here found) =
+    one_enumerator_refused l before after next constant parts constants first e here (one l is before _ after found)
+one l is before _ after (EnumeratorTwiceInside {next = next} {constant = constant} {parts = parts} {constants = constants} {bits = bits} {handed = handed} e here found inside) =
+    one_enumerator l before after after next constant parts constants bits handed true _ e here (one l is before _ after found) inside (one_given (Refused (fault parts.place (Rule 2))) after)
+one l is before _ after (MoreEnumerators {middle = middle} {next = next} {constant = constant} {parts = parts} {constants = constants} {bits = bits} {handed = handed} {outcome = inner} e here found inside rest) =
+    one_enumerator l before middle after next constant parts constants bits handed false _ e here (one l is before _ middle found) inside
+    (one_made (with_front handed) (braces.EnumeratorsFound l (l.constant_declared parts.name bits middle) (next_value bits) constants) inner after (one l is (l.constant_declared parts.name bits middle) _ after rest))
+one l is before _ after (NextValue {bits = bits}) = λ second other found. one_given (Passes bits []) before second other (braces.next_row found)
+one l is before _ after (NoNextValue {place = place}) = λ second other found. one_given (Refused (fault place (Rule 9))) before second other (braces.no_next_row found)
+one l is before _ after (GivenValue {expr = expr} {known = known} {handed = handed} found e value) = λ second other also.
+    via (λ env o. braces.value_found (l.structs env) expr o) (ap (λ (o : Option ℕ). braces.if_value expr o handed) (sym (ap (λ (op : Operand). int_value op.kind known.value) e ∙ value))) (braces.given_row also).2
+    (one l is before _ after found (braces.given_row also).0 other (braces.given_row also).1)
+one l is before _ after (GivenNoInt {expr = expr} {known = known} {handed = handed} found e value) = λ second other also.
+    via (λ env o. braces.value_found (l.structs env) expr o) (ap (λ (o : Option ℕ). braces.if_value expr o handed) (sym (ap (λ (op : Operand). int_value op.kind known.value) e ∙ value))) (braces.given_row also).2
+    (one l is before _ after found (braces.given_row also).0 other (braces.given_row also).1)
+one l is before _ after (GivenRefused {expr = expr} found) = λ second other also.
+    via (λ env o. braces.value_found (l.structs env) expr o) refl (braces.given_row also).2 (one l is before _ after found (braces.given_row also).0 other (braces.given_row also).1)
 
 pub one_outcome : (l : Language) → HasOneOutcome l
 one_outcome l is before expr first second after other a b = one l is before (ExpressionIs expr first) after a second other b

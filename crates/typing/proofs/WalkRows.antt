@@ -1,6 +1,6 @@
 -- An expression has one outcome in an environment, and so has each part of the walk.
 --
--- Of each part a lemma says what a derivation of it holds: what is found of the parts below, and what is made of that. So a derivation is compared
+-- Of each part but those of braces a lemma says what a derivation of it holds: what is found of the parts below, and what is made of that. So a derivation is compared
 -- with any other one of the same part.
 use Rattle.std.proofs.Common.{◌≡◌, ℕ, Bool, true, false, List, [], ◌∷◌, ◌++◌, Option, Some, None, refl, sym, ap, ◌∙◌, subst}
 use Rattle.std.specs.Prelude.{is_some, length, option_and_then, if◌then◌else◌}
@@ -13,8 +13,6 @@ use Rattle.cbase.specs.declared.tree.expr.ExprForm.TheOpen.{Basic, Named, Struct
 use Rattle.cbase.specs.declared.tree.expr.ExprForm.TheViews.{out-ExprForm, out-StmtForm, out-TypeName, out-TypeSpec}
 use Rattle.cbase.specs.declared.tree.identifier.Identifier.{Identifier}
 use Rattle.cbase.specs.declared.tree.spec.BasicType.{BasicType}
-use Rattle.cbase.specs.declared.tree.spec.Enumerator.{Enumerator}
-use Rattle.cbase.specs.declared.tree.spec.FieldDecl.{FieldDecl}
 use Rattle.cbase.specs.declared.tree.stmt.Stmt.{Stmt}
 use Rattle.operators.specs.declared.found.Broken.TheVariants.{Rule}
 use Rattle.operators.specs.Binary.{int_type}
@@ -28,25 +26,16 @@ use Rattle.typing.specs.Faults.{fault}
 use Rattle.typing.specs.Forms.{Form, Words, NameParts, value_in}
 use Rattle.typing.specs.Known.{Known, operand, can_load, value_type, behind}
 use Rattle.typing.specs.Language.{Language}
-use Rattle.typing.specs.Laws.{IsDetermined}
 use Rattle.typing.specs.NamedTypes.{NamedType, whole, basic_type, no_type, typedef_of, size_of, declared_type, declared, is_large}
 use Rattle.typing.specs.Nodes.{function_faults, is_function, called_of, is_last_value}
 use Rattle.typing.specs.Outcomes.{Outcome, Handed, Passes, Refused, IsSettled}
 use Rattle.typing.specs.Pieces.{Piece, Loaded, Unloaded, Called, OfType, ConstantIndex, SizeOfArray, BlockOf, pieces_in}
 use Rattle.typing.specs.Rules.{AtNode}
 use Rattle.typing.specs.Told.{Told, OperandIs, FunctionNamed, NoFunction, TypeIs, IndexIs, SizeIs, ValueIs}
-use Rattle.typing.specs.Typing.{ExpressionIs, PieceIs, PiecesAre, WordsAre, SizesAre, NameOfTypeIs, StatementsAre, named, Finds, RefusedInside, Walked, NoPieces, MorePieces, RefusedHere, RefusedBehind, LoadedValue, LoadOfIncomplete, LoadedRefused, UnloadedOperand, UnloadedRefused, CalledFunction, CalledOther, CalledRefused, TypeInside, TypeRefused, IndexOfPath, IndexNotConstant, IndexRefused, SizeOfItems, SizeUnderOne, SizeRefused, BlockInside, BlockRefused, NoStatements, LastExpression, LastStruct, LastRefused, MoreStatements, StatementRefused, StatementsRefused, BasicSpecifier, TypedefSpecifier, StructSpecifier, StructDeclared, StructIsEnum, EnumSpecifier, EnumDeclared, EnumIsStruct, StructOfNothing, EnumOfNothing, BracedStruct, BracedEnum, TypeofExpression, TypeofRefused, TypeofType, NoSizes, SizeLeftOut, SizeLeftOutRefused, MoreSizes, SizesRefusedHere, SizesRefusedBehind, TypeNamed, WordsRefused, SizesRefused}
+use Rattle.typing.specs.Typing.{ExpressionIs, PieceIs, PiecesAre, WordsAre, SizesAre, NameOfTypeIs, StatementsAre, named, Finds, RefusedInside, Walked, NoPieces, MorePieces, RefusedHere, RefusedBehind, LoadedValue, LoadOfIncomplete, LoadedRefused, UnloadedOperand, UnloadedRefused, CalledFunction, CalledOther, CalledRefused, TypeInside, TypeRefused, IndexOfPath, IndexNotConstant, IndexRefused, SizeOfItems, SizeUnderOne, SizeRefused, BlockInside, BlockRefused, NoStatements, LastExpression, LastStruct, LastRefused, MoreStatements, StatementRefused, StatementsRefused, BasicSpecifier, TypedefSpecifier, StructSpecifier, StructDeclared, StructIsEnum, EnumSpecifier, EnumDeclared, EnumIsStruct, StructOfNothing, EnumOfNothing, TypeofExpression, TypeofRefused, TypeofType, NoSizes, SizeLeftOut, SizeLeftOutRefused, MoreSizes, SizesRefusedHere, SizesRefusedBehind, TypeNamed, WordsRefused, SizesRefused}
 use Rattle.values.specs.Values.{word_of}
 use Rattle.typing.proofs.OneRule.{one_rule}
-
--- the same is found, and the same is declared behind it
-abbrev pub Same : {E A : Type 0} → Outcome A → Outcome A → E → E → Type 0
-Same first second after other = (first ≡ second) × (after ≡ other)
-
--- where what is found is made alike of what is found below
-pub via : {E A B : Type 0} (make : E → Outcome A → Outcome B) {inner below : Outcome A} {after other : E} {first second : Outcome B}
-    → first ≡ make after inner → second ≡ make other below → Same inner below after other → Same first second after other
-via make e f same = (e ∙ ((λ i. make (same.1 i) (same.0 i)) ∙ sym f), same.1)
+use Rattle.typing.proofs.Sequences.{Same}
 
 -- an expression: what is found of its parts, and of it
 abbrev pub IsNode : (l : Language) → l.Environment → Expr → Outcome (List Told) → Outcome Known → Type 0
@@ -295,32 +284,28 @@ IsEnumTag l before name None outcome after = (outcome ≡ Passes (whole int_type
 IsEnumTag l before name (Some (StructTag number)) outcome after = (outcome ≡ Refused (fault name.place (Rule 2))) × (before ≡ after)
 IsEnumTag l before name (Some EnumTag) outcome after = (outcome ≡ Passes (whole int_type) []) × (before ≡ after)
 
--- those of a struct and of an enum
-abbrev pub IsStructWords : (l : Language) → l.Environment → Option Identifier → Option (List FieldDecl) → Outcome NamedType → l.Environment → Type 0
-IsStructWords l before name (Some fields) outcome after = l.Braces before (Struct name (Some fields)) outcome after
-IsStructWords l before (Some name) None outcome after = IsStructTag l before name (l.tag name.name before) outcome after
-IsStructWords l before None None outcome after = (outcome ≡ Passes no_type []) × (before ≡ after)
+-- those of a struct and of an enum without braces
+abbrev pub IsStructWords : (l : Language) → l.Environment → Option Identifier → Outcome NamedType → l.Environment → Type 0
+IsStructWords l before (Some name) outcome after = IsStructTag l before name (l.tag name.name before) outcome after
+IsStructWords l before None outcome after = (outcome ≡ Passes no_type []) × (before ≡ after)
 
-abbrev pub IsEnumWords : (l : Language) → l.Environment → Option Identifier → Option (List Enumerator) → Outcome NamedType → l.Environment → Type 0
-IsEnumWords l before name (Some values) outcome after = l.Braces before (Enum name (Some values)) outcome after
-IsEnumWords l before (Some name) None outcome after = IsEnumTag l before name (l.tag name.name before) outcome after
-IsEnumWords l before None None outcome after = (outcome ≡ Passes no_type []) × (before ≡ after)
+abbrev pub IsEnumWords : (l : Language) → l.Environment → Option Identifier → Outcome NamedType → l.Environment → Type 0
+IsEnumWords l before (Some name) outcome after = IsEnumTag l before name (l.tag name.name before) outcome after
+IsEnumWords l before None outcome after = (outcome ≡ Passes no_type []) × (before ≡ after)
 
-pub struct_row : {l : Language} {before after : l.Environment} {name : Option Identifier} {fields : Option (List FieldDecl)} {outcome : Outcome NamedType}
-    → Finds l before (WordsAre (Struct name fields) outcome) after → IsStructWords l before name fields outcome after
+pub struct_row : {l : Language} {before after : l.Environment} {name : Option Identifier} {outcome : Outcome NamedType}
+    → Finds l before (WordsAre (Struct name None) outcome) after → IsStructWords l before name outcome after
 struct_row {l} {before} {outcome = outcome} (StructSpecifier {number = number} {name = name} e) = subst (λ (tag : Option Tag). IsStructTag l before name tag (Passes (whole (StructType number)) []) before) (sym e) (refl, refl)
 struct_row {l} {before} {after} (StructDeclared {name = name} e) = subst (λ (tag : Option Tag). IsStructTag l before name tag (Passes (whole (StructType (length (l.structs before)))) []) after) (sym e) (refl, refl)
 struct_row {l} {before} (StructIsEnum {name = name} e) = subst (λ (tag : Option Tag). IsStructTag l before name tag (Refused (fault name.place (Rule 2))) before) (sym e) (refl, refl)
 struct_row StructOfNothing = (refl, refl)
-struct_row (BracedStruct is) = is
 
-pub enum_row : {l : Language} {before after : l.Environment} {name : Option Identifier} {values : Option (List Enumerator)} {outcome : Outcome NamedType}
-    → Finds l before (WordsAre (Enum name values) outcome) after → IsEnumWords l before name values outcome after
+pub enum_row : {l : Language} {before after : l.Environment} {name : Option Identifier} {outcome : Outcome NamedType}
+    → Finds l before (WordsAre (Enum name None) outcome) after → IsEnumWords l before name outcome after
 enum_row {l} {before} (EnumSpecifier {name = name} e) = subst (λ (tag : Option Tag). IsEnumTag l before name tag (Passes (whole int_type) []) before) (sym e) (refl, refl)
 enum_row {l} {before} {after} (EnumDeclared {name = name} e) = subst (λ (tag : Option Tag). IsEnumTag l before name tag (Passes (whole int_type) []) after) (sym e) (refl, refl)
 enum_row {l} {before} (EnumIsStruct {name = name} e) = subst (λ (tag : Option Tag). IsEnumTag l before name tag (Refused (fault name.place (Rule 2))) before) (sym e) (refl, refl)
 enum_row EnumOfNothing = (refl, refl)
-enum_row (BracedEnum is) = is
 
 pub one_struct_tag : (l : Language) (before : l.Environment) (name : Identifier) (tag : Option Tag) (first second : Outcome NamedType) (after other : l.Environment)
     → IsStructTag l before name tag first after → IsStructTag l before name tag second other → Same first second after other
@@ -338,17 +323,15 @@ both_made : {E : Type 0} {made first second : Outcome NamedType} {before after o
     → (first ≡ made) × (before ≡ after) → (second ≡ made) × (before ≡ other) → Same first second after other
 both_made a b = (a.0 ∙ sym b.0, sym a.1 ∙ b.1)
 
-pub one_struct : (l : Language) (is : IsDetermined l) (before : l.Environment) (name : Option Identifier) (fields : Option (List FieldDecl)) (first second : Outcome NamedType) (after other : l.Environment)
-    → Finds l before (WordsAre (Struct name fields) first) after → Finds l before (WordsAre (Struct name fields) second) other → Same first second after other
-one_struct l is before name (Some fields) first second after other a b = is.braces before (Struct name (Some fields)) first second after other (struct_row a) (struct_row b)
-one_struct l is before (Some name) None first second after other a b = one_struct_tag l before name (l.tag name.name before) first second after other (struct_row a) (struct_row b)
-one_struct l is before None None first second after other a b = both_made (struct_row a) (struct_row b)
+pub one_struct : (l : Language) (before : l.Environment) (name : Option Identifier) (first second : Outcome NamedType) (after other : l.Environment)
+    → Finds l before (WordsAre (Struct name None) first) after → Finds l before (WordsAre (Struct name None) second) other → Same first second after other
+one_struct l before (Some name) first second after other a b = one_struct_tag l before name (l.tag name.name before) first second after other (struct_row a) (struct_row b)
+one_struct l before None first second after other a b = both_made (struct_row a) (struct_row b)
 
-pub one_enum : (l : Language) (is : IsDetermined l) (before : l.Environment) (name : Option Identifier) (values : Option (List Enumerator)) (first second : Outcome NamedType) (after other : l.Environment)
-    → Finds l before (WordsAre (Enum name values) first) after → Finds l before (WordsAre (Enum name values) second) other → Same first second after other
-one_enum l is before name (Some values) first second after other a b = is.braces before (Enum name (Some values)) first second after other (enum_row a) (enum_row b)
-one_enum l is before (Some name) None first second after other a b = one_enum_tag l before name (l.tag name.name before) first second after other (enum_row a) (enum_row b)
-one_enum l is before None None first second after other a b = both_made (enum_row a) (enum_row b)
+pub one_enum : (l : Language) (before : l.Environment) (name : Option Identifier) (first second : Outcome NamedType) (after other : l.Environment)
+    → Finds l before (WordsAre (Enum name None) first) after → Finds l before (WordsAre (Enum name None) second) other → Same first second after other
+one_enum l before (Some name) first second after other a b = one_enum_tag l before name (l.tag name.name before) first second after other (enum_row a) (enum_row b)
+one_enum l before None first second after other a b = both_made (enum_row a) (enum_row b)
 
 pub basic_row : {l : Language} {before after : l.Environment} {basic : BasicType} {outcome : Outcome NamedType}
     → Finds l before (WordsAre (Basic basic) outcome) after → (outcome ≡ Passes (whole (basic_type l.abi basic)) []) × (before ≡ after)

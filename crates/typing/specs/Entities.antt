@@ -29,3 +29,8 @@ pub data Entity : Type 0 where
 pub data Tag : Type 0 where
   StructTag : ℕ → Tag
   EnumTag : Tag
+
+-- what the innermost scope alone says of a tag: the struct of a number, or an enum, whose constants are listed or not
+pub data TagHere : Type 0 where
+  StructHere : ℕ → TagHere
+  EnumHere : Bool → TagHere

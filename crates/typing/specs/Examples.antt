@@ -12,7 +12,7 @@ use Rattle.cbase.specs.declared.tree.stmt.StmtForm.TheVariants.{Eval}
 use Rattle.operators.specs.declared.found.Broken.TheVariants.{Construct, Rule}
 use Rattle.operators.specs.Binary.{int_type}
 use Rattle.operators.specs.Unary.{size_type}
-use Rattle.typing.specs.Sample.{char_type, unsigned_type, long_type, token, node, name, constant, identifier, statement, type_name, HasType, HasValue, HasNoValue, IsNull, IsRefused}
+use Rattle.typing.specs.Sample.{char_type, unsigned_type, long_type, token, node, name, constant, identifier, statement, type_name, declaration, field, field_of_bits, enumerator, HasType, HasValue, HasNoValue, IsNull, IsRefused}
 
 -- names and constants (C11 6.5.1)
 pub record AreNamed : Type 0 where
@@ -306,3 +306,54 @@ pub record AreTypeNames : Type 0 where
   pub void_to_int : IsRefused (node 2 0 (Cast (type_name (Basic (Integer Int true)) 0 []) (node 1 3 (Call (name (codes "g") 0 3) [])))) 0 (Rule 4)
   -- __builtin_offsetof(struct t, a)
   pub in_incomplete : IsRefused (node 0 0 (OffsetOf (type_name (StructWords (Some (identifier (codes "t") 3)) None) 0 []) (NamedPart (identifier (codes "a") 5) ∷ []))) 0 (Rule 3)
+
+-- braces of structs and of enums (C11 6.7.2.1, 6.7.2.2)
+pub record AreBraces : Type 0 where
+  -- sizeof(struct { int a; char b; })
+  pub members : HasValue (node 0 0 (SizeOfType (type_name (StructWords None (Some (declaration (Basic (Integer Int true)) (field (codes "a") 5 0 [] ∷ []) ∷ declaration (Basic (Integer Char true)) (field (codes "b") 8 0 [] ∷ []) ∷ []))) 0 []))) size_type 8
+  -- sizeof(struct t { int a; })
+  pub completed : HasValue (node 0 0 (SizeOfType (type_name (StructWords (Some (identifier (codes "t") 3)) (Some (declaration (Basic (Integer Int true)) (field (codes "a") 6 0 [] ∷ []) ∷ []))) 0 []))) size_type 4
+  -- sizeof(struct w { struct w *a; })
+  pub to_itself : HasValue (node 0 0 (SizeOfType (type_name (StructWords (Some (identifier (codes "w") 3)) (Some (declaration (StructWords (Some (identifier (codes "w") 6)) None) (field (codes "a") 8 1 [] ∷ []) ∷ []))) 0 []))) size_type 8
+  -- sizeof(struct s { y a; })
+  pub twice : IsRefused (node 0 0 (SizeOfType (type_name (StructWords (Some (identifier (codes "s") 3)) (Some (declaration (Named (codes "y")) (field (codes "a") 6 0 [] ∷ []) ∷ []))) 0 []))) 3 (Rule 2)
+  -- sizeof(enum s { y = y })
+  pub enum_is_struct : IsRefused (node 1 0 (SizeOfType (type_name (EnumWords (Some (identifier (codes "s") 3)) (Some (enumerator (codes "y") 5 (Some (name (codes "y") 0 7)) ∷ []))) 0 []))) 3 (Rule 2)
+  -- sizeof(struct w { char a[sizeof(struct w { int b; })]; })
+  pub completed_inside : IsRefused (node 1 0 (SizeOfType (type_name (StructWords (Some (identifier (codes "w") 3)) (Some (declaration (Basic (Integer Char true)) (field (codes "a") 6 0 (Some (node 0 8 (SizeOfType (type_name (StructWords (Some (identifier (codes "w") 11)) (Some (declaration (Basic (Integer Int true)) (field (codes "b") 14 0 [] ∷ []) ∷ []))) 0 []))) ∷ []) ∷ []) ∷ []))) 0 []))) 3 (Rule 2)
+  -- sizeof(struct { int a; char a; })
+  pub same_name : IsRefused (node 0 0 (SizeOfType (type_name (StructWords None (Some (declaration (Basic (Integer Int true)) (field (codes "a") 5 0 [] ∷ []) ∷ declaration (Basic (Integer Char true)) (field (codes "a") 8 0 [] ∷ []) ∷ []))) 0 []))) 8 (Rule 2)
+  -- sizeof(struct { void a; })
+  pub of_void : IsRefused (node 0 0 (SizeOfType (type_name (StructWords None (Some (declaration (Basic Void) (field (codes "a") 5 0 [] ∷ []) ∷ []))) 0 []))) 5 (Rule 3)
+  -- sizeof(struct w { struct w a; })
+  pub of_itself : IsRefused (node 0 0 (SizeOfType (type_name (StructWords (Some (identifier (codes "w") 3)) (Some (declaration (StructWords (Some (identifier (codes "w") 6)) None) (field (codes "a") 7 0 [] ∷ []) ∷ []))) 0 []))) 7 (Rule 3)
+  -- sizeof(struct { y a; })
+  pub of_undeclared : IsRefused (node 0 0 (SizeOfType (type_name (StructWords None (Some (declaration (Named (codes "y")) (field (codes "a") 5 0 [] ∷ []) ∷ []))) 0 []))) 5 (Rule 1)
+  -- sizeof(struct { int a : 3; })
+  pub of_bits : IsRefused (node 1 0 (SizeOfType (type_name (StructWords None (Some (declaration (Basic (Integer Int true)) (field_of_bits (codes "a") 5 (constant (codes "3") 0 7) ∷ []) ∷ []))) 0 []))) 5 (Construct 21)
+  -- sizeof(struct { int a : y; })
+  pub width_first : IsRefused (node 1 0 (SizeOfType (type_name (StructWords None (Some (declaration (Basic (Integer Int true)) (field_of_bits (codes "a") 5 (name (codes "y") 0 7) ∷ []) ∷ []))) 0 []))) 7 (Rule 1)
+  -- sizeof(struct { char a[n]; })
+  pub variable : IsRefused (node 1 0 (SizeOfType (type_name (StructWords None (Some (declaration (Basic (Integer Char true)) (field (codes "a") 5 0 (Some (name (codes "n") 0 7) ∷ []) ∷ []) ∷ []))) 0 []))) 7 (Rule 9)
+  -- sizeof(struct { char a[0]; })
+  pub empty : IsRefused (node 1 0 (SizeOfType (type_name (StructWords None (Some (declaration (Basic (Integer Char true)) (field (codes "a") 5 0 (Some (constant (codes "0") 0 7) ∷ []) ∷ []) ∷ []))) 0 []))) 7 (Rule 9)
+  -- sizeof(struct { char a[]; })
+  pub size_left_out : IsRefused (node 0 0 (SizeOfType (type_name (StructWords None (Some (declaration (Basic (Integer Char true)) (field (codes "a") 5 0 (None ∷ []) ∷ []) ∷ []))) 0 []))) 5 (Rule 3)
+  -- sizeof(struct { char a[70000]; })
+  pub large : IsRefused (node 1 0 (SizeOfType (type_name (StructWords None (Some (declaration (Basic (Integer Char true)) (field (codes "a") 5 0 (Some (constant (codes "70000") 0 7) ∷ []) ∷ []) ∷ []))) 0 []))) 5 (Construct 19)
+  -- sizeof(enum { a, b })
+  pub constants : HasValue (node 0 0 (SizeOfType (type_name (EnumWords None (Some (enumerator (codes "a") 4 None ∷ enumerator (codes "b") 6 None ∷ []))) 0 []))) size_type 4
+  -- sizeof(enum { a = 3, b }) + b
+  pub counted : HasValue (node 3 11 (Binary Add (node 1 0 (SizeOfType (type_name (EnumWords None (Some (enumerator (codes "a") 4 (Some (constant (codes "3") 0 6)) ∷ enumerator (codes "b") 8 None ∷ []))) 0 []))) (name (codes "b") 2 12))) size_type 8
+  -- sizeof(enum { five })
+  pub declared : IsRefused (node 0 0 (SizeOfType (type_name (EnumWords None (Some (enumerator (codes "five") 4 None ∷ []))) 0 []))) 4 (Rule 2)
+  -- sizeof(enum { a, a })
+  pub same_constant : IsRefused (node 0 0 (SizeOfType (type_name (EnumWords None (Some (enumerator (codes "a") 4 None ∷ enumerator (codes "a") 6 None ∷ []))) 0 []))) 6 (Rule 2)
+  -- sizeof(enum { a = sizeof(enum { a }) })
+  pub declared_inside : IsRefused (node 1 0 (SizeOfType (type_name (EnumWords None (Some (enumerator (codes "a") 4 (Some (node 0 6 (SizeOfType (type_name (EnumWords None (Some (enumerator (codes "a") 10 None ∷ []))) 0 [])))) ∷ []))) 0 []))) 4 (Rule 2)
+  -- sizeof(enum { a = 4294967295u })
+  pub no_int : IsRefused (node 1 0 (SizeOfType (type_name (EnumWords None (Some (enumerator (codes "a") 4 (Some (constant (codes "4294967295u") 0 6)) ∷ []))) 0 []))) 6 (Rule 9)
+  -- sizeof(enum { a = n })
+  pub no_constant : IsRefused (node 1 0 (SizeOfType (type_name (EnumWords None (Some (enumerator (codes "a") 4 (Some (name (codes "n") 0 6)) ∷ []))) 0 []))) 6 (Rule 9)
+  -- sizeof(enum { a = 2147483647, b })
+  pub behind_the_last : IsRefused (node 1 0 (SizeOfType (type_name (EnumWords None (Some (enumerator (codes "a") 4 (Some (constant (codes "2147483647") 0 6)) ∷ enumerator (codes "b") 8 None ∷ []))) 0 []))) 8 (Rule 9)

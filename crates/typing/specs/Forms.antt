@@ -6,7 +6,7 @@ use Rattle.cbase.specs.declared.tree.decl.Param.{Param}
 use Rattle.cbase.specs.declared.tree.decl.TypeName.{TypeName}
 use Rattle.cbase.specs.declared.tree.expr.Expr.{Expr}
 use Rattle.cbase.specs.declared.tree.expr.ExprForm.{ExprForm}
-use Rattle.cbase.specs.declared.tree.expr.ExprForm.TheOpen.{ExprForm-F, Part-F, TypeSpec-F, StmtForm-F, TypeName-F}
+use Rattle.cbase.specs.declared.tree.expr.ExprForm.TheOpen.{ExprForm-F, Part-F, TypeSpec-F, StmtForm-F, TypeName-F, FieldDecl-F, FieldName-F, Enumerator-F}
 use Rattle.cbase.specs.declared.tree.expr.ExprForm.TheOpen.{Name, Eval}
 use Rattle.cbase.specs.declared.tree.expr.Part.{Part}
 use Rattle.cbase.specs.declared.tree.init.Init.{Init}
@@ -33,6 +33,16 @@ Clause = StmtForm-F ExprForm Part Init TypeSpec StmtForm Decl Declared Param Typ
 
 abbrev pub NameParts : Type 0
 NameParts = TypeName-F ExprForm Part Init TypeSpec StmtForm Decl Declared Param TypeName Expr InitPart Enumerator FieldDecl FieldName Stmt
+
+-- a declaration of members, one of its names, and a constant of an enum
+abbrev pub DeclarationParts : Type 0
+DeclarationParts = FieldDecl-F ExprForm Part Init TypeSpec StmtForm Decl Declared Param TypeName Expr InitPart Enumerator FieldDecl FieldName Stmt
+
+abbrev pub MemberParts : Type 0
+MemberParts = FieldName-F ExprForm Part Init TypeSpec StmtForm Decl Declared Param TypeName Expr InitPart Enumerator FieldDecl FieldName Stmt
+
+abbrev pub EnumeratorParts : Type 0
+EnumeratorParts = Enumerator-F ExprForm Part Init TypeSpec StmtForm Decl Declared Param TypeName Expr InitPart Enumerator FieldDecl FieldName Stmt
 
 -- the name that an expression is
 abbrev pub name_in : Form → Option (List ℕ)

@@ -9,18 +9,15 @@ use Rattle.cbase.specs.declared.tree.stmt.Stmt.{Stmt}
 use Rattle.operators.specs.declared.found.Broken.{Broken}
 use Rattle.typing.specs.declared.fault.Fault.{Fault}
 use Rattle.typing.specs.Faults.{fault, least, all_at, IsFirst}
-use Rattle.typing.specs.Forms.{Step, Words}
+use Rattle.typing.specs.Forms.{Step}
 use Rattle.typing.specs.Known.{Known}
 use Rattle.typing.specs.Language.{Language}
-use Rattle.typing.specs.NamedTypes.{NamedType}
 use Rattle.typing.specs.Outcomes.{Outcome}
 use Rattle.typing.specs.Paths.{Way, indices_on, LeadsFrom}
 use Rattle.typing.specs.Typing.{ExpressionIs, Finds}
 
--- what is found of braces and of statements is one
+-- what is found of statements is one
 pub record IsDetermined (l : Language) : Type 0 where
-  pub braces : (before : l.Environment) (words : Words) (first second : Outcome NamedType) (after other : l.Environment)
-      → l.Braces before words first after → l.Braces before words second other → (first ≡ second) × (after ≡ other)
   pub statements : (before : l.Environment) (stmt : Stmt) (first second : Outcome (Unit {0})) (after other : l.Environment)
       → l.Statement before stmt first after → l.Statement before stmt second other → (first ≡ second) × (after ≡ other)
 

@@ -1,3 +1,4 @@
+pub mod Braces
 pub mod Calls
 pub mod Entities
 pub mod Examples

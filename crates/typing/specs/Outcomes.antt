@@ -1,5 +1,5 @@
 -- What is found of a part of a tree: it passes, or what is refused in it first.
-use Rattle.std.specs.Prelude.{◌≡◌, ℕ, List, [], Option}
+use Rattle.std.specs.Prelude.{◌≡◌, ℕ, List, [], ◌++◌, Option}
 use Rattle.cbase.specs.declared.ctype.CType.{CType}
 use Rattle.typing.specs.Entities.{Entity}
 use Rattle.typing.specs.declared.fault.Fault.{Fault}
@@ -23,3 +23,8 @@ pub data Outcome (A : Type 0) : Type 0 where
 abbrev pub IsSettled : {A : Type 0} → List Fault → A → List Handed → Outcome A → Type 0
 IsSettled faults value handed (Passes found told) = (faults ≡ []) × (found ≡ value) × (told ≡ handed)
 IsSettled faults value handed (Refused first) = IsFirst faults first
+
+-- what is found behind a part that passes, with what is handed on of that in front
+abbrev pub with_front : {A : Type 0} → List Handed → Outcome A → Outcome A
+with_front handed (Passes found further) = Passes found (handed ++ further)
+with_front handed (Refused first) = Refused first

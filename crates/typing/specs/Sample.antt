@@ -7,7 +7,7 @@
 --
 -- and the built-in functions `malloc`, `calloc` and `free`. The last two have no definition, and `open` has its size behind this
 -- place. `count` is a parameter of `main`. `vast` is larger than an object can be.
-use Rattle.std.specs.Prelude.{◌≡◌, ℕ, true, false, List, [], ◌∷◌, ◌++◌, Option, None, Some, codes, length, if◌then◌else◌}
+use Rattle.std.specs.Prelude.{◌≡◌, ℕ, true, false, List, [], ◌∷◌, ◌++◌, Option, None, Some, is_some, option_map, codes, length, if◌then◌else◌}
 use Rattle.std.specs.Str.{bytes_eq}
 use Rattle.cbase.specs.declared.abi.Abi.TheVariants.{Lp64}
 use Rattle.cbase.specs.declared.ctype.CType.{CType}
@@ -18,17 +18,20 @@ use Rattle.cbase.specs.declared.tree.decl.TypeName.{TypeName}
 use Rattle.cbase.specs.declared.tree.expr.Expr.{Expr}
 use Rattle.cbase.specs.declared.tree.expr.ExprForm.{ExprForm}
 use Rattle.cbase.specs.declared.tree.expr.ExprForm.TheVariants.{Name, Constant}
-use Rattle.cbase.specs.declared.tree.expr.ExprForm.TheViews.{roll-TypeName}
+use Rattle.cbase.specs.declared.tree.expr.ExprForm.TheViews.{roll-TypeName, roll-FieldDecl, roll-FieldName, roll-Enumerator}
 use Rattle.cbase.specs.declared.tree.identifier.Identifier.{Identifier}
+use Rattle.cbase.specs.declared.tree.spec.Enumerator.{Enumerator}
+use Rattle.cbase.specs.declared.tree.spec.FieldDecl.{FieldDecl}
+use Rattle.cbase.specs.declared.tree.spec.FieldName.{FieldName}
 use Rattle.cbase.specs.declared.tree.spec.TypeSpec.{TypeSpec}
 use Rattle.cbase.specs.declared.tree.stmt.Stmt.{Stmt}
 use Rattle.cbase.specs.declared.tree.stmt.StmtForm.{StmtForm}
 use Rattle.cbase.specs.declared.tree.stmt.StmtForm.TheVariants.{Eval}
-use Rattle.cbase.specs.Completing.{fieldless}
+use Rattle.cbase.specs.Completing.{fieldless, completed}
 use Rattle.operators.specs.declared.found.Broken.{Broken}
 use Rattle.operators.specs.Binary.{int_type}
 use Rattle.operators.specs.Unary.{size_type}
-use Rattle.typing.specs.Entities.{Entity, ObjectEntity, FunctionEntity, ObjectIs, FunctionIs, EnumeratorIs, TypedefIs, Tag, StructTag, EnumTag}
+use Rattle.typing.specs.Entities.{Entity, ObjectEntity, FunctionEntity, ObjectIs, FunctionIs, EnumeratorIs, TypedefIs, Tag, StructTag, EnumTag, TagHere, StructHere, EnumHere}
 use Rattle.typing.specs.Faults.{fault}
 use Rattle.typing.specs.Known.{Known}
 use Rattle.typing.specs.Language.{Language}
@@ -88,14 +91,33 @@ abbrev pub named_in : {A : Type 0} → List (List ℕ × A) → List ℕ → Opt
 named_in [] name = None
 named_in (entry ∷ others) name = if bytes_eq name entry.0 then Some entry.1 else named_in others name
 
--- tags and structs; names stay as they are
+-- tags, structs, and constants of enums that are declared beside those names
 pub record Declarations : Type 0 where
-  pub tags : List (List ℕ × Tag)
+  pub tags : List (List ℕ × TagHere)
   pub structs : List StructDef
+  pub constants : List (List ℕ × Entity)
+
+-- all names stand in one scope, and so do all tags
+abbrev pub tag_of : TagHere → Tag
+tag_of (StructHere number) = StructTag number
+tag_of (EnumHere listed) = EnumTag
+
+abbrev pub entity_in : Declarations → List ℕ → Option Entity
+entity_in env name = named_in (env.constants ++ names) name
+
+-- a struct without members, with its tag where it has one
+abbrev pub opened : Option (List ℕ) → Declarations → Declarations
+opened None env = record env { structs = env.structs ++ fieldless [] ∷ [] }
+opened (Some name) env = record env { tags = (name, StructHere (length env.structs)) ∷ env.tags; structs = env.structs ++ fieldless name ∷ [] }
+
+abbrev pub tagged : Option (List ℕ) → TagHere → Declarations → Declarations
+tagged None tag env = env
+tagged (Some name) tag env = record env { tags = (name, tag) ∷ env.tags }
 
 abbrev pub start : Declarations
 start = record {
-  tags = (codes "s", StructTag 0) ∷ (codes "t", StructTag 1) ∷ (codes "v", StructTag 2) ∷ [];
+  tags = (codes "s", StructHere 0) ∷ (codes "t", StructHere 1) ∷ (codes "v", StructHere 2) ∷ [];
+  constants = [];
   structs = record {
     name = codes "s";
     complete = true;
@@ -112,14 +134,19 @@ abbrev pub sample : Language
 sample = record {
   abi = Lp64;
   Environment = Declarations;
-  entity = λ name env. named_in names name;
-  tag = λ name env. named_in env.tags name;
+  entity = λ name env. entity_in env name;
+  tag = λ name env. option_map tag_of (named_in env.tags name);
   structs = λ env. env.structs;
-  struct_declared = λ name env. record { tags = (name, StructTag (length env.structs)) ∷ env.tags; structs = env.structs ++ fieldless name ∷ [] };
-  enum_declared = λ name env. record { tags = (name, EnumTag) ∷ env.tags; structs = env.structs };
+  struct_declared = λ name env. opened (Some name) env;
+  enum_declared = λ name env. tagged (Some name) (EnumHere false) env;
   entered = λ env. env;
   left = λ env. env;
-  Braces = λ before spec outcome after. ⊥;
+  tag_here = λ name env. named_in env.tags name;
+  struct_opened = opened;
+  struct_completed = λ number members env. record env { structs = completed env.structs number members };
+  enum_listed = λ name env. tagged name (EnumHere true) env;
+  is_declared_here = λ name env. is_some (entity_in env name);
+  constant_declared = λ name bits env. record env { constants = (name, EnumeratorIs bits) ∷ env.constants };
   Statement = λ before stmt outcome after. (stmt.form ≡ Eval None) × (outcome ≡ Passes tt []) × (after ≡ before);
 }
 
@@ -145,6 +172,19 @@ identifier bytes at = record { place = token at; name = bytes }
 
 abbrev pub statement : StmtForm → Stmt
 statement form = record { place = token 0; after = token 0; form = form }
+
+-- a declaration of members; a member with its sizes, and one with a width; a constant of an enum
+abbrev pub declaration : TypeSpec → List FieldName → FieldDecl
+declaration spec names = roll-FieldDecl (record { spec = spec; names = names })
+
+abbrev pub field : List ℕ → ℕ → ℕ → List (Option Expr) → FieldName
+field bytes at stars sizes = roll-FieldName (record { place = token at; name = Some bytes; stars = stars; sizes = sizes; bits = None })
+
+abbrev pub field_of_bits : List ℕ → ℕ → Expr → FieldName
+field_of_bits bytes at width = roll-FieldName (record { place = token at; name = Some bytes; stars = 0; sizes = []; bits = Some width })
+
+abbrev pub enumerator : List ℕ → ℕ → Option Expr → Enumerator
+enumerator bytes at value = roll-Enumerator (record { place = token at; name = bytes; value = value })
 
 -- what is said of an expression there: its type; its type and value, or that it has none; that it is a null pointer constant; what is
 -- broken in it first, and where

@@ -3,37 +3,42 @@
 -- `Finds before saying after` says what is found of a part of a tree, where `before` is declared in front of it and `after` behind
 -- it. The parts of an expression are walked in the order of the text, and the expression itself behind them: what is found in a part
 -- is found of the whole, and where all parts pass, what is named of all that is broken at the expression itself.
-use Rattle.std.specs.Prelude.{◌≡◌, ℕ, Bool, true, false, List, [], ◌∷◌, ◌++◌, Option, None, Some, option_and_then, length}
+use Rattle.std.specs.Prelude.{◌≡◌, ℕ, Bool, true, false, List, [], ◌∷◌, ◌++◌, Option, None, Some, option_and_then, length, slice_get}
 use Rattle.cbase.specs.declared.ctype.CType.{CType}
 use Rattle.cbase.specs.declared.ctype.CType.TheVariants.{Void as VoidType, Struct as StructType}
+use Rattle.cbase.specs.declared.place.Place.{Place}
+use Rattle.cbase.specs.declared.structs.Field.{Field}
 use Rattle.cbase.specs.declared.tree.decl.TypeName.{TypeName}
 use Rattle.cbase.specs.declared.tree.expr.Expr.{Expr}
 use Rattle.cbase.specs.declared.tree.expr.ExprForm.TheOpen.{Basic, Named, Struct, Enum, OfExpr, OfType}
-use Rattle.cbase.specs.declared.tree.expr.ExprForm.TheViews.{out-ExprForm, out-StmtForm, out-TypeName, out-TypeSpec}
+use Rattle.cbase.specs.declared.tree.expr.ExprForm.TheViews.{out-ExprForm, out-StmtForm, out-TypeName, out-TypeSpec, out-FieldDecl, out-FieldName, out-Enumerator}
 use Rattle.cbase.specs.declared.tree.identifier.Identifier.{Identifier}
 use Rattle.cbase.specs.declared.tree.spec.BasicType.{BasicType}
 use Rattle.cbase.specs.declared.tree.spec.Enumerator.{Enumerator}
 use Rattle.cbase.specs.declared.tree.spec.FieldDecl.{FieldDecl}
+use Rattle.cbase.specs.declared.tree.spec.FieldName.{FieldName}
 use Rattle.cbase.specs.declared.tree.stmt.Stmt.{Stmt}
+use Rattle.cbase.specs.Completing.{is_open}
 use Rattle.operators.specs.declared.found.Broken.TheVariants.{Rule}
 use Rattle.operators.specs.Binary.{int_type}
 use Rattle.operators.specs.Operands.{Operand}
 use Rattle.typing.specs.declared.fault.Fault.{Fault}
 use Rattle.typing.specs.declared.size.Size.{Size}
 use Rattle.typing.specs.declared.size.Size.TheVariants.{LeftOut}
+use Rattle.typing.specs.Braces.{Opens, IsTwice, struct_opening, closing, enum_opening, fixed_size, width_found, member, member_type, faults_of_member}
 use Rattle.typing.specs.Calls.{is_struct}
 use Rattle.typing.specs.Entities.{FunctionEntity, FunctionIs, StructTag, EnumTag}
 use Rattle.typing.specs.Faults.{fault}
-use Rattle.typing.specs.Forms.{Form, Words, NameParts, name_in, value_in}
+use Rattle.typing.specs.Forms.{Form, Words, NameParts, DeclarationParts, MemberParts, EnumeratorParts, name_in, value_in}
 use Rattle.typing.specs.Known.{Known, operand, can_load, value_type, behind}
 use Rattle.typing.specs.Language.{Language}
 use Rattle.typing.specs.NamedTypes.{NamedType, whole, basic_type, no_type, typedef_of, size_of, declared_type, declared, is_large}
 use Rattle.typing.specs.Nodes.{function_faults, is_function, called_of, is_last_value}
-use Rattle.typing.specs.Outcomes.{Outcome, Handed, Passes, Refused, IsSettled}
+use Rattle.typing.specs.Outcomes.{Outcome, Handed, Passes, Refused, IsSettled, with_front}
 use Rattle.typing.specs.Pieces.{Piece, Loaded, Unloaded, Called, OfType as OfTypeName, ConstantIndex, SizeOfArray, BlockOf, pieces_in}
 use Rattle.typing.specs.Rules.{AtNode}
 use Rattle.typing.specs.Told.{Told, OperandIs, FunctionNamed, NoFunction, TypeIs, IndexIs, SizeIs, ValueIs}
-use Rattle.values.specs.Values.{word_of}
+use Rattle.values.specs.Values.{word_of, int_value, next_value}
 
 -- what is said of which part of a tree
 pub data Saying : Type 0 where
@@ -44,6 +49,18 @@ pub data Saying : Type 0 where
   SizesAre : List (Option Expr) → Outcome (List Size) → Saying
   NameOfTypeIs : TypeName → Outcome NamedType → Saying
   StatementsAre : List Stmt → Outcome CType → Saying
+  -- the members of a struct, behind those that it has so far: declarations, one of them, names of a type, and one of them
+  MembersAre : List Field → List FieldDecl → Outcome (List Field) → Saying
+  DeclarationIs : List Field → FieldDecl → Outcome (List Field) → Saying
+  NamesAre : NamedType → List Field → List FieldName → Outcome (List Field) → Saying
+  MemberIs : NamedType → List Field → FieldName → Outcome (List Field) → Saying
+  -- the sizes of a member, one of them, and how many bits it has
+  MemberSizesAre : List (Option Expr) → Outcome (List Size) → Saying
+  MemberSizeIs : Option Expr → Outcome Size → Saying
+  WidthIs : Option Expr → Outcome (Unit {0}) → Saying
+  -- the constants of an enum, of which the first has this value where none is given; and the value of one at a place, as the bits of an int
+  EnumeratorsAre : Option ℕ → List Enumerator → Outcome NamedType → Saying
+  ValueOfEnumerator : Place → Option ℕ → Option Expr → Outcome ℕ → Saying
 
 -- the name that an expression is
 abbrev pub named : Expr → Option (List ℕ)
@@ -213,13 +230,33 @@ pub data Finds (l : Language) : l.Environment → Saying → l.Environment → T
   -- neither a tag nor braces name no type; the grammar reads none
   StructOfNothing : {env : l.Environment} → Finds l env (WordsAre (Struct None None) (Passes no_type [])) env
   EnumOfNothing : {env : l.Environment} → Finds l env (WordsAre (Enum None None) (Passes no_type [])) env
-  -- braces have rules of their own
-  BracedStruct : {before after : l.Environment} {outcome : Outcome NamedType} {name : Option Identifier} {fields : List FieldDecl}
-      → l.Braces before (Struct name (Some fields)) outcome after
-      → Finds l before (WordsAre (Struct name (Some fields)) outcome) after
-  BracedEnum : {before after : l.Environment} {outcome : Outcome NamedType} {name : Option Identifier} {values : List Enumerator}
-      → l.Braces before (Enum name (Some values)) outcome after
+  -- a struct with its members (6.7.2.1): its tag decides first. It is complete behind its `}`; where it was completed inside its own braces,
+  -- its tag is rule 2, and so is one that stands in this scope for an enum or a complete struct (6.7.2.3p1)
+  StructWithMembers : {before inside middle : l.Environment} {number : ℕ} {members : List Field} {handed : List Handed} {name : Option Identifier} {fields : List FieldDecl}
+      → struct_opening l name before ≡ Opens (number, inside)
+      → Finds l inside (MembersAre [] fields (Passes members handed)) middle
+      → closing name (is_open (slice_get (l.structs middle) number)) ≡ None
+      → Finds l before (WordsAre (Struct name (Some fields)) (Passes (whole (StructType number)) handed)) (l.struct_completed number members middle)
+  StructCompletedInside : {before inside after : l.Environment} {number : ℕ} {members : List Field} {handed : List Handed} {first : Fault} {name : Option Identifier} {fields : List FieldDecl}
+      → struct_opening l name before ≡ Opens (number, inside)
+      → Finds l inside (MembersAre [] fields (Passes members handed)) after
+      → closing name (is_open (slice_get (l.structs after) number)) ≡ Some first
+      → Finds l before (WordsAre (Struct name (Some fields)) (Refused first)) after
+  MembersRefused : {before inside after : l.Environment} {number : ℕ} {first : Fault} {name : Option Identifier} {fields : List FieldDecl}
+      → struct_opening l name before ≡ Opens (number, inside)
+      → Finds l inside (MembersAre [] fields (Refused first)) after
+      → Finds l before (WordsAre (Struct name (Some fields)) (Refused first)) after
+  StructTwice : {env : l.Environment} {first : Fault} {name : Option Identifier} {fields : List FieldDecl}
+      → struct_opening l name env ≡ IsTwice first
+      → Finds l env (WordsAre (Struct name (Some fields)) (Refused first)) env
+  -- an enum with its constants (6.7.2.2), by its tag in the same way
+  EnumWithConstants : {before inside after : l.Environment} {outcome : Outcome NamedType} {name : Option Identifier} {values : List Enumerator}
+      → enum_opening l name before ≡ Opens inside
+      → Finds l inside (EnumeratorsAre (Some 0) values outcome) after
       → Finds l before (WordsAre (Enum name (Some values)) outcome) after
+  EnumTwice : {env : l.Environment} {first : Fault} {name : Option Identifier} {values : List Enumerator}
+      → enum_opening l name env ≡ IsTwice first
+      → Finds l env (WordsAre (Enum name (Some values)) (Refused first)) env
   -- `typeof` of an expression, in which an array stays one, and of a type; C11 has none
   TypeofExpression : {before after : l.Environment} {expr : Expr} {known : Known} {handed : List Handed}
       → Finds l before (PieceIs (Unloaded expr) (Passes (OperandIs known) handed)) after
@@ -268,3 +305,119 @@ pub data Finds (l : Language) : l.Environment → Saying → l.Environment → T
       → Finds l before (WordsAre words (Passes base handed)) middle
       → Finds l middle (SizesAre name.sizes (Refused first)) after
       → Finds l before (NameOfTypeIs to (Refused first)) after
+  -- the declarations of a struct's members, one behind the other
+  NoDeclarations : {env : l.Environment} {members : List Field} → Finds l env (MembersAre members [] (Passes members [])) env
+  MoreDeclarations : {before middle after : l.Environment} {members more : List Field} {field : FieldDecl} {fields : List FieldDecl} {handed : List Handed} {outcome : Outcome (List Field)}
+      → Finds l before (DeclarationIs members field (Passes more handed)) middle
+      → Finds l middle (MembersAre more fields outcome) after
+      → Finds l before (MembersAre members (field ∷ fields) (with_front handed outcome)) after
+  DeclarationRefused : {before after : l.Environment} {members : List Field} {field : FieldDecl} {fields : List FieldDecl} {first : Fault}
+      → Finds l before (DeclarationIs members field (Refused first)) after
+      → Finds l before (MembersAre members (field ∷ fields) (Refused first)) after
+  -- one of them: its words, and its names
+  MembersDeclared : {before middle after : l.Environment} {members : List Field} {field : FieldDecl} {parts : DeclarationParts} {words : Words} {base : NamedType} {handed : List Handed} {outcome : Outcome (List Field)}
+      → out-FieldDecl field ≡ parts
+      → out-TypeSpec parts.spec ≡ words
+      → Finds l before (WordsAre words (Passes base handed)) middle
+      → Finds l middle (NamesAre base members parts.names outcome) after
+      → Finds l before (DeclarationIs members field (with_front handed outcome)) after
+  MemberWordsRefused : {before after : l.Environment} {members : List Field} {field : FieldDecl} {parts : DeclarationParts} {words : Words} {first : Fault}
+      → out-FieldDecl field ≡ parts
+      → out-TypeSpec parts.spec ≡ words
+      → Finds l before (WordsAre words (Refused first)) after
+      → Finds l before (DeclarationIs members field (Refused first)) after
+  -- its names, one behind the other
+  NoNames : {env : l.Environment} {base : NamedType} {members : List Field} → Finds l env (NamesAre base members [] (Passes members [])) env
+  MoreNames : {before middle after : l.Environment} {base : NamedType} {members more : List Field} {name : FieldName} {names : List FieldName} {handed : List Handed} {outcome : Outcome (List Field)}
+      → Finds l before (MemberIs base members name (Passes more handed)) middle
+      → Finds l middle (NamesAre base more names outcome) after
+      → Finds l before (NamesAre base members (name ∷ names) (with_front handed outcome)) after
+  NameRefused : {before after : l.Environment} {base : NamedType} {members : List Field} {name : FieldName} {names : List FieldName} {first : Fault}
+      → Finds l before (MemberIs base members name (Refused first)) after
+      → Finds l before (NamesAre base members (name ∷ names) (Refused first)) after
+  -- one member: its sizes, its width, and what is found at its name behind them
+  MemberFound : {before middle after : l.Environment} {base named : NamedType} {members : List Field} {name : FieldName} {parts : MemberParts} {counts : List Size} {faults : List Fault} {handed further : List Handed} {outcome : Outcome (List Field)}
+      → out-FieldName name ≡ parts
+      → Finds l before (MemberSizesAre parts.sizes (Passes counts handed)) middle
+      → Finds l middle (WidthIs parts.bits (Passes tt further)) after
+      → member_type l.abi (l.structs after) base parts counts ≡ named
+      → faults_of_member l.abi (l.structs after) members parts named ≡ faults
+      → IsSettled faults (members ++ member parts.name named.ctype ∷ []) (handed ++ further) outcome
+      → Finds l before (MemberIs base members name outcome) after
+  MemberSizesRefused : {before after : l.Environment} {base : NamedType} {members : List Field} {name : FieldName} {parts : MemberParts} {first : Fault}
+      → out-FieldName name ≡ parts
+      → Finds l before (MemberSizesAre parts.sizes (Refused first)) after
+      → Finds l before (MemberIs base members name (Refused first)) after
+  MemberWidthRefused : {before middle after : l.Environment} {base : NamedType} {members : List Field} {name : FieldName} {parts : MemberParts} {counts : List Size} {handed : List Handed} {first : Fault}
+      → out-FieldName name ≡ parts
+      → Finds l before (MemberSizesAre parts.sizes (Passes counts handed)) middle
+      → Finds l middle (WidthIs parts.bits (Refused first)) after
+      → Finds l before (MemberIs base members name (Refused first)) after
+  -- its sizes, the outermost first
+  NoMemberSizes : {env : l.Environment} → Finds l env (MemberSizesAre [] (Passes [] [])) env
+  MoreMemberSizes : {before middle after : l.Environment} {given : Option Expr} {sizes : List (Option Expr)} {size : Size} {others : List Size} {handed further : List Handed}
+      → Finds l before (MemberSizeIs given (Passes size handed)) middle
+      → Finds l middle (MemberSizesAre sizes (Passes others further)) after
+      → Finds l before (MemberSizesAre (given ∷ sizes) (Passes (size ∷ others) (handed ++ further))) after
+  MemberSizeRefusedHere : {before after : l.Environment} {given : Option Expr} {sizes : List (Option Expr)} {first : Fault}
+      → Finds l before (MemberSizeIs given (Refused first)) after
+      → Finds l before (MemberSizesAre (given ∷ sizes) (Refused first)) after
+  MemberSizeRefusedBehind : {before middle after : l.Environment} {given : Option Expr} {sizes : List (Option Expr)} {size : Size} {handed : List Handed} {first : Fault}
+      → Finds l before (MemberSizeIs given (Passes size handed)) middle
+      → Finds l middle (MemberSizesAre sizes (Refused first)) after
+      → Finds l before (MemberSizesAre (given ∷ sizes) (Refused first)) after
+  -- one that is no integer constant expression, or is under 1, is rule 9 at it (6.7.2.1p9, 6.7.6.2p1)
+  MemberSizeLeftOut : {env : l.Environment} → Finds l env (MemberSizeIs None (Passes LeftOut [])) env
+  MemberSizeGiven : {before after : l.Environment} {expr : Expr} {size : Size} {handed : List Handed}
+      → Finds l before (PieceIs (SizeOfArray expr) (Passes (SizeIs size) handed)) after
+      → Finds l before (MemberSizeIs (Some expr) (fixed_size expr.place size handed)) after
+  MemberSizeRefused : {before after : l.Environment} {expr : Expr} {first : Fault}
+      → Finds l before (PieceIs (SizeOfArray expr) (Refused first)) after
+      → Finds l before (MemberSizeIs (Some expr) (Refused first)) after
+  -- how many bits it has, of which nothing is asked: it is construct 21 at the name
+  NoWidth : {env : l.Environment} → Finds l env (WidthIs None (Passes tt [])) env
+  WidthGiven : {before after : l.Environment} {expr : Expr} {found : Outcome Told}
+      → Finds l before (PieceIs (Loaded expr) found) after
+      → Finds l before (WidthIs (Some expr) (width_found found)) after
+  -- the constants of an enum, each in scope behind its value (6.2.1p7): a name that is declared in this scope is rule 2 at it, also where that
+  -- stands in its own value
+  NoEnumerators : {env : l.Environment} {next : Option ℕ} → Finds l env (EnumeratorsAre next [] (Passes (whole int_type) [])) env
+  EnumeratorTwice : {env : l.Environment} {next : Option ℕ} {constant : Enumerator} {parts : EnumeratorParts} {constants : List Enumerator}
+      → out-Enumerator constant ≡ parts
+      → l.is_declared_here parts.name env ≡ true
+      → Finds l env (EnumeratorsAre next (constant ∷ constants) (Refused (fault parts.place (Rule 2)))) env
+  EnumeratorRefused : {before after : l.Environment} {next : Option ℕ} {constant : Enumerator} {parts : EnumeratorParts} {constants : List Enumerator} {first : Fault}
+      → out-Enumerator constant ≡ parts
+      → l.is_declared_here parts.name before ≡ false
+      → Finds l before (ValueOfEnumerator parts.place next parts.value (Refused first)) after
+      → Finds l before (EnumeratorsAre next (constant ∷ constants) (Refused first)) after
+  EnumeratorTwiceInside : {before after : l.Environment} {next : Option ℕ} {constant : Enumerator} {parts : EnumeratorParts} {constants : List Enumerator} {bits : ℕ} {handed : List Handed}
+      → out-Enumerator constant ≡ parts
+      → l.is_declared_here parts.name before ≡ false
+      → Finds l before (ValueOfEnumerator parts.place next parts.value (Passes bits handed)) after
+      → l.is_declared_here parts.name after ≡ true
+      → Finds l before (EnumeratorsAre next (constant ∷ constants) (Refused (fault parts.place (Rule 2)))) after
+  MoreEnumerators : {before middle after : l.Environment} {next : Option ℕ} {constant : Enumerator} {parts : EnumeratorParts} {constants : List Enumerator} {bits : ℕ} {handed : List Handed} {outcome : Outcome NamedType}
+      → out-Enumerator constant ≡ parts
+      → l.is_declared_here parts.name before ≡ false
+      → Finds l before (ValueOfEnumerator parts.place next parts.value (Passes bits handed)) middle
+      → l.is_declared_here parts.name middle ≡ false
+      → Finds l (l.constant_declared parts.name bits middle) (EnumeratorsAre (next_value bits) constants outcome) after
+      → Finds l before (EnumeratorsAre next (constant ∷ constants) (with_front handed outcome)) after
+  -- the value of one: where none is given, one more than that before it, if an int has that (6.7.2.2p2, p3)
+  NextValue : {env : l.Environment} {place : Place} {bits : ℕ} → Finds l env (ValueOfEnumerator place (Some bits) None (Passes bits [])) env
+  NoNextValue : {env : l.Environment} {place : Place} → Finds l env (ValueOfEnumerator place None None (Refused (fault place (Rule 9)))) env
+  -- one that is given is an integer constant expression whose value an int has, or rule 9 at it
+  GivenValue : {before after : l.Environment} {place : Place} {next : Option ℕ} {expr : Expr} {known : Known} {given : Operand} {bits : ℕ} {handed : List Handed}
+      → Finds l before (PieceIs (Loaded expr) (Passes (OperandIs known) handed)) after
+      → operand (l.structs after) known ≡ given
+      → int_value given.kind known.value ≡ Some bits
+      → Finds l before (ValueOfEnumerator place next (Some expr) (Passes bits handed)) after
+  GivenNoInt : {before after : l.Environment} {place : Place} {next : Option ℕ} {expr : Expr} {known : Known} {given : Operand} {handed : List Handed}
+      → Finds l before (PieceIs (Loaded expr) (Passes (OperandIs known) handed)) after
+      → operand (l.structs after) known ≡ given
+      → int_value given.kind known.value ≡ None
+      → Finds l before (ValueOfEnumerator place next (Some expr) (Refused (fault expr.place (Rule 9)))) after
+  GivenRefused : {before after : l.Environment} {place : Place} {next : Option ℕ} {expr : Expr} {first : Fault}
+      → Finds l before (PieceIs (Loaded expr) (Refused first)) after
+      → Finds l before (ValueOfEnumerator place next (Some expr) (Refused first)) after

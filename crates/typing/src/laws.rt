@@ -4,7 +4,7 @@ ghost use Rattle.typing.specs.Sample.{sample};
 
 /// An expression has at most one outcome in an environment: a type with all that is handed on, or what is refused in it first.
 ///
-/// It is stated of the declarations of the examples. The proof is of every language whose braces and statements have one outcome.
+/// It is stated of the declarations of the examples. The proof is of every language whose statements have one outcome.
 #[tactic(auto, using(crate::proofs::OneOutcome::one_outcome))]
 pub fn expressions_have_one_outcome()
     ensures { HasOneOutcome sample }

@@ -1,8 +1,8 @@
 //! Which type an expression of C has where it stands, and what is broken in it first where it has none (C11 6.3, 6.5, 6.6).
 //!
 //! It knows the trees of `cbase`, the rules of operators on types and the values of constants; of what is declared it
-//! asks, and of statements and of the braces of structs and enums it is told. It has no code yet: `specs/` has the relation, the types
-//! here are what it tells, and the functions its laws.
+//! asks, and of statements it is told. It has no code yet: `specs/` has the relation, the types here are what it tells, and the
+//! functions its laws.
 #![tactic(auto)]
 
 mod fault;
@@ -17,7 +17,7 @@ pub use laws::{
     each_path_leads, expressions_have_one_outcome, one_thing_is_named, the_least_is_named,
 };
 pub use rows::{
-    rows_of_names, rows_of_operators, rows_of_postfixes, rows_of_statement_expressions,
-    rows_of_types,
+    rows_of_braces, rows_of_names, rows_of_operators, rows_of_postfixes,
+    rows_of_statement_expressions, rows_of_types,
 };
 pub use size::Size;

@@ -1,6 +1,6 @@
 //! Expressions with what is found of them, worked out by hand from the standard. Each table is the contract of a function that does
 //! nothing.
-ghost use Rattle.typing.specs.Examples.{AreNamed, AreUnary, AreBinary, AreAssigned, AreMembers, AreCalled, AreSizes, AreTypeNames, AreInner};
+ghost use Rattle.typing.specs.Examples.{AreNamed, AreUnary, AreBinary, AreAssigned, AreMembers, AreCalled, AreSizes, AreTypeNames, AreInner, AreBraces};
 
 /// Names and constants (C11 6.5.1).
 #[tactic(auto, using(crate::proofs::ExamplesNamed::are_named))]
@@ -34,4 +34,10 @@ pub fn rows_of_types()
 #[tactic(auto, using(crate::proofs::ExamplesInner::are_inner))]
 pub fn rows_of_statement_expressions()
     ensures { AreInner }
+{}
+
+/// Braces of structs and of enums (C11 6.7.2.1, 6.7.2.2).
+#[tactic(auto, using(crate::proofs::ExamplesBraces::are_braces))]
+pub fn rows_of_braces()
+    ensures { AreBraces }
 {}
