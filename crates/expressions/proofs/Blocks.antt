@@ -89,10 +89,10 @@ outside context = record context { environment = scope_left context.environment 
 
 module _ (others : Others) (abi : Abi) (body : List Stmt) (old mid late new : Context) (opened : mid ≡ inside old) (closed : new ≡ outside late) where
   grows_inside : Grows old mid
-  grows_inside = grows_to old mid (ap (λ (c : Context). c.types) opened) (ap (λ (c : Context). c.environment.signatures) opened)
+  grows_inside = grows_to old mid (ap (λ (c : Context). c.types) opened) (rw (ap (λ (c : Context). c.structs) opened) (λ at item is. is)) (ap (λ (c : Context). c.environment.signatures) opened)
 
   grows_outside : Grows late new
-  grows_outside = grows_to late new (ap (λ (c : Context). c.types) closed) (ap (λ (c : Context). c.environment.signatures) closed)
+  grows_outside = grows_to late new (ap (λ (c : Context). c.types) closed) (rw (ap (λ (c : Context). c.structs) closed) (λ at item is. is)) (ap (λ (c : Context). c.environment.signatures) closed)
 
   piece_of_block : (n : Numbering) (outcome : Outcome Told) → Finds (language others abi n) (declared old) (PieceIs (BlockOf body) outcome) (left (declared late))
       → Finds (language others abi n) (declared old) (PieceIs (BlockOf body) outcome) (declared new)

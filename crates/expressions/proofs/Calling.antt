@@ -98,7 +98,7 @@ module _ (others : Others) (abi : Abi) (callee : Expr) (old new : Context) where
         (CalledFunction is (ap (option_map (entity_at n)) stands) (settled.nothing n agrees, refl, ap (λ (k : Known). behind [] callee.number k) (settled.meant n agrees)));
   }
   called_piece name signature defined built_in (FoundRefused first) is stands settled = record {
-    grows = record { types = settled.stays.types; signatures = λ at s found. rw settled.stays.environment found };
+    grows = record { types = settled.stays.types; structs = λ at s found complete. rw settled.stays.structs found; longer = rw settled.stays.structs (omega arith); signatures = λ at s found. rw settled.stays.environment found };
     found = λ n agrees.
         subst (λ (after : Declared). Finds (language others abi n) (declared old) (PieceIs (Called callee) (Refused first)) after)
         (sym (declared_same old new settled.stays.structs settled.stays.environment))

@@ -37,6 +37,8 @@ module _ (old new : Context) where
   pub only_types_grows : OnlyTypes old new → Grows old new
   only_types_grows only = record {
     types = only.types;
+    structs = λ number s is complete. rw only.structs is;
+    longer = rw only.structs (omega arith);
     signatures = λ number s is. rw only.environment is;
   }
 
@@ -58,12 +60,16 @@ module _ (old new : Context) where
   pub hands_on_grows : (number : ℕ) (known : Known) → HandsOn number old new known → Grows old new
   hands_on_grows number known on = record {
     types = on.types;
+    structs = λ at s is complete. rw on.structs is;
+    longer = rw on.structs (omega arith);
     signatures = λ at s is. rw on.environment is;
   }
 
   pub grows_trans : (later : Context) → Grows old new → Grows new later → Grows old later
   grows_trans later first second = record {
     types = λ number t is. second.types number t (first.types number t is);
+    structs = λ number s is complete. second.structs number s (first.structs number s is complete) complete;
+    longer = omega (arith, first.longer, second.longer);
     signatures = λ number s is. second.signatures number s (first.signatures number s is);
   }
 
@@ -76,7 +82,7 @@ module _ (old new : Context) where
   }
 
 pub grows_same : (context : Context) → Grows context context
-grows_same context = record { types = λ number t is. is; signatures = λ number s is. is }
+grows_same context = record { types = λ number t is. is; structs = λ number s is complete. is; longer = omega arith; signatures = λ number s is. is }
 
 pub only_types_same : (context : Context) → OnlyTypes context context
 only_types_same context = record { types = λ number t is. is; structs = refl; environment = refl; handed = refl }

@@ -3,6 +3,7 @@ pub mod ByRule
 pub mod Called
 pub mod Calling
 pub mod EachArgument
+pub mod Enumerators
 pub mod Firsts
 pub mod Growth
 pub mod Interning
@@ -12,6 +13,8 @@ pub mod Levels
 pub mod Loops
 pub mod Meanings
 pub mod Measuring
+pub mod MemberSizes
+pub mod MembersSoFar
 pub mod Naming
 pub mod NothingElse
 pub mod Operating
@@ -21,9 +24,12 @@ pub mod SettledBehind
 pub mod Several
 pub mod SizedTypes
 pub mod SoFar
+pub mod SpecLevels
 pub mod Stepping
+pub mod StructMembers
 pub mod TypeNames
 pub mod TypeWords
 pub mod Walking
 pub mod WholeExpressions
+pub mod WholeStructs
 pub mod WholeTypeNames

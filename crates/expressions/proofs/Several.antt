@@ -1,17 +1,19 @@
 -- What is found of parts one behind the other.
-use Rattle.std.proofs.Common.{◌≡◌, ℕ, List, [], ◌∷◌, ◌++◌, map, length, sym, subst, Result, Ok, Err, IfOk}
+use Rattle.std.proofs.Common.{◌≡◌, ℕ, List, [], ◌∷◌, ◌++◌, map, length, refl, sym, subst, Result, Ok, Err, IfOk}
 use Rattle.std.proofs.lemmas.List.{append-nil, map-append}
 use Rattle.cbase.specs.declared.abi.Abi.{Abi}
 use Rattle.cbase.specs.declared.no_memory.NoMemory.{NoMemory}
+use Rattle.cbase.specs.declared.tree.expr.Expr.{Expr}
 use Rattle.typing.specs.declared.fault.Fault.{Fault}
 use Rattle.typing.specs.Outcomes.{Outcome, Passes}
-use Rattle.typing.specs.Pieces.{Piece}
+use Rattle.typing.specs.Pieces.{Piece, Loaded, Unloaded}
 use Rattle.typing.specs.Told.{Told}
 use Rattle.typing.specs.Typing.{PieceIs, PiecesAre, Finds, NoPieces, MorePieces, RefusedHere, RefusedBehind}
 use Rattle.expressions.specs.declared.found.Found.{Found}
 use Rattle.expressions.specs.declared.found.Found.TheVariants.{Passes as FoundToPass, Refused as FoundRefused}
+use Rattle.expressions.specs.declared.known.Known.{Known as KnownByNumber}
 use Rattle.expressions.specs.Context.{Context, declared, Grows}
-use Rattle.expressions.specs.Found.{Reading}
+use Rattle.expressions.specs.Found.{Reading, an_operand, one_operand}
 use Rattle.expressions.specs.Numbers.{Numbering, handed_at}
 use Rattle.expressions.specs.Others.{Others, language}
 use Rattle.expressions.specs.Walked.{Passed, Stopped, Walked, Says}
@@ -42,6 +44,15 @@ module _ (others : Others) (abi : Abi) where
       pieces_one piece reading single old new one (λ n. means n one) (below (length new.types) one passed.below) passed
   one_result piece reading single old new (Ok (FoundRefused first)) means below refused = record { grows = refused.grows; found = λ n agrees. RefusedHere (refused.found n agrees) }
   one_result piece reading single old new (Err error) means below refused = tt
+
+  -- the same of an operand that is found
+  pub loaded_alone : (expr : Expr) (old new : Context) (found : Found KnownByNumber) → Walked (Says others abi (λ o. PieceIs (Loaded expr) o)) an_operand old new found
+      → Walked (Says others abi (λ o. PiecesAre (Loaded expr ∷ []) o)) one_operand old new found
+  loaded_alone expr old new found walked = one_result (Loaded expr) an_operand one_operand old new (Ok found) (λ n one. refl) (λ count one below. below) walked
+
+  pub unloaded_alone : (expr : Expr) (old new : Context) (found : Found KnownByNumber) → Walked (Says others abi (λ o. PieceIs (Unloaded expr) o)) an_operand old new found
+      → Walked (Says others abi (λ o. PiecesAre (Unloaded expr ∷ []) o)) one_operand old new found
+  unloaded_alone expr old new found walked = one_result (Unloaded expr) an_operand one_operand old new (Ok found) (λ n one. refl) (λ count one below. below) walked
 
   -- a part in front of others
   pub pieces_more : {B C D : Type 0} (piece : Piece) (pieces : List Piece) (reading : Reading B Told) (further : Reading C (List Told)) (all : Reading D (List Told))

@@ -27,11 +27,11 @@ abbrev pub sizes_joined : List Size → List Handed → Outcome (List Size) → 
 sizes_joined known handed (Passes others further) = Passes (known ++ others) (handed ++ further)
 sizes_joined known handed (Refused first) = Refused first
 
-sizes_same : (outcome : Outcome (List Size)) → sizes_joined [] [] outcome ≡ outcome
+pub sizes_same : (outcome : Outcome (List Size)) → sizes_joined [] [] outcome ≡ outcome
 sizes_same (Passes told handed) = refl
 sizes_same (Refused first) = refl
 
-sizes_twice : (known others : List Size) (handed further : List Handed) (outcome : Outcome (List Size))
+pub sizes_twice : (known others : List Size) (handed further : List Handed) (outcome : Outcome (List Size))
     → sizes_joined known handed (sizes_joined others further outcome) ≡ sizes_joined (known ++ others) (handed ++ further) outcome
 sizes_twice known others handed further (Passes last behind_it) = λ i. Passes (sym (append_assoc known others last) i) (sym (append_assoc handed further behind_it) i)
 sizes_twice known others handed further (Refused first) = refl

@@ -14,12 +14,15 @@ use Rattle.cbase.specs.declared.tree.spec.BasicType.{BasicType}
 use Rattle.cbase.specs.declared.tree.spec.Enumerator.{Enumerator}
 use Rattle.cbase.specs.declared.tree.spec.FieldDecl.{FieldDecl}
 use Rattle.cbase.specs.declared.tree.spec.TypeSpec.{TypeSpec}
+use Rattle.cbase.specs.Completing.{fieldless}
 use Rattle.cbase.specs.declared.tree.spec.TypeSpec.TheVariants.{Struct as StructSpec, Enum as EnumSpec, OfType as TypeofSpec, rolls-Struct, rolls-Enum, rolls-OfType}
 use Rattle.environment.specs.declared.entity.DeclaredType.TheVariants.{Whole}
 use Rattle.environment.specs.declared.entity.Entity.{Entity}
 use Rattle.environment.specs.declared.entity.Entity.TheVariants.{Typedef}
+use Rattle.environment.specs.declared.entity.Tag.{Tag}
 use Rattle.environment.specs.declared.entity.Tag.TheVariants.{Struct, Enum}
 use Rattle.environment.specs.declared.entity.TagForm.TheVariants.{Mentioned}
+use Rattle.environment.specs.declared.environment.Environment.{Environment}
 use Rattle.environment.specs.Environment.{name_found, tag_found}
 use Rattle.operators.specs.declared.found.Broken.{Broken}
 use Rattle.operators.specs.declared.found.Broken.TheVariants.{Rule}
@@ -30,24 +33,33 @@ use Rattle.typing.specs.Forms.{Words}
 use Rattle.typing.specs.NamedTypes.{NamedType, whole, basic_type, no_type, typedef_of}
 use Rattle.typing.specs.Outcomes.{Outcome, Passes, Refused}
 use Rattle.typing.specs.Pieces.{Unloaded}
-use Rattle.typing.specs.Typing.{PieceIs, WordsAre, NameOfTypeIs, BasicSpecifier, TypedefSpecifier, StructSpecifier, StructDeclared, StructIsEnum, EnumSpecifier, EnumDeclared, EnumIsStruct, TypeofExpression, TypeofRefused, TypeofType, BracedStruct, BracedEnum}
+use Rattle.typing.specs.Typing.{PieceIs, WordsAre, NameOfTypeIs, BasicSpecifier, TypedefSpecifier, StructSpecifier, StructDeclared, StructIsEnum, EnumSpecifier, EnumDeclared, EnumIsStruct, TypeofExpression, TypeofRefused, TypeofType}
 use Rattle.expressions.specs.declared.found.Found.{Found}
 use Rattle.expressions.specs.declared.found.Found.TheVariants.{Passes as FoundToPass, Refused as FoundRefused}
 use Rattle.expressions.specs.declared.known.Known.{Known as KnownByNumber}
 use Rattle.expressions.specs.declared.named_type.NamedType.{NamedType as NamedByNumber}
 use Rattle.expressions.specs.Context.{Context, Declared, declared, Agrees, Grows, OnlyTypes}
-use Rattle.expressions.specs.Found.{an_operand, a_type}
-use Rattle.expressions.specs.Nests.{SaysBraces}
+use Rattle.expressions.specs.Found.{Reading, an_operand, a_type}
 use Rattle.expressions.specs.Numbers.{Numbering, handed_at, entity_at, tag_at, named_at}
 use Rattle.expressions.specs.Operated.{Numbers}
 use Rattle.expressions.specs.Others.{Others, struct_declared, enum_declared}
 use Rattle.expressions.specs.Walked.{Tells, Passed, Stopped, Walked, Says}
 use Rattle.expressions.proofs.Walking.{passed_of, stopped_of}
-use Rattle.expressions.proofs.Growth.{only_types_grows, grows_trans, grows_same}
+use Rattle.expressions.proofs.Growth.{Keeps, keeps_behind, keeps_length, only_types_grows, grows_trans, grows_same}
 
 -- a type of which nothing is found, by its number
 abbrev pub whole_at : ℕ → NamedByNumber
 whole_at number = record { ctype = number; found = None }
+
+-- what a tag stands for that was asked for by its spelling
+pub tag_known : (environment : Environment) (name spelled : List ℕ) (result found : Option Tag) → spelled ≡ name → result ≡ tag_found Mentioned spelled environment → result ≡ found
+    → tag_found Mentioned name environment ≡ found
+tag_known environment name spelled result found same asked is = ap (λ (n : List ℕ). tag_found Mentioned n environment) (sym same) ∙ (sym asked ∙ is)
+
+-- the same is left where what is found has another name
+pub walked_as : {A B : Type 0} (tells : Tells A) (reading : Reading B A) (old new : Context) (found named : Found B)
+    → found ≡ named → Walked tells reading old new named → Walked tells reading old new found
+walked_as {A} {B} tells reading old new found named is walked = subst (λ (f : Found B). Walked tells reading old new f) (sym is) walked
 
 -- a type is named, and no row is handed on
 pub named_alone : (tells : Tells NamedType) (old new : Context) (named : NamedByNumber) → Grows old new → new.handed ≡ old.handed → named.ctype < length new.types
@@ -78,10 +90,12 @@ pub named_there : (tells : Tells NamedType) (old new : Context) (t : Numbering �
     → ((n : Numbering) → tells n (declared old) (Passes (whole (t n)) []) (declared old)) → Passed tells a_type old new (whole_at number)
 named_there tells old new t number numbers found = named_behind tells old old new t number (grows_same old) refl numbers found
 
--- the types and signatures that stay
-pub grows_to : (old new : Context) → new.types ≡ old.types → new.environment.signatures ≡ old.environment.signatures → Grows old new
-grows_to old new types signatures = record {
+-- the types and signatures that stay, and structs behind which others may stand
+pub grows_to : (old new : Context) → new.types ≡ old.types → Keeps old.structs new.structs → new.environment.signatures ≡ old.environment.signatures → Grows old new
+grows_to old new types structs signatures = record {
   types = λ number t is. rw types is;
+  structs = λ number s is complete. structs number s is;
+  longer = keeps_length old.structs new.structs structs;
   signatures = λ number s is. rw signatures is;
 }
 
@@ -140,7 +154,7 @@ module _ (others : Others) (abi : Abi) (old new : Context) where
       → declared mid ≡ struct_declared tag.name (declared old) → mid.types ≡ old.types → mid.handed ≡ old.handed → Numbers (λ n. StructType (length old.structs)) mid new number
       → Passed (SaysWords (StructWords (Some tag) None)) a_type old new (whole_at number)
   new_struct mid tag number found after types handed numbers = named_behind (SaysWords (StructWords (Some tag) None)) old mid new (λ n. StructType (length old.structs)) number
-      (grows_to old mid types (ap (λ (there : Declared). there.environment.signatures) after)) handed numbers
+      (grows_to old mid types (rw (ap (λ (there : Declared). there.structs) after) (keeps_behind old.structs (fieldless tag.name))) (ap (λ (there : Declared). there.environment.signatures) after)) handed numbers
       (λ n. subst (λ (there : Declared). SaysWords (StructWords (Some tag) None) n (declared old) (Passes (whole (StructType (length old.structs))) []) there) (sym after)
       (StructDeclared (ap (option_map tag_at) found)))
 
@@ -148,7 +162,7 @@ module _ (others : Others) (abi : Abi) (old new : Context) where
       → declared mid ≡ enum_declared tag.name (declared old) → mid.types ≡ old.types → mid.handed ≡ old.handed → Numbers (λ n. int_type) mid new number
       → Passed (SaysWords (EnumWords (Some tag) None)) a_type old new (whole_at number)
   new_enum mid tag number found after types handed numbers = named_behind (SaysWords (EnumWords (Some tag) None)) old mid new (λ n. int_type) number
-      (grows_to old mid types (ap (λ (there : Declared). there.environment.signatures) after)) handed numbers
+      (grows_to old mid types (rw (ap (λ (there : Declared). there.structs) after) (λ at item is. is)) (ap (λ (there : Declared). there.environment.signatures) after)) handed numbers
       (λ n. subst (λ (there : Declared). SaysWords (EnumWords (Some tag) None) n (declared old) (Passes (whole int_type) []) there) (sym after)
       (EnumDeclared (ap (option_map tag_at) found)))
 
@@ -169,7 +183,7 @@ module _ (others : Others) (abi : Abi) (old new : Context) where
       (λ n agrees. subst (λ (after : Declared). SaysWords words n (declared old) (Passes (named_at n (record { ctype = number; found = Some (Rule 1) })) []) after) (declared_by_types old new numbers.only_types)
       (subst (λ (t : CType). SaysWords words n (declared old) (Passes (record { ctype = t; found = Some (Rule 1) }) []) (declared old)) (sym (numbers.meant n agrees)) (found n)))
 
-  -- what is found of braces is found of the words, and what is found of a type name is found of `typeof` of it
+  -- what is found of a type name is found of `typeof` of it
   pub named_as : (tells : Tells NamedType) (words : Words) (r : Result (Found NamedByNumber) NoMemory)
       → ((n : Numbering) (outcome : Outcome NamedType) → tells n (declared old) outcome (declared new) → SaysWords words n (declared old) outcome (declared new))
       → IfOk r (λ found. Walked tells a_type old new found) → IfOk r (λ found. Walked (SaysWords words) a_type old new found)
@@ -202,17 +216,10 @@ module _ (others : Others) (abi : Abi) (old new : Context) where
       let stopped = stopped_of (Says others abi (λ o. PieceIs (Unloaded expr) o)) an_operand old new first found is walked in
       record { grows = stopped.grows; found = λ n agrees. TypeofRefused (stopped.found n agrees) }
 
-  pub braced_struct : (spec : TypeSpec) (name : Option Identifier) (fields : List FieldDecl) (r : Result (Found NamedByNumber) NoMemory) → out-TypeSpec spec ≡ StructWords name (Some fields)
-      → IfOk r (λ found. Walked (SaysBraces others spec) a_type old new found) → IfOk r (λ found. Walked (SaysWords (out-TypeSpec spec)) a_type old new found)
-  braced_struct spec name fields r is = named_as (SaysBraces others spec) (out-TypeSpec spec) r (λ n outcome braces.
-      subst (λ (words : Words). SaysWords words n (declared old) outcome (declared new)) (sym is)
-      (BracedStruct (subst (λ (words : Words). others.Braces n (declared old) words outcome (declared new)) is braces)))
-
-  pub braced_enum : (spec : TypeSpec) (name : Option Identifier) (values : List Enumerator) (r : Result (Found NamedByNumber) NoMemory) → out-TypeSpec spec ≡ EnumWords name (Some values)
-      → IfOk r (λ found. Walked (SaysBraces others spec) a_type old new found) → IfOk r (λ found. Walked (SaysWords (out-TypeSpec spec)) a_type old new found)
-  braced_enum spec name values r is = named_as (SaysBraces others spec) (out-TypeSpec spec) r (λ n outcome braces.
-      subst (λ (words : Words). SaysWords words n (declared old) outcome (declared new)) (sym is)
-      (BracedEnum (subst (λ (words : Words). others.Braces n (declared old) words outcome (declared new)) is braces)))
+  -- words with braces, as one layer of a tree
+  pub layered : (spec : TypeSpec) (words : Words) (r : Result (Found NamedByNumber) NoMemory) → out-TypeSpec spec ≡ words
+      → IfOk r (λ found. Walked (SaysWords words) a_type old new found) → IfOk r (λ found. Walked (SaysWords (out-TypeSpec spec)) a_type old new found)
+  layered spec words r is found = subst (λ (layer : Words). IfOk r (λ f. Walked (SaysWords layer) a_type old new f)) (sym is) found
 
   -- `typeof` of a type
   pub typeof_type : (spec : TypeSpec) (to : TypeName) (r : Result (Found NamedByNumber) NoMemory) → out-TypeSpec spec ≡ OfTypeWords to

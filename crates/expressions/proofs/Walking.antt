@@ -1,5 +1,5 @@
 -- What is found of parts that stand one behind the other, and of an expression behind its parts.
-use Rattle.std.proofs.Common.{◌≡◌, ℕ, List, [], ◌∷◌, ◌++◌, map, length, refl, sym, ap, subst, ◌∙◌, Result, Ok, Err, IfOk}
+use Rattle.std.proofs.Common.{◌≡◌, ℕ, List, [], ◌∷◌, ◌++◌, map, length, refl, sym, ap, subst, ◌∙◌, Result, Ok, Err, IfOk, arith}
 use Rattle.std.proofs.lemmas.List.{append_assoc, append-nil, map-append}
 use Rattle.cbase.specs.declared.abi.Abi.{Abi}
 use Rattle.cbase.specs.declared.ctype.CType.{CType}
@@ -45,6 +45,8 @@ declared_same old new structs environment = λ i. record { environment = environ
 stays_grows : (old new : Context) → Stays old new → Grows old new
 stays_grows old new stays = record {
   types = stays.types;
+  structs = λ at s is complete. rw stays.structs is;
+  longer = rw stays.structs (omega arith);
   signatures = λ at s is. rw stays.environment is;
 }
 

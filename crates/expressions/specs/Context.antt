@@ -1,6 +1,6 @@
 -- What is known at a place of a text: types and structs by their numbers, what names and tags are declared as, and what was handed on of the expressions
 -- before it.
-use Rattle.std.specs.Prelude.{◌≡◌, ℕ, List, Some, slice_get}
+use Rattle.std.specs.Prelude.{◌≡◌, ◌≤◌, ℕ, true, List, Some, length, slice_get}
 use Rattle.cbase.specs.declared.ctype.CType.{CType}
 use Rattle.cbase.specs.declared.structs.StructDef.{StructDef}
 use Rattle.environment.specs.declared.entity.Signature.{Signature}
@@ -27,9 +27,11 @@ pub record Agrees (n : Numbering) (context : Context) : Type 0 where
   pub types : (number : ℕ) (t : CType) → slice_get context.types number ≡ Some t → n.ctype number ≡ t
   pub signatures : (number : ℕ) (s : Signature) → slice_get context.environment.signatures number ≡ Some s → n.signature number ≡ s
 
--- what had a number has it still
+-- what had a number has it still, a struct that is complete stays as it is (C11 6.7.2.3p1), and none of the structs is gone
 pub record Grows (old new : Context) : Type 0 where
   pub types : (number : ℕ) (t : CType) → slice_get old.types number ≡ Some t → slice_get new.types number ≡ Some t
+  pub structs : (number : ℕ) (s : StructDef) → slice_get old.structs number ≡ Some s → s.complete ≡ true → slice_get new.structs number ≡ Some s
+  pub longer : length old.structs ≤ length new.structs
   pub signatures : (number : ℕ) (s : Signature) → slice_get old.environment.signatures number ≡ Some s → slice_get new.environment.signatures number ≡ Some s
 
 -- only types got numbers

@@ -1,4 +1,4 @@
--- The other direction: where statements and braces have one outcome each, whatever is found of an expression is what was told of it.
+-- The other direction: where statements have one outcome each, whatever is found of an expression is what was told of it.
 use Rattle.std.specs.Prelude.{◌≡◌, ◌++◌, List, map}
 use Rattle.cbase.specs.declared.abi.Abi.{Abi}
 use Rattle.cbase.specs.declared.tree.expr.Expr.{Expr}

@@ -1,13 +1,15 @@
 -- What code finds of a part of a tree, and what it means by it.
 use Rattle.std.specs.Prelude.{◌<◌, ℕ, List, [], ◌∷◌, map, All}
 use Rattle.cbase.specs.declared.ctype.CType.{CType}
+use Rattle.cbase.specs.declared.structs.Field.{Field}
+use Rattle.ctypes.specs.declared.structs.Member.{Member}
 use Rattle.typing.specs.declared.size.Size.{Size}
 use Rattle.typing.specs.Known.{Known}
 use Rattle.typing.specs.NamedTypes.{NamedType}
 use Rattle.typing.specs.Told.{Told, OperandIs, TypeIs, IndexIs, SizeIs, ValueIs, NoFunction}
 use Rattle.expressions.specs.declared.known.Known.{Known as KnownByNumber}
 use Rattle.expressions.specs.declared.named_type.NamedType.{NamedType as NamedByNumber}
-use Rattle.expressions.specs.Numbers.{Numbering, known_at, named_at}
+use Rattle.expressions.specs.Numbers.{Numbering, known_at, named_at, fields_at}
 
 -- how what is kept with numbers is read: what it means, and that the numbers in it are those of types among so many
 pub record Reading (B A : Type 0) : Type 1 where
@@ -76,6 +78,18 @@ a_size = record { means = λ n size. SizeIs size; IsBelow = λ count size. Unit 
 
 abbrev pub some_sizes : List Size → Reading (Unit {0}) (List Size)
 some_sizes sizes = record { means = λ n told. sizes; IsBelow = λ count told. Unit {0} }
+
+-- the members of a struct, which are kept in a list
+abbrev pub some_members : List Member → Reading (Unit {0}) (List Field)
+some_members members = record { means = λ n told. fields_at n members; IsBelow = λ count told. All (λ member. member.ctype < count) members }
+
+-- the value of a constant of an enum, as the bits of an int
+abbrev pub some_bits : Reading ℕ ℕ
+some_bits = record { means = λ n bits. bits; IsBelow = λ count bits. Unit {0} }
+
+-- the size of a member
+abbrev pub a_member_size : Reading Size Size
+a_member_size = record { means = λ n size. size; IsBelow = λ count size. Unit {0} }
 
 -- the type of a statement expression's value
 abbrev pub a_value_type : Reading ℕ CType

@@ -3,11 +3,15 @@ pub mod Blame
 pub mod Constants
 pub mod Context
 pub mod Counted
+pub mod Declaring
+pub mod Enumerated
 pub mod Exact
 pub mod Found
+pub mod Members
 pub mod Names
 pub mod Nests
 pub mod Numbers
+pub mod Opened
 pub mod Operated
 pub mod Others
 pub mod Pointers

@@ -1,19 +1,19 @@
 -- What the walk over the parts that lie in a tree does, of which the rules of each form are made.
 use denote.Ref.{MutBor}
-use Rattle.std.specs.Prelude.{ℕ, ◌+◌, ◌≤◌, Result, IfOk}
+use Rattle.std.specs.Prelude.{ℕ, ◌+◌, ◌≤◌, Some, Result, IfOk}
 use Rattle.cbase.specs.declared.abi.Abi.{Abi}
 use Rattle.cbase.specs.declared.no_memory.NoMemory.{NoMemory}
 use Rattle.cbase.specs.declared.tree.expr.Expr.{Expr}
-use Rattle.cbase.specs.declared.tree.expr.ExprForm.TheViews.{out-TypeSpec}
-use Rattle.cbase.specs.declared.tree.spec.TypeSpec.{TypeSpec}
+use Rattle.cbase.specs.declared.tree.expr.ExprForm.TheOpen.{Struct, Enum}
+use Rattle.cbase.specs.declared.tree.spec.TypeSpec.TheVariants.{Struct as StructSpec, Enum as EnumSpec}
 use Rattle.cbase.specs.declared.tree.stmt.Stmt.{Stmt}
 use Rattle.ctrees.specs.Levels.{expr_levels, stmt_levels, spec_levels, type_name_levels}
 use Rattle.typing.specs.NamedTypes.{NamedType}
-use Rattle.typing.specs.Typing.{ExpressionIs, NameOfTypeIs}
+use Rattle.typing.specs.Typing.{ExpressionIs, NameOfTypeIs, WordsAre}
 use Rattle.expressions.specs.declared.found.Found.{Found}
 use Rattle.expressions.specs.declared.found.Found.TheVariants.{Passes, Refused}
 use Rattle.expressions.specs.declared.part.Part.{Part}
-use Rattle.expressions.specs.declared.part.Part.TheVariants.{Expression, TypeName as NameOfType, Statement, Braces}
+use Rattle.expressions.specs.declared.part.Part.TheVariants.{Expression, TypeName as NameOfType, Statement, Members, Enumerators}
 use Rattle.expressions.specs.declared.part.Told.{Told}
 use Rattle.expressions.specs.declared.part.Told.TheVariants as told
 use Rattle.expressions.specs.Context.{Context}
@@ -26,7 +26,8 @@ abbrev pub part_levels : Part → ℕ
 part_levels (Expression expr) = expr_levels expr.now
 part_levels (NameOfType name) = type_name_levels name.now + 1
 part_levels (Statement stmt) = stmt_levels stmt.now
-part_levels (Braces spec) = spec_levels spec.now
+part_levels (Members name fields) = spec_levels (StructSpec name.now (Some fields.now))
+part_levels (Enumerators name values) = spec_levels (EnumSpec name.now (Some values.now))
 
 -- what is told of an expression, of a type name, of a statement and of a struct or an enum with braces
 abbrev pub IsToldExpression : Others → Abi → Expr → Context → Context → Found Told → Type 0
@@ -47,9 +48,6 @@ IsToldStatement tells old new (Passes (told.TypeName named)) = ⊥
 IsToldStatement tells old new (Passes told.Statement) = Walked tells nothing old new (Passes tt)
 IsToldStatement tells old new (Refused first) = Walked tells nothing old new (Refused first)
 
-abbrev pub SaysBraces : Others → TypeSpec → Tells NamedType
-SaysBraces others spec n before outcome after = others.Braces n before (out-TypeSpec spec) outcome after
-
 abbrev pub SaysStatement : Others → Stmt → Tells (Unit {0})
 SaysStatement others stmt n before outcome after = others.Statement n before stmt outcome after
 
@@ -57,7 +55,8 @@ abbrev pub IsTold : Others → Abi → Part → Context → Context → Found To
 IsTold others abi (Expression expr) old new found = IsToldExpression others abi expr.now old new found
 IsTold others abi (NameOfType name) old new found = IsToldType (Says others abi (NameOfTypeIs name.now)) old new found
 IsTold others abi (Statement stmt) old new found = IsToldStatement (SaysStatement others stmt.now) old new found
-IsTold others abi (Braces spec) old new found = IsToldType (SaysBraces others spec.now) old new found
+IsTold others abi (Members name fields) old new found = IsToldType (Says others abi (WordsAre (Struct name.now (Some fields.now)))) old new found
+IsTold others abi (Enumerators name values) old new found = IsToldType (Says others abi (WordsAre (Enum name.now (Some values.now)))) old new found
 
 -- a function that walks over parts of at most `depth` levels
 pub record Nests (others : Others) (abi : Abi) (depth : ℕ) (pre : MutBor Context → ℕ → Part → Type 0)

@@ -4,7 +4,9 @@
 -- meant by a number now and later alike.
 use Rattle.std.specs.Prelude.{◌<◌, ℕ, Bool, true, false, List, map, Option, None, Some, option_map}
 use Rattle.cbase.specs.declared.ctype.CType.{CType}
+use Rattle.cbase.specs.declared.structs.Field.{Field}
 use Rattle.cbase.specs.declared.structs.StructDef.{StructDef}
+use Rattle.ctypes.specs.declared.structs.Member.{Member}
 use Rattle.environment.specs.declared.entity.DeclaredType.{DeclaredType}
 use Rattle.environment.specs.declared.entity.DeclaredType.TheVariants.{Whole, UnsizedArray}
 use Rattle.environment.specs.declared.entity.Lifetime.{Lifetime}
@@ -20,7 +22,7 @@ use Rattle.operators.specs.declared.operand.Operand.{Operand as OperandByNumber}
 use Rattle.operators.specs.Broken.{Judgement, Typed, Breaks}
 use Rattle.operators.specs.Kinds.{kind_of}
 use Rattle.operators.specs.Operands.{Operand}
-use Rattle.typing.specs.Entities.{Entity, ObjectIs, FunctionIs, EnumeratorIs, TypedefIs, FunctionEntity, Tag, StructTag, EnumTag}
+use Rattle.typing.specs.Entities.{Entity, ObjectIs, FunctionIs, EnumeratorIs, TypedefIs, FunctionEntity, Tag, StructTag, EnumTag, TagHere, StructHere, EnumHere}
 use Rattle.typing.specs.Known.{Known}
 use Rattle.typing.specs.NamedTypes.{NamedType}
 use Rattle.typing.specs.Outcomes.{Handed}
@@ -63,6 +65,11 @@ abbrev pub tag_at : TagByNumber → Tag
 tag_at (Struct number) = StructTag number
 tag_at (Enum listed) = EnumTag
 
+-- what a tag of the innermost scope stands for
+abbrev pub tag_here_at : TagByNumber → TagHere
+tag_here_at (Struct number) = StructHere number
+tag_here_at (Enum listed) = EnumHere listed
+
 -- what is known of an expression, and what is handed on of it
 abbrev pub known_at : Numbering → KnownByNumber → Known
 known_at n known = record {
@@ -83,6 +90,13 @@ row_of number known = record { number = number; ctype = known.ctype; stands = kn
 -- a type with what is found of it
 abbrev pub named_at : Numbering → NamedByNumber → NamedType
 named_at n named = record { ctype = n.ctype named.ctype; found = named.found }
+
+-- the members of a struct
+abbrev pub field_at : Numbering → Member → Field
+field_at n member = record { name = member.name; ctype = n.ctype member.ctype }
+
+abbrev pub fields_at : Numbering → List Member → List Field
+fields_at n members = map (field_at n) members
 
 -- an operand of an operator
 abbrev pub operand_at : Numbering → List StructDef → OperandByNumber → Operand

@@ -44,6 +44,10 @@ Walked tells reading old new (FoundRefused first) = Stopped tells old new first
 abbrev pub Says : {A : Type 0} → Others → Abi → (Outcome A → Saying) → Tells A
 Says others abi say n before outcome after = Finds (language others abi n) before (say outcome) after
 
+-- one of which is said what numbers stand for
+abbrev pub SaysBy : {A : Type 0} → Others → Abi → (Numbering → Outcome A → Saying) → Tells A
+SaysBy others abi say n before outcome after = Finds (language others abi n) before (say n outcome) after
+
 -- an expression by its form
 abbrev pub IsAtNode : (l : Language) → l.Environment → ℕ → Place → Form → Outcome (List Told) → Outcome Known → Type 0
 IsAtNode l after number place form (Passes told handed) outcome = AtNode l after number place handed form told outcome

@@ -3,7 +3,7 @@ use std::marker::PhantomData;
 
 /// The rules of expressions take the walk over what lies in a tree as a parameter, so that each is proved by itself.
 ///
-/// `R` has the rules of statements and of braces.
+/// `R` has the rules of statements.
 #[derive(Clone, Copy)]
 pub struct Checker<R, F> {
     /// The rules that are given.

@@ -7,6 +7,7 @@ mod interning;
 mod looking;
 mod measures;
 mod members;
+mod opening;
 mod operating;
 
 use crate::handed_row::HandedRow;
@@ -19,9 +20,11 @@ use std::marker::Model;
 /// What is known at a place of a text: types and structs by their numbers, what names and tags are declared as, and what was handed on of the
 /// expressions before it.
 ///
-/// Every number of a type that a name stands for, and every number of a signature, is one of the context.
+/// Every number of a type that a name stands for, and every number of a signature, is one of the context. It is seen as its fields, less the allocator.
 #[derive(Drop)]
 pub struct Context {
+    /// Where the memory for what it keeps comes from. It is not seen.
+    pub alloc: Global,
     types: Types,
     environment: Environment,
     handed: List<HandedRow>,
@@ -49,6 +52,7 @@ impl Context {
         ensures { result ≡ record { types = []; structs = []; environment = nothing_declared; handed = [] } }
     {
         Context {
+            alloc,
             types: Types::new(alloc),
             environment: Environment::new(alloc),
             handed: List::new(alloc),

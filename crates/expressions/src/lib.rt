@@ -1,7 +1,7 @@
 //! Which type and value an expression of C has where it stands, or what is refused in it first (C11 6.3, 6.5 and 6.6), and what a type name is (6.7.7).
 //!
-//! It walks over trees by reference, and asks a context what names, tags and numbers of types stand for. The rules of statements and of the
-//! braces of structs and enums are handed in. It knows nothing of tokens or of the text.
+//! It walks over trees by reference, and asks a context what names, tags and numbers of types stand for. The rules of statements are handed in. It
+//! knows nothing of tokens or of the text.
 #![tactic(auto)]
 
 mod checker;
@@ -9,6 +9,7 @@ mod context;
 mod found;
 mod handed_row;
 mod known;
+mod members;
 mod named_type;
 mod nodes;
 mod part;

@@ -6,6 +6,7 @@ pub(crate) mod calling;
 pub(crate) mod casting;
 pub(crate) mod choosing;
 pub(crate) mod constant;
+pub(crate) mod declared_members;
 pub(crate) mod finishing;
 pub(crate) mod first;
 pub(crate) mod members;

@@ -1,6 +1,6 @@
 use crate::known::Known;
 use crate::named_type::NamedType;
-use cbase::{Expr, Stmt, TypeName, TypeSpec};
+use cbase::{Enumerator, Expr, FieldDecl, Identifier, List, Stmt, TypeName};
 
 /// A part of a tree that lies in another one.
 #[derive(Clone, Copy)]
@@ -11,8 +11,10 @@ pub enum Part<'a> {
     TypeName(&'a TypeName),
     /// A statement or a declaration in a block (C11 6.8), which is not the last expression of a statement expression.
     Statement(&'a Stmt),
-    /// A struct or an enum with braces (C11 6.7.2.1, 6.7.2.2).
-    Braces(&'a TypeSpec),
+    /// A struct with its members in braces (C11 6.7.2.1): its tag, where it has one, and the declarations of the members.
+    Members(&'a Option<Identifier>, &'a List<FieldDecl>),
+    /// An enum with its constants in braces (C11 6.7.2.2): its tag, where it has one, and the constants.
+    Enumerators(&'a Option<Identifier>, &'a List<Enumerator>),
 }
 
 /// What is told of a part that passes.

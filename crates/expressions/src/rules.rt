@@ -1,4 +1,4 @@
-/// The rules of statements and of the braces of structs and enums, which are given. No value is wanted of it.
+/// The rules of statements, which are given. No value is wanted of it.
 pub trait Rules {
     ghost use Rattle.expressions.specs.Others.{Others};
 

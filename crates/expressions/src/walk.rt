@@ -3,10 +3,12 @@
 mod asking;
 mod blocks;
 mod calls;
+mod enumerators;
 mod expressions;
 mod forms;
 mod pieces;
 mod several;
 mod sizes;
+mod struct_members;
 mod type_names;
 mod type_words;

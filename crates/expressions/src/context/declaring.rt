@@ -1,4 +1,4 @@
-ghost use Rattle.std.specs.Prelude.{◌≡◌, ◌<◌, ◌++◌, ◌∷◌, [], ℕ, length, All, IfOk, OnErr, OnOk, if◌then◌else◌};
+ghost use Rattle.std.specs.Prelude.{◌≡◌, ◌<◌, ◌++◌, ◌∷◌, [], ℕ, length, true, All, IfOk, OnErr, OnOk, if◌then◌else◌};
 ghost use Rattle.cbase.specs.Completing.{fieldless, may_complete, completed};
 ghost use Rattle.ctypes.specs.Structs.{fields_of};
 ghost use Rattle.environment.specs.Bounds.{EntityBelow, SignatureBelow};
@@ -48,6 +48,25 @@ impl Context {
         self.environment
             .declare_tag(alloc, name, Tag::Struct(number))?;
         Ok(number)
+    }
+
+    /// Puts a struct without members and without a tag behind the others, and gives its number (C11 6.7.2.1p8). Where memory is wanting all stays as
+    /// it was.
+    pub fn add_struct(&mut self, alloc: Global) -> Result<u32, NoMemory>
+        ensures number { IfOk result (λ number. number ≡ length self.old.structs) }
+        ensures ok { OnOk result (self.new ≡ record self.old { structs = self.old.structs ++ fieldless [] ∷ [] }) }
+        ensures err { OnErr result (self.new ≡ self.old) }
+    {
+        self.types.declare(alloc, Text::new(alloc))
+    }
+
+    /// Declares a tag of an enum whose constants follow, in the innermost scope (C11 6.7.2.2). Where memory is wanting all stays as it was.
+    pub fn list_enum(&mut self, alloc: Global, name: &[u8]) -> Result<(), NoMemory>
+        ensures ok { OnOk result (self.new ≡ record self.old { environment = tag_declared name.now (Enum true) self.old.environment }) }
+        ensures err { OnErr result (self.new ≡ self.old) }
+    {
+        self.environment
+            .declare_tag(alloc, name, Tag::Enum { listed: true })
     }
 
     /// Declares a tag of an enum in the innermost scope (C11 6.7.2.3). Where memory is wanting all stays as it was.

@@ -54,8 +54,9 @@ impl Context {
         self.types.array_of(item, count)
     }
 
-    /// The type of a value of the type of that number, in which an array is a pointer to its first item (C11 6.3.2.1p3).
-    pub(crate) fn value_type(&mut self, number: u32) -> Result<u32, NoMemory>
+    /// The type of a value of the type of that number, in which an array is a pointer to its first item (C11 6.3.2.1p3). A parameter that is declared with
+    /// that type has it (6.7.6.3p7).
+    pub fn value_type(&mut self, number: u32) -> Result<u32, NoMemory>
         requires { number < length self.old.types }
         ensures { IfOk result (λ value. Numbers (λ n. value_type (kind_of self.old.structs (n.ctype number)) (n.ctype number)) self.old self.new value) }
     {

@@ -1,8 +1,10 @@
-ghost use Rattle.std.specs.Prelude.{◌≡◌, ◌<◌, ℕ, length, Some, IfSome, slice_get};
+ghost use Rattle.std.specs.Prelude.{◌≡◌, ◌<◌, ℕ, length, Some, IfSome, is_some, slice_get};
+ghost use Rattle.cbase.specs.Completing.{is_open};
 ghost use Rattle.ctypes.specs.Table.{type_at, type_of, NamesBelow};
 ghost use Rattle.environment.specs.Bounds.{EntityBelow, SignatureBelow};
 ghost use Rattle.environment.specs.Environment.{name_found, tag_found};
-ghost use Rattle.environment.specs.declared.entity.TagForm.TheVariants.{Mentioned};
+ghost use Rattle.environment.specs.Scopes.{found_here};
+ghost use Rattle.environment.specs.declared.entity.TagForm.TheVariants.{Declared, Mentioned};
 ghost use Rattle.expressions.specs.Context.{Agrees};
 ghost use Rattle.expressions.specs.Numbers.{Numbering};
 
@@ -33,6 +35,27 @@ impl Context {
         ensures { result ≡ tag_found Mentioned name.now self.now.environment }
     {
         self.environment.tag(TagForm::Mentioned, name)
+    }
+
+    /// What a tag stands for by a declaration of the innermost scope (C11 6.7.2.3p4-7).
+    pub fn tag_here(&self, name: &[u8]) -> Option<Tag>
+        ensures { result ≡ tag_found Declared name.now self.now.environment }
+    {
+        self.environment.tag(TagForm::Declared, name)
+    }
+
+    /// Whether the innermost scope declares that name (C11 6.7p3).
+    pub fn is_declared_here(&self, name: &[u8]) -> bool
+        ensures { result ≡ is_some (found_here name.now self.now.environment.names) }
+    {
+        self.environment.binding_here(name).is_some()
+    }
+
+    /// Whether there is a struct of that number whose members are to be given yet (C11 6.7.2.1p8).
+    pub fn is_open(&self, number: u32) -> bool
+        ensures { result ≡ is_open (slice_get self.now.structs number) }
+    {
+        self.types.is_open(number)
     }
 }
 

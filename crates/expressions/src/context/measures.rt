@@ -1,5 +1,9 @@
-ghost use Rattle.std.specs.Prelude.{◌≡◌, ◌<◌, ℕ, length, IfSome};
+ghost use Rattle.std.specs.Prelude.{◌≡◌, ◌<◌, ℕ, length, option_map, IfSome};
 ghost use Rattle.cbase.specs.declared.abi.Abi.{Abi};
+ghost use Rattle.cbase.specs.declared.abi.Abi.TheVariants.{Lp64};
+ghost use Rattle.cbase.specs.Kept.{capped, IsSmall};
+ghost use Rattle.cbase.specs.Layout.{layout_of};
+ghost use Rattle.ctypes.specs.Table.{type_at};
 ghost use Rattle.operators.specs.Kinds.{Struct, kind_of, integer_in, has_size};
 ghost use Rattle.typing.specs.Calls.{is_struct};
 ghost use Rattle.typing.specs.Idiom.{at_most, item_bytes, offset_in_struct, member_offset};
@@ -9,7 +13,7 @@ ghost use Rattle.expressions.specs.Context.{Agrees};
 ghost use Rattle.expressions.specs.Numbers.{Numbering};
 
 use crate::context::Context;
-use cbase::Extent;
+use cbase::{Extent, Layout};
 use ctypes::Shape;
 use operators::{IntegerType, integer_type};
 
@@ -31,6 +35,15 @@ impl Context {
         ensures { (n : Numbering) (abi : Abi) → Agrees n self.now → result ≡ size_in abi self.now.structs (n.ctype number) }
     {
         self.types.size(number)
+    }
+
+    /// The layout of the type of that number, whatever the data layout, where it has a size (C11 6.5.3.4, 6.2.8).
+    pub(crate) fn layout(&self, number: u32) -> Option<Layout>
+        requires { number < length self.now.types }
+        ensures value { result ≡ option_map capped (layout_of Lp64 self.now.structs (type_at self.now.types number)) }
+        ensures small { IfSome result IsSmall }
+    {
+        self.types.layout(number)
     }
 
     /// Whether the type of that number is complete (C11 6.2.5p1).

@@ -1,8 +1,10 @@
-ghost use Rattle.std.specs.Prelude.{◌≤◌, ◌+◌, ℕ, IfOk};
+ghost use Rattle.std.specs.Prelude.{◌≤◌, ◌+◌, ℕ, Some, IfOk};
+ghost use Rattle.cbase.specs.declared.tree.expr.ExprForm.TheOpen.{Struct, Enum};
+ghost use Rattle.cbase.specs.declared.tree.spec.TypeSpec.TheVariants.{Struct as StructSpec, Enum as EnumSpec};
 ghost use Rattle.ctrees.specs.Levels.{expr_levels, type_name_levels, stmt_levels, spec_levels};
-ghost use Rattle.typing.specs.Typing.{ExpressionIs, NameOfTypeIs};
+ghost use Rattle.typing.specs.Typing.{ExpressionIs, NameOfTypeIs, WordsAre};
 ghost use Rattle.expressions.specs.Found.{an_expression, a_type, nothing};
-ghost use Rattle.expressions.specs.Nests.{Nests, SaysBraces, SaysStatement};
+ghost use Rattle.expressions.specs.Nests.{Nests, SaysStatement};
 ghost use Rattle.expressions.specs.Walked.{Walked, Says};
 
 use crate::checker::Checker;
@@ -12,7 +14,7 @@ use crate::known::Known;
 use crate::named_type::NamedType;
 use crate::part::{Part, Told};
 use crate::rules::Rules;
-use cbase::{Expr, NoMemory, Stmt, TypeName, TypeSpec};
+use cbase::{Enumerator, Expr, FieldDecl, Identifier, List, NoMemory, Stmt, TypeName};
 
 impl<R: Rules, F: Fn(&mut Context, u32, Part<'_>) -> Result<Found<Told>, NoMemory>> Checker<R, F> {
     /// What is found of an expression that lies in a tree.
@@ -49,17 +51,36 @@ impl<R: Rules, F: Fn(&mut Context, u32, Part<'_>) -> Result<Found<Told>, NoMemor
         }
     }
 
-    /// What is found of a struct or an enum with braces.
-    pub(crate) fn ask_braces(
+    /// What is found of a struct with its members in braces.
+    pub(crate) fn ask_members(
         &self,
         context: &mut Context,
-        spec: &TypeSpec,
+        name: &Option<Identifier>,
+        fields: &List<FieldDecl>,
     ) -> Result<Found<NamedType>, NoMemory>
         requires nests { Nests R.others self.now.abi self.now.depth (F.pre self.now.inner) (F.post self.now.inner) }
-        requires deep { spec_levels spec.now ≤ self.now.depth }
-        ensures { IfOk result (λ found. Walked (SaysBraces R.others spec.now) a_type context.old context.new found) }
+        requires deep { spec_levels (StructSpec name.now (Some fields.now)) ≤ self.now.depth }
+        ensures { IfOk result (λ found. Walked (Says R.others self.now.abi (λ o. WordsAre (Struct name.now (Some fields.now)) o)) a_type context.old context.new found) }
     {
-        match (self.inner)(context, self.depth, Part::Braces(spec))? {
+        match (self.inner)(context, self.depth, Part::Members(name, fields))? {
+            Found::Passes(Told::TypeName(named)) => Ok(Found::Passes(named)),
+            Found::Passes(_) => unreachable!(),
+            Found::Refused(fault) => Ok(Found::Refused(fault)),
+        }
+    }
+
+    /// What is found of an enum with its constants in braces.
+    pub(crate) fn ask_enumerators(
+        &self,
+        context: &mut Context,
+        name: &Option<Identifier>,
+        values: &List<Enumerator>,
+    ) -> Result<Found<NamedType>, NoMemory>
+        requires nests { Nests R.others self.now.abi self.now.depth (F.pre self.now.inner) (F.post self.now.inner) }
+        requires deep { spec_levels (EnumSpec name.now (Some values.now)) ≤ self.now.depth }
+        ensures { IfOk result (λ found. Walked (Says R.others self.now.abi (λ o. WordsAre (Enum name.now (Some values.now)) o)) a_type context.old context.new found) }
+    {
+        match (self.inner)(context, self.depth, Part::Enumerators(name, values))? {
             Found::Passes(Told::TypeName(named)) => Ok(Found::Passes(named)),
             Found::Passes(_) => unreachable!(),
             Found::Refused(fault) => Ok(Found::Refused(fault)),

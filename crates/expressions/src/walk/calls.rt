@@ -1,4 +1,4 @@
-ghost use Rattle.std.specs.Prelude.{◌≡◌, ◌<◌, ◌≤◌, [], ℕ, Bool, List, All, Some, IfOk, IfSome, IfNone, length};
+ghost use Rattle.std.specs.Prelude.{◌≡◌, ◌<◌, ◌≤◌, ◌||◌, [], ℕ, Bool, List, All, Some, IfOk, IfSome, IfNone, length};
 ghost use Rattle.cbase.specs.declared.tree.expr.ExprForm.TheOpen.{Call};
 ghost use Rattle.ctrees.specs.Levels.{expr_levels};
 ghost use Rattle.environment.specs.Environment.{name_found};
@@ -142,11 +142,8 @@ fn called_function(
     ensures { IfOk result (λ found. Settled (λ n. function_faults callee.now.place (function_at n (n.signature function.entry.signature) function.entry.defined function.entry.built_in)) (λ n. called_of (function_at n (n.signature function.entry.signature) function.entry.defined function.entry.built_in)) callee.now.number context.old context.new found) }
 {
     let result = context.result_of(function.signature);
-    let broken = unless(
-        function.defined || function.built_in,
-        callee.place,
-        Broken::Construct(12),
-    );
+    let is_there = is_there(function.defined, function.built_in);
+    let broken = unless(is_there, callee.place, Broken::Construct(12));
     let known = Known {
         stands: Some(Entity::Function {
             signature: function.signature,
@@ -156,6 +153,13 @@ fn called_function(
         ..Known::plain(result)
     };
     settle(context, callee.number, broken, known)
+}
+
+/// Whether a function has a definition, in the text or built in.
+fn is_there(defined: bool, built_in: bool) -> bool
+    ensures { result ≡ (defined || built_in) }
+{
+    defined || built_in
 }
 
 /// The function that a callee names, if it names one.

@@ -87,7 +87,7 @@ impl<R: Rules, F: Fn(&mut Context, u32, Part<'_>) -> Result<Found<Told>, NoMemor
         requires arg { expr_levels arg.now ≤ self.now.depth }
         ensures { IfOk result (λ found. Walked (SaysForm R.others self.now.abi node.number node.place (Unary Address arg.now)) an_expression context.old context.new found) }
     {
-        match self.one_unloaded(context, arg)? {
+        match self.unloaded(context, arg)? {
             Found::Passes(a) => address_node(context, node, a),
             Found::Refused(fault) => Ok(Found::Refused(fault)),
         }
@@ -104,7 +104,7 @@ impl<R: Rules, F: Fn(&mut Context, u32, Part<'_>) -> Result<Found<Told>, NoMemor
         requires arg { expr_levels arg.now ≤ self.now.depth }
         ensures { IfOk result (λ found. Walked (SaysForm R.others self.now.abi node.number node.place (Unary Follow arg.now)) an_expression context.old context.new found) }
     {
-        match self.one(context, arg)? {
+        match self.loaded(context, arg)? {
             Found::Passes(a) => indirection_node(context, node, a),
             Found::Refused(fault) => Ok(Found::Refused(fault)),
         }
@@ -123,7 +123,7 @@ impl<R: Rules, F: Fn(&mut Context, u32, Part<'_>) -> Result<Found<Told>, NoMemor
         requires arg { expr_levels arg.now ≤ self.now.depth }
         ensures { IfOk result (λ found. Walked (SaysForm R.others self.now.abi node.number node.place (Unary op arg.now)) an_expression context.old context.new found) }
     {
-        match self.one(context, arg)? {
+        match self.loaded(context, arg)? {
             Found::Passes(a) => unary_node(context, node, op, a),
             Found::Refused(fault) => Ok(Found::Refused(fault)),
         }
@@ -199,7 +199,7 @@ impl<R: Rules, F: Fn(&mut Context, u32, Part<'_>) -> Result<Found<Told>, NoMemor
         requires arg { expr_levels arg.now ≤ self.now.depth }
         ensures { (up after : Bool) → IfOk result (λ found. Walked (SaysForm R.others self.now.abi node.number node.place (Count up after arg.now)) an_expression context.old context.new found) }
     {
-        match self.one(context, arg)? {
+        match self.loaded(context, arg)? {
             Found::Passes(a) => counting_node(context, node, a),
             Found::Refused(fault) => Ok(Found::Refused(fault)),
         }
@@ -257,7 +257,7 @@ impl<R: Rules, F: Fn(&mut Context, u32, Part<'_>) -> Result<Found<Told>, NoMemor
         requires arg { expr_levels arg.now ≤ self.now.depth }
         ensures { IfOk result (λ found. Walked (SaysForm R.others self.now.abi node.number node.place (SizeOf arg.now)) an_expression context.old context.new found) }
     {
-        match self.one_unloaded(context, arg)? {
+        match self.unloaded(context, arg)? {
             Found::Passes(a) => size_node(context, node, a),
             Found::Refused(fault) => Ok(Found::Refused(fault)),
         }
@@ -275,7 +275,7 @@ impl<R: Rules, F: Fn(&mut Context, u32, Part<'_>) -> Result<Found<Told>, NoMemor
         requires to { type_name_levels to.now ≤ self.now.depth }
         ensures { IfOk result (λ found. Walked (SaysForm R.others self.now.abi node.number node.place (SizeOfType to.now)) an_expression context.old context.new found) }
     {
-        match self.one_type(alloc, context, to)? {
+        match self.type_name(alloc, context, to)? {
             Found::Passes(named) => type_size_node(context, node, named),
             Found::Refused(fault) => Ok(Found::Refused(fault)),
         }
@@ -352,7 +352,7 @@ impl<R: Rules, F: Fn(&mut Context, u32, Part<'_>) -> Result<Found<Told>, NoMemor
         requires base { expr_levels base.now ≤ self.now.depth }
         ensures { IfOk result (λ found. Walked (SaysForm R.others self.now.abi node.number node.place (ExprForm::Member base.now name.now false)) an_expression context.old context.new found) }
     {
-        match self.one_unloaded(context, base)? {
+        match self.unloaded(context, base)? {
             Found::Passes(a) => member_node(context, node, a, name),
             Found::Refused(fault) => Ok(Found::Refused(fault)),
         }
@@ -370,7 +370,7 @@ impl<R: Rules, F: Fn(&mut Context, u32, Part<'_>) -> Result<Found<Told>, NoMemor
         requires base { expr_levels base.now ≤ self.now.depth }
         ensures { IfOk result (λ found. Walked (SaysForm R.others self.now.abi node.number node.place (ExprForm::Member base.now name.now true)) an_expression context.old context.new found) }
     {
-        match self.one(context, base)? {
+        match self.loaded(context, base)? {
             Found::Passes(a) => pointed_member_node(context, node, a, name),
             Found::Refused(fault) => Ok(Found::Refused(fault)),
         }

@@ -1,9 +1,9 @@
 ghost use Rattle.std.specs.Prelude.{◌≡◌, ◌≤◌, ◌∷◌, [], ℕ, length, map, All, IfOk};
 ghost use Rattle.ctrees.specs.Levels.{expr_levels, type_name_levels, part_levels};
-ghost use Rattle.typing.specs.Pieces.{Loaded, Unloaded, OfType, indices_in};
+ghost use Rattle.typing.specs.Pieces.{Loaded, OfType, indices_in};
 ghost use Rattle.typing.specs.Typing.{PiecesAre};
 ghost use Rattle.expressions.specs.Counted.{IsCounted};
-ghost use Rattle.expressions.specs.Found.{one_operand, two_operands, three_operands, some_operands, one_type, a_type_and_operand, some_indices, a_type_and_indices};
+ghost use Rattle.expressions.specs.Found.{two_operands, three_operands, some_operands, a_type_and_operand, some_indices, a_type_and_indices};
 ghost use Rattle.expressions.specs.Nests.{Nests};
 ghost use Rattle.expressions.specs.Walked.{Walked, Says};
 
@@ -18,28 +18,6 @@ use cbase::{Expr, NoMemory, TypeName};
 use std::alloc::Global;
 
 impl<R: Rules, F: Fn(&mut Context, u32, Part<'_>) -> Result<Found<Told>, NoMemory>> Checker<R, F> {
-    /// One operand whose value is taken.
-    pub(crate) fn one(&self, context: &mut Context, expr: &Expr) -> Result<Found<Known>, NoMemory>
-        requires nests { Nests R.others self.now.abi self.now.depth (F.pre self.now.inner) (F.post self.now.inner) }
-        requires deep { expr_levels expr.now ≤ self.now.depth }
-        ensures { IfOk result (λ found. Walked (Says R.others self.now.abi (λ o. PiecesAre (Loaded expr.now ∷ []) o)) one_operand context.old context.new found) }
-    {
-        self.loaded(context, expr)
-    }
-
-    /// One operand of which only the place or the type is asked.
-    pub(crate) fn one_unloaded(
-        &self,
-        context: &mut Context,
-        expr: &Expr,
-    ) -> Result<Found<Known>, NoMemory>
-        requires nests { Nests R.others self.now.abi self.now.depth (F.pre self.now.inner) (F.post self.now.inner) }
-        requires deep { expr_levels expr.now ≤ self.now.depth }
-        ensures { IfOk result (λ found. Walked (Says R.others self.now.abi (λ o. PiecesAre (Unloaded expr.now ∷ []) o)) one_operand context.old context.new found) }
-    {
-        self.unloaded(context, expr)
-    }
-
     /// Two operands.
     pub(crate) fn two(
         &self,
@@ -56,7 +34,7 @@ impl<R: Rules, F: Fn(&mut Context, u32, Part<'_>) -> Result<Found<Told>, NoMemor
             Found::Passes(known) => known,
             Found::Refused(fault) => return Ok(Found::Refused(fault)),
         };
-        match self.one(context, right)? {
+        match self.loaded(context, right)? {
             Found::Passes(b) => Ok(Found::Passes((a, b))),
             Found::Refused(fault) => Ok(Found::Refused(fault)),
         }
@@ -108,20 +86,6 @@ impl<R: Rules, F: Fn(&mut Context, u32, Part<'_>) -> Result<Found<Told>, NoMemor
         Ok(Found::Passes(()))
     }
 
-    /// A type name.
-    pub(crate) fn one_type(
-        &self,
-        alloc: Global,
-        context: &mut Context,
-        to: &TypeName,
-    ) -> Result<Found<NamedType>, NoMemory>
-        requires nests { Nests R.others self.now.abi self.now.depth (F.pre self.now.inner) (F.post self.now.inner) }
-        requires deep { type_name_levels to.now ≤ self.now.depth }
-        ensures { IfOk result (λ found. Walked (Says R.others self.now.abi (λ o. PiecesAre (OfType to.now ∷ []) o)) one_type context.old context.new found) }
-    {
-        self.type_name(alloc, context, to)
-    }
-
     /// A type name and an operand behind it.
     pub(crate) fn type_and_operand(
         &self,
@@ -139,7 +103,7 @@ impl<R: Rules, F: Fn(&mut Context, u32, Part<'_>) -> Result<Found<Told>, NoMemor
             Found::Passes(named) => named,
             Found::Refused(fault) => return Ok(Found::Refused(fault)),
         };
-        match self.one(context, arg)? {
+        match self.loaded(context, arg)? {
             Found::Passes(known) => Ok(Found::Passes((named, known))),
             Found::Refused(fault) => Ok(Found::Refused(fault)),
         }

@@ -73,7 +73,7 @@ impl<R: Rules, F: Fn(&mut Context, u32, Part<'_>) -> Result<Found<Told>, NoMemor
 }
 
 /// The type of stars and sizes behind another one, with the least of what is found of it.
-fn declare(
+pub(crate) fn declare(
     context: &mut Context,
     base: NamedType,
     stars: u32,

@@ -38,14 +38,14 @@ impl<R: Rules, F: Fn(&mut Context, u32, Part<'_>) -> Result<Found<Told>, NoMemor
             TypeSpec::Basic(basic) => self.basic(context, *basic),
             TypeSpec::Named(name) => self.typedef(context, name.as_slice()),
             TypeSpec::Struct { name, fields } => match fields {
-                Some(_) => self.ask_braces(context, spec),
+                Some(fields) => self.ask_members(context, name, fields),
                 None => match name {
                     Some(tag) => self.structure(alloc, context, tag),
                     None => self.nothing(context),
                 },
             },
             TypeSpec::Enum { name, values } => match values {
-                Some(_) => self.ask_braces(context, spec),
+                Some(values) => self.ask_enumerators(context, name, values),
                 None => match name {
                     Some(tag) => self.enumeration(alloc, context, tag),
                     None => self.nothing(context),

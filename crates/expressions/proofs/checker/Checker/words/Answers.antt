@@ -1,14 +1,16 @@
 -- The words of a type, by what they are.
+use Rattle.cbase.specs.declared.tree.expr.ExprForm.TheOpen.{Struct, Enum}
+use Rattle.std.proofs.Common.{Some}
 use Rattle.expressions.proofs.checker.Checker.words.Goals as goal
-use Rattle.expressions.proofs.TypeWords.{braced_struct, braced_enum, typeof_type, struct_layer, enum_layer, typeof_layer}
+use Rattle.expressions.proofs.TypeWords.{layered, typeof_type, struct_layer, enum_layer, typeof_layer}
 
 pub returns-in-Some : goal.returns-in-Some
-returns-in-Some g c = braced_struct g.R.Rules.others c.args.self.now.abi c.args.context.now c.ask_braces.new.context c.args.spec.now c.in-Struct.name c.in-Some.field-0 c.ask_braces.result
-    (struct_layer c.args.spec.now c.in-Struct.name c.in-Struct.fields c.in-Some.field-0 c.in-Struct.is c.in-Some.is) c.ask_braces.ensures
+returns-in-Some g c = layered g.R.Rules.others c.args.self.now.abi c.args.context.now c.ask_members.new.context c.args.spec.now (Struct c.in-Struct.name (Some c.in-Some.fields)) c.ask_members.result
+    (struct_layer c.args.spec.now c.in-Struct.name c.in-Struct.fields c.in-Some.fields c.in-Struct.is c.in-Some.is) c.ask_members.ensures
 
 pub returns-in-Some-values : goal.returns-in-Some-values
-returns-in-Some-values g c = braced_enum g.R.Rules.others c.args.self.now.abi c.args.context.now c.ask_braces-in-Some-values.new.context c.args.spec.now c.in-Enum.name c.in-Some-values.field-0
-    c.ask_braces-in-Some-values.result (enum_layer c.args.spec.now c.in-Enum.name c.in-Enum.values c.in-Some-values.field-0 c.in-Enum.is c.in-Some-values.is) c.ask_braces-in-Some-values.ensures
+returns-in-Some-values g c = layered g.R.Rules.others c.args.self.now.abi c.args.context.now c.ask_enumerators.new.context c.args.spec.now (Enum c.in-Enum.name (Some c.in-Some-values.values)) c.ask_enumerators.result
+    (enum_layer c.args.spec.now c.in-Enum.name c.in-Enum.values c.in-Some-values.values c.in-Enum.is c.in-Some-values.is) c.ask_enumerators.ensures
 
 pub returns-in-OfType : goal.returns-in-OfType
 returns-in-OfType g c = typeof_type g.R.Rules.others c.args.self.now.abi c.args.context.now c.ask_type_name.new.context c.args.spec.now c.in-OfType.to c.ask_type_name.result

@@ -3,7 +3,7 @@ use Rattle.cbase.specs.declared.tree.expr.ExprForm.TheOpen.{Part::Member as Name
 use Rattle.cbase.specs.declared.tree.expr.ExprForm.TheViews.{out-Part, outs-Part::Member, outs-At}
 use Rattle.cbase.specs.declared.tree.expr.Part.{Part}
 use Rattle.typing.specs.Forms.{Step}
-use Rattle.typing.specs.Paths.{Leads, LeadsFrom, FromItem}
+use Rattle.typing.specs.Paths.{Leads, LeadsFrom, FromItem, Stops}
 use Rattle.expressions.specs.Ways.{way_of}
 use Rattle.expressions.proofs.Stepping.{no_parts, first_and_rest}
 use Rattle.expressions.proofs.nodes.offsets.way_to.Goals as goal
@@ -22,6 +22,17 @@ returns-in-Ok c abi n agrees =
     in
     subst (λ (steps : List Step). LeadsFrom abi c.args.context.now.structs c.args.word (n.ctype c.args.ctype) steps c.args.indices.now (way_of c.leads.result)) whole
     (c.in-Ok.ensures.is abi n rest c.args.indices.now agrees (way_of c.leads.result) (c.leads.ensures abi n agrees))
+
+pub returns-in-Err : goal.returns-in-Err
+returns-in-Err c abi n agrees =
+    let path : List Part = c.args.path.now in
+    let rest : List Step = map out-Part (take (length path - 1) (drop 1 path)) in
+    let is : out-Part c.first-item.result ≡ NamedStep c.in-Member.name = ap out-Part c.in-Member.is ∙ outs-Part::Member c.in-Member.name in
+    let whole : NamedStep c.in-Member.name ∷ rest ≡ map out-Part path =
+    ap (λ (step : Step). step ∷ rest) (sym is) ∙ first_and_rest path c.first-item.result c.in-len1-up.len_at_least c.first-item.is
+    in
+    subst (λ (steps : List Step). LeadsFrom abi c.args.context.now.structs c.args.word (n.ctype c.args.ctype) steps c.args.indices.now (Stops c.in-Err.fault)) whole
+    (c.in-Err.ensures.is abi n rest c.args.indices.now agrees)
 
 pub returns-in-At : goal.returns-in-At
 returns-in-At c abi n agrees =

@@ -1,8 +1,0 @@
-use Rattle.std.proofs.Common.{refl}
-use Rattle.typing.specs.Pieces.{Unloaded}
-use Rattle.expressions.specs.Found.{an_operand, one_operand}
-use Rattle.expressions.proofs.Several.{one_result}
-use Rattle.expressions.proofs.checker.Checker.one_unloaded.Goals as goal
-
-pub returns : goal.returns
-returns g c = one_result g.R.Rules.others c.args.self.now.abi (Unloaded c.args.expr.now) an_operand one_operand _ _ c.unloaded.result (λ n one. refl) (λ count one below. below) c.unloaded.ensures

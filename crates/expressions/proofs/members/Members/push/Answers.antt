@@ -1,0 +1,9 @@
+-- One member more.
+use Rattle.expressions.proofs.MembersSoFar.{are_pushed}
+use Rattle.expressions.proofs.members.Members.push.Goals as goal
+
+pub returns-clause-are : goal.returns-clause-are
+returns-clause-are c context are below known =
+    let before = c.args.self.now in
+    are_pushed context before.list before.names before.layout are (record { name = c.in_ok-from_slice.field-0; ctype = c.args.ctype }) c.args.layout c.with_field-self.result c.args.name.now
+    c.push.new.self c.put.new.self c.in_ok-from_slice.ensures c.requires.member c.in_ok-push.ensures.ok c.in_ok-put.ensures.ok c.with_field-self.ensures below known

@@ -1,0 +1,155 @@
+ghost use Rattle.std.specs.Prelude.{◌≡◌, ◌≤◌, ◌<◌, ◌+◌, ℕ, Some, length, IfOk, IfSome, All};
+ghost use Rattle.cbase.specs.declared.tree.expr.ExprForm.TheOpen.{Enum};
+ghost use Rattle.cbase.specs.declared.tree.spec.TypeSpec.TheVariants.{Enum as EnumSpec};
+ghost use Rattle.ctrees.specs.Levels.{spec_levels, enumerator_levels, maybe_levels};
+ghost use Rattle.typing.specs.Typing.{WordsAre, EnumeratorsAre, ValueOfEnumerator};
+ghost use Rattle.operators.specs.declared.found.Broken.TheVariants.{Rule};
+ghost use Rattle.typing.specs.Faults.{fault};
+ghost use Rattle.expressions.specs.Enumerated.{IsEnumerated, IsIntValue, int_found};
+ghost use Rattle.expressions.specs.Found.{a_type, some_bits};
+ghost use Rattle.expressions.specs.Nests.{Nests};
+ghost use Rattle.expressions.specs.Walked.{Walked, Says};
+
+use crate::checker::Checker;
+use crate::context::Context;
+use crate::found::Found;
+use crate::known::Known;
+use crate::named_type::NamedType;
+use crate::part::{Part, Told};
+use crate::rules::Rules;
+use cbase::{Enumerator, Expr, Identifier, List, NoMemory, Place};
+use environment::Entity;
+use operators::Broken;
+use std::alloc::Global;
+use typing::Fault;
+use values::{int_value, next_value};
+
+impl<R: Rules, F: Fn(&mut Context, u32, Part<'_>) -> Result<Found<Told>, NoMemory>> Checker<R, F> {
+    /// What is found of an enum with its constants in braces (C11 6.7.2.2): its tag, and the constants in the order of the text, each of which is in scope
+    /// behind its value (6.2.1p7).
+    ///
+    /// Want of memory is the only error, and nothing is said of the context then.
+    pub fn enumerators(
+        &self,
+        alloc: Global,
+        context: &mut Context,
+        name: &Option<Identifier>,
+        values: &List<Enumerator>,
+    ) -> Result<Found<NamedType>, NoMemory>
+        requires nests { Nests R.others self.now.abi self.now.depth (F.pre self.now.inner) (F.post self.now.inner) }
+        requires deep { spec_levels (EnumSpec name.now (Some values.now)) ≤ self.now.depth + 1 }
+        ensures { IfOk result (λ found. Walked (Says R.others self.now.abi (λ o. WordsAre (Enum name.now (Some values.now)) o)) a_type context.old context.new found) }
+    {
+        match context.open_enum(alloc, name)? {
+            Some(fault) => Ok(Found::Refused(fault)),
+            None => self.listed(alloc, context, values.as_slice()),
+        }
+    }
+
+    /// The constants of an enum, of which the first is 0 where its value is not given (C11 6.7.2.2p3).
+    fn listed(
+        &self,
+        alloc: Global,
+        context: &mut Context,
+        values: &[Enumerator],
+    ) -> Result<Found<NamedType>, NoMemory>
+        requires nests { Nests R.others self.now.abi self.now.depth (F.pre self.now.inner) (F.post self.now.inner) }
+        requires deep { All (λ value. enumerator_levels value ≤ self.now.depth) values.now }
+        ensures { IfOk result (λ found. Walked (Says R.others self.now.abi (λ o. EnumeratorsAre (Some 0) values.now o)) a_type context.old context.new found) }
+    {
+        let mut next = Some(0);
+        for constant in values {
+            match self.enumerator(alloc, context, next, constant)? {
+                Found::Passes(bits) => next = next_value(bits),
+                Found::Refused(fault) => return Ok(Found::Refused(fault)),
+            }
+        }
+        Ok(Found::Passes(NamedType {
+            ctype: context.integer(4, true)?,
+            found: None,
+        }))
+    }
+
+    /// A constant of an enum, which has the value `next` where none is given. A name that its scope declares is rule 2 at it, also where it stands in its
+    /// own value (C11 6.7p3).
+    fn enumerator(
+        &self,
+        alloc: Global,
+        context: &mut Context,
+        next: Option<u32>,
+        constant: &Enumerator,
+    ) -> Result<Found<u32>, NoMemory>
+        requires nests { Nests R.others self.now.abi self.now.depth (F.pre self.now.inner) (F.post self.now.inner) }
+        requires deep { enumerator_levels constant.now ≤ self.now.depth }
+        ensures { IfOk result (λ found. IsEnumerated R.others self.now.abi next constant.now context.old context.new found) }
+    {
+        if context.is_declared_here(constant.name.as_slice()) {
+            return Ok(Found::Refused(twice(constant.place)));
+        }
+        let bits = match self.enumerator_value(context, constant.place, next, &constant.value)? {
+            Found::Passes(bits) => bits,
+            Found::Refused(fault) => return Ok(Found::Refused(fault)),
+        };
+        if context.is_declared_here(constant.name.as_slice()) {
+            return Ok(Found::Refused(twice(constant.place)));
+        }
+        context.declare(alloc, constant.name.as_slice(), Entity::Enumerator { bits })?;
+        Ok(Found::Passes(bits))
+    }
+
+    /// The value of a constant of an enum at a place, as the bits of an `int`: `next` where none is given. One that no `int` has is rule 9, at the expression
+    /// where one is given (C11 6.7.2.2p2, p3).
+    fn enumerator_value(
+        &self,
+        context: &mut Context,
+        place: Place,
+        next: Option<u32>,
+        value: &Option<Expr>,
+    ) -> Result<Found<u32>, NoMemory>
+        requires nests { Nests R.others self.now.abi self.now.depth (F.pre self.now.inner) (F.post self.now.inner) }
+        requires deep { maybe_levels value.now ≤ self.now.depth }
+        ensures { IfOk result (λ found. Walked (Says R.others self.now.abi (λ o. ValueOfEnumerator place next value.now o)) some_bits context.old context.new found) }
+    {
+        match value {
+            None => Ok(int_or_refused(place, next)),
+            Some(expr) => match self.loaded(context, expr)? {
+                Found::Passes(known) => Ok(int_in(context, expr.place, known)),
+                Found::Refused(fault) => Ok(Found::Refused(fault)),
+            },
+        }
+    }
+}
+
+/// The value that an operand gives a constant of an enum.
+fn int_in(context: &Context, place: Place, known: Known) -> Found<u32>
+    requires { known.ctype < length context.now.types }
+    ensures { IsIntValue context.now place known result }
+{
+    int_or_refused(
+        place,
+        int_value(context.integer_type(known.ctype), known.value),
+    )
+}
+
+/// A value, where an `int` has it.
+fn int_or_refused(place: Place, bits: Option<u32>) -> Found<u32>
+    ensures { result ≡ int_found place bits }
+{
+    match bits {
+        Some(bits) => Found::Passes(bits),
+        None => Found::Refused(Fault {
+            place,
+            broken: Broken::Rule(9),
+        }),
+    }
+}
+
+/// A name that its scope declares already.
+fn twice(place: Place) -> Fault
+    ensures { result ≡ fault place (Rule 2) }
+{
+    Fault {
+        place,
+        broken: Broken::Rule(2),
+    }
+}
