@@ -1,0 +1,3 @@
+mod Growing
+mod Levels
+mod Told

@@ -1,0 +1,33 @@
+//! Reads rows from its standard input, and prints a line for each with what the crate `expressions` finds of it.
+//!
+//! A row is `lp64 EXPRESSION` or `llp64 EXPRESSION`, by the data layout; it stands where the names of `declarations.rt` are declared. Of an expression
+//! that passes its type is printed, outermost part first (`*` a pointer, `[3]` an array of three, `i32` and `u32` integers of 32 bits); behind it
+//! ` = N`, its value in its type, where it is an integer constant expression, ` lvalue`, and ` null`, where it is a null pointer constant. Of one
+//! that is refused `rule R at T` or `construct K at T` is printed, where T is the number of the token. A line that begins with `#` is a heading, and is
+//! printed as it stands.
+#![tactic(auto)]
+
+mod declarations;
+mod naming;
+mod printing;
+mod reading;
+mod row;
+mod rules;
+mod types;
+mod walking;
+
+use cbase::NoMemory;
+use row::answer_of_line;
+use std::io::{self, BufRead, BufReader, ErrorKind};
+
+fn main(rt: HostRuntime) -> io::Result<()> {
+    let alloc = rt.alloc();
+    for line in BufReader::new(alloc, rt.reader())?.lines(alloc) {
+        let line = line?;
+        match answer_of_line(alloc, line.as_str()) {
+            Ok(answer) => println!(rt; "{answer}")?,
+            Err(NoMemory) => return Err(io::Error::from(ErrorKind::OutOfMemory)),
+        }
+    }
+    Ok(())
+}

@@ -1,0 +1,118 @@
+//! The types of what is declared.
+ghost use Rattle.std.specs.Prelude.{◌≡◌, ◌<◌, ◌≤◌, [], length, All, IfOk, OnOk};
+
+use cbase::{List, NoMemory};
+use expressions::Context;
+
+/// A type that is no pointer and no array.
+#[derive(Clone, Copy)]
+pub enum Base {
+    /// `void`.
+    Void,
+    /// `_Bool`.
+    Bool,
+    /// Integers of so many bytes, with a sign.
+    Signed(u8),
+    /// Integers of so many bytes, without one.
+    Unsigned(u8),
+    /// The struct of that number.
+    Struct(u32),
+}
+
+/// A type of what is declared.
+#[derive(Clone, Copy)]
+pub enum Written {
+    /// The type itself.
+    Of(Base),
+    /// A pointer to it.
+    PointerTo(Base),
+    /// An array of so many.
+    ArrayOf(Base, u64),
+    /// An array of so many arrays of so many.
+    GridOf(Base, u64, u64),
+}
+
+/// The number of a type that is no pointer and no array.
+#[tactic(auto, using(crate::proofs::Growing::is_below, crate::proofs::Growing::is_longer))]
+fn number_of_base(context: &mut Context, base: Base) -> Result<u32, NoMemory>
+    ensures below { IfOk result (λ number. number < length context.new.types) }
+    ensures longer { OnOk result (length context.old.types ≤ length context.new.types) }
+{
+    match base {
+        Base::Void => context.void(),
+        Base::Bool => context.boolean(),
+        Base::Signed(bytes) => context.integer(bytes, true),
+        Base::Unsigned(bytes) => context.integer(bytes, false),
+        Base::Struct(of) => context.structure(of),
+    }
+}
+
+/// The number of the pointers to the type of that number.
+#[tactic(auto, using(crate::proofs::Growing::is_below, crate::proofs::Growing::is_longer))]
+fn pointer_to(context: &mut Context, item: u32) -> Result<u32, NoMemory>
+    requires { item < length context.old.types }
+    ensures below { IfOk result (λ number. number < length context.new.types) }
+    ensures longer { OnOk result (length context.old.types ≤ length context.new.types) }
+{
+    context.pointer_to(item)
+}
+
+/// The number of the arrays of so many of the type of that number.
+#[tactic(auto, using(crate::proofs::Growing::is_below, crate::proofs::Growing::is_longer))]
+fn array_of(context: &mut Context, item: u32, count: u64) -> Result<u32, NoMemory>
+    requires { item < length context.old.types }
+    ensures below { IfOk result (λ number. number < length context.new.types) }
+    ensures longer { OnOk result (length context.old.types ≤ length context.new.types) }
+{
+    context.array_of(item, count)
+}
+
+/// The number of the type that a parameter has which is declared with the type of that number (C11 6.7.6.3p7).
+#[tactic(auto, using(crate::proofs::Growing::is_below, crate::proofs::Growing::is_longer))]
+pub fn adjusted(context: &mut Context, number: u32) -> Result<u32, NoMemory>
+    requires { number < length context.old.types }
+    ensures below { IfOk result (λ value. value < length context.new.types) }
+    ensures longer { OnOk result (length context.old.types ≤ length context.new.types) }
+{
+    context.value_type(number)
+}
+
+/// The number of a type.
+pub fn number_of(context: &mut Context, written: Written) -> Result<u32, NoMemory>
+    ensures below { IfOk result (λ number. number < length context.new.types) }
+    ensures longer { OnOk result (length context.old.types ≤ length context.new.types) }
+{
+    match written {
+        Written::Of(base) => number_of_base(context, base),
+        Written::PointerTo(base) => {
+            let item = number_of_base(context, base)?;
+            pointer_to(context, item)
+        }
+        Written::ArrayOf(base, count) => {
+            let item = number_of_base(context, base)?;
+            array_of(context, item, count)
+        }
+        Written::GridOf(base, rows, columns) => {
+            let item = number_of_base(context, base)?;
+            let row = array_of(context, item, columns)?;
+            array_of(context, row, rows)
+        }
+    }
+}
+
+/// Puts the numbers of some types into an empty list.
+pub fn numbers_of(
+    context: &mut Context,
+    written: &[Written],
+    numbers: &mut List<u32>,
+) -> Result<(), NoMemory>
+    requires { numbers.old ≡ [] }
+    ensures below { OnOk result (All (λ number. number < length context.new.types) numbers.new) }
+    ensures longer { OnOk result (length context.old.types ≤ length context.new.types) }
+{
+    for one in written {
+        let number = number_of(context, *one)?;
+        numbers.push(number)?;
+    }
+    Ok(())
+}
