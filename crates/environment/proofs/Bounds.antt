@@ -1,8 +1,9 @@
 -- The numbers of types and of signatures in an environment stay below their counts.
 use Rattle.std.proofs.Common.{◌≡◌, ℕ, zero, suc, ◌<◌, ◌≤◌, Bool, true, false, refl, subst, arith, List, [], ◌∷◌, ◌++◌, length, length-append, slice_get, Option, None, Some}
-use Rattle.std.specs.Prelude.{if◌then◌else◌, option_map}
+use Rattle.std.specs.Prelude.{if◌then◌else◌, option_map, IfSome}
 use Rattle.std.specs.List.{All}
 use Rattle.std.specs.Str.{bytes_eq}
+use Rattle.std.proofs.lemmas.Option.{IfSome_then}
 use Rattle.std.proofs.lemmas.List.Elements.{All-nil, All-cons, All-head, All-tail, All-push, All-weaker}
 use Rattle.environment.specs.declared.entity.DeclaredType.{DeclaredType}
 use Rattle.environment.specs.declared.entity.DeclaredType.TheVariants.{Whole, UnsizedArray}
@@ -16,7 +17,7 @@ use Rattle.environment.specs.declared.entity.Tag.{Tag}
 use Rattle.environment.specs.declared.environment.Environment.{Environment}
 use Rattle.environment.specs.Names.{Entries, value_in, with_value}
 use Rattle.environment.specs.Scopes.{Scopes, first_answer, found, found_here, declared, entered, left}
-use Rattle.environment.specs.Environment.{nothing_declared, resolved, name_found, name_found_here, scope_entered, scope_left, name_bound, tag_declared, name_linked, signature_added}
+use Rattle.environment.specs.Environment.{nothing_declared, resolved, name_found, name_found_here, scope_entered, scope_left, name_bound, tag_declared, name_linked, signature_added, loop_set, function_set, name_defined}
 use Rattle.environment.specs.Bounds.{DeclaredBelow, SignatureBelow, EntityBelow, BindingBelow, LinkedBelow, EachValue, EachMeaning, AreBelow}
 
 -- what holds of all values of some names
@@ -118,6 +119,7 @@ bounds_grow count more env grows below =
       linked =
           each_weaker (LinkedBelow count signatures) (LinkedBelow more signatures)
           (λ linked. entity_grows count more signatures signatures grows same linked.entity) env.linked below.linked;
+      result = IfSome_then env.result below.result (below_more count more grows);
     }
 
 -- what is found
@@ -160,6 +162,9 @@ item_of_all P (first ∷ items) (suc number) item all is = item_of_all P items n
 pub signature_is_below : (count number : ℕ) (env : Environment) (signature : Signature) → AreBelow count env → slice_get env.signatures number ≡ Some signature → SignatureBelow count signature
 signature_is_below count number env signature below is = item_of_all (SignatureBelow count) env.signatures number signature below.signatures is
 
+pub result_is_below : (count number : ℕ) (env : Environment) → AreBelow count env → env.result ≡ Some number → number < count
+result_is_below count number env below is = subst (λ (o : Option ℕ). IfSome o (λ n. n < count)) is below.result
+
 -- what each step keeps
 
 pub nothing_below : (count : ℕ) → AreBelow count nothing_declared
@@ -167,6 +172,7 @@ nothing_below count = record {
   signatures = All-nil (SignatureBelow count);
   names = All-nil (EachValue (BindingBelow count []));
   linked = All-nil (λ (e : List ℕ × Linked). LinkedBelow count [] e.1);
+  result = tt;
 }
 
 pub entered_below : (count : ℕ) (env : Environment) → AreBelow count env → AreBelow count (scope_entered env)
@@ -174,6 +180,7 @@ entered_below count env below = record {
   signatures = below.signatures;
   names = each_entered (BindingBelow count env.signatures) env.names below.names;
   linked = below.linked;
+  result = below.result;
 }
 
 pub left_below : (count : ℕ) (env : Environment) → AreBelow count env → AreBelow count (scope_left env)
@@ -181,6 +188,7 @@ left_below count env below = record {
   signatures = below.signatures;
   names = each_left (BindingBelow count env.signatures) env.names below.names;
   linked = below.linked;
+  result = below.result;
 }
 
 pub tagged_below : (count : ℕ) (name : List ℕ) (tag : Tag) (env : Environment) → AreBelow count env → AreBelow count (tag_declared name tag env)
@@ -188,6 +196,7 @@ tagged_below count name tag env below = record {
   signatures = below.signatures;
   names = below.names;
   linked = below.linked;
+  result = below.result;
 }
 
 pub bound_below : (count : ℕ) (name : List ℕ) (binding : Binding) (env : Environment) → AreBelow count env → BindingBelow count env.signatures binding → AreBelow count (name_bound name binding env)
@@ -195,6 +204,7 @@ bound_below count name binding env below here = record {
   signatures = below.signatures;
   names = each_declared (BindingBelow count env.signatures) name binding env.names below.names here;
   linked = below.linked;
+  result = below.result;
 }
 
 pub linked_below : (count : ℕ) (name : List ℕ) (meaning : Linked) (env : Environment) → AreBelow count env → EntityBelow count env.signatures meaning.entity → AreBelow count (name_linked name meaning env)
@@ -202,6 +212,7 @@ linked_below count name meaning env below here = record {
   signatures = below.signatures;
   names = below.names;
   linked = each_with (LinkedBelow count env.signatures) name meaning env.linked below.linked here;
+  result = below.result;
 }
 
 pub added_below : (count : ℕ) (signature : Signature) (env : Environment) → AreBelow count env → SignatureBelow count signature → AreBelow count (signature_added signature env)
@@ -218,4 +229,29 @@ added_below count signature env below here =
       linked =
           each_weaker (LinkedBelow count signatures) (LinkedBelow count others)
           (λ linked. entity_grows count count signatures others same longer linked.entity) env.linked below.linked;
+      result = below.result;
     }
+
+pub function_below : (count : ℕ) (result : Option ℕ) (env : Environment) → AreBelow count env → IfSome result (λ number. number < count) → AreBelow count (function_set result env)
+function_below count result env below here = record {
+  signatures = below.signatures;
+  names = below.names;
+  linked = below.linked;
+  result = here;
+}
+
+pub loop_below : (count : ℕ) (in_loop : Bool) (env : Environment) → AreBelow count env → AreBelow count (loop_set in_loop env)
+loop_below count in_loop env below = record {
+  signatures = below.signatures;
+  names = below.names;
+  linked = below.linked;
+  result = below.result;
+}
+
+pub defined_below : (count : ℕ) (name : List ℕ) (env : Environment) → AreBelow count env → AreBelow count (name_defined name env)
+defined_below count name env below = record {
+  signatures = below.signatures;
+  names = below.names;
+  linked = below.linked;
+  result = below.result;
+}

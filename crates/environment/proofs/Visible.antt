@@ -1,6 +1,6 @@
 -- What the look-up finds is what is visible; and names with linkage.
 use Rattle.std.proofs.Common.{◌≡◌, ◌≢◌, ℕ, Bool, true, false, List, [], ◌∷◌, ◌++◌, ◌↔◌, refl, sym, ap, ◌∙◌, Option, None, Some}
-use Rattle.std.specs.Prelude.{if◌then◌else◌, option_map}
+use Rattle.std.specs.Prelude.{if◌then◌else◌, option_map, is_some}
 use Rattle.std.specs.List.{AllByRecursion}
 use Rattle.std.specs.Str.{bytes_eq}
 use Rattle.std.proofs.lemmas.Slice.Eq.{bytes_eq-Decides}
@@ -8,7 +8,8 @@ use Rattle.environment.specs.declared.entity.Linked.{Linked}
 use Rattle.environment.specs.declared.entity.Binding.TheVariants.{WithLinkage}
 use Rattle.environment.specs.Names.{Entries, value_in, with_value}
 use Rattle.environment.specs.Scopes.{Scopes, IsVisible, first_answer, found, declared, all_declared, entered, left}
-use Rattle.environment.specs.Environment.{resolved}
+use Rattle.environment.specs.declared.environment.Environment.{Environment}
+use Rattle.environment.specs.Environment.{resolved, name_defined, is_defined}
 use Rattle.environment.specs.Linkage.{LastIsFound, IsOneThing}
 use Rattle.environment.proofs.Tables.{value-put}
 
@@ -42,21 +43,32 @@ seen_as {A} name value scopes is =
 pub visible_found : (A : Type 0) (name : List ℕ) (value : A) (scopes : Scopes A) → (found name scopes ≡ Some value) ↔ IsVisible name value scopes
 visible_found A name value scopes = (visible name value scopes, seen_as name value scopes)
 
+-- what is put has a value from then on, and other names what they had
+put_is : {A : Type 0} (name : List ℕ) (value : A) (table : Entries A) → value_in name (with_value name value table) ≡ Some value
+put_is name value table = value-put name name value table ∙ ap (λ (b : Bool). if b then Some value else value_in name table) ((bytes_eq-Decides name name).1 refl)
+
+put_elsewhere : {A : Type 0} (other name : List ℕ) (value : A) (table : Entries A) → other ≢ name → value_in other (with_value name value table) ≡ value_in other table
+put_elsewhere {A} other name value table apart = value-put other name value table ∙ step (bytes_eq other name) refl
+  where
+    step : (asked : Bool) → bytes_eq other name ≡ asked → (if asked then Some value else value_in other table) ≡ value_in other table
+    step true asks = absurd (apart ((bytes_eq-Decides other name).0 asks))
+    step false asks = refl
+
 -- what is declared is found, and other names are found as before
 pub found_declared : (A : Type 0) (name : List ℕ) (value : A) (scopes : Scopes A) → scopes ≢ [] → found name (declared name value scopes) ≡ Some value
 found_declared A name value [] some = absurd (some refl)
-found_declared A name value (scope ∷ outer) some =
-    ap (λ (o : Option A). first_answer o (found name outer))
-    (value-put name name value scope ∙ ap (λ (b : Bool). if b then Some value else value_in name scope) ((bytes_eq-Decides name name).1 refl))
+found_declared A name value (scope ∷ outer) some = ap (λ (o : Option A). first_answer o (found name outer)) (put_is name value scope)
 
 pub found_other : (A : Type 0) (other name : List ℕ) (value : A) (scopes : Scopes A) → other ≢ name → found other (declared name value scopes) ≡ found other scopes
 found_other A other name value [] apart = refl
-found_other A other name value (scope ∷ outer) apart =
-    ap (λ (o : Option A). first_answer o (found other outer)) (value-put other name value scope ∙ step (bytes_eq other name) refl)
-  where
-    step : (asked : Bool) → bytes_eq other name ≡ asked → (if asked then Some value else value_in other scope) ≡ value_in other scope
-    step true asks = absurd (apart ((bytes_eq-Decides other name).0 asks))
-    step false asks = refl
+found_other A other name value (scope ∷ outer) apart = ap (λ (o : Option A). first_answer o (found other outer)) (put_elsewhere other name value scope apart)
+
+-- what was said to be defined is defined, and other names are as before
+pub defined_is : (name : List ℕ) (env : Environment) → is_defined name (name_defined name env) ≡ true
+defined_is name env = ap is_some (put_is name tt env.definitions)
+
+pub others_defined : (other name : List ℕ) (env : Environment) → other ≢ name → is_defined other (name_defined name env) ≡ is_defined other env
+others_defined other name env apart = ap is_some (put_elsewhere other name tt env.definitions apart)
 
 -- a scope that is left gives back what was visible, whatever it declared
 pub left_declared : (A : Type 0) (names : Entries A) (scopes : Scopes A) → left (all_declared names (entered scopes)) ≡ scopes
@@ -69,8 +81,7 @@ left_declared A names scopes = inside names []
 pub last_found : LastIsFound
 last_found name meaning env is =
     ap (resolved name (with_value name meaning env.linked)) is
-    ∙ ap (option_map (λ linked. linked.entity))
-    (value-put name name meaning env.linked ∙ ap (λ (b : Bool). if b then Some meaning else value_in name env.linked) ((bytes_eq-Decides name name).1 refl))
+    ∙ ap (option_map (λ linked. linked.entity)) (put_is name meaning env.linked)
 
 pub one_thing : IsOneThing
 one_thing name one other same is there =

@@ -1,6 +1,6 @@
 -- Where types have numbers, from 0 on: every number of a type in an environment is below their count, and every number of a
 -- signature is that of one.
-use Rattle.std.specs.Prelude.{ℕ, ◌<◌, List, length}
+use Rattle.std.specs.Prelude.{ℕ, ◌<◌, List, length, IfSome}
 use Rattle.std.specs.List.{All}
 use Rattle.environment.specs.declared.entity.DeclaredType.{DeclaredType}
 use Rattle.environment.specs.declared.entity.DeclaredType.TheVariants.{Whole, UnsizedArray}
@@ -50,3 +50,4 @@ pub record AreBelow (count : ℕ) (env : Environment) : Type 0 where
   pub signatures : All (SignatureBelow count) env.signatures
   pub names : EachMeaning (BindingBelow count env.signatures) env.names
   pub linked : EachValue (LinkedBelow count env.signatures) env.linked
+  pub result : IfSome env.result (λ number. number < count)

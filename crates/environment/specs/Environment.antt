@@ -1,6 +1,7 @@
 -- What is declared at a place of a text: names and tags, which are two name spaces (C11 6.2.3), by scope; what has linkage under
--- a name; and the signatures of functions, each at its number.
-use Rattle.std.specs.Prelude.{ℕ, List, [], ◌∷◌, ◌++◌, Option, None, Some, option_map}
+-- a name; and the signatures of functions, each at its number. And what statements ask of the place: whether it lies in the body
+-- of a loop, what the function around it gives back, and which names the whole text defines.
+use Rattle.std.specs.Prelude.{ℕ, Bool, false, List, [], ◌∷◌, ◌++◌, Option, None, Some, option_map, is_some}
 use Rattle.environment.specs.declared.entity.Entity.{Entity}
 use Rattle.environment.specs.declared.entity.Linked.{Linked}
 use Rattle.environment.specs.declared.entity.Binding.{Binding}
@@ -13,9 +14,10 @@ use Rattle.environment.specs.declared.environment.Environment.{Environment}
 use Rattle.environment.specs.Names.{Entries, value_in, with_value}
 use Rattle.environment.specs.Scopes.{found, found_here, declared, entered, left}
 
--- outside all scopes
+-- outside all scopes, in a text of which no definition is known
 abbrev pub nothing_declared : Environment
-nothing_declared = record { names = []; tags = []; linked = []; signatures = [] }
+nothing_declared =
+    record { names = []; tags = []; linked = []; signatures = []; in_loop = false; result = None; definitions = [] }
 
 -- what a name that is bound so stands for: what has linkage has the type that all its declarations so far give
 abbrev pub resolved : List ℕ → Entries Linked → Option Binding → Option Entity
@@ -58,3 +60,19 @@ name_linked name meaning env = record env { linked = with_value name meaning env
 -- a signature has the number of those before it
 abbrev pub signature_added : Signature → Environment → Environment
 signature_added signature env = record env { signatures = env.signatures ++ signature ∷ [] }
+
+-- inside or outside of the body of a loop (C11 6.8.6.2p1, 6.8.6.3p1)
+abbrev pub loop_set : Bool → Environment → Environment
+loop_set in_loop env = record env { in_loop = in_loop }
+
+-- in the body of a function whose result has the type of that number, or outside of functions (C11 6.8.6.4)
+abbrev pub function_set : Option ℕ → Environment → Environment
+function_set result env = record env { result = result }
+
+-- the whole text has a definition of a name that has linkage, before the place or behind it (C11 6.9p5)
+abbrev pub name_defined : List ℕ → Environment → Environment
+name_defined name env = record env { definitions = with_value name tt env.definitions }
+
+-- whether it has one
+abbrev pub is_defined : List ℕ → Environment → Bool
+is_defined name env = is_some (value_in name env.definitions)

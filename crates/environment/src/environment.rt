@@ -1,7 +1,7 @@
 ghost use Rattle.std.specs.Prelude.{◌≡◌, length, option_copied, slice_get, IfOk, OnOk, OnErr};
 ghost use Rattle.environment.specs.Names.{value_in};
 ghost use Rattle.environment.specs.Scopes.{found_here};
-ghost use Rattle.environment.specs.Environment.{nothing_declared, resolved, name_found, name_found_here, tag_found, scope_entered, scope_left, name_bound, tag_declared, name_linked, signature_added};
+ghost use Rattle.environment.specs.Environment.{nothing_declared, resolved, name_found, name_found_here, tag_found, scope_entered, scope_left, name_bound, tag_declared, name_linked, signature_added, loop_set, function_set, name_defined, is_defined};
 
 use crate::entity::{Binding, Entity, Linked, Signature, Tag, TagForm};
 use crate::names::Names;
@@ -10,7 +10,8 @@ use cbase::{List, NoMemory};
 use std::alloc::Global;
 
 /// What is declared at a place of a text: names and tags, which are two name spaces (C11 6.2.3), by scope; what has linkage
-/// under a name; and the signatures of functions, by number.
+/// under a name; and the signatures of functions, by number. And what statements ask of the place: whether it lies in the body of
+/// a loop, what the function around it gives back, and which names the whole text defines.
 ///
 /// A name that no scope declares any more keeps its place in memory. Where memory is wanting, each call leaves all as it was.
 #[derive(Drop)]
@@ -19,10 +20,13 @@ pub struct Environment {
     tags: Scopes<Tag>,
     linked: Names<Linked>,
     signatures: List<Signature>,
+    in_loop: bool,
+    result: Option<u32>,
+    definitions: Names<()>,
 }
 
 impl Environment {
-    /// No scope, and nothing that has linkage. It takes no memory.
+    /// No scope, nothing that has linkage, no loop, no function and no definition. It takes no memory.
     pub fn new(alloc: Global) -> Environment
         ensures { result ≡ nothing_declared }
     {
@@ -31,6 +35,9 @@ impl Environment {
             tags: Scopes::new(alloc),
             linked: Names::new(alloc),
             signatures: List::new(alloc),
+            in_loop: false,
+            result: None,
+            definitions: Names::new(alloc),
         }
     }
 
@@ -49,7 +56,8 @@ impl Environment {
 
     /// Leaves the innermost scope, with its names and tags. Where there is no scope it changes nothing.
     ///
-    /// It takes no memory, and a step for each name and tag that the scope declares. What has linkage stays.
+    /// It takes no memory, and a step for each name and tag that the scope declares. What has linkage stays, and so does what was
+    /// said of loops, of functions and of definitions.
     pub fn close(&mut self)
         ensures { self.new ≡ scope_left self.old }
     {
@@ -146,6 +154,56 @@ impl Environment {
         ensures { option_copied result ≡ slice_get self.now.signatures number }
     {
         self.signatures.as_slice().get(number as usize)
+    }
+
+    /// Whether the place lies in the body of a loop: there alone may `continue` stand and, where there is no `switch`, `break`
+    /// (C11 6.8.6.2p1, 6.8.6.3p1).
+    pub fn is_in_loop(&self) -> bool
+        ensures { result ≡ self.now.in_loop }
+    {
+        self.in_loop
+    }
+
+    /// Says whether the place lies in the body of a loop. It takes no memory.
+    ///
+    /// Who enters the body of a loop asks before whether the place lay in one, and says that again behind it.
+    pub fn set_loop(&mut self, in_loop: bool)
+        ensures { self.new ≡ loop_set in_loop self.old }
+    {
+        self.in_loop = in_loop;
+    }
+
+    /// The number of the type of the result of the function whose body the place lies in (C11 6.8.6.4), and none outside of
+    /// functions.
+    pub fn result(&self) -> Option<u32>
+        ensures { result ≡ self.now.result }
+    {
+        self.result
+    }
+
+    /// Says which type the result of the function has whose body the place lies in, by number, or that it lies in none. It takes
+    /// no memory.
+    pub fn set_function(&mut self, result_type: Option<u32>)
+        ensures { self.new ≡ function_set result_type self.old }
+    {
+        self.result = result_type;
+    }
+
+    /// Says that the whole text has a definition of a name that has linkage (C11 6.9p5), before this place or behind it.
+    ///
+    /// A name that was defined already stays so. It takes one look-up by hash, and memory for the name.
+    pub fn define(&mut self, alloc: Global, name: &[u8]) -> Result<(), NoMemory>
+        ensures ok { OnOk result (self.new ≡ name_defined name.now self.old) }
+        ensures err { OnErr result (self.new ≡ self.old) }
+    {
+        self.definitions.put(alloc, name, ())
+    }
+
+    /// Whether the whole text has a definition of a name (C11 6.9p5). It takes no memory, and one look-up by hash.
+    pub fn is_defined(&self, name: &[u8]) -> bool
+        ensures { result ≡ is_defined name.now self.now }
+    {
+        self.definitions.get(name).is_some()
     }
 
     /// What a name that is bound so stands for.

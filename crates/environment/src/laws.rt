@@ -1,5 +1,5 @@
 //! Laws of names in scope. Each is the contract of a function that does nothing.
-ghost use Rattle.std.specs.Prelude.{◌≡◌, ◌↔◌, ◌≢◌, ◌≤◌, ℕ, List, [], Option, Some, IsTrue, slice_get};
+ghost use Rattle.std.specs.Prelude.{◌≡◌, ◌↔◌, ◌≢◌, ◌≤◌, ◌<◌, ℕ, Bool, true, false, List, [], Option, Some, IsTrue, IfSome, slice_get};
 ghost use Rattle.cbase.specs.declared.tree.decl.Storage.{Storage};
 ghost use Rattle.environment.specs.declared.entity.Binding.{Binding};
 ghost use Rattle.environment.specs.declared.entity.Entity.{Entity};
@@ -12,7 +12,7 @@ ghost use Rattle.environment.specs.declared.linkage.Kind.{Kind};
 ghost use Rattle.environment.specs.declared.linkage.Standing.{Standing};
 ghost use Rattle.environment.specs.Names.{Entries, value_in};
 ghost use Rattle.environment.specs.Scopes.{Scopes, IsVisible, found, declared, all_declared, entered, left};
-ghost use Rattle.environment.specs.Environment.{nothing_declared, name_found, name_found_here, tag_found, scope_entered, scope_left, name_bound, tag_declared, name_linked, signature_added};
+ghost use Rattle.environment.specs.Environment.{nothing_declared, name_found, name_found_here, tag_found, scope_entered, scope_left, name_bound, tag_declared, name_linked, signature_added, loop_set, function_set, name_defined, is_defined};
 ghost use Rattle.environment.specs.Linkage.{HasLinkage, has_linkage, LastIsFound, IsOneThing, OutlivesScopes};
 ghost use Rattle.environment.specs.BuiltInRows.{AreBuiltIn};
 ghost use Rattle.environment.specs.Bounds.{SignatureBelow, EntityBelow, BindingBelow, AreBelow};
@@ -36,6 +36,22 @@ pub fn declared_is_found<A>()
 #[tactic(auto, using(crate::proofs::Visible::left_declared))]
 pub fn left_is_as_before<A>()
     ensures { (names : Entries A) (scopes : Scopes A) → left (all_declared names (entered scopes)) ≡ scopes }
+{}
+
+/// A scope that is left changes nothing of what was said of loops, of functions and of definitions.
+pub fn scopes_say_nothing_of_functions()
+    ensures in_loop { (env : Environment) → (scope_left env).in_loop ≡ env.in_loop }
+    ensures result { (env : Environment) → (scope_left env).result ≡ env.result }
+    ensures definitions { (env : Environment) → (scope_left env).definitions ≡ env.definitions }
+{}
+
+/// A name that was said to be defined is defined, other names are as before, and none is where nothing was said.
+#[tactic(auto, using(crate::proofs::Visible::defined_is, crate::proofs::Visible::others_defined))]
+pub fn defined_is_known()
+    ensures nothing { (name : List ℕ) → is_defined name nothing_declared ≡ false }
+    ensures itself { (name : List ℕ) (env : Environment) → is_defined name (name_defined name env) ≡ true }
+    ensures others { (other name : List ℕ) (env : Environment) → other ≢ name →
+        is_defined other (name_defined name env) ≡ is_defined other env }
 {}
 
 /// Names and tags do not meet: declaring one changes no look-up of the other (C11 6.2.3).
@@ -75,6 +91,7 @@ pub fn what_is_found_is_below()
         value_in name env.linked ≡ Some meaning → EntityBelow count env.signatures meaning.entity }
     ensures signature { (count number : ℕ) (env : Environment) (signature : Signature) → AreBelow count env →
         slice_get env.signatures number ≡ Some signature → SignatureBelow count signature }
+    ensures result { (count number : ℕ) (env : Environment) → AreBelow count env → env.result ≡ Some number → number < count }
 {}
 
 /// Numbers that are in range stay so where there are more types.
@@ -101,4 +118,14 @@ pub fn declarations_keep_bounds()
         EntityBelow count env.signatures meaning.entity → AreBelow count (name_linked name meaning env) }
     ensures signature { (count : ℕ) (signature : Signature) (env : Environment) → AreBelow count env →
         SignatureBelow count signature → AreBelow count (signature_added signature env) }
+{}
+
+/// All numbers stay in range where a function is entered whose result has one that is, or functions are left, and by what is said of
+/// loops and of definitions.
+#[tactic(auto, using(crate::proofs::Bounds::function_below, crate::proofs::Bounds::loop_below, crate::proofs::Bounds::defined_below))]
+pub fn functions_keep_bounds()
+    ensures function { (count : ℕ) (result : Option ℕ) (env : Environment) → AreBelow count env →
+        IfSome result (λ number. number < count) → AreBelow count (function_set result env) }
+    ensures in_loop { (count : ℕ) (in_loop : Bool) (env : Environment) → AreBelow count env → AreBelow count (loop_set in_loop env) }
+    ensures defined { (count : ℕ) (name : List ℕ) (env : Environment) → AreBelow count env → AreBelow count (name_defined name env) }
 {}
