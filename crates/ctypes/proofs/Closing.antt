@@ -15,7 +15,7 @@ use Rattle.cbase.specs.Kept.{capped}
 use Rattle.cbase.specs.KeptStructs.{AreKept, IsLaid}
 use Rattle.cbase.specs.Offset.{index_of}
 use Rattle.std.specs.Global.{Vec}
-use Rattle.cbase.specs.Completing.{fieldless, is_open, completed}
+use Rattle.cbase.specs.Completing.{is_open, completed}
 use Rattle.cbase.proofs.Fields.{drop-field, fields_layout_step}
 use Rattle.cbase.proofs.Growing.{GrowsTo}
 use Rattle.cbase.proofs.KeptStructs.{declared_kept, completed_kept, front_found, set_found, set_other, other_complete}
@@ -23,8 +23,9 @@ use Rattle.ctypes.specs.declared.structs.Member.{Member}
 use Rattle.ctypes.specs.declared.structs.MemberAt.{MemberAt}
 use Rattle.ctypes.specs.declared.structs.Laid.{Laid}
 use Rattle.ctypes.specs.declared.structs.Entry.{Entry}
-use Rattle.ctypes.specs.Places.{find_in, IsPlace, ArePlaces}
+use Rattle.ctypes.specs.Places.{find_in, IsPlace, ArePlaces, AreInOrder}
 use Rattle.ctypes.proofs.Placing.{places_more}
+use Rattle.ctypes.proofs.InOrder.{none_in_order, in_order_more}
 use Rattle.ctypes.specs.Table.{type_at}
 use Rattle.ctypes.specs.Structs.{field_of, fields_of, struct_of, read_off}
 use Rattle.ctypes.specs.Kept.{kept_of, closed, AreLaid}
@@ -37,8 +38,8 @@ no_places structs types members places no_members none name =
     subst (λ (es : List (Vec ℕ × MemberAt)). IsPlace structs (fields_of types members) members name (find_in es name)) (sym none) (ap (λ (ms : List Member). index_of name (fields_of types ms)) no_members)
 
 -- one more struct, without members
-pub declared_laid : (types : List CType) (entries : List Entry) (entry : Entry) → entry.complete ≡ false → entry.layout ≡ None → entry.members ≡ [] → entry.places.entries ≡ [] → AreLaid types entries → AreLaid types (entries ++ entry ∷ [])
-declared_laid types entries entry incomplete no_layout no_members none laid =
+pub declared_laid : (types : List CType) (entries : List Entry) (entry : Entry) → entry.complete ≡ false → entry.layout ≡ None → entry.members ≡ [] → entry.places.entries ≡ [] → entry.in_order.items ≡ [] → AreLaid types entries → AreLaid types (entries ++ entry ∷ [])
+declared_laid types entries entry incomplete no_layout no_members none none_listed laid =
     let structs : List StructDef = read_off types entries in
     let longer : length (structs ++ struct_of types entry ∷ []) ≡ length structs + 1 = length-append structs (struct_of types entry ∷ []) in
     record {
@@ -54,13 +55,20 @@ declared_laid types entries entry incomplete no_layout no_members none laid =
         | inr new ↦ subst (λ (u : Entry). ArePlaces (read_off types (entries ++ entry ∷ [])) (fields_of types u.members) u.members (find_in u.places.entries)) (sym new.1)
             (no_places (read_off types (entries ++ entry ∷ [])) types entry.members entry.places.entries no_members none)
       ];
+      listed = λ number e at. elim (get_pushed entries entry number e at) as (λ _. AreInOrder (length e.members) (read_off types (entries ++ entry ∷ [])) (fields_of types e.members) e.members e.in_order.items) [
+        | inl old ↦ subst (λ (ss : List StructDef). AreInOrder (length e.members) ss (fields_of types e.members) e.members e.in_order.items) (sym (map_push (struct_of types) entries entry))
+            (in_order_more structs (structs ++ struct_of types entry ∷ []) (λ n d there complete. front_found structs _ n d there) (omega arith) (fields_of types e.members) e.members (length e.members) e.in_order.items (laid.listed number e old))
+        | inr new ↦ subst (λ (u : Entry). AreInOrder (length u.members) (read_off types (entries ++ entry ∷ [])) (fields_of types u.members) u.members u.in_order.items) (sym new.1)
+            (none_in_order (read_off types (entries ++ entry ∷ [])) (fields_of types entry.members) entry.members entry.in_order.items no_members none_listed)
+      ];
     }
 
 -- a struct with its members
 pub completed_laid : (types : List CType) (entries : List Entry) (number : ℕ) (entry : Entry) (members : List Member) (how : Laid) → AreLaid types entries → slice_get entries number ≡ Some entry → entry.complete ≡ false
     → All (λ member. member.ctype < length types) members → IsLaid (read_off types entries) (fields_of types members) how.layout
-    → ArePlaces (read_off types entries) (fields_of types members) members (find_in how.places.entries) → AreLaid types (slice_set entries number (closed entry members how))
-completed_laid types entries number entry members how laid here incomplete named is placed =
+    → ArePlaces (read_off types entries) (fields_of types members) members (find_in how.places.entries)
+    → AreInOrder (length members) (read_off types entries) (fields_of types members) members how.in_order.items → AreLaid types (slice_set entries number (closed entry members how))
+completed_laid types entries number entry members how laid here incomplete named is placed in_order =
     let after : Entry = closed entry members how in
     let structs : List StructDef = read_off types entries in
     let more : List StructDef = slice_set structs number (struct_of types after) in
@@ -70,6 +78,8 @@ completed_laid types entries number entry members how laid here incomplete named
     let long : length more ≡ length structs = length-set structs number (struct_of types after) in
     let further : (fields : List Field) (ms : List Member) (find : List ℕ → Option MemberAt) → ArePlaces structs fields ms find → ArePlaces (read_off types (slice_set entries number after)) fields ms find =
     λ fields ms find are. subst (λ (ss : List StructDef). ArePlaces ss fields ms find) (sym (map-set (struct_of types) entries number after)) (places_more structs more grows (omega arith) fields ms find are) in
+    let longer : (fields : List Field) (ms : List Member) (places : List MemberAt) → AreInOrder (length ms) structs fields ms places → AreInOrder (length ms) (read_off types (slice_set entries number after)) fields ms places =
+    λ fields ms places are. subst (λ (ss : List StructDef). AreInOrder (length ms) ss fields ms places) (sym (map-set (struct_of types) entries number after)) (in_order_more structs more grows (omega arith) fields ms (length ms) places are) in
     record {
       named = λ place found at. elim (set_found entries number place after found at) as (λ _. All (λ member. member.ctype < length types) found.members) [
         | inl new ↦ subst (λ (e : Entry). All (λ member. member.ctype < length types) e.members) new.1 named
@@ -81,6 +91,11 @@ completed_laid types entries number entry members how laid here incomplete named
         | inl new ↦ subst (λ (u : Entry). ArePlaces (read_off types (slice_set entries number after)) (fields_of types u.members) u.members (find_in u.places.entries)) new.1
             (further (fields_of types members) members (find_in how.places.entries) placed)
         | inr old ↦ further (fields_of types e.members) e.members (find_in e.places.entries) (laid.found place e old)
+      ];
+      listed = λ place e at. elim (set_found entries number place after e at) as (λ _. AreInOrder (length e.members) (read_off types (slice_set entries number after)) (fields_of types e.members) e.members e.in_order.items) [
+        | inl new ↦ subst (λ (u : Entry). AreInOrder (length u.members) (read_off types (slice_set entries number after)) (fields_of types u.members) u.members u.in_order.items) new.1
+            (longer (fields_of types members) members how.in_order.items in_order)
+        | inr old ↦ longer (fields_of types e.members) e.members e.in_order.items (laid.listed place e old)
       ];
     }
 

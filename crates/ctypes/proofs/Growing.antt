@@ -14,7 +14,7 @@ use Rattle.cbase.specs.KeptStructs.{AreKept}
 use Rattle.ctypes.specs.declared.structs.Member.{Member}
 use Rattle.ctypes.specs.declared.structs.Entry.{Entry}
 use Rattle.ctypes.specs.Table.{type_at, Grows}
-use Rattle.ctypes.specs.Places.{find_in, ArePlaces}
+use Rattle.ctypes.specs.Places.{find_in, ArePlaces, AreInOrder}
 use Rattle.ctypes.specs.Structs.{field_of, fields_of, struct_of, read_off}
 use Rattle.ctypes.specs.Kept.{IsRow, AreRows, AreNamed, kept_of, AreLaid}
 use Rattle.ctypes.proofs.Tables.{get_pushed, type_pushed}
@@ -78,6 +78,9 @@ laid_push types t entries laid = record {
   found = λ number entry at.
       subst (λ (ss : List StructDef). ArePlaces ss (fields_of (types ++ t ∷ []) entry.members) entry.members (find_in entry.places.entries)) (sym (structs_stay types t entries laid.named))
       (subst (λ (fs : List Field). ArePlaces (read_off types entries) fs entry.members (find_in entry.places.entries)) (sym (fields_stay types t entry.members (laid.named number entry at))) (laid.found number entry at));
+  listed = λ number entry at.
+      subst (λ (ss : List StructDef). AreInOrder (length entry.members) ss (fields_of (types ++ t ∷ []) entry.members) entry.members entry.in_order.items) (sym (structs_stay types t entries laid.named))
+      (subst (λ (fs : List Field). AreInOrder (length entry.members) (read_off types entries) fs entry.members entry.in_order.items) (sym (fields_stay types t entry.members (laid.named number entry at))) (laid.listed number entry at));
 }
 
 pub laid_grown : (types after : List CType) (t : CType) (entries : List Entry) → Grows types t after → AreLaid types entries → AreLaid after entries

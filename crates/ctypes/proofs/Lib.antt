@@ -1,6 +1,8 @@
 pub mod Closing
 pub mod Growing
+pub mod InOrder
 pub mod Laid
+pub mod Numbers
 pub mod Placing
 pub mod Rows
 pub mod Same

@@ -4,7 +4,6 @@ use Rattle.std.specs.Prelude.{Bool as BoolValue, true, false, is_some, nat_eq, A
 use Rattle.std.specs.Global.{Vec}
 use Rattle.std.specs.Int.{next_multiple_of}
 use Rattle.std.specs.List.{position_from}
-use Rattle.std.specs.Map.{lookup}
 use Rattle.std.specs.Str.{bytes_eq}
 use Rattle.std.specs.Cmp.Lexicographic.{pointwise}
 use Rattle.std.specs.Option.{option_map_or}
@@ -31,7 +30,7 @@ use Rattle.ctypes.specs.declared.structs.Entry.{Entry}
 use Rattle.ctypes.specs.Table.{type_at}
 use Rattle.ctypes.specs.Structs.{field_of, fields_of, struct_of, read_off}
 use Rattle.ctypes.specs.Kept.{AreLaid}
-use Rattle.ctypes.specs.Places.{find_in, first_of, IsFirst, IsPlace, ArePlaces, IsPlaceBefore}
+use Rattle.ctypes.specs.Places.{find_in, first_of, IsPlace, ArePlaces, IsPlaceBefore}
 
 true_false : true ≡ false → ⊥
 true_false e = cc
@@ -161,7 +160,7 @@ offset_first some more before None second fields index offset h rest e = cc
 offset_first some more before (Some l) second fields zero offset h rest e = rw (h l refl) e
 offset_first some more before (Some l) second fields (suc index) offset h rest e = rw (h l refl) (rest (with_field before l) index e)
 
-offset_more : (some more : CType → Option Layout) → GivesMore some more → (offset : ℕ) (fields : List Field) (before : Layout) (index : ℕ)
+pub offset_more : (some more : CType → Option Layout) → GivesMore some more → (offset : ℕ) (fields : List Field) (before : Layout) (index : ℕ)
     → option_map (λ o. min o 65537) (offset_behind before (map (λ f. some f.ctype) fields) index) ≡ Some offset → option_map (λ o. min o 65537) (offset_behind before (map (λ f. more f.ctype) fields) index) ≡ Some offset
 offset_more some more h offset [] before index e = e
 offset_more some more h offset (field ∷ fields) before index e =
@@ -187,7 +186,7 @@ offset_by abi structs fields index =
     ap (λ (ls : List (Option Layout)). offset_behind no_fields ls index) (fields_alike (layout_of abi structs) (layout_of Lp64 structs) (layout_alike abi structs) fields)
 
 -- what is found by a name in the table of a struct
-fields_read : (types : List CType) (entries : List Entry) (number : ℕ) (entry : Entry) → slice_get entries number ≡ Some entry → struct_fields (read_off types entries) number ≡ fields_of types entry.members
+pub fields_read : (types : List CType) (entries : List Entry) (number : ℕ) (entry : Entry) → slice_get entries number ≡ Some entry → struct_fields (read_off types entries) number ≡ fields_of types entry.members
 fields_read types entries number entry at =
     ap (λ (o : Option StructDef). option_map_or (λ d. d.fields) o []) (slice_get-map (struct_of types) entries number ∙ ap (option_map (struct_of types)) at)
 
@@ -200,7 +199,7 @@ place_offset : (abi : Abi) (structs : List StructDef) (fields : List Field) (mem
 place_offset abi structs fields members name None is = tt
 place_offset abi structs fields members name (Some at) is = ap (option_map (λ offset. min offset 65537)) (offset_by abi structs fields at.index) ∙ is.offset
 
-field_type : (types : List CType) (found : Option Member) → option_map (λ (f : Field). f.ctype) (option_map (field_of types) found) ≡ option_map (type_at types) (option_map (λ (m : Member). m.ctype) found)
+pub field_type : (types : List CType) (found : Option Member) → option_map (λ (f : Field). f.ctype) (option_map (field_of types) found) ≡ option_map (type_at types) (option_map (λ (m : Member). m.ctype) found)
 field_type types None = refl
 field_type types (Some member) = refl
 
@@ -210,7 +209,7 @@ place_type types structs members name None is = tt
 place_type types structs members name (Some at) is =
     ap (option_map (λ (f : Field). f.ctype)) (slice_get-map (field_of types) members at.index) ∙ (field_type types (slice_get members at.index) ∙ ap (option_map (type_at types)) is.ctype)
 
-member_inside : (count : ℕ) (members : List Member) (index ctype : ℕ) (found : Option Member) → slice_get members index ≡ found → All (λ member. member.ctype < count) members
+pub member_inside : (count : ℕ) (members : List Member) (index ctype : ℕ) (found : Option Member) → slice_get members index ≡ found → All (λ member. member.ctype < count) members
     → option_map (λ (m : Member). m.ctype) found ≡ Some ctype → ctype < count
 member_inside count members index ctype None at named e = cc
 member_inside count members index ctype (Some member) at named e =

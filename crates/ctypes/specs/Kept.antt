@@ -16,7 +16,7 @@ use Rattle.ctypes.specs.declared.structs.Laid.{Laid}
 use Rattle.ctypes.specs.declared.structs.Entry.{Entry}
 use Rattle.ctypes.specs.Table.{types_of, type_at, IsTable}
 use Rattle.ctypes.specs.Structs.{fields_of, struct_of, read_off}
-use Rattle.ctypes.specs.Places.{find_in, ArePlaces}
+use Rattle.ctypes.specs.Places.{find_in, ArePlaces, AreInOrder}
 
 -- a type is laid as a row of parts, whatever the structs are; so the row stays right while structs are completed
 abbrev pub IsRow : CType → Row → Type 0
@@ -37,18 +37,24 @@ kept_of types entry = record { definition = struct_of types entry; layout = entr
 
 -- a struct with these members, which are laid so
 abbrev pub closed : Entry → List Member → Laid → Entry
-closed entry members laid = record { name = entry.name; complete = true; members = members; layout = Some laid.layout; places = laid.places }
+closed entry members laid = record { name = entry.name; complete = true; members = members; layout = Some laid.layout; places = laid.places; in_order = laid.in_order }
 
 -- the members of each struct are found by their names
 abbrev pub AreFound : List CType → List Entry → Type 0
 AreFound types entries = (number : ℕ) (entry : Entry) → slice_get entries number ≡ Some entry →
     ArePlaces (read_off types entries) (fields_of types entry.members) entry.members (find_in entry.places.entries)
 
+-- the members of each struct are found by their indices
+abbrev pub AreListed : List CType → List Entry → Type 0
+AreListed types entries = (number : ℕ) (entry : Entry) → slice_get entries number ≡ Some entry →
+    AreInOrder (length entry.members) (read_off types entries) (fields_of types entry.members) entry.members entry.in_order.items
+
 -- what is kept of structs, where `types` are those of the numbers
 pub record AreLaid (types : List CType) (entries : List Entry) : Type 0 where
   pub named : AreNamed (length types) entries
   pub kept : AreKept (map (kept_of types) entries)
   pub found : AreFound types entries
+  pub listed : AreListed types entries
 
 -- what holds of the parts of a table
 pub record AreTables (shapes : List Shape) (rows : List Row) (entries : List Entry) : Type 0 where

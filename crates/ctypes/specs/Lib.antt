@@ -1,4 +1,5 @@
 pub mod Kept
 pub mod Places
+pub mod Same
 pub mod Structs
 pub mod Table

@@ -1,5 +1,6 @@
--- Where the members of a struct lie, as a table of names says: the first member of each name (C11 6.7.2.1, 7.19).
-use Rattle.std.specs.Prelude.{◌≡◌, ℕ, List, Option, None, Some, min, drop, nat_eq, option_map, slice_get}
+-- Where the members of a struct lie (C11 6.7.2.1, 7.19): as a table of names says, the first member of each name, and as a list
+-- says, each member in its order.
+use Rattle.std.specs.Prelude.{◌≡◌, ℕ, List, Option, None, Some, length, min, drop, nat_eq, option_map, slice_get}
 use Rattle.std.specs.Global.{Vec}
 use Rattle.std.specs.List.{position_from}
 use Rattle.std.specs.Map.{lookup}
@@ -39,3 +40,14 @@ ArePlaces structs fields members find = (name : List ℕ) → IsPlace structs fi
 abbrev pub IsPlaceBefore : ℕ → List StructDef → List Field → List Member → List ℕ → Option MemberAt → Type 0
 IsPlaceBefore index structs fields members name None = index_of name fields ≡ position_from (λ field. pointwise nat_eq field.name name) index (drop index fields)
 IsPlaceBefore index structs fields members name (Some at) = IsFirst structs fields members name at
+
+-- the member of an index: its offset as it is kept, and the number of its type
+pub record IsMember (structs : List StructDef) (fields : List Field) (members : List Member) (index : ℕ) (at : MemberAt) : Type 0 where
+  pub same : at.index ≡ index
+  pub offset : option_map (λ offset. min offset 65537) (offset_of Lp64 structs fields index) ≡ Some at.offset
+  pub ctype : option_map (λ member. member.ctype) (slice_get members index) ≡ Some at.ctype
+
+-- the first `count` members, in their order
+pub record AreInOrder (count : ℕ) (structs : List StructDef) (fields : List Field) (members : List Member) (places : List MemberAt) : Type 0 where
+  pub size : length places ≡ count
+  pub right : (index : ℕ) (at : MemberAt) → slice_get places index ≡ Some at → IsMember structs fields members index at

@@ -29,6 +29,7 @@ impl Types {
             members: List::new(alloc),
             layout: None,
             places: IndexMap::new(alloc),
+            in_order: Vec::new(alloc),
         })?;
         Ok(number)
     }

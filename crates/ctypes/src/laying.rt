@@ -5,7 +5,7 @@ ghost use Rattle.cbase.specs.declared.abi.Abi.TheVariants.{Lp64};
 ghost use Rattle.cbase.specs.Layout.{layout_of, no_fields, fields_layout};
 ghost use Rattle.cbase.specs.Kept.{capped, IsSmall};
 ghost use Rattle.ctypes.specs.Structs.{fields_of};
-ghost use Rattle.ctypes.specs.Places.{find_in, first_of, ArePlaces};
+ghost use Rattle.ctypes.specs.Places.{find_in, first_of, ArePlaces, AreInOrder};
 
 use crate::structs::{Laid, Member, MemberAt};
 use crate::types::Types;
@@ -25,21 +25,25 @@ pub(crate) fn lay(
     requires { All (λ member. member.ctype < length types.now.types) members.now }
     ensures layout { IfOk result (λ laid. option_map (λ l. l.layout) laid ≡ option_map capped (fields_layout no_fields (map (λ field. layout_of Lp64 types.now.structs field.ctype) (fields_of types.now.types members.now)))) }
     ensures small { IfOk result (λ laid. IfSome laid (λ l. IsSmall l.layout)) }
+    ensures in_order { IfOk result (λ laid. IfSome laid (λ l. AreInOrder (length members.now) types.now.structs (fields_of types.now.types members.now) members.now l.in_order.items)) }
     ensures places { IfOk result (λ laid. IfSome laid (λ l. ArePlaces types.now.structs (fields_of types.now.types members.now) members.now (find_in l.places.entries))) }
 {
     let mut before = Layout::empty();
     let mut places = IndexMap::new(alloc);
+    let mut in_order = Vec::new(alloc);
     for (index, member) in members.iter().enumerate() {
         let Some(next) = types.layout(member.ctype) else {
             return Ok(None);
         };
         let at = place_behind(before, next, index, member.ctype)?;
         put_first(alloc, &mut places, member.name.as_slice(), at)?;
+        in_order.push(at)?;
         before = before.with_field(next);
     }
     Ok(Some(Laid {
         layout: before.padded(),
         places,
+        in_order,
     }))
 }
 

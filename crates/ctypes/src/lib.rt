@@ -5,6 +5,7 @@
 
 mod completing;
 mod interning;
+mod laws;
 mod laying;
 mod measure;
 mod shape;

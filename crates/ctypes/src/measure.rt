@@ -1,4 +1,4 @@
-ghost use Rattle.std.specs.Prelude.{◌≡◌, ◌<◌, ℕ, Option, Some, min, length, slice_get, option_map, IfSome};
+ghost use Rattle.std.specs.Prelude.{◌≡◌, ◌<◌, ℕ, Option, None, Some, min, length, slice_get, option_map, IfSome, IfNone};
 ghost use Rattle.cbase.specs.declared.abi.Abi.{Abi};
 ghost use Rattle.cbase.specs.declared.abi.Abi.TheVariants.{Lp64};
 ghost use Rattle.cbase.specs.declared.layout.Layout.{Layout};
@@ -8,7 +8,7 @@ ghost use Rattle.cbase.specs.KeptRows.{part_layout, row_layout, IsSmallPart, IsS
 ghost use Rattle.cbase.specs.Offset.{fields_of, index_of, offset_of};
 ghost use Rattle.ctypes.specs.Table.{type_at};
 
-use crate::structs::{MemberAt, entry_at};
+use crate::structs::{MemberAt, entry_at, place_at};
 use crate::types::Types;
 use cbase::{Extent, Layout, Row, RowPart, told};
 
@@ -48,6 +48,21 @@ impl Types {
     {
         let kept = entry_at(&self.structs, of as usize)?;
         kept.places.get(name).copied()
+    }
+
+    /// The member of that index in the struct of that number, with where it lies (C11 6.7.2.1p15, 6.7.9p17).
+    ///
+    /// Members count from 0, in the order in which they were declared. It is `None` exactly where the struct has
+    /// no member of that index, so wherever it is incomplete. It takes no memory and one step.
+    pub fn member_at(&self, of: u32, index: u32) -> Option<MemberAt>
+        ensures none { IfNone result (slice_get (fields_of self.now.structs of) index ≡ None) }
+        ensures index { IfSome result (λ at. at.index ≡ index) }
+        ensures offset { (abi : Abi) → IfSome result (λ at. option_map (λ offset. min offset 65537) (offset_of abi self.now.structs (fields_of self.now.structs of) index) ≡ Some at.offset) }
+        ensures ctype { IfSome result (λ at. option_map (λ field. field.ctype) (slice_get (fields_of self.now.structs of) index) ≡ Some (type_at self.now.types at.ctype)) }
+        ensures inside { IfSome result (λ at. at.ctype < length self.now.types) }
+    {
+        let kept = entry_at(&self.structs, of as usize)?;
+        place_at(&kept.in_order, index as usize)
     }
 
     /// The layout of the type of that number, whatever the data layout, where it has one (C11 6.5.3.4, 6.2.8).

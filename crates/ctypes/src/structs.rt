@@ -35,6 +35,8 @@ pub(crate) struct Laid {
     pub(crate) layout: Layout,
     /// The first member of each name.
     pub(crate) places: IndexMap<Vec<u8>, MemberAt>,
+    /// Where each member lies, in the order of the members.
+    pub(crate) in_order: Vec<MemberAt>,
 }
 
 /// A struct, as far as the text has defined it, with its layout.
@@ -50,6 +52,8 @@ pub(crate) struct Entry {
     pub(crate) layout: Option<Layout>,
     /// The first member of each name.
     pub(crate) places: IndexMap<Vec<u8>, MemberAt>,
+    /// Where each member lies, in the order of the members.
+    pub(crate) in_order: Vec<MemberAt>,
 }
 
 /// The struct of that number.
@@ -57,6 +61,13 @@ pub(crate) fn entry_at(entries: &[Entry], number: usize) -> Option<&Entry>
     ensures { option_copied result ≡ slice_get entries.now number }
 {
     entries.get(number)
+}
+
+/// The place of that index in a list.
+pub(crate) fn place_at(places: &[MemberAt], index: usize) -> Option<MemberAt>
+    ensures { result ≡ slice_get places.now index }
+{
+    places.get(index).copied()
 }
 
 /// Whether there is a struct of that number whose members are to be given yet.
@@ -74,10 +85,15 @@ pub(crate) fn close(entries: &mut Vec<Entry>, number: usize, members: List<Membe
     requires { number < length entries.old.items }
     ensures { (entry : Entry) → slice_get entries.old.items number ≡ Some entry → entries.new.items ≡ slice_set entries.old.items number (closed entry members laid) }
 {
-    let Laid { layout, places } = laid;
+    let Laid {
+        layout,
+        places,
+        in_order,
+    } = laid;
     let entry = &mut entries[number];
     entry.members = members;
     entry.complete = true;
     entry.layout = Some(layout);
     entry.places = places;
+    entry.in_order = in_order;
 }

@@ -1,4 +1,4 @@
-ghost use Rattle.std.specs.Prelude.{◌≡◌, ◌<◌, ◌↔◌, [], length, IsTrue, IfOk, OnErr};
+ghost use Rattle.std.specs.Prelude.{◌≡◌, ◌<◌, ◌↔◌, [], length, nat_lt, IsTrue, IfOk, OnErr};
 ghost use Rattle.cbase.specs.declared.ctype.CType.{CType};
 ghost use Rattle.ctypes.specs.Table.{type_of, type_at, NamesBelow, Interns};
 
@@ -134,6 +134,13 @@ impl Types {
         ensures below { NamesBelow number result }
     {
         shape_at(&self.shapes, number)
+    }
+
+    /// Whether a number is that of a type. It takes one step.
+    pub fn has(&self, number: u32) -> bool
+        ensures { result ≡ nat_lt number (length self.now.types) }
+    {
+        (number as usize) < self.shapes.len()
     }
 
     /// Whether the types of two numbers are the same: so they are exactly where the numbers are.

@@ -1,4 +1,4 @@
-use Rattle.std.proofs.Common.{◌≡◌, ℕ, suc, ◌+◌, ◌<◌, min, List, Option, None, Some, length, get_or, add-zero, sym, ap, subst, ◌∙◌, arith, rules}
+use Rattle.std.proofs.Common.{◌≡◌, ℕ, suc, ◌+◌, ◌<◌, min, List, None, Some, length, get_or, add-zero, sym, ap, subst, ◌∙◌, arith, rules}
 use Rattle.std.specs.Prelude.{option_map, slice_get, if◌then◌else◌}
 use Rattle.std.specs.Str.{bytes_eq}
 use Rattle.std.proofs.lemmas.List.{length-map}
@@ -16,6 +16,7 @@ use Rattle.ctypes.specs.Table.{type_at}
 use Rattle.ctypes.specs.Structs.{field_of, fields_of}
 use Rattle.ctypes.specs.Places.{find_in, first_of}
 use Rattle.ctypes.proofs.Closing.{member_laid, member_refused}
+use Rattle.ctypes.proofs.InOrder.{in_order_step}
 use Rattle.ctypes.proofs.Placing.{Behind, field_placed, place_step}
 use Rattle.ctypes.proofs.laying.lay.Goals as goal
 
@@ -51,4 +52,10 @@ loop-index-preserved c =
           (c.in_ok-put_first.ensures name ∙ ap (λ (n : List ℕ). first_of (find_in c.loop-index.places.entries name) (if bytes_eq name n then Some c.in_ok-at.at else None)) c.as_slice.ensures)
           (c.loop-index.invariant.place name);
       small = search rules;
+      inside = omega arith;
+      in_order = rw c.in_ok-push.ensures.items (in_order_step structs fields members c.loop-index.index c.loop-index.in_order.items c.in_ok-at.at c.loop-index.invariant.in_order (record {
+        same = c.in_ok-at.ensures.index;
+        offset = offset;
+        ctype = ctype;
+      }));
     }

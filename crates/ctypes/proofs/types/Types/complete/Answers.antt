@@ -1,4 +1,4 @@
-use Rattle.std.proofs.Common.{◌≡◌, List, sym, ap, ◌∙◌, true, slice_get, rules}
+use Rattle.std.proofs.Common.{◌≡◌, List, length, sym, ap, ◌∙◌, true, slice_get, rules}
 use Rattle.cbase.specs.declared.ctype.CType.{CType}
 use Rattle.cbase.specs.Completing.{is_open}
 use Rattle.cbase.specs.KeptStructs.{IsLaid}
@@ -6,7 +6,7 @@ use Rattle.cbase.proofs.KeptStructs.{fields_refused, fields_taken}
 use Rattle.std.specs.Prelude.{option_map}
 use Rattle.ctypes.specs.declared.structs.Laid.{Laid}
 use Rattle.ctypes.specs.declared.structs.Entry.{Entry}
-use Rattle.ctypes.specs.Places.{find_in, ArePlaces}
+use Rattle.ctypes.specs.Places.{find_in, ArePlaces, AreInOrder}
 use Rattle.ctypes.specs.Table.{types_of}
 use Rattle.ctypes.specs.Structs.{read_off, fields_of}
 use Rattle.ctypes.proofs.Closing.{open_found, open_within, completed_laid, completed_structs}
@@ -32,10 +32,12 @@ invariant_of-self c =
     (sym (rw (sym c.self.view_is, c.as_slice.ensures) at c.in_ok-found.ensures.layout) ∙ ap (option_map (λ (l : Laid). l.layout)) c.in-Some.is, rw c.in-Some.is at c.in_ok-found.ensures.small) in
     let placed : ArePlaces (read_off types entries) (fields_of types c.args.members) c.args.members (find_in c.in-Some.laid.places.entries) =
     rw (sym c.self.view_is, c.as_slice.ensures, c.in-Some.is) at c.in_ok-found.ensures.places in
+    let in_order : AreInOrder (length c.args.members) (read_off types entries) (fields_of types c.args.members) c.args.members c.in-Some.laid.in_order.items =
+    rw (sym c.self.view_is, c.as_slice.ensures, c.in-Some.is) at c.in_ok-found.ensures.in_order in
     rw (c.close.ensures from.0 from.1) record {
       apart = c.self.invariant.apart;
       beside = c.self.invariant.beside;
-      laid = completed_laid types entries c.args.number from.0 c.args.members c.in-Some.laid c.self.invariant.laid from.1 from.2 (rw (sym c.self.view_is) at c.requires) laid placed;
+      laid = completed_laid types entries c.args.number from.0 c.args.members c.in-Some.laid c.self.invariant.laid from.1 from.2 (rw (sym c.self.view_is) at c.requires) laid placed in_order;
     }
 
 pub returns-clause-answer : goal.returns-clause-answer

@@ -1,7 +1,6 @@
-use Rattle.std.proofs.Common.{◌≡◌, sym, ◌∙◌}
+use Rattle.std.proofs.Common.{sym, ◌∙◌}
 use Rattle.ctypes.specs.Table.{types_of}
-use Rattle.ctypes.specs.Structs.{read_off}
-use Rattle.ctypes.proofs.Placing.{IsField, field_found}
+use Rattle.ctypes.proofs.Placing.{field_found}
 use Rattle.ctypes.proofs.types.Types.field.Goals as goal
 
 pub returns-clause-index : goal.returns-clause-index
