@@ -1,5 +1,5 @@
 -- Braces of the examples.
-use Rattle.std.proofs.Common.{◌≡◌, ℕ, Bool, true, false, List, [], ◌∷◌, ◌++◌, Option, Some, None, refl, ap, ◌∙◌, subst, arith}
+use Rattle.std.proofs.Common.{◌≡◌, ℕ, Bool, true, false, List, [], ◌∷◌, ◌++◌, Option, Some, None, refl, ap, ◌∙◌, arith}
 use Rattle.std.specs.Prelude.{is_some, codes, length, option_map}
 use Rattle.cbase.specs.declared.abi.Abi.TheVariants.{Lp64}
 use Rattle.cbase.specs.declared.ctype.CType.{CType}
@@ -7,7 +7,7 @@ use Rattle.cbase.specs.declared.ctype.CType.TheVariants.{Void as VoidType, Int a
 use Rattle.cbase.specs.declared.layout.Layout.{Layout}
 use Rattle.cbase.specs.declared.structs.Field.{Field}
 use Rattle.cbase.specs.declared.structs.StructDef.{StructDef}
-use Rattle.cbase.specs.declared.tree.expr.ExprForm.TheViews.{outs-Name, outs-Constant, outs-SizeOfType, outs-Binary, outs-Basic, outs-Named, outs-Struct, outs-Enum, out-TypeSpec, out-roll-TypeName, roll-FieldDecl, roll-FieldName, out-roll-FieldDecl, out-roll-FieldName, out-roll-Enumerator}
+use Rattle.cbase.specs.declared.tree.expr.ExprForm.TheViews.{outs-Name, outs-SizeOfType, outs-Binary, outs-Basic, outs-Named, outs-Struct, outs-Enum, out-TypeSpec, out-roll-TypeName, roll-FieldDecl, roll-FieldName, out-roll-FieldDecl, out-roll-FieldName, out-roll-Enumerator}
 use Rattle.cbase.specs.declared.tree.expr.ExprForm.TheVariants.{SizeOfType}
 use Rattle.cbase.specs.declared.tree.operators.BinaryOp.TheVariants.{Add}
 use Rattle.cbase.specs.declared.tree.spec.BasicType.TheVariants.{Void, Integer}
@@ -18,9 +18,6 @@ use Rattle.cbase.specs.declared.tree.spec.TypeSpec.{TypeSpec}
 use Rattle.cbase.specs.declared.tree.spec.TypeSpec.TheVariants.{Basic}
 use Rattle.cbase.specs.Layout.{layout_of, struct_at, extent_of, fields_layout, no_fields, scalar, repeated}
 use Rattle.cbase.proofs.Types.{type_layout-Void, type_layout-Int, type_layout-Pointer, type_layout-Array, type_layout-Struct}
-use Rattle.constants.specs.declared.meaning.Constant.{Constant}
-use Rattle.constants.specs.Meanings.{Means}
-use Rattle.constants.proofs.Exact.{means}
 use Rattle.constants.specs.Deciding.{letter, integer, meaning_of}
 use Rattle.constants.specs.declared.meaning.Meaning.TheVariants.{Known as Meant}
 use Rattle.operators.specs.declared.found.Broken.{Broken}
@@ -38,14 +35,11 @@ use Rattle.typing.specs.Faults.{fault}
 use Rattle.typing.specs.Forms.{Words, MemberParts}
 use Rattle.typing.specs.Known.{behind}
 use Rattle.typing.specs.NamedTypes.{NamedType, is_over, declared_type, declared, whole, no_type}
-use Rattle.typing.specs.Nodes.{constant_known}
 use Rattle.typing.specs.Outcomes.{Outcome, Handed, Passes, Refused, IsSettled}
-use Rattle.typing.specs.Rules.{UndeclaredName, ObjectName, ConstantOfType, EnumeratorName, SizeOfTypeName, AdditionOperator}
-use Rattle.typing.specs.Sample.{sample, start, Declarations, token, node, constant, type_name, declaration, field, enumerator, opened, IsRefused, char_type}
-use Rattle.typing.specs.Pieces.{Loaded}
-use Rattle.typing.specs.Told.{OperandIs}
-use Rattle.typing.specs.Typing.{Finds, PieceIs, EnumeratorsAre, WordsAre, MembersAre, DeclarationIs, MemberIs, MemberSizesAre, WidthIs, RefusedInside, Walked, NoPieces, MorePieces, RefusedHere, LoadedValue, LoadedRefused, TypeInside, TypeNamed, TypeRefused, WordsRefused, BasicSpecifier, TypedefSpecifier, StructSpecifier, NoSizes, SizeOfItems, SizeUnderOne, StructWithMembers, StructCompletedInside, MembersRefused, StructTwice, EnumWithConstants, EnumTwice, NoDeclarations, MoreDeclarations, DeclarationRefused, MembersDeclared, NoNames, MoreNames, NameRefused, MemberFound, MemberSizesRefused, MemberWidthRefused, NoMemberSizes, MoreMemberSizes, MemberSizeRefusedHere, MemberSizeLeftOut, MemberSizeGiven, MemberSizeRefused, NoWidth, WidthGiven, NoEnumerators, EnumeratorTwice, EnumeratorRefused, EnumeratorTwiceInside, MoreEnumerators, NextValue, NoNextValue, GivenValue, GivenNoInt}
-use Rattle.typing.proofs.SampleFacts.{k_int, k_unsigned, k_size, seen, operand_by, alone, int_of, unsigned_of, vn, vread, one, both, laid_4, m_0, m_3, m_70000}
+use Rattle.typing.specs.Rules.{UndeclaredName, ObjectName, EnumeratorName, SizeOfTypeName, AdditionOperator}
+use Rattle.typing.specs.Sample.{sample, start, Declarations, token, node, type_name, declaration, field, enumerator, opened, IsRefused, char_type}
+use Rattle.typing.specs.Typing.{Finds, EnumeratorsAre, WordsAre, MembersAre, DeclarationIs, MemberIs, MemberSizesAre, WidthIs, RefusedInside, Walked, NoPieces, MorePieces, RefusedHere, LoadedValue, LoadedRefused, TypeInside, TypeNamed, TypeRefused, WordsRefused, BasicSpecifier, TypedefSpecifier, StructSpecifier, NoSizes, SizeOfItems, SizeUnderOne, StructWithMembers, StructCompletedInside, MembersRefused, StructTwice, EnumWithConstants, EnumTwice, NoDeclarations, MoreDeclarations, DeclarationRefused, MembersDeclared, NoNames, MoreNames, NameRefused, MemberFound, MemberSizesRefused, MemberWidthRefused, NoMemberSizes, MoreMemberSizes, MemberSizeRefusedHere, MemberSizeLeftOut, MemberSizeGiven, MemberSizeRefused, NoWidth, WidthGiven, NoEnumerators, EnumeratorTwice, EnumeratorRefused, EnumeratorTwiceInside, MoreEnumerators, NextValue, NoNextValue, GivenValue, GivenNoInt}
+use Rattle.typing.proofs.SampleFacts.{k_int, k_unsigned, k_size, seen, operand_by, alone, int_of, unsigned_of, vn, vread, read_in, one, both, laid_4, m_0, m_3, m_70000}
 
 -- layouts, whatever is declared
 int_laid : (among : List StructDef) → layout_of Lp64 among int_type ≡ Some (scalar 4)
@@ -128,10 +122,6 @@ unfolding letter integer
 m_2147483647 = refl
 
 -- constants, objects and names in any environment of the examples
-read_in : (env : Declarations) (spelling : List ℕ) (meant : Constant) (number at : ℕ) → meaning_of Lp64 spelling ≡ Meant meant
-    → Finds sample env (PieceIs (Loaded (constant spelling number at)) (Passes (OperandIs (constant_known meant)) (behind [] number (constant_known meant)))) env
-read_in env spelling meant number at is = LoadedValue (Walked (outs-Constant spelling) NoPieces (ConstantOfType (subst (Means Lp64 spelling) is (means Lp64 spelling)))) refl
-
 seen_in : (among : List StructDef) (bytes : ℕ) (signed lvalue null : Bool)
     → operand_by (IntType bytes signed) lvalue null (kind_of among (IntType bytes signed)) ≡ operand_by (IntType bytes signed) lvalue null (IntegerKind (integer_of bytes signed))
 seen_in among bytes signed lvalue null = ap (operand_by (IntType bytes signed) lvalue null) ((are_kinds among).int bytes signed)

@@ -4,8 +4,14 @@ pub mod EachPath
 pub mod OneFault
 pub mod Sequences
 pub mod BraceRows
+pub mod StatementRows
+pub mod DeclarationRows
+pub mod InitialiserRows
 pub mod WalkRows
+pub mod OnePart
 pub mod OneOutcome
+pub mod ItemRows
+pub mod OneItem
 pub mod OneRule
 pub mod OneWay
 pub mod ExamplesNamed
@@ -18,3 +24,11 @@ pub mod ExamplesCalled
 pub mod ExamplesSizes
 pub mod ExamplesInner
 pub mod ExamplesBraces
+pub mod StatementFacts
+pub mod ExamplesStatements
+pub mod DeclarationFacts
+pub mod ExamplesDeclarations
+pub mod InitialiserFacts
+pub mod ItemFacts
+pub mod ExamplesInitialisers
+pub mod ExamplesItems

@@ -39,7 +39,7 @@ none_inside : (front : List Fault) (a : Fault) (back : List Fault) → [] ≡ fr
 none_inside [] a back e = cc e
 none_inside (b ∷ front) a back e = cc e
 
-none_first : (faults : List Fault) (a : Fault) → faults ≡ [] → IsFirst faults a → ⊥
+pub none_first : (faults : List Fault) (a : Fault) → faults ≡ [] → IsFirst faults a → ⊥
 none_first faults a e is = none_inside is.front a is.back (sym e ∙ is.whole)
 
 pub one_settled : {A : Type 0} (faults : List Fault) (value : A) (handed : List Handed) (first second : Outcome A)

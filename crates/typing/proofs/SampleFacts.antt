@@ -1,6 +1,6 @@
 -- What is known of the declarations of the examples, and derivations of single names and constants.
 use Rattle.std.proofs.Common.{◌≡◌, ℕ, suc, Bool, true, false, List, [], ◌∷◌, ◌++◌, Option, Some, None, refl, ap, ◌∙◌, subst}
-use Rattle.std.specs.Prelude.{is_some, option_map, codes, length, if◌then◌else◌}
+use Rattle.std.specs.Prelude.{not, is_some, option_map, codes, length, if◌then◌else◌}
 use Rattle.cbase.specs.declared.abi.Abi.TheVariants.{Lp64}
 use Rattle.cbase.specs.declared.ctype.CType.{CType}
 use Rattle.cbase.specs.declared.ctype.CType.TheVariants.{Void as VoidType, Bool as BoolType, Int as IntType, Pointer as PointerType, Struct as StructType, Array as ArrayType}
@@ -19,7 +19,7 @@ use Rattle.constants.specs.Deciding.{letter, integer, meaning_of}
 use Rattle.constants.specs.Meanings.{Means}
 use Rattle.constants.proofs.Exact.{means}
 use Rattle.operators.specs.declared.found.Broken.{Broken}
-use Rattle.operators.specs.declared.found.Broken.TheVariants.{Rule}
+use Rattle.operators.specs.declared.found.Broken.TheVariants.{Construct, Rule}
 use Rattle.operators.specs.declared.kind.Target.TheVariants.{Void as VoidTarget, Sized, Unsized}
 use Rattle.operators.specs.Binary.{int_type}
 use Rattle.operators.specs.Integers.{integer as integer_of, truth}
@@ -27,14 +27,14 @@ use Rattle.operators.specs.Kinds.{Kind, Integer, Pointer, Array, Struct, Void, k
 use Rattle.operators.specs.Operands.{Operand}
 use Rattle.operators.specs.Unary.{size_type}
 use Rattle.operators.proofs.Shapes.{are_kinds, are_targets}
-use Rattle.typing.specs.Entities.{ObjectIs}
+use Rattle.typing.specs.Entities.{ObjectEntity, ObjectIs}
 use Rattle.typing.specs.declared.fault.Fault.{Fault}
-use Rattle.typing.specs.Faults.{fault, IsFirst}
+use Rattle.typing.specs.Faults.{fault, unless, IsFirst}
 use Rattle.typing.specs.Known.{Known, can_load, behind, valued}
-use Rattle.typing.specs.Nodes.{object_known, enumerator_known, constant_known}
+use Rattle.typing.specs.Nodes.{object_type, is_sized, object_known, enumerator_known, constant_known}
 use Rattle.typing.specs.Outcomes.{Handed, Passes, Refused}
 use Rattle.typing.specs.Pieces.{Piece, Loaded}
-use Rattle.typing.specs.Sample.{char_type, unsigned_type, long_type, object, names, named_in, Declarations, start, sample, token, node, name, constant}
+use Rattle.typing.specs.Sample.{entity_in, char_type, unsigned_type, long_type, object, names, named_in, Declarations, start, sample, token, node, name, constant}
 use Rattle.typing.specs.Rules.{ObjectName, EnumeratorName, UndeclaredName, ConstantOfType, UnaryArithmetic}
 use Rattle.typing.specs.Told.{Told, OperandIs}
 use Rattle.typing.specs.Typing.{Finds, ExpressionIs, PieceIs, PiecesAre, Walked, NoPieces, MorePieces, LoadedValue}
@@ -173,6 +173,17 @@ object_is : (bytes : List ℕ) (t : CType) (number at : ℕ) → named_in names 
     → Is (name bytes number at) (object_known (object t)) (behind [] number (object_known (object t)))
 object_is bytes t number at is sized = Walked (outs-Name bytes) NoPieces (ObjectName is sized (refl, refl, refl))
 
+-- an object whose type has a size can be loaded
+load_sized : (among : List StructDef) (t : Option CType) → is_sized among t ≡ true → has_size among (object_type t) ≡ true
+load_sized among None sized = absurd (cc sized)
+load_sized among (Some t) sized = sized
+
+-- and in any environment
+pub object_in : (env : Declarations) (bytes : List ℕ) (entity : ObjectEntity) (number at : ℕ) → entity_in env bytes ≡ Some (ObjectIs entity) → is_sized env.structs entity.ctype ≡ true
+    → entity.defined ≡ true → entity.of_main ≡ false → Finds sample env (ExpressionIs (name bytes number at) (Passes (object_known entity) (behind [] number (object_known entity)))) env
+object_in env bytes entity number at is sized defined other =
+    Walked (outs-Name bytes) NoPieces (ObjectName is sized ((λ i. unless (defined i) (token at) (Construct 12) ++ unless (not (other i)) (token at) (Rule 12)), refl, refl))
+
 pub n : (number at : ℕ) → Is (name (codes "n") number at) (object_known (object int_type)) (behind [] number (object_known (object int_type)))
 n number at = object_is (codes "n") int_type number at refl (ap is_some (laid_4 true))
 
@@ -259,6 +270,15 @@ vfive number at = load (five number at) refl
 pub vread : (spelling : List ℕ) (meant : Constant) (number at : ℕ) → meaning_of Lp64 spelling ≡ Meant meant
     → IsLoaded (constant spelling number at) (constant_known meant) (behind [] number (constant_known meant))
 vread spelling meant number at is = load (read spelling meant number at is) refl
+
+-- values that are taken in any environment: of an object of a type that all declarations lay alike, and of a constant
+pub loaded_in : (env : Declarations) (bytes : List ℕ) (entity : ObjectEntity) (number at : ℕ) → entity_in env bytes ≡ Some (ObjectIs entity) → is_sized env.structs entity.ctype ≡ true
+    → entity.defined ≡ true → entity.of_main ≡ false → Finds sample env (PieceIs (Loaded (name bytes number at)) (Passes (OperandIs (object_known entity)) (behind [] number (object_known entity)))) env
+loaded_in env bytes entity number at is sized defined other = LoadedValue (object_in env bytes entity number at is sized defined other) (load_sized env.structs entity.ctype sized)
+
+pub read_in : (env : Declarations) (spelling : List ℕ) (meant : Constant) (number at : ℕ) → meaning_of Lp64 spelling ≡ Meant meant
+    → Finds sample env (PieceIs (Loaded (constant spelling number at)) (Passes (OperandIs (constant_known meant)) (behind [] number (constant_known meant)))) env
+read_in env spelling meant number at is = LoadedValue (Walked (outs-Constant spelling) NoPieces (ConstantOfType (subst (Means Lp64 spelling) is (means Lp64 spelling)))) refl
 
 -- one part, and two
 pub one : {piece : Piece} {told : Told} {handed : List Handed} {after : Declarations} → Finds sample start (PieceIs piece (Passes told handed)) after

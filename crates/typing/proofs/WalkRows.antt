@@ -32,7 +32,7 @@ use Rattle.typing.specs.Outcomes.{Outcome, Handed, Passes, Refused, IsSettled}
 use Rattle.typing.specs.Pieces.{Piece, Loaded, Unloaded, Called, OfType, ConstantIndex, SizeOfArray, BlockOf, pieces_in}
 use Rattle.typing.specs.Rules.{AtNode}
 use Rattle.typing.specs.Told.{Told, OperandIs, FunctionNamed, NoFunction, TypeIs, IndexIs, SizeIs, ValueIs}
-use Rattle.typing.specs.Typing.{ExpressionIs, PieceIs, PiecesAre, WordsAre, SizesAre, NameOfTypeIs, StatementsAre, named, Finds, RefusedInside, Walked, NoPieces, MorePieces, RefusedHere, RefusedBehind, LoadedValue, LoadOfIncomplete, LoadedRefused, UnloadedOperand, UnloadedRefused, CalledFunction, CalledOther, CalledRefused, TypeInside, TypeRefused, IndexOfPath, IndexNotConstant, IndexRefused, SizeOfItems, SizeUnderOne, SizeRefused, BlockInside, BlockRefused, NoStatements, LastExpression, LastStruct, LastRefused, MoreStatements, StatementRefused, StatementsRefused, BasicSpecifier, TypedefSpecifier, StructSpecifier, StructDeclared, StructIsEnum, EnumSpecifier, EnumDeclared, EnumIsStruct, StructOfNothing, EnumOfNothing, TypeofExpression, TypeofRefused, TypeofType, NoSizes, SizeLeftOut, SizeLeftOutRefused, MoreSizes, SizesRefusedHere, SizesRefusedBehind, TypeNamed, WordsRefused, SizesRefused}
+use Rattle.typing.specs.Typing.{ExpressionIs, PieceIs, PiecesAre, WordsAre, SizesAre, NameOfTypeIs, StatementsAre, StatementIs, named, Finds, RefusedInside, Walked, NoPieces, MorePieces, RefusedHere, RefusedBehind, LoadedValue, LoadOfIncomplete, LoadedRefused, UnloadedOperand, UnloadedRefused, CalledFunction, CalledOther, CalledRefused, TypeInside, TypeRefused, IndexOfPath, IndexNotConstant, IndexRefused, SizeOfItems, SizeUnderOne, SizeRefused, BlockInside, BlockRefused, NoStatements, LastExpression, LastStruct, LastRefused, MoreStatements, StatementRefused, StatementsRefused, BasicSpecifier, TypedefSpecifier, StructSpecifier, StructDeclared, StructIsEnum, EnumSpecifier, EnumDeclared, EnumIsStruct, StructOfNothing, EnumOfNothing, TypeofExpression, TypeofRefused, TypeofType, NoSizes, SizeLeftOut, SizeLeftOutRefused, MoreSizes, SizesRefusedHere, SizesRefusedBehind, TypeNamed, WordsRefused, SizesRefused}
 use Rattle.values.specs.Values.{word_of}
 use Rattle.typing.proofs.OneRule.{one_rule}
 use Rattle.typing.proofs.Sequences.{Same}
@@ -247,7 +247,7 @@ IsRestOfBlock l middle (Refused first) stmts outcome after = (outcome ≡ Refuse
 pub data IsBlock (l : Language) (before : l.Environment) (stmt : Stmt) (stmts : List Stmt) (outcome : Outcome CType) (after : l.Environment) : Type 0 where
   Last : (expr : Expr) → is_last_value (stmt ∷ stmts) ≡ true → value_in (out-StmtForm stmt.form) ≡ Some expr → (inner : Outcome Told)
       → Finds l before (PieceIs (Loaded expr) inner) after → outcome ≡ last_found (l.structs after) expr inner → IsBlock l before stmt stmts outcome after
-  Front : is_last_value (stmt ∷ stmts) ≡ false → (first : Outcome (Unit {0})) (middle : l.Environment) → l.Statement before stmt first middle
+  Front : is_last_value (stmt ∷ stmts) ≡ false → (first : Outcome (Unit {0})) (middle : l.Environment) → Finds l before (StatementIs stmt first) middle
       → IsRestOfBlock l middle first stmts outcome after → IsBlock l before stmt stmts outcome after
 
 pub block_rows : {l : Language} {before after : l.Environment} {stmt : Stmt} {stmts : List Stmt} {outcome : Outcome CType}

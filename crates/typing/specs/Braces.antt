@@ -38,7 +38,7 @@ tagged_struct l name env None = Opens (length (l.structs env), l.struct_opened (
 tagged_struct l name env (Some (StructHere number)) = reopened (is_open (slice_get (l.structs env) number)) number name env
 tagged_struct l name env (Some (EnumHere listed)) = IsTwice (fault name.place (Rule 2))
 
--- the number of the struct whose members follow, and what is declared in front of them (C11 6.7.2.3p1, p4, p7)
+-- the number of the struct whose members follow, and what is declared in front of them (C11 6.7.2.3p1, p4, p6)
 abbrev pub struct_opening : (l : Language) → Option Identifier → l.Environment → Opening (ℕ × l.Environment)
 struct_opening l None env = Opens (length (l.structs env), l.struct_opened None env)
 struct_opening l (Some name) env = tagged_struct l name env (l.tag_here name.name env)
@@ -95,7 +95,7 @@ member_type abi structs base parts counts =
     declared base parts.stars counts (is_large abi structs (declared_type base parts.stars counts))
 
 -- what is broken at it: what is found of its type; a field of bits is construct 21; a struct of more than 65,536 bytes is construct 19; two
--- members of one name are rule 2 (6.7.2.1p2, 6.2.3), and a type without a size is rule 3 (6.7.2.1p3)
+-- members of one name are rule 2 (6.2.3, 6.7p3), and a type without a size is rule 3 (6.7.2.1p3)
 abbrev pub member_faults : Place → Option Broken → Bool → Bool → Bool → Bool → List Fault
 member_faults place found of_bits large twice sized =
     all_at place found

@@ -6,7 +6,7 @@ use Rattle.cbase.specs.declared.tree.decl.Param.{Param}
 use Rattle.cbase.specs.declared.tree.decl.TypeName.{TypeName}
 use Rattle.cbase.specs.declared.tree.expr.Expr.{Expr}
 use Rattle.cbase.specs.declared.tree.expr.ExprForm.{ExprForm}
-use Rattle.cbase.specs.declared.tree.expr.ExprForm.TheOpen.{ExprForm-F, Part-F, TypeSpec-F, StmtForm-F, TypeName-F, FieldDecl-F, FieldName-F, Enumerator-F}
+use Rattle.cbase.specs.declared.tree.expr.ExprForm.TheOpen.{ExprForm-F, Part-F, TypeSpec-F, StmtForm-F, TypeName-F, FieldDecl-F, FieldName-F, Enumerator-F, Decl-F, Declared-F, Param-F, Init-F, InitPart-F}
 use Rattle.cbase.specs.declared.tree.expr.ExprForm.TheOpen.{Name, Eval}
 use Rattle.cbase.specs.declared.tree.expr.Part.{Part}
 use Rattle.cbase.specs.declared.tree.init.Init.{Init}
@@ -43,6 +43,22 @@ MemberParts = FieldName-F ExprForm Part Init TypeSpec StmtForm Decl Declared Par
 
 abbrev pub EnumeratorParts : Type 0
 EnumeratorParts = Enumerator-F ExprForm Part Init TypeSpec StmtForm Decl Declared Param TypeName Expr InitPart Enumerator FieldDecl FieldName Stmt
+
+-- a declaration in a block, one of its names, a parameter, an initialiser, and a part of one in braces
+abbrev pub NamesParts : Type 0
+NamesParts = Decl-F ExprForm Part Init TypeSpec StmtForm Decl Declared Param TypeName Expr InitPart Enumerator FieldDecl FieldName Stmt
+
+abbrev pub DeclaratorParts : Type 0
+DeclaratorParts = Declared-F ExprForm Part Init TypeSpec StmtForm Decl Declared Param TypeName Expr InitPart Enumerator FieldDecl FieldName Stmt
+
+abbrev pub ParameterParts : Type 0
+ParameterParts = Param-F ExprForm Part Init TypeSpec StmtForm Decl Declared Param TypeName Expr InitPart Enumerator FieldDecl FieldName Stmt
+
+abbrev pub Initialiser : Type 0
+Initialiser = Init-F ExprForm Part Init TypeSpec StmtForm Decl Declared Param TypeName Expr InitPart Enumerator FieldDecl FieldName Stmt
+
+abbrev pub PartOfInitialiser : Type 0
+PartOfInitialiser = InitPart-F ExprForm Part Init TypeSpec StmtForm Decl Declared Param TypeName Expr InitPart Enumerator FieldDecl FieldName Stmt
 
 -- the name that an expression is
 abbrev pub name_in : Form → Option (List ℕ)

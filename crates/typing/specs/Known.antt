@@ -12,7 +12,7 @@ use Rattle.typing.specs.Entities.{Entity}
 use Rattle.typing.specs.Faults.{fault}
 use Rattle.typing.specs.declared.idiom.Idiom.{Idiom}
 use Rattle.typing.specs.declared.idiom.Idiom.TheVariants.{Outside}
-use Rattle.typing.specs.Outcomes.{Handed, Outcome, Passes, Refused}
+use Rattle.typing.specs.Outcomes.{Handed, ExpressionHanded, Outcome, Passes, Refused}
 
 -- its own type, before an array becomes a pointer; whether it is an lvalue (C11 6.3.2.1p1); whether it is a null pointer constant
 -- (6.3.2.3p3): a constant 0, or one cast to `void *` once; its value, where it is an integer constant expression (6.6p6), as the bits of
@@ -59,7 +59,7 @@ value_type Void t = t
 
 -- what is handed on of an expression
 abbrev pub handed_of : ℕ → Known → Handed
-handed_of number known = record { number = number; ctype = known.ctype; stands = known.stands; value = known.value }
+handed_of number known = ExpressionHanded (record { number = number; ctype = known.ctype; stands = known.stands; value = known.value })
 
 -- an expression behind its parts
 abbrev pub behind : List Handed → ℕ → Known → List Handed

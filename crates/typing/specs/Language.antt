@@ -1,14 +1,13 @@
--- What the typing of expressions asks of the rest of the language.
+-- What typing asks of the place where a part of a text stands.
 --
--- An environment says what is declared at a place: names and tags by scope, and structs by their numbers. Statements have rules of their
--- own, which are given here as a relation.
+-- An environment says what is declared at a place: names and tags by scope, and structs by their numbers; and where the place lies: in the
+-- body of a loop or in none, and in a function of some result or in none.
 use Rattle.std.specs.Prelude.{ℕ, Bool, List, Option}
 use Rattle.cbase.specs.declared.abi.Abi.{Abi}
+use Rattle.cbase.specs.declared.ctype.CType.{CType}
 use Rattle.cbase.specs.declared.structs.Field.{Field}
 use Rattle.cbase.specs.declared.structs.StructDef.{StructDef}
-use Rattle.cbase.specs.declared.tree.stmt.Stmt.{Stmt}
-use Rattle.typing.specs.Entities.{Entity, Tag, TagHere}
-use Rattle.typing.specs.Outcomes.{Outcome}
+use Rattle.typing.specs.Entities.{Entity, DeclaredType, Linked, NameHere, Tag, TagHere}
 
 pub record Language : Type 1 where
   pub abi : Abi
@@ -34,5 +33,18 @@ pub record Language : Type 1 where
   -- whether the innermost scope allows no constant of that name; and a constant of an enum in it, by its name and the bits of an int
   pub is_declared_here : List ℕ → Environment → Bool
   pub constant_declared : List ℕ → ℕ → Environment → Environment
-  -- a statement or a declaration, which is not the last expression of a statement expression
-  pub Statement : Environment → Stmt → Outcome (Unit {0}) → Environment → Type 0
+  -- whether the place lies in the body of a loop (C11 6.8.6.2p1, 6.8.6.3p1); and as one that does, or does not
+  pub in_loop : Environment → Bool
+  pub loop_set : Bool → Environment → Environment
+  -- the result type of the function whose body the place lies in; none outside of functions. The body of a function begins in the scope of
+  -- its parameters, in no loop, and is walked there as the statements of a block, which enter no scope of their own (C11 6.2.1p4)
+  pub result : Environment → Option CType
+  -- what the innermost scope alone says of a name, and what has linkage under it in the whole text so far
+  pub name_here : List ℕ → Environment → Option NameHere
+  pub linked : List ℕ → Environment → Option Linked
+  -- a name is declared in the innermost scope: an object without linkage, or one of that scope again, whose type is known now, by how many tokens stand
+  -- before its name, whether it lives as long as the program runs, and its type; a typedef; and what has linkage, declared by the name behind so
+  -- many tokens, which is that in the whole text from here on (C11 6.2.2)
+  pub object_declared : List ℕ → ℕ → Bool → DeclaredType → Environment → Environment
+  pub typedef_declared : List ℕ → DeclaredType → Environment → Environment
+  pub linked_declared : List ℕ → ℕ → Linked → Environment → Environment

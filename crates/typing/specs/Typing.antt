@@ -1,18 +1,25 @@
--- Which type an expression has in an environment, or what is refused in it first (C11 6.3, 6.5 and 6.6).
+-- Which type an expression has in an environment, or what is refused in it, or in a statement or a declaration in a block,
+-- first (C11 6.3, 6.5 to 6.8).
 --
 -- `Finds before saying after` says what is found of a part of a tree, where `before` is declared in front of it and `after` behind
 -- it. The parts of an expression are walked in the order of the text, and the expression itself behind them: what is found in a part
 -- is found of the whole, and where all parts pass, what is named of all that is broken at the expression itself.
-use Rattle.std.specs.Prelude.{◌≡◌, ℕ, Bool, true, false, List, [], ◌∷◌, ◌++◌, Option, None, Some, option_and_then, length, slice_get}
+use Rattle.std.specs.Prelude.{◌≡◌, ℕ, suc, Bool, true, false, List, [], ◌∷◌, ◌++◌, Option, None, Some, option_and_then, length, slice_get}
 use Rattle.cbase.specs.declared.ctype.CType.{CType}
-use Rattle.cbase.specs.declared.ctype.CType.TheVariants.{Void as VoidType, Struct as StructType}
+use Rattle.cbase.specs.declared.ctype.CType.TheVariants.{Void as VoidType, Struct as StructType, Array as ArrayType}
 use Rattle.cbase.specs.declared.place.Place.{Place}
 use Rattle.cbase.specs.declared.structs.Field.{Field}
+use Rattle.cbase.specs.declared.tree.decl.Decl.{Decl}
+use Rattle.cbase.specs.declared.tree.decl.Declared.{Declared}
+use Rattle.cbase.specs.declared.tree.decl.Param.{Param}
+use Rattle.cbase.specs.declared.tree.decl.Storage.{Storage}
 use Rattle.cbase.specs.declared.tree.decl.TypeName.{TypeName}
 use Rattle.cbase.specs.declared.tree.expr.Expr.{Expr}
-use Rattle.cbase.specs.declared.tree.expr.ExprForm.TheOpen.{Basic, Named, Struct, Enum, OfExpr, OfType}
-use Rattle.cbase.specs.declared.tree.expr.ExprForm.TheViews.{out-ExprForm, out-StmtForm, out-TypeName, out-TypeSpec, out-FieldDecl, out-FieldName, out-Enumerator}
+use Rattle.cbase.specs.declared.tree.expr.ExprForm.TheOpen.{Basic, Named, Struct, Enum, OfExpr, OfType, Value, Braces}
+use Rattle.cbase.specs.declared.tree.expr.ExprForm.TheViews.{out-ExprForm, out-StmtForm, out-TypeName, out-TypeSpec, out-FieldDecl, out-FieldName, out-Enumerator, out-Decl, out-Declared, out-Param, out-Init, out-InitPart}
 use Rattle.cbase.specs.declared.tree.identifier.Identifier.{Identifier}
+use Rattle.cbase.specs.declared.tree.init.Init.{Init}
+use Rattle.cbase.specs.declared.tree.init.InitPart.{InitPart}
 use Rattle.cbase.specs.declared.tree.spec.BasicType.{BasicType}
 use Rattle.cbase.specs.declared.tree.spec.Enumerator.{Enumerator}
 use Rattle.cbase.specs.declared.tree.spec.FieldDecl.{FieldDecl}
@@ -27,9 +34,11 @@ use Rattle.typing.specs.declared.size.Size.{Size}
 use Rattle.typing.specs.declared.size.Size.TheVariants.{LeftOut}
 use Rattle.typing.specs.Braces.{Opens, IsTwice, struct_opening, closing, enum_opening, fixed_size, width_found, member, member_type, faults_of_member}
 use Rattle.typing.specs.Calls.{is_struct}
-use Rattle.typing.specs.Entities.{FunctionEntity, FunctionIs, StructTag, EnumTag}
-use Rattle.typing.specs.Faults.{fault}
-use Rattle.typing.specs.Forms.{Form, Words, NameParts, DeclarationParts, MemberParts, EnumeratorParts, name_in, value_in}
+use Rattle.typing.specs.Declarations.{Given, ObjectGiven, LinkedGiven, TypeGiven, Parameter, tag_alone, alone, is_fixed_size, given, given_type, IsAgain, faults_of_name, name_declared, name_of, object_row, in_braces, initialised, told_type, told_faults, parameter, with_parameter, is_named_here, parameter_declared, faults_of_function, function_given}
+use Rattle.typing.specs.Entities.{FunctionEntity, FunctionIs, DeclaredType, WholeType, ItemsOf, Linked, StructTag, EnumTag}
+use Rattle.typing.specs.Faults.{fault, all_at, IsFirst}
+use Rattle.typing.specs.Forms.{Form, Words, Clause, NameParts, DeclarationParts, MemberParts, EnumeratorParts, NamesParts, DeclaratorParts, ParameterParts, Initialiser, PartOfInitialiser, name_in, value_in}
+use Rattle.typing.specs.Initialisers.{Slot, Subject, Filled, Sets, NoMember, Full, filled_of, next_in, ended, stored, IsAsked}
 use Rattle.typing.specs.Known.{Known, operand, can_load, value_type, behind}
 use Rattle.typing.specs.Language.{Language}
 use Rattle.typing.specs.NamedTypes.{NamedType, whole, basic_type, no_type, typedef_of, size_of, declared_type, declared, is_large}
@@ -37,6 +46,7 @@ use Rattle.typing.specs.Nodes.{function_faults, is_function, called_of, is_last_
 use Rattle.typing.specs.Outcomes.{Outcome, Handed, Passes, Refused, IsSettled, with_front}
 use Rattle.typing.specs.Pieces.{Piece, Loaded, Unloaded, Called, OfType as OfTypeName, ConstantIndex, SizeOfArray, BlockOf, pieces_in}
 use Rattle.typing.specs.Rules.{AtNode}
+use Rattle.typing.specs.Statements.{Demand, Returned, Stored, Surplus, StatementPart, ValueOf, Whole, Branch, LoopBody, StatementsOf, LeavesLoop, ReturnsNothing, Returns, Declares, parts_in, has_scope, faults_of_value, return_faults, without_value}
 use Rattle.typing.specs.Told.{Told, OperandIs, FunctionNamed, NoFunction, TypeIs, IndexIs, SizeIs, ValueIs}
 use Rattle.values.specs.Values.{word_of, int_value, next_value}
 
@@ -48,7 +58,29 @@ pub data Saying : Type 0 where
   WordsAre : Words → Outcome NamedType → Saying
   SizesAre : List (Option Expr) → Outcome (List Size) → Saying
   NameOfTypeIs : TypeName → Outcome NamedType → Saying
+  -- the statements of a block, a statement, what it is made of, and a value in it
   StatementsAre : List Stmt → Outcome CType → Saying
+  StatementIs : Stmt → Outcome (Unit {0}) → Saying
+  StatementPartsAre : List StatementPart → Outcome (Unit {0}) → Saying
+  StatementPartIs : StatementPart → Outcome (Unit {0}) → Saying
+  ValueUsed : Demand → Expr → Outcome (Unit {0}) → Saying
+  -- a declaration in a block, whose first token stands there; all its names, where it has any; these one behind the other; and one of them
+  DeclaredIs : Place → Decl → Outcome (Unit {0}) → Saying
+  DeclaratorsAre : Place → Storage → NamedType → List Declared → Outcome (Unit {0}) → Saying
+  DeclaredNamesAre : Storage → NamedType → List Declared → Outcome (Unit {0}) → Saying
+  DeclaredNameIs : Storage → NamedType → Declared → Outcome (Unit {0}) → Saying
+  -- its sizes, which are integer constant expressions or not
+  DeclaredSizesAre : Bool → List (Option Expr) → Outcome (List Size) → Saying
+  -- the parameters of a function, and one of them
+  ParametersAre : List Param → Outcome (List Parameter) → Saying
+  ParameterIs : Param → Outcome Parameter → Saying
+  -- what stands behind a name that a declaration gives something; an initialiser; its parts in braces, from an index on; and those for which
+  -- there is no place
+  InitialisedIs : Identifier → Given → Option Init → Outcome (Unit {0}) → Saying
+  InitialiserIs : Subject → Slot → Init → Outcome (Unit {0}) → Saying
+  PartsFill : Subject → Filled → ℕ → List InitPart → Outcome (Unit {0}) → Saying
+  SurplusIs : Place → Init → Outcome (Unit {0}) → Saying
+  SurplusAre : Place → List InitPart → Outcome (Unit {0}) → Saying
   -- the members of a struct, behind those that it has so far: declarations, one of them, names of a type, and one of them
   MembersAre : List Field → List FieldDecl → Outcome (List Field) → Saying
   DeclarationIs : List Field → FieldDecl → Outcome (List Field) → Saying
@@ -189,25 +221,322 @@ pub data Finds (l : Language) : l.Environment → Saying → l.Environment → T
   -- statements and declarations before it
   MoreStatements : {before middle after : l.Environment} {stmt : Stmt} {stmts : List Stmt} {t : CType} {further : List Handed} (handed : List Handed)
       → is_last_value (stmt ∷ stmts) ≡ false
-      → l.Statement before stmt (Passes tt handed) middle
+      → Finds l before (StatementIs stmt (Passes tt handed)) middle
       → Finds l middle (StatementsAre stmts (Passes t further)) after
       → Finds l before (StatementsAre (stmt ∷ stmts) (Passes t (handed ++ further))) after
   StatementRefused : {before after : l.Environment} {stmt : Stmt} {stmts : List Stmt} {first : Fault}
       → is_last_value (stmt ∷ stmts) ≡ false
-      → l.Statement before stmt (Refused first) after
+      → Finds l before (StatementIs stmt (Refused first)) after
       → Finds l before (StatementsAre (stmt ∷ stmts) (Refused first)) after
   StatementsRefused : {before middle after : l.Environment} {stmt : Stmt} {stmts : List Stmt} {first : Fault} (handed : List Handed)
       → is_last_value (stmt ∷ stmts) ≡ false
-      → l.Statement before stmt (Passes tt handed) middle
+      → Finds l before (StatementIs stmt (Passes tt handed)) middle
       → Finds l middle (StatementsAre stmts (Refused first)) after
       → Finds l before (StatementsAre (stmt ∷ stmts) (Refused first)) after
+  -- a statement: what it is made of, one behind the other (6.8)
+  StatementOfParts : {before after : l.Environment} {stmt : Stmt} {clause : Clause} {outcome : Outcome (Unit {0})}
+      → out-StmtForm stmt.form ≡ clause
+      → has_scope clause ≡ false
+      → Finds l before (StatementPartsAre (parts_in stmt.place clause) outcome) after
+      → Finds l before (StatementIs stmt outcome) after
+  -- an `if` and a loop is a block (6.8.4p3, 6.8.5p5)
+  StatementInScope : {before after : l.Environment} {stmt : Stmt} {clause : Clause} {outcome : Outcome (Unit {0})}
+      → out-StmtForm stmt.form ≡ clause
+      → has_scope clause ≡ true
+      → Finds l (l.entered before) (StatementPartsAre (parts_in stmt.place clause) outcome) after
+      → Finds l before (StatementIs stmt outcome) (l.left after)
+  NoStatementParts : {env : l.Environment} → Finds l env (StatementPartsAre [] (Passes tt [])) env
+  MoreStatementParts : {before middle after : l.Environment} {part : StatementPart} {parts : List StatementPart} {handed : List Handed} {outcome : Outcome (Unit {0})}
+      → Finds l before (StatementPartIs part (Passes tt handed)) middle
+      → Finds l middle (StatementPartsAre parts outcome) after
+      → Finds l before (StatementPartsAre (part ∷ parts) (with_front handed outcome)) after
+  StatementPartRefused : {before after : l.Environment} {part : StatementPart} {parts : List StatementPart} {first : Fault}
+      → Finds l before (StatementPartIs part (Refused first)) after
+      → Finds l before (StatementPartsAre (part ∷ parts) (Refused first)) after
+  -- a value that is used as the statement says, and a statement in it
+  ValueInStatement : {before after : l.Environment} {demand : Demand} {expr : Expr} {outcome : Outcome (Unit {0})}
+      → Finds l before (ValueUsed demand expr outcome) after
+      → Finds l before (StatementPartIs (ValueOf demand expr) outcome) after
+  StatementInside : {before after : l.Environment} {stmt : Stmt} {outcome : Outcome (Unit {0})}
+      → Finds l before (StatementIs stmt outcome) after
+      → Finds l before (StatementPartIs (Whole stmt) outcome) after
+  -- the body of a loop (6.8.5p5), in which `break` and `continue` may stand; behind it they may where they might before
+  BodyOfLoop : {before after : l.Environment} {stmt : Stmt} {outcome : Outcome (Unit {0})}
+      → Finds l (l.loop_set true (l.entered before)) (StatementIs stmt outcome) after
+      → Finds l before (StatementPartIs (LoopBody stmt) outcome) (l.loop_set (l.in_loop before) (l.left after))
+  -- a statement in an `if` (6.8.4p3)
+  StatementOfIf : {before after : l.Environment} {stmt : Stmt} {outcome : Outcome (Unit {0})}
+      → Finds l (l.entered before) (StatementIs stmt outcome) after
+      → Finds l before (StatementPartIs (Branch stmt) outcome) (l.left after)
+  -- a block (6.8.2p2)
+  BlockOfStatements : {before after : l.Environment} {body : List Stmt} {found : Outcome CType}
+      → Finds l (l.entered before) (StatementsAre body found) after
+      → Finds l before (StatementPartIs (StatementsOf body) (without_value found)) (l.left after)
+  -- `break` and `continue` stand in the body of a loop, else it is rule 10 at the word (6.8.6.2p1, 6.8.6.3p1)
+  LoopLeft : {env : l.Environment} {place : Place}
+      → l.in_loop env ≡ true
+      → Finds l env (StatementPartIs (LeavesLoop place) (Passes tt [])) env
+  NoLoopToLeave : {env : l.Environment} {place : Place}
+      → l.in_loop env ≡ false
+      → Finds l env (StatementPartIs (LeavesLoop place) (Refused (fault place (Rule 10)))) env
+  -- `return` (6.8.6.4): its value is walked first
+  NothingReturned : {env : l.Environment} {place : Place} {faults : List Fault} {outcome : Outcome (Unit {0})}
+      → return_faults (l.structs env) place (l.result env) ≡ faults
+      → IsSettled faults tt [] outcome
+      → Finds l env (StatementPartIs (ReturnsNothing place) outcome) env
+  ValueReturned : {before after : l.Environment} {place : Place} {expr : Expr} {outcome : Outcome (Unit {0})}
+      → Finds l before (ValueUsed (Returned place (l.result before)) expr outcome) after
+      → Finds l before (StatementPartIs (Returns place expr) outcome) after
+  -- a value that is taken, and what is broken at it
+  ValueTaken : {before after : l.Environment} {demand : Demand} {expr : Expr} {known : Known} {faults : List Fault} {handed : List Handed} {outcome : Outcome (Unit {0})} (constant : Bool)
+      → Finds l before (PieceIs (Loaded expr) (Passes (OperandIs known) handed)) after
+      → IsAsked demand handed expr constant
+      → faults_of_value (l.structs after) demand constant expr.place known ≡ faults
+      → IsSettled faults tt handed outcome
+      → Finds l before (ValueUsed demand expr outcome) after
+  ValueRefused : {before after : l.Environment} {demand : Demand} {expr : Expr} {first : Fault}
+      → Finds l before (PieceIs (Loaded expr) (Refused first)) after
+      → Finds l before (ValueUsed demand expr (Refused first)) after
+  -- a declaration in a block (6.7), as a part of a statement
+  DeclarationInside : {before after : l.Environment} {place : Place} {decl : Decl} {outcome : Outcome (Unit {0})}
+      → Finds l before (DeclaredIs place decl outcome) after
+      → Finds l before (StatementPartIs (Declares place decl) outcome) after
+  -- `struct s;` declares its tag in the innermost scope (6.7.2.3p7); a tag of another kind there is rule 2 at it
+  TagAlone : {before after : l.Environment} {place : Place} {decl : Decl} {parts : NamesParts} {words : Words} {name : Identifier}
+      → out-Decl decl ≡ parts
+      → out-TypeSpec parts.spec ≡ words
+      → tag_alone parts.storage words parts.names ≡ Some name
+      → alone l name before ≡ Opens after
+      → Finds l before (DeclaredIs place decl (Passes tt [])) after
+  TagAloneOfOther : {env : l.Environment} {place : Place} {decl : Decl} {parts : NamesParts} {words : Words} {name : Identifier} {first : Fault}
+      → out-Decl decl ≡ parts
+      → out-TypeSpec parts.spec ≡ words
+      → tag_alone parts.storage words parts.names ≡ Some name
+      → alone l name env ≡ IsTwice first
+      → Finds l env (DeclaredIs place decl (Refused first)) env
+  -- any other one: its words, then its names
+  WordsWithNames : {before middle after : l.Environment} {place : Place} {decl : Decl} {parts : NamesParts} {words : Words} {base : NamedType} {handed : List Handed} {outcome : Outcome (Unit {0})}
+      → out-Decl decl ≡ parts
+      → out-TypeSpec parts.spec ≡ words
+      → tag_alone parts.storage words parts.names ≡ None
+      → Finds l before (WordsAre words (Passes base handed)) middle
+      → Finds l middle (DeclaratorsAre place parts.storage base parts.names outcome) after
+      → Finds l before (DeclaredIs place decl (with_front handed outcome)) after
+  DeclaredWordsRefused : {before after : l.Environment} {place : Place} {decl : Decl} {parts : NamesParts} {words : Words} {first : Fault}
+      → out-Decl decl ≡ parts
+      → out-TypeSpec parts.spec ≡ words
+      → tag_alone parts.storage words parts.names ≡ None
+      → Finds l before (WordsAre words (Refused first)) after
+      → Finds l before (DeclaredIs place decl (Refused first)) after
+  -- where nothing is declared, what the words hold is found at the first token
+  NoDeclarators : {env : l.Environment} {place : Place} {storage : Storage} {base : NamedType} {outcome : Outcome (Unit {0})}
+      → IsSettled (all_at place base.found) tt [] outcome
+      → Finds l env (DeclaratorsAre place storage base [] outcome) env
+  SomeDeclarators : {before after : l.Environment} {place : Place} {storage : Storage} {base : NamedType} {name : Declared} {names : List Declared} {outcome : Outcome (Unit {0})}
+      → Finds l before (DeclaredNamesAre storage base (name ∷ names) outcome) after
+      → Finds l before (DeclaratorsAre place storage base (name ∷ names) outcome) after
+  NoMoreDeclarators : {env : l.Environment} {storage : Storage} {base : NamedType} → Finds l env (DeclaredNamesAre storage base [] (Passes tt [])) env
+  MoreDeclarators : {before middle after : l.Environment} {storage : Storage} {base : NamedType} {name : Declared} {names : List Declared} {handed : List Handed} {outcome : Outcome (Unit {0})}
+      → Finds l before (DeclaredNameIs storage base name (Passes tt handed)) middle
+      → Finds l middle (DeclaredNamesAre storage base names outcome) after
+      → Finds l before (DeclaredNamesAre storage base (name ∷ names) (with_front handed outcome)) after
+  DeclaratorRefused : {before after : l.Environment} {storage : Storage} {base : NamedType} {name : Declared} {names : List Declared} {first : Fault}
+      → Finds l before (DeclaredNameIs storage base name (Refused first)) after
+      → Finds l before (DeclaredNamesAre storage base (name ∷ names) (Refused first)) after
+  -- the name of an object or of a typedef: its sizes, then what is found at it, then its initialiser, in which it is in scope (6.2.1p7)
+  NameWithSizesRefused : {before after : l.Environment} {storage : Storage} {base : NamedType} {name : Declared} {parts : DeclaratorParts} {first : Fault}
+      → out-Declared name ≡ parts
+      → parts.params ≡ None
+      → Finds l before (DeclaredSizesAre (is_fixed_size storage) parts.sizes (Refused first)) after
+      → Finds l before (DeclaredNameIs storage base name (Refused first)) after
+  NameBroken : {before after : l.Environment} {storage : Storage} {base : NamedType} {name : Declared} {parts : DeclaratorParts} {counts : List Size} {faults : List Fault} {handed : List Handed} {first : Fault} (again : Bool)
+      → out-Declared name ≡ parts
+      → parts.params ≡ None
+      → Finds l before (DeclaredSizesAre (is_fixed_size storage) parts.sizes (Passes counts handed)) after
+      → IsAgain (l.name_here parts.name after) (l.linked parts.name after) (given storage (given_type base parts.stars counts)) again
+      → faults_of_name l.abi (l.structs after) parts base counts (given storage (given_type base parts.stars counts)) again ≡ faults
+      → IsFirst faults first
+      → Finds l before (DeclaredNameIs storage base name (Refused first)) after
+  NameGiven : {before middle after : l.Environment} {storage : Storage} {base : NamedType} {name : Declared} {parts : DeclaratorParts} {counts : List Size} {handed : List Handed} {outcome : Outcome (Unit {0})} (again : Bool)
+      → out-Declared name ≡ parts
+      → parts.params ≡ None
+      → Finds l before (DeclaredSizesAre (is_fixed_size storage) parts.sizes (Passes counts handed)) middle
+      → IsAgain (l.name_here parts.name middle) (l.linked parts.name middle) (given storage (given_type base parts.stars counts)) again
+      → faults_of_name l.abi (l.structs middle) parts base counts (given storage (given_type base parts.stars counts)) again ≡ []
+      → Finds l (name_declared l parts.name parts.place.at (given storage (given_type base parts.stars counts)) middle)
+      (InitialisedIs (name_of parts) (given storage (given_type base parts.stars counts)) parts.init outcome) after
+      → Finds l before (DeclaredNameIs storage base name (with_front handed outcome)) after
+  -- its sizes: those of a static object and of what has linkage are integer constant expressions, as those of members, else it is rule 9 at them
+  -- (6.7.6.2p2)
+  FixedSizes : {before after : l.Environment} {sizes : List (Option Expr)} {outcome : Outcome (List Size)}
+      → Finds l before (MemberSizesAre sizes outcome) after
+      → Finds l before (DeclaredSizesAre true sizes outcome) after
+  AnySizes : {before after : l.Environment} {sizes : List (Option Expr)} {outcome : Outcome (List Size)}
+      → Finds l before (SizesAre sizes outcome) after
+      → Finds l before (DeclaredSizesAre false sizes outcome) after
+  -- the name of a function (6.7.6.3): its parameters, in a scope of their own (6.2.1p4), then what is found at it. The grammar reads no sizes and no
+  -- initialiser beside them
+  ParametersRefused : {before after : l.Environment} {storage : Storage} {base : NamedType} {name : Declared} {parts : DeclaratorParts} {params : List Param} {first : Fault}
+      → out-Declared name ≡ parts
+      → parts.params ≡ Some params
+      → Finds l (l.entered before) (ParametersAre params (Refused first)) after
+      → Finds l before (DeclaredNameIs storage base name (Refused first)) (l.left after)
+  FunctionBroken : {before after : l.Environment} {storage : Storage} {base : NamedType} {name : Declared} {parts : DeclaratorParts} {params : List Param} {told : List Parameter} {faults : List Fault} {handed : List Handed} {first : Fault} (again : Bool)
+      → out-Declared name ≡ parts
+      → parts.params ≡ Some params
+      → Finds l (l.entered before) (ParametersAre params (Passes told handed)) after
+      → IsAgain (l.name_here parts.name (l.left after)) (l.linked parts.name (l.left after)) (LinkedGiven (function_given parts base told)) again
+      → faults_of_function (l.structs (l.left after)) storage parts base told again ≡ faults
+      → IsFirst faults first
+      → Finds l before (DeclaredNameIs storage base name (Refused first)) (l.left after)
+  FunctionGiven : {before after : l.Environment} {storage : Storage} {base : NamedType} {name : Declared} {parts : DeclaratorParts} {params : List Param} {told : List Parameter} {handed : List Handed} (again : Bool)
+      → out-Declared name ≡ parts
+      → parts.params ≡ Some params
+      → Finds l (l.entered before) (ParametersAre params (Passes told handed)) after
+      → IsAgain (l.name_here parts.name (l.left after)) (l.linked parts.name (l.left after)) (LinkedGiven (function_given parts base told)) again
+      → faults_of_function (l.structs (l.left after)) storage parts base told again ≡ []
+      → Finds l before (DeclaredNameIs storage base name (Passes tt handed))
+      (name_declared l parts.name parts.place.at (LinkedGiven (function_given parts base told)) (l.left after))
+  -- its parameters, one behind the other, each in scope in those behind it
+  NoParameters : {env : l.Environment} → Finds l env (ParametersAre [] (Passes [] [])) env
+  MoreParameters : {before middle after : l.Environment} {param : Param} {params : List Param} {told : Parameter} {handed : List Handed} {outcome : Outcome (List Parameter)}
+      → Finds l before (ParameterIs param (Passes told handed)) middle
+      → Finds l middle (ParametersAre params outcome) after
+      → Finds l before (ParametersAre (param ∷ params) (with_parameter told handed outcome)) after
+  ParameterRefused : {before after : l.Environment} {param : Param} {params : List Param} {first : Fault}
+      → Finds l before (ParameterIs param (Refused first)) after
+      → Finds l before (ParametersAre (param ∷ params) (Refused first)) after
+  ParameterFound : {before middle after : l.Environment} {param : Param} {parts : ParameterParts} {words : Words} {base : NamedType} {counts : List Size} {told : Parameter} {handed further : List Handed}
+      → out-Param param ≡ parts
+      → out-TypeSpec parts.spec ≡ words
+      → Finds l before (WordsAre words (Passes base handed)) middle
+      → Finds l middle (SizesAre parts.sizes (Passes counts further)) after
+      → parameter l.abi (l.structs after) base parts counts (is_named_here l parts.name after) ≡ told
+      → Finds l before (ParameterIs param (Passes told (handed ++ further))) (parameter_declared l parts.name told.ctype after)
+  ParameterWordsRefused : {before after : l.Environment} {param : Param} {parts : ParameterParts} {words : Words} {first : Fault}
+      → out-Param param ≡ parts
+      → out-TypeSpec parts.spec ≡ words
+      → Finds l before (WordsAre words (Refused first)) after
+      → Finds l before (ParameterIs param (Refused first)) after
+  ParameterSizesRefused : {before middle after : l.Environment} {param : Param} {parts : ParameterParts} {words : Words} {base : NamedType} {handed : List Handed} {first : Fault}
+      → out-Param param ≡ parts
+      → out-TypeSpec parts.spec ≡ words
+      → Finds l before (WordsAre words (Passes base handed)) middle
+      → Finds l middle (SizesAre parts.sizes (Refused first)) after
+      → Finds l before (ParameterIs param (Refused first)) after
+  -- what stands behind a name: no initialiser
+  NotInitialised : {env : l.Environment} {name : Identifier} {gives : Given}
+      → Finds l env (InitialisedIs name gives None (Passes tt (object_row name.place gives false))) env
+  -- that of an object of a whole type (6.7.9)
+  ObjectInitialised : {before after : l.Environment} {name : Identifier} {fixed : Bool} {t : CType} {init : Init} {form : Initialiser} {found : Outcome (Unit {0})}
+      → out-Init init ≡ form
+      → Finds l before (InitialiserIs (record { place = name.place; fixed = fixed }) (record { ctype = t; offset = 0; braces = true }) init found) after
+      → Finds l before (InitialisedIs name (ObjectGiven fixed (WholeType t)) (Some init) (initialised name.place (ObjectGiven fixed (WholeType t)) (in_braces form) found)) after
+  -- that of an array whose size is left out, which has as many items as there are parts, behind them (6.7.9p22)
+  ArrayInitialised : {before after : l.Environment} {name : Identifier} {fixed : Bool} {item : CType} {init : Init} {parts : List InitPart} {handed : List Handed}
+      → out-Init init ≡ Braces parts
+      → Finds l before (InitialiserIs (record { place = name.place; fixed = fixed }) (record { ctype = ArrayType item (length parts); offset = 0; braces = true }) init (Passes tt handed)) after
+      → told_faults l.abi (l.structs after) name.place item (length parts) ≡ []
+      → Finds l before (InitialisedIs name (ObjectGiven fixed (ItemsOf item)) (Some init)
+      (initialised name.place (ObjectGiven fixed (told_type item (length parts))) true (Passes tt handed)))
+      (name_declared l name.name name.place.at (ObjectGiven fixed (told_type item (length parts))) after)
+  ArrayOfWrongSize : {before after : l.Environment} {name : Identifier} {fixed : Bool} {item : CType} {init : Init} {parts : List InitPart} {handed : List Handed} {faults : List Fault} {first : Fault}
+      → out-Init init ≡ Braces parts
+      → Finds l before (InitialiserIs (record { place = name.place; fixed = fixed }) (record { ctype = ArrayType item (length parts); offset = 0; braces = true }) init (Passes tt handed)) after
+      → told_faults l.abi (l.structs after) name.place item (length parts) ≡ faults
+      → IsFirst faults first
+      → Finds l before (InitialisedIs name (ObjectGiven fixed (ItemsOf item)) (Some init) (Refused first)) after
+  ArrayPartsRefused : {before after : l.Environment} {name : Identifier} {fixed : Bool} {item : CType} {init : Init} {parts : List InitPart} {first : Fault}
+      → out-Init init ≡ Braces parts
+      → Finds l before (InitialiserIs (record { place = name.place; fixed = fixed }) (record { ctype = ArrayType item (length parts); offset = 0; braces = true }) init (Refused first)) after
+      → Finds l before (InitialisedIs name (ObjectGiven fixed (ItemsOf item)) (Some init) (Refused first)) after
+  -- by an expression no array is initialised
+  ArrayByValue : {before after : l.Environment} {name : Identifier} {fixed : Bool} {item : CType} {init : Init} {value : Expr} {behind_it : Place} {outcome : Outcome (Unit {0})}
+      → out-Init init ≡ Value value behind_it
+      → Finds l before (SurplusIs name.place init outcome) after
+      → Finds l before (InitialisedIs name (ObjectGiven fixed (ItemsOf item)) (Some init) outcome) after
+  -- nor is, in a block, what has linkage, or a typedef (6.7.9p5, 6.7.8)
+  LinkedInitialised : {before after : l.Environment} {name : Identifier} {linked : Linked} {init : Init} {outcome : Outcome (Unit {0})}
+      → Finds l before (SurplusIs name.place init outcome) after
+      → Finds l before (InitialisedIs name (LinkedGiven linked) (Some init) outcome) after
+  TypeInitialised : {before after : l.Environment} {name : Identifier} {t : DeclaredType} {init : Init} {outcome : Outcome (Unit {0})}
+      → Finds l before (SurplusIs name.place init outcome) after
+      → Finds l before (InitialisedIs name (TypeGiven t) (Some init) outcome) after
+  -- an initialiser: a value, which is stored whole (6.7.9p11, p13)
+  ValueStored : {before after : l.Environment} {subject : Subject} {slot : Slot} {init : Init} {value : Expr} {behind_it : Place} {found : Outcome (Unit {0})}
+      → out-Init init ≡ Value value behind_it
+      → Finds l before (ValueUsed (Stored subject.fixed slot.ctype) value found) after
+      → Finds l before (InitialiserIs subject slot init (stored subject slot value.number found)) after
+  -- braces, where they may stand (6.7.9p16), and too many of them
+  BracesFill : {before after : l.Environment} {subject : Subject} {slot : Slot} {init : Init} {parts : List InitPart} {filled : Filled} {outcome : Outcome (Unit {0})}
+      → out-Init init ≡ Braces parts
+      → filled_of l.abi (l.structs before) slot ≡ Some filled
+      → Finds l before (PartsFill subject filled 0 parts outcome) after
+      → Finds l before (InitialiserIs subject slot init outcome) after
+  BracesTooMany : {before after : l.Environment} {subject : Subject} {slot : Slot} {init : Init} {parts : List InitPart} {found : Outcome (Unit {0})}
+      → out-Init init ≡ Braces parts
+      → filled_of l.abi (l.structs before) slot ≡ None
+      → Finds l before (SurplusAre subject.place parts found) after
+      → Finds l before (InitialiserIs subject slot init found) after
+  -- the parts in braces (6.7.9p17 to p19): each sets what follows the one before, or the member that its designator names
+  NoMoreParts : {env : l.Environment} {subject : Subject} {filled : Filled} {index : ℕ}
+      → Finds l env (PartsFill subject filled index [] (ended subject.place filled index)) env
+  PartSets : {before middle after : l.Environment} {subject : Subject} {filled : Filled} {index at : ℕ} {part : InitPart} {parts : List InitPart} {this : PartOfInitialiser} {slot : Slot} {handed : List Handed} {outcome : Outcome (Unit {0})}
+      → out-InitPart part ≡ this
+      → next_in l.abi (l.structs before) filled index this.member ≡ Sets at slot
+      → Finds l before (InitialiserIs subject slot this.init (Passes tt handed)) middle
+      → Finds l middle (PartsFill subject filled (suc at) parts outcome) after
+      → Finds l before (PartsFill subject filled index (part ∷ parts) (with_front handed outcome)) after
+  PartRefused : {before after : l.Environment} {subject : Subject} {filled : Filled} {index at : ℕ} {part : InitPart} {parts : List InitPart} {this : PartOfInitialiser} {slot : Slot} {first : Fault}
+      → out-InitPart part ≡ this
+      → next_in l.abi (l.structs before) filled index this.member ≡ Sets at slot
+      → Finds l before (InitialiserIs subject slot this.init (Refused first)) after
+      → Finds l before (PartsFill subject filled index (part ∷ parts) (Refused first)) after
+  -- a designator that names no member is rule 6 at its name (6.7.9p7)
+  NoMemberToSet : {env : l.Environment} {subject : Subject} {filled : Filled} {index : ℕ} {part : InitPart} {parts : List InitPart} {this : PartOfInitialiser} {place : Place}
+      → out-InitPart part ≡ this
+      → next_in l.abi (l.structs env) filled index this.member ≡ NoMember place
+      → Finds l env (PartsFill subject filled index (part ∷ parts) (Refused (fault place (Rule 6)))) env
+  -- a part too many (6.7.9p2)
+  NothingToSet : {before after : l.Environment} {subject : Subject} {filled : Filled} {index : ℕ} {part : InitPart} {parts : List InitPart} {this : PartOfInitialiser} {found : Outcome (Unit {0})}
+      → out-InitPart part ≡ this
+      → next_in l.abi (l.structs before) filled index this.member ≡ Full
+      → Finds l before (SurplusAre subject.place (part ∷ parts) found) after
+      → Finds l before (PartsFill subject filled index (part ∷ parts) found) after
+  -- what stands where there is no place for it is rule 5 at its first expression, which is walked before, and where it has none at the declared
+  -- name; a designator in front of that is rule 6 at its name
+  SurplusValue : {before after : l.Environment} {place : Place} {init : Init} {value : Expr} {behind_it : Place} {outcome : Outcome (Unit {0})}
+      → out-Init init ≡ Value value behind_it
+      → Finds l before (ValueUsed Surplus value outcome) after
+      → Finds l before (SurplusIs place init outcome) after
+  SurplusBraces : {before after : l.Environment} {place : Place} {init : Init} {parts : List InitPart} {outcome : Outcome (Unit {0})}
+      → out-Init init ≡ Braces parts
+      → Finds l before (SurplusAre place parts outcome) after
+      → Finds l before (SurplusIs place init outcome) after
+  NoSurplusValue : {env : l.Environment} {place : Place} → Finds l env (SurplusAre place [] (Refused (fault place (Rule 5)))) env
+  SurplusDesignator : {env : l.Environment} {place : Place} {part : InitPart} {parts : List InitPart} {this : PartOfInitialiser} {name : Identifier}
+      → out-InitPart part ≡ this
+      → this.member ≡ Some name
+      → Finds l env (SurplusAre place (part ∷ parts) (Refused (fault name.place (Rule 6)))) env
+  SurplusPart : {before after : l.Environment} {place : Place} {part : InitPart} {parts : List InitPart} {this : PartOfInitialiser} {value : Expr} {behind_it : Place} {outcome : Outcome (Unit {0})}
+      → out-InitPart part ≡ this
+      → this.member ≡ None
+      → out-Init this.init ≡ Value value behind_it
+      → Finds l before (ValueUsed Surplus value outcome) after
+      → Finds l before (SurplusAre place (part ∷ parts) outcome) after
+  SurplusInside : {before after : l.Environment} {place : Place} {part : InitPart} {parts inner : List InitPart} {this : PartOfInitialiser} {outcome : Outcome (Unit {0})}
+      → out-InitPart part ≡ this
+      → this.member ≡ None
+      → out-Init this.init ≡ Braces inner
+      → Finds l before (SurplusAre place (inner ++ parts) outcome) after
+      → Finds l before (SurplusAre place (part ∷ parts) outcome) after
   -- the words of a type (6.7.2)
   BasicSpecifier : {env : l.Environment} {basic : BasicType}
       → Finds l env (WordsAre (Basic basic) (Passes (whole (basic_type l.abi basic)) [])) env
   -- a name, of a type or of none
   TypedefSpecifier : {env : l.Environment} {name : List ℕ}
       → Finds l env (WordsAre (Named name) (Passes (typedef_of (l.entity name env)) [])) env
-  -- a tag that is visible, one that is not and is declared here, one of another kind (6.7.2.3p3, p8). Structs have their numbers in the
+  -- a tag that is visible, one that is not and is declared here, one of another kind (6.7.2.3p2, p8, p9). Structs have their numbers in the
   -- order in which they are declared
   StructSpecifier : {env : l.Environment} {number : ℕ} {name : Identifier}
       → l.tag name.name env ≡ Some (StructTag number)

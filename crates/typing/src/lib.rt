@@ -1,7 +1,8 @@
-//! Which type an expression of C has where it stands, and what is broken in it first where it has none (C11 6.3, 6.5, 6.6).
+//! Which type an expression of C has where it stands, which statements, declarations and items of a file pass, and what is broken in
+//! them first where they do not (C11 6.3, 6.5 to 6.9).
 //!
 //! It knows the trees of `cbase`, the rules of operators on types and the values of constants; of what is declared it
-//! asks, and of statements it is told. It has no code yet: `specs/` has the relation, the types here are what it tells, and the
+//! asks. It has no code: `specs/` has the relation, the types here are what it tells, and the
 //! functions its laws.
 #![tactic(auto)]
 

@@ -1,6 +1,10 @@
-//! Expressions with what is found of them, worked out by hand from the standard. Each table is the contract of a function that does
-//! nothing.
+//! Expressions, statements, declarations and items with what is found of them, worked out by hand from the standard. Each table is the
+//! contract of a function that does nothing.
 ghost use Rattle.typing.specs.Examples.{AreNamed, AreUnary, AreBinary, AreAssigned, AreMembers, AreCalled, AreSizes, AreTypeNames, AreInner, AreBraces};
+ghost use Rattle.typing.specs.ExamplesOfDeclarations.{AreDeclarations};
+ghost use Rattle.typing.specs.ExamplesOfInitialisers.{AreInitialisers};
+ghost use Rattle.typing.specs.ExamplesOfItems.{AreItems, AreFunctions};
+ghost use Rattle.typing.specs.ExamplesOfStatements.{AreStatements};
 
 /// Names and constants (C11 6.5.1).
 #[tactic(auto, using(crate::proofs::ExamplesNamed::are_named))]
@@ -40,4 +44,34 @@ pub fn rows_of_statement_expressions()
 #[tactic(auto, using(crate::proofs::ExamplesBraces::are_braces))]
 pub fn rows_of_braces()
     ensures { AreBraces }
+{}
+
+/// Statements (C11 6.8).
+#[tactic(auto, using(crate::proofs::ExamplesStatements::are_statements))]
+pub fn rows_of_statements()
+    ensures { AreStatements }
+{}
+
+/// Declarations in blocks (C11 6.7).
+#[tactic(auto, using(crate::proofs::ExamplesDeclarations::are_declarations))]
+pub fn rows_of_declarations()
+    ensures { AreDeclarations }
+{}
+
+/// Initialisers (C11 6.7.9).
+#[tactic(auto, using(crate::proofs::ExamplesInitialisers::are_initialisers))]
+pub fn rows_of_initialisers()
+    ensures { AreInitialisers }
+{}
+
+/// Declarations outside of functions (C11 6.9.2).
+#[tactic(auto, using(crate::proofs::ExamplesItems::are_items))]
+pub fn rows_of_items()
+    ensures { AreItems }
+{}
+
+/// Functions with their bodies (C11 6.9.1), and items one behind the other.
+#[tactic(auto, using(crate::proofs::ExamplesItems::are_functions))]
+pub fn rows_of_functions()
+    ensures { AreFunctions }
 {}
