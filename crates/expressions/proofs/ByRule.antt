@@ -42,7 +42,7 @@ use Rattle.expressions.specs.Context.{Context, declared, Agrees}
 use Rattle.expressions.specs.Found.{an_expression, one_operand, no_parts, a_type_and_indices}
 use Rattle.expressions.specs.Names.{name_faults, name_told}
 use Rattle.expressions.specs.Numbers.{Numbering}
-use Rattle.expressions.specs.Others.{Others, language}
+use Rattle.expressions.specs.Language.{language}
 use Rattle.expressions.specs.Settled.{Settled}
 use Rattle.expressions.specs.Walked.{Passed, Walked, Says, SaysForm}
 use Rattle.expressions.proofs.Firsts.{first_alone}
@@ -157,28 +157,28 @@ loaded_operand Minus arg is = refl
 loaded_operand Flip arg is = refl
 loaded_operand Not arg is = refl
 
-pub loaded_found : (others : Others) (abi : Abi) (op : UnaryOp) (arg : Expr) (old mid : Context) (found : Found KnownByNumber) → is_arithmetic op ≡ true
-    → Walked (Says others abi (λ o. PiecesAre (Loaded arg ∷ []) o)) one_operand old mid found → Walked (Says others abi (λ o. PiecesAre (pieces_in (Unary op arg)) o)) one_operand old mid found
-loaded_found others abi op arg old mid found is walked =
-    subst (λ (piece : Piece). Walked (Says others abi (λ o. PiecesAre (piece ∷ []) o)) one_operand old mid found) (sym (loaded_operand op arg is)) walked
+pub loaded_found : (abi : Abi) (op : UnaryOp) (arg : Expr) (old mid : Context) (found : Found KnownByNumber) → is_arithmetic op ≡ true
+    → Walked (Says abi (λ o. PiecesAre (Loaded arg ∷ []) o)) one_operand old mid found → Walked (Says abi (λ o. PiecesAre (pieces_in (Unary op arg)) o)) one_operand old mid found
+loaded_found abi op arg old mid found is walked =
+    subst (λ (piece : Piece). Walked (Says abi (λ o. PiecesAre (piece ∷ []) o)) one_operand old mid found) (sym (loaded_operand op arg is)) walked
 
 -- a member by its way, where the indices are given in other words
-pub offset_form : (others : Others) (abi : Abi) (number : ℕ) (place : Place) (to : TypeName) (path : List Part) (words given : List ℕ) (old mid new : Context) (named : NamedByNumber)
+pub offset_form : (abi : Abi) (number : ℕ) (place : Place) (to : TypeName) (path : List Part) (words given : List ℕ) (old mid new : Context) (named : NamedByNumber)
     (r : Result (Found KnownByNumber) NoMemory) → given ≡ words
     → IfOk r (λ found. (way : Numbering → Way) × ((n : Numbering) → Agrees n new → LeadsFrom abi mid.structs place (n.ctype named.ctype) (map out-Part path) given (way n))
     × Settled (λ n. all_at place named.found ++ way_faults (way n)) (λ n. offset_known (way_offset (way n))) number mid new found)
-    → Passed (Says others abi (λ o. PiecesAre (pieces_in (OffsetOf to path)) o)) (a_type_and_indices words) old mid named
-    → IfOk r (λ found. Walked (SaysForm others abi number place (OffsetOf to path)) an_expression old new found)
-offset_form others abi number place to path words given old mid new named (Ok found) same settled passed =
-    settled_form others abi number place (OffsetOf to path) (a_type_and_indices words) old mid new named (λ n. all_at place named.found ++ way_faults (settled.0 n)) (λ n. offset_known (way_offset (settled.0 n))) found passed
+    → Passed (Says abi (λ o. PiecesAre (pieces_in (OffsetOf to path)) o)) (a_type_and_indices words) old mid named
+    → IfOk r (λ found. Walked (SaysForm abi number place (OffsetOf to path)) an_expression old new found)
+offset_form abi number place to path words given old mid new named (Ok found) same settled passed =
+    settled_form abi number place (OffsetOf to path) (a_type_and_indices words) old mid new named (λ n. all_at place named.found ++ way_faults (settled.0 n)) (λ n. offset_known (way_offset (settled.0 n))) found passed
     (λ n handed outcome agrees rule. OffsetOfMember refl (subst (λ (indices : List ℕ). LeadsFrom abi mid.structs place (n.ctype named.ctype) (map out-Part path) indices (settled.0 n)) same (settled.1 n agrees)) rule) settled.2
-offset_form others abi number place to path words given old mid new named (Err error) same settled passed = tt
+offset_form abi number place to path words given old mid new named (Err error) same settled passed = tt
 
 -- a constant by its meaning
-pub constant_form : (others : Others) (abi : Abi) (number : ℕ) (place : Place) (spelling : List ℕ) (old new : Context) (r : Result (Found KnownByNumber) NoMemory)
+pub constant_form : (abi : Abi) (number : ℕ) (place : Place) (spelling : List ℕ) (old new : Context) (r : Result (Found KnownByNumber) NoMemory)
     → IfOk r (λ found. (meaning : Meaning) × Means abi spelling meaning × Settled (λ n. constant_faults place meaning) (λ n. constant_told meaning) number old new found)
-    → IfOk r (λ found. Walked (SaysForm others abi number place (Constant spelling)) an_expression old new found)
-constant_form others abi number place spelling old new (Ok found) settled =
-    settled_form others abi number place (Constant spelling) no_parts old old new tt (λ n. constant_faults place settled.0) (λ n. constant_told settled.0) found (nothing_walked others abi old)
-    (λ n handed outcome agrees rule. constant_rule (language others abi n) (declared old) number place handed spelling settled.0 outcome settled.1 rule) settled.2
-constant_form others abi number place spelling old new (Err error) settled = tt
+    → IfOk r (λ found. Walked (SaysForm abi number place (Constant spelling)) an_expression old new found)
+constant_form abi number place spelling old new (Ok found) settled =
+    settled_form abi number place (Constant spelling) no_parts old old new tt (λ n. constant_faults place settled.0) (λ n. constant_told settled.0) found (nothing_walked abi old)
+    (λ n handed outcome agrees rule. constant_rule (language abi n) (declared old) number place handed spelling settled.0 outcome settled.1 rule) settled.2
+constant_form abi number place spelling old new (Err error) settled = tt

@@ -30,7 +30,7 @@ use Rattle.expressions.specs.Counted.{IsCounted}
 use Rattle.expressions.specs.Context.{Context, Declared, declared}
 use Rattle.expressions.specs.Found.{Reading, an_expression, an_operand, operands_at, some_operands, no_function}
 use Rattle.expressions.specs.Numbers.{Numbering, entity_at, function_at, handed_at, row_of}
-use Rattle.expressions.specs.Others.{Others, language}
+use Rattle.expressions.specs.Language.{language}
 use Rattle.expressions.specs.Settled.{Settled}
 use Rattle.expressions.specs.Walked.{Passed, Stopped, Walked, Says, SaysForm}
 use Rattle.expressions.proofs.Growth.{hands_on_grows, keeps_length}
@@ -81,33 +81,33 @@ is_other : (n : Numbering) (context : Context) (name : Option (List ℕ))
 is_other n context None other = refl
 is_other n context (Some name) other = names_no_function n (name_found name context.environment) (λ signature defined built_in. other name signature defined built_in refl)
 
-module _ (others : Others) (abi : Abi) (callee : Expr) (old new : Context) where
+module _ (abi : Abi) (callee : Expr) (old new : Context) where
   -- a callee that names a function
   pub called_piece : (name : List ℕ) (signature : ℕ) (defined built_in : Bool) (found : Found KnownByNumber)
       → named callee ≡ Some name → name_found name old.environment ≡ Some (Function signature defined built_in)
       → Settled (λ n. function_faults callee.place (function_at n (n.signature signature) defined built_in)) (λ n. called_of (function_at n (n.signature signature) defined built_in)) callee.number old new found
-      → Walked (Says others abi (λ o. PieceIs (Called callee) o)) (a_function name signature defined built_in) old new found
+      → Walked (Says abi (λ o. PieceIs (Called callee) o)) (a_function name signature defined built_in) old new found
   called_piece name signature defined built_in (FoundToPass known) is stands settled = record {
     rows = row_of callee.number known ∷ [];
     handed = settled.hands_on.handed;
     grows = hands_on_grows old new callee.number known settled.hands_on;
     below = tt;
     found = λ n agrees.
-        subst (λ (after : Declared). Finds (language others abi n) (declared old) (PieceIs (Called callee) (Passes (FunctionNamed name (function_at n (n.signature signature) defined built_in)) (map (handed_at n) (row_of callee.number known ∷ [])))) after)
+        subst (λ (after : Declared). Finds (language abi n) (declared old) (PieceIs (Called callee) (Passes (FunctionNamed name (function_at n (n.signature signature) defined built_in)) (map (handed_at n) (row_of callee.number known ∷ [])))) after)
         (sym (declared_same old new settled.hands_on.structs settled.hands_on.environment))
         (CalledFunction is (ap (option_map (entity_at n)) stands) (settled.nothing n agrees, refl, ap (λ (k : Known). behind [] callee.number k) (settled.meant n agrees)));
   }
   called_piece name signature defined built_in (FoundRefused first) is stands settled = record {
     grows = record { types = settled.stays.types; structs = λ at s found complete. rw settled.stays.structs found; longer = rw settled.stays.structs (omega arith); signatures = λ at s found. rw settled.stays.environment found };
     found = λ n agrees.
-        subst (λ (after : Declared). Finds (language others abi n) (declared old) (PieceIs (Called callee) (Refused first)) after)
+        subst (λ (after : Declared). Finds (language abi n) (declared old) (PieceIs (Called callee) (Refused first)) after)
         (sym (declared_same old new settled.stays.structs settled.stays.environment))
         (CalledFunction is (ap (option_map (entity_at n)) stands) (settled.is_first n agrees));
   }
 
   -- one that names none
-  other_passes : (known : KnownByNumber) → IsOther callee old → Passed (Says others abi (λ o. PieceIs (Loaded callee) o)) an_operand old new known
-      → Passed (Says others abi (λ o. PieceIs (Called callee) o)) no_function old new tt
+  other_passes : (known : KnownByNumber) → IsOther callee old → Passed (Says abi (λ o. PieceIs (Loaded callee) o)) an_operand old new known
+      → Passed (Says abi (λ o. PieceIs (Called callee) o)) no_function old new tt
   other_passes known other passed = record {
     rows = passed.rows;
     handed = passed.handed;
@@ -116,12 +116,12 @@ module _ (others : Others) (abi : Abi) (callee : Expr) (old new : Context) where
     found = λ n agrees. CalledOther (is_other n old (named callee) other) (passed.found n agrees);
   }
 
-  other_refused : (first : Fault) → IsOther callee old → Stopped (Says others abi (λ o. PieceIs (Loaded callee) o)) old new first
-      → Stopped (Says others abi (λ o. PieceIs (Called callee) o)) old new first
+  other_refused : (first : Fault) → IsOther callee old → Stopped (Says abi (λ o. PieceIs (Loaded callee) o)) old new first
+      → Stopped (Says abi (λ o. PieceIs (Called callee) o)) old new first
   other_refused first other stopped = record { grows = stopped.grows; found = λ n agrees. CalledRefused (is_other n old (named callee) other) (stopped.found n agrees) }
 
-  pub other_piece : (found : Found KnownByNumber) → IsOther callee old → Walked (Says others abi (λ o. PieceIs (Loaded callee) o)) an_operand old new found
-      → Walked (Says others abi (λ o. PieceIs (Called callee) o)) no_function old new (without found)
+  pub other_piece : (found : Found KnownByNumber) → IsOther callee old → Walked (Says abi (λ o. PieceIs (Loaded callee) o)) an_operand old new found
+      → Walked (Says abi (λ o. PieceIs (Called callee) o)) no_function old new (without found)
   other_piece (FoundToPass known) other passed = other_passes known other passed
   other_piece (FoundRefused first) other stopped = other_refused first other stopped
 
@@ -135,38 +135,38 @@ a_call name signature defined built_in known = record {
 abbrev pub another_call : List KnownByNumber → Reading (Unit {0}) (List Told)
 another_call known = record { means = λ n told. NoFunction ∷ operands_at n known; IsBelow = λ count told. Unit {0} }
 
-module _ (others : Others) (abi : Abi) (number : ℕ) (place : Place) (callee : Expr) (args : List Expr) where
+module _ (abi : Abi) (number : ℕ) (place : Place) (callee : Expr) (args : List Expr) where
   -- all parts of the call pass
   abbrev pub PartsPass : Reading (Unit {0}) (List Told) → Context → Context → Type 0
-  PartsPass reading old mid = Passed (Says others abi (λ o. PiecesAre (Called callee ∷ map Loaded args) o)) reading old mid tt
+  PartsPass reading old mid = Passed (Says abi (λ o. PiecesAre (Called callee ∷ map Loaded args) o)) reading old mid tt
 
   -- what is refused in one of them is refused in the call
-  refused_in_call : (old new : Context) (first : Fault) → Stopped (Says others abi (λ o. PiecesAre (Called callee ∷ map Loaded args) o)) old new first
-      → Stopped (SaysForm others abi number place (Call callee args)) old new first
+  refused_in_call : (old new : Context) (first : Fault) → Stopped (Says abi (λ o. PiecesAre (Called callee ∷ map Loaded args) o)) old new first
+      → Stopped (SaysForm abi number place (Call callee args)) old new first
   refused_in_call old new first stopped = record { grows = stopped.grows; found = λ n agrees. (Refused first, stopped.found n agrees, refl) }
 
   -- the callee is refused
   pub callee_refused : {B : Type 0} (reading : Reading B Told) (old new : Context) (first : Fault) (found : Found B) → found ≡ FoundRefused first
-      → Walked (Says others abi (λ o. PieceIs (Called callee) o)) reading old new found → Stopped (SaysForm others abi number place (Call callee args)) old new first
+      → Walked (Says abi (λ o. PieceIs (Called callee) o)) reading old new found → Stopped (SaysForm abi number place (Call callee args)) old new first
   callee_refused reading old new first found is walked =
-      refused_in_call old new first (pieces_refused others abi (Called callee) (map Loaded args) reading old new first found is walked)
+      refused_in_call old new first (pieces_refused abi (Called callee) (map Loaded args) reading old new first found is walked)
 
   -- an argument is refused
   pub argument_refused : {B : Type 0} (reading : Reading B Told) (known : List KnownByNumber) (old mid new : Context) (one : B) (first : Fault) (called : Found B) (found : Found (Unit {0}))
-      → called ≡ FoundToPass one → Walked (Says others abi (λ o. PieceIs (Called callee) o)) reading old mid called
-      → found ≡ FoundRefused first → Walked (Says others abi (λ o. PiecesAre (map Loaded args) o)) (some_operands known) mid new found
-      → Stopped (SaysForm others abi number place (Call callee args)) old new first
+      → called ≡ FoundToPass one → Walked (Says abi (λ o. PieceIs (Called callee) o)) reading old mid called
+      → found ≡ FoundRefused first → Walked (Says abi (λ o. PiecesAre (map Loaded args) o)) (some_operands known) mid new found
+      → Stopped (SaysForm abi number place (Call callee args)) old new first
   argument_refused reading known old mid new one first called found is walked refused arguments =
-      refused_in_call old new first (then_refused others abi (Called callee) (map Loaded args) reading (some_operands known) old mid new one first called found is walked refused arguments)
+      refused_in_call old new first (then_refused abi (Called callee) (map Loaded args) reading (some_operands known) old mid new one first called found is walked refused arguments)
 
   -- a function and its arguments pass
   pub parts_pass : (name : List ℕ) (signature : ℕ) (defined built_in : Bool) (known : List KnownByNumber) (old mid new : Context) (one : KnownByNumber) (last : Unit {0})
       (called : Found KnownByNumber) (found : Found (Unit {0}))
-      → called ≡ FoundToPass one → Walked (Says others abi (λ o. PieceIs (Called callee) o)) (a_function name signature defined built_in) old mid called
-      → found ≡ FoundToPass last → Walked (Says others abi (λ o. PiecesAre (map Loaded args) o)) (some_operands known) mid new found
+      → called ≡ FoundToPass one → Walked (Says abi (λ o. PieceIs (Called callee) o)) (a_function name signature defined built_in) old mid called
+      → found ≡ FoundToPass last → Walked (Says abi (λ o. PiecesAre (map Loaded args) o)) (some_operands known) mid new found
       → PartsPass (a_call name signature defined built_in known) old new
   parts_pass name signature defined built_in known old mid new one last called found is walked passes arguments =
-      then_passes others abi (Called callee) (map Loaded args) (a_function name signature defined built_in) (some_operands known) (a_call name signature defined built_in known)
+      then_passes abi (Called callee) (map Loaded args) (a_function name signature defined built_in) (some_operands known) (a_call name signature defined built_in known)
       old mid new one last tt called found is walked passes arguments (λ n. refl) (λ grows first rest. tt)
 
   -- a number of a signature is one behind them
@@ -179,9 +179,9 @@ module _ (others : Others) (abi : Abi) (number : ℕ) (place : Place) (callee : 
       → given ≡ known → length known ≡ length args
       → IfOk r (λ found. Settled (λ n. call_faults place callee.place name built_in (kind_of mid.structs (n.ctype (n.signature signature).result)) (map (kind_of mid.structs) (map n.ctype (n.signature signature).parameters)) (arguments_at n mid.structs args given)) (λ n. plain (n.ctype (n.signature signature).result)) number mid new found)
       → PartsPass (a_call name signature defined built_in known) old mid
-      → IfOk r (λ found. Walked (SaysForm others abi number place (Call callee args)) an_expression old new found)
+      → IfOk r (λ found. Walked (SaysForm abi number place (Call callee args)) an_expression old new found)
   call_result name signature defined built_in known given old mid new r same count settled passed =
-      settled_result others abi number place (Call callee args) (a_call name signature defined built_in known) old mid new tt
+      settled_result abi number place (Call callee args) (a_call name signature defined built_in known) old mid new tt
       (λ n. call_faults place callee.place name built_in (kind_of mid.structs (n.ctype (n.signature signature).result)) (map (kind_of mid.structs) (map n.ctype (n.signature signature).parameters)) (arguments_at n mid.structs args given))
       (λ n. plain (n.ctype (n.signature signature).result)) r settled passed
       (λ n handed outcome agrees is. CallOfFunction
@@ -190,11 +190,11 @@ module _ (others : Others) (abi : Abi) (number : ℕ) (place : Place) (callee : 
 
   -- a call of what is no function name, behind its arguments
   pub other_call : (known : List KnownByNumber) (old mid new : Context) (last : Unit {0}) (called found : Found (Unit {0}))
-      → called ≡ FoundToPass tt → Walked (Says others abi (λ o. PieceIs (Called callee) o)) no_function old mid called
-      → found ≡ FoundToPass last → Walked (Says others abi (λ o. PiecesAre (map Loaded args) o)) (some_operands known) mid new found
-      → Stopped (SaysForm others abi number place (Call callee args)) old new (fault place (Construct 11))
+      → called ≡ FoundToPass tt → Walked (Says abi (λ o. PieceIs (Called callee) o)) no_function old mid called
+      → found ≡ FoundToPass last → Walked (Says abi (λ o. PiecesAre (map Loaded args) o)) (some_operands known) mid new found
+      → Stopped (SaysForm abi number place (Call callee args)) old new (fault place (Construct 11))
   other_call known old mid new last called found is walked passes arguments =
-      let passed = then_passes others abi (Called callee) (map Loaded args) no_function (some_operands known) (another_call known)
+      let passed = then_passes abi (Called callee) (map Loaded args) no_function (some_operands known) (another_call known)
       old mid new tt last tt called found is walked passes arguments (λ n. refl) (λ grows first rest. tt) in
       record {
         grows = passed.grows;

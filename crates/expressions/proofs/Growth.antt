@@ -1,6 +1,6 @@
 -- What a context keeps while it grows: each number keeps what it stands for, so a numbering that agrees with a later context agrees with an earlier one.
-use Rattle.std.proofs.Common.{◌≡◌, ℕ, zero, suc, ◌<◌, ◌≤◌, refl, ◌∙◌, arith, List, [], ◌∷◌, ◌++◌, length, get_or, slice_get, Some, inl, inr}
-use Rattle.std.proofs.lemmas.Option.{slice_get_within, slice_get-get_or}
+use Rattle.std.proofs.Common.{◌≡◌, ℕ, zero, suc, ◌<◌, ◌≤◌, refl, ◌∙◌, ap, sym, arith, List, [], ◌∷◌, ◌++◌, length, get_or, slice_get, Some, inl, inr}
+use Rattle.std.proofs.lemmas.Option.{slice_get_within, slice_get-get_or, get_or_from_slice_get}
 use Rattle.cbase.specs.declared.ctype.CType.{CType}
 use Rattle.cbase.specs.declared.ctype.CType.TheVariants.{Void}
 use Rattle.ctypes.specs.Table.{type_at, Grows as GrowsBy}
@@ -51,6 +51,7 @@ module _ (old new : Context) where
   pub agrees_before : (n : Numbering) → Grows old new → Agrees n new → Agrees n old
   agrees_before n grows agrees = record {
     types = λ number t is. agrees.types number t (grows.types number t is);
+    numbers = λ number t is. agrees.numbers number t (grows.types number t is);
     signatures = λ number s is. agrees.signatures number s (grows.signatures number s is);
   }
 
@@ -91,9 +92,41 @@ only_types_same context = record { types = λ number t is. is; structs = refl; e
 pub agrees_as : (n : Numbering) (old new : Context) → new.types ≡ old.types → new.environment.signatures ≡ old.environment.signatures → Agrees n new → Agrees n old
 agrees_as n old new types signatures agrees = record {
   types = λ number t is. agrees.types number t (rw types is);
+  numbers = λ number t is. agrees.numbers number t (rw types is);
   signatures = λ number s is. agrees.signatures number s (rw signatures is);
 }
 
 -- what a number of the table means
 pub agrees_at : (n : Numbering) (context : Context) (number : ℕ) → Agrees n context → number < length context.types → n.ctype number ≡ type_at context.types number
 agrees_at n context number agrees below = agrees.types number (type_at context.types number) (slice_get-get_or context.types number Void below)
+
+-- the numbers of a context, and nothing more, where types have a way back to their numbers
+abbrev numbers_of : Context → (CType → ℕ) → Numbering
+numbers_of context number_of = record {
+  ctype = type_at context.types;
+  number = number_of;
+  signature = λ number. get_or context.environment.signatures number (record { result = 0; parameters = [] });
+}
+
+pub numbered : (context : Context) (number_of : CType → ℕ) → ((number : ℕ) (t : CType) → slice_get context.types number ≡ Some t → number_of t ≡ number)
+    → (n : Numbering) × Agrees n context
+numbered context number_of back = (
+  numbers_of context number_of,
+  record {
+    types = λ number t is. get_or_from_slice_get context.types number t Void is;
+    numbers = back;
+    signatures = λ number s is. get_or_from_slice_get context.environment.signatures number s (record { result = 0; parameters = [] }) is;
+  },
+)
+
+-- the number that a type has, of a number of the context
+pub number_back : (n : Numbering) (context : Context) (number : ℕ) → Agrees n context → number < length context.types → n.number (n.ctype number) ≡ number
+number_back n context number agrees below =
+    ap n.number (agrees_at n context number agrees below)
+    ∙ agrees.numbers number (type_at context.types number) (slice_get-get_or context.types number Void below)
+
+-- numbers with one meaning are one number
+pub same_number : (n : Numbering) (context : Context) (first second : ℕ) → Agrees n context → first < length context.types → second < length context.types
+    → n.ctype first ≡ n.ctype second → first ≡ second
+same_number n context first second agrees below also same =
+    sym (number_back n context first agrees below) ∙ (ap n.number same ∙ number_back n context second agrees also)

@@ -1,6 +1,6 @@
 -- What is kept of the members that a struct has so far: it stays while a context grows, and what one more member makes of it.
 use Rattle.std.proofs.Common.{◌≡◌, ℕ, zero, suc, ◌<◌, List, [], ◌∷◌, ◌++◌, length, map, append-nil, Option, None, Some, inl, inr, refl, sym, ap, subst, ◌∙◌, arith}
-use Rattle.std.specs.Prelude.{Bool as BoolValue, true, false, not, ◌&&◌, ◌||◌, All, is_some, option_map, nat_le, nat_lt, slice_index_or, if◌then◌else◌}
+use Rattle.std.specs.Prelude.{Bool as BoolValue, true, false, not, ◌&&◌, ◌||◌, All, is_some, option_map, nat_le, nat_lt, if◌then◌else◌}
 use Rattle.std.specs.Str.{bytes_eq}
 use Rattle.std.proofs.lemmas.Bool.{cases_lt}
 use Rattle.std.proofs.lemmas.Bool.Decides.{nat_tests}
@@ -34,7 +34,7 @@ use Rattle.operators.specs.declared.found.Broken.{Broken}
 use Rattle.operators.specs.declared.found.Broken.TheVariants.{Construct, Rule}
 use Rattle.typing.specs.declared.fault.Fault.{Fault}
 use Rattle.typing.specs.Braces.{has_member, member, is_large_struct, member_faults, faults_of_member}
-use Rattle.typing.specs.Faults.{unless, all_at}
+use Rattle.typing.specs.Faults.{unless, all_at, IsFirst}
 use Rattle.typing.specs.Forms.{MemberParts}
 use Rattle.typing.specs.NamedTypes.{is_over}
 use Rattle.expressions.specs.Context.{Context, Agrees, Grows}
@@ -249,16 +249,6 @@ module _ (context : Context) (members : List Member) (names : Entries (Unit {0})
       below_one zero d h = below
       below_one (suc k) d h = absurd (omega (arith, h))
 
--- the numbers of a context, and nothing more
-abbrev numbers_of : Context → Numbering
-numbers_of context = record { ctype = type_at context.types; signature = λ number. slice_index_or context.environment.signatures number (record { result = 0; parameters = [] }) }
-
-agrees_itself : (context : Context) → Agrees (numbers_of context) context
-agrees_itself context = record {
-  types = λ number t is. get_or_from_slice_get context.types number t Void is;
-  signatures = λ number s is. get_or_from_slice_get context.environment.signatures number s (record { result = 0; parameters = [] }) is;
-}
-
 behind_nothing : (front back : List Fault) → front ++ back ≡ [] → back ≡ []
 behind_nothing [] back is = is
 behind_nothing (one ∷ front) back is = cc
@@ -272,11 +262,18 @@ sized_unbroken place found of_bits large twice sized nothing =
     holds_unless sized place (Rule 3) (behind_nothing (unless (not twice) place (Rule 2)) (unless sized place (Rule 3))
     (behind_nothing (unless (not large) place (Construct 19)) _ (behind_nothing (unless (not of_bits) place (Construct 21)) _ (behind_nothing (all_at place found) _ nothing))))
 
+no_layout : (layout : Option Layout) → None ≡ option_map capped layout → is_some layout ≡ true → ⊥
+no_layout None none some = absurd (cc some)
+no_layout (Some layout) none some = absurd (cc none)
+
 -- a member at which nothing is broken has a size
-pub taken_sized : (context : Context) (abi : Abi) (members : List Member) (parts : MemberParts) (named : NamedByNumber)
+pub taken_sized : (context : Context) (abi : Abi) (members : List Member) (parts : MemberParts) (named : NamedByNumber) (first : Fault) → named.ctype < length context.types
     → ((n : Numbering) → Agrees n context → faults_of_member abi context.structs (fields_at n members) parts (named_at n named) ≡ [])
-    → is_some (layout_of Lp64 context.structs (type_at context.types named.ctype)) ≡ true
-taken_sized context abi members parts named nothing =
-    let n : Numbering = numbers_of context in
+    → None ≡ option_map capped (layout_of Lp64 context.structs (type_at context.types named.ctype))
+    → (n : Numbering) → Agrees n context → IsFirst (faults_of_member abi context.structs (fields_at n members) parts (named_at n named)) first
+taken_sized context abi members parts named first below nothing none n agrees =
+    let sized : is_some (layout_of Lp64 context.structs (n.ctype named.ctype)) ≡ true =
     sized_unbroken parts.place named.found (is_some parts.bits) (is_large_struct abi context.structs (fields_at n members ++ member parts.name (n.ctype named.ctype) ∷ []))
-    (has_member parts.name (fields_at n members)) (is_some (layout_of Lp64 context.structs (n.ctype named.ctype))) (nothing n (agrees_itself context))
+    (has_member parts.name (fields_at n members)) (is_some (layout_of Lp64 context.structs (n.ctype named.ctype))) (nothing n agrees) in
+    absurd (no_layout (layout_of Lp64 context.structs (type_at context.types named.ctype)) none
+    (subst (λ (t : CType). is_some (layout_of Lp64 context.structs t) ≡ true) (agrees_at n context named.ctype agrees below) sized))

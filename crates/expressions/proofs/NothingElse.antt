@@ -13,19 +13,19 @@ use Rattle.expressions.specs.Context.{Context, declared}
 use Rattle.expressions.specs.Exact.{NothingElse}
 use Rattle.expressions.specs.Found.{an_expression}
 use Rattle.expressions.specs.Numbers.{known_at, handed_at}
-use Rattle.expressions.specs.Others.{Others, language}
+use Rattle.expressions.specs.Language.{language}
 use Rattle.expressions.specs.Walked.{Walked, Says}
 
-nothing_else : (others : Others) (abi : Abi) (expr : Expr) (old new : Context) (found : Found KnownByNumber)
-    → Walked (Says others abi (λ o. ExpressionIs expr o)) an_expression old new found → NothingElse others abi expr old new found
-nothing_else others abi expr old new (FoundToPass known) walked = λ n agrees is outcome after also.
+nothing_else : (abi : Abi) (expr : Expr) (old new : Context) (found : Found KnownByNumber)
+    → Walked (Says abi (λ o. ExpressionIs expr o)) an_expression old new found → NothingElse abi expr old new found
+nothing_else abi expr old new (FoundToPass known) walked = λ n agrees outcome after also.
     let same : (outcome ≡ Passes (known_at n known) (map (handed_at n) walked.rows)) × (after ≡ declared new) =
-    one_outcome (language others abi n) is (declared old) expr outcome (Passes (known_at n known) (map (handed_at n) walked.rows)) after (declared new) also (walked.found n agrees) in
+    (one_outcome (language abi n)).expressions (declared old) expr outcome (Passes (known_at n known) (map (handed_at n) walked.rows)) after (declared new) also (walked.found n agrees) in
     ((walked.rows, walked.handed, same.0), same.1)
-nothing_else others abi expr old new (FoundRefused first) walked = λ n agrees is outcome after also.
-    one_outcome (language others abi n) is (declared old) expr outcome (Refused first) after (declared new) also (walked.found n agrees)
+nothing_else abi expr old new (FoundRefused first) walked = λ n agrees outcome after also.
+    (one_outcome (language abi n)).expressions (declared old) expr outcome (Refused first) after (declared new) also (walked.found n agrees)
 
-pub nothing_else_result : (others : Others) (abi : Abi) (expr : Expr) (old new : Context) (r : Result (Found KnownByNumber) NoMemory)
-    → IfOk r (λ found. Walked (Says others abi (λ o. ExpressionIs expr o)) an_expression old new found) → IfOk r (λ found. NothingElse others abi expr old new found)
-nothing_else_result others abi expr old new (Ok found) walked = nothing_else others abi expr old new found walked
-nothing_else_result others abi expr old new (Err error) walked = tt
+pub nothing_else_result : (abi : Abi) (expr : Expr) (old new : Context) (r : Result (Found KnownByNumber) NoMemory)
+    → IfOk r (λ found. Walked (Says abi (λ o. ExpressionIs expr o)) an_expression old new found) → IfOk r (λ found. NothingElse abi expr old new found)
+nothing_else_result abi expr old new (Ok found) walked = nothing_else abi expr old new found walked
+nothing_else_result abi expr old new (Err error) walked = tt

@@ -17,7 +17,7 @@ use Rattle.expressions.specs.declared.named_type.NamedType.{NamedType as NamedBy
 use Rattle.expressions.specs.Context.{Context, declared}
 use Rattle.expressions.specs.Found.{Reading, an_expression, an_operand, an_index, a_size, a_type}
 use Rattle.expressions.specs.Numbers.{known_at, handed_at, named_at}
-use Rattle.expressions.specs.Others.{Others, language}
+use Rattle.expressions.specs.Language.{language}
 use Rattle.expressions.specs.Taken.{IsLoaded, IsIndex, IsSize}
 use Rattle.expressions.specs.Walked.{Passed, Stopped, Walked, Says}
 use Rattle.expressions.proofs.Walking.{stopped_of}
@@ -26,9 +26,9 @@ use Rattle.expressions.proofs.Walking.{stopped_of}
 abbrev pub a_type_told : Reading NamedByNumber Told
 a_type_told = record { means = λ n named. TypeIs (named_at n named); IsBelow = λ count named. named.ctype < count }
 
-module _ (others : Others) (abi : Abi) (expr : Expr) (old new : Context) where
-  unloaded_passed : (known : KnownByNumber) → Passed (Says others abi (λ o. ExpressionIs expr o)) an_expression old new known
-      → Passed (Says others abi (λ o. PieceIs (Unloaded expr) o)) an_operand old new known
+module _ (abi : Abi) (expr : Expr) (old new : Context) where
+  unloaded_passed : (known : KnownByNumber) → Passed (Says abi (λ o. ExpressionIs expr o)) an_expression old new known
+      → Passed (Says abi (λ o. PieceIs (Unloaded expr) o)) an_operand old new known
   unloaded_passed known passed = record {
     rows = passed.rows;
     handed = passed.handed;
@@ -39,39 +39,39 @@ module _ (others : Others) (abi : Abi) (expr : Expr) (old new : Context) where
 
   -- an operand of which only the place or the type is asked
   pub unloaded_part : (r : Result (Found KnownByNumber) NoMemory)
-      → IfOk r (λ found. Walked (Says others abi (λ o. ExpressionIs expr o)) an_expression old new found)
-      → IfOk r (λ found. Walked (Says others abi (λ o. PieceIs (Unloaded expr) o)) an_operand old new found)
+      → IfOk r (λ found. Walked (Says abi (λ o. ExpressionIs expr o)) an_expression old new found)
+      → IfOk r (λ found. Walked (Says abi (λ o. PieceIs (Unloaded expr) o)) an_operand old new found)
   unloaded_part (Ok (FoundToPass known)) passed = unloaded_passed known passed
   unloaded_part (Ok (FoundRefused first)) refused = record { grows = refused.grows; found = λ n agrees. UnloadedRefused (refused.found n agrees) }
   unloaded_part (Err error) refused = tt
 
   -- and one whose value is taken
-  pub loaded_part : (known : KnownByNumber) (found : Found KnownByNumber) → Passed (Says others abi (λ o. ExpressionIs expr o)) an_expression old new known
-      → IsLoaded new expr.place known found → Walked (Says others abi (λ o. PieceIs (Loaded expr) o)) an_operand old new found
+  pub loaded_part : (known : KnownByNumber) (found : Found KnownByNumber) → Passed (Says abi (λ o. ExpressionIs expr o)) an_expression old new known
+      → IsLoaded new expr.place known found → Walked (Says abi (λ o. PieceIs (Loaded expr) o)) an_operand old new found
   loaded_part known (FoundToPass told) passed loaded = record {
     rows = passed.rows;
     handed = passed.handed;
     grows = passed.grows;
     below = subst (λ (k : KnownByNumber). k.ctype < length new.types) (sym loaded.0) passed.below;
-    found = λ n agrees. subst (λ (k : KnownByNumber). Finds (language others abi n) (declared old) (PieceIs (Loaded expr) (Passes (OperandIs (known_at n k)) (map (handed_at n) passed.rows))) (declared new)) (sym loaded.0)
+    found = λ n agrees. subst (λ (k : KnownByNumber). Finds (language abi n) (declared old) (PieceIs (Loaded expr) (Passes (OperandIs (known_at n k)) (map (handed_at n) passed.rows))) (declared new)) (sym loaded.0)
         (LoadedValue (passed.found n agrees) (loaded.1 n agrees));
   }
   loaded_part known (FoundRefused first) passed refused = record {
     grows = passed.grows;
     found = λ n agrees.
-        subst (λ (f : Fault). Finds (language others abi n) (declared old) (PieceIs (Loaded expr) (Refused f)) (declared new)) (sym refused.0)
+        subst (λ (f : Fault). Finds (language abi n) (declared old) (PieceIs (Loaded expr) (Refused f)) (declared new)) (sym refused.0)
         (LoadOfIncomplete (passed.found n agrees) (refused.1 n agrees));
   }
 
-  pub loaded_refused : (first : Fault) (found : Found KnownByNumber) → found ≡ FoundRefused first → Walked (Says others abi (λ o. ExpressionIs expr o)) an_expression old new found
-      → Stopped (Says others abi (λ o. PieceIs (Loaded expr) o)) old new first
+  pub loaded_refused : (first : Fault) (found : Found KnownByNumber) → found ≡ FoundRefused first → Walked (Says abi (λ o. ExpressionIs expr o)) an_expression old new found
+      → Stopped (Says abi (λ o. PieceIs (Loaded expr) o)) old new first
   loaded_refused first found is walked =
-      let stopped = stopped_of (Says others abi (λ o. ExpressionIs expr o)) an_expression old new first found is walked in
+      let stopped = stopped_of (Says abi (λ o. ExpressionIs expr o)) an_expression old new first found is walked in
       record { grows = stopped.grows; found = λ n agrees. LoadedRefused (stopped.found n agrees) }
 
   -- an index of `__builtin_offsetof`
-  pub index_part : (known : KnownByNumber) (found : Found ℕ) → Passed (Says others abi (λ o. PieceIs (Loaded expr) o)) an_operand old new known
-      → IsIndex new expr.place known found → Walked (Says others abi (λ o. PieceIs (ConstantIndex expr) o)) an_index old new found
+  pub index_part : (known : KnownByNumber) (found : Found ℕ) → Passed (Says abi (λ o. PieceIs (Loaded expr) o)) an_operand old new known
+      → IsIndex new expr.place known found → Walked (Says abi (λ o. PieceIs (ConstantIndex expr) o)) an_index old new found
   index_part known (FoundToPass word) passed is = record {
     rows = passed.rows;
     handed = passed.handed;
@@ -82,19 +82,19 @@ module _ (others : Others) (abi : Abi) (expr : Expr) (old new : Context) where
   index_part known (FoundRefused first) passed refused = record {
     grows = passed.grows;
     found = λ n agrees.
-        subst (λ (f : Fault). Finds (language others abi n) (declared old) (PieceIs (ConstantIndex expr) (Refused f)) (declared new)) (sym refused.0)
+        subst (λ (f : Fault). Finds (language abi n) (declared old) (PieceIs (ConstantIndex expr) (Refused f)) (declared new)) (sym refused.0)
         (IndexNotConstant (passed.found n agrees) refl (refused.1 n agrees));
   }
 
-  pub index_refused : (first : Fault) (found : Found KnownByNumber) → found ≡ FoundRefused first → Walked (Says others abi (λ o. PieceIs (Loaded expr) o)) an_operand old new found
-      → Stopped (Says others abi (λ o. PieceIs (ConstantIndex expr) o)) old new first
+  pub index_refused : (first : Fault) (found : Found KnownByNumber) → found ≡ FoundRefused first → Walked (Says abi (λ o. PieceIs (Loaded expr) o)) an_operand old new found
+      → Stopped (Says abi (λ o. PieceIs (ConstantIndex expr) o)) old new first
   index_refused first found is walked =
-      let stopped = stopped_of (Says others abi (λ o. PieceIs (Loaded expr) o)) an_operand old new first found is walked in
+      let stopped = stopped_of (Says abi (λ o. PieceIs (Loaded expr) o)) an_operand old new first found is walked in
       record { grows = stopped.grows; found = λ n agrees. IndexRefused (stopped.found n agrees) }
 
   -- a size of an array
-  pub size_part : (known : KnownByNumber) (found : Found Size) → Passed (Says others abi (λ o. PieceIs (Loaded expr) o)) an_operand old new known
-      → IsSize new expr.place known found → Walked (Says others abi (λ o. PieceIs (SizeOfArray expr) o)) a_size old new found
+  pub size_part : (known : KnownByNumber) (found : Found Size) → Passed (Says abi (λ o. PieceIs (Loaded expr) o)) an_operand old new known
+      → IsSize new expr.place known found → Walked (Says abi (λ o. PieceIs (SizeOfArray expr) o)) a_size old new found
   size_part known (FoundToPass size) passed is = record {
     rows = passed.rows;
     handed = passed.handed;
@@ -105,20 +105,20 @@ module _ (others : Others) (abi : Abi) (expr : Expr) (old new : Context) where
   size_part known (FoundRefused first) passed refused = record {
     grows = passed.grows;
     found = λ n agrees.
-        subst (λ (f : Fault). Finds (language others abi n) (declared old) (PieceIs (SizeOfArray expr) (Refused f)) (declared new)) (sym refused.0)
+        subst (λ (f : Fault). Finds (language abi n) (declared old) (PieceIs (SizeOfArray expr) (Refused f)) (declared new)) (sym refused.0)
         (SizeUnderOne (passed.found n agrees) refl (refused.1 n agrees));
   }
 
-  pub size_refused : (first : Fault) (found : Found KnownByNumber) → found ≡ FoundRefused first → Walked (Says others abi (λ o. PieceIs (Loaded expr) o)) an_operand old new found
-      → Stopped (Says others abi (λ o. PieceIs (SizeOfArray expr) o)) old new first
+  pub size_refused : (first : Fault) (found : Found KnownByNumber) → found ≡ FoundRefused first → Walked (Says abi (λ o. PieceIs (Loaded expr) o)) an_operand old new found
+      → Stopped (Says abi (λ o. PieceIs (SizeOfArray expr) o)) old new first
   size_refused first found is walked =
-      let stopped = stopped_of (Says others abi (λ o. PieceIs (Loaded expr) o)) an_operand old new first found is walked in
+      let stopped = stopped_of (Says abi (λ o. PieceIs (Loaded expr) o)) an_operand old new first found is walked in
       record { grows = stopped.grows; found = λ n agrees. SizeRefused (stopped.found n agrees) }
 
-module _ (others : Others) (abi : Abi) (to : TypeName) (old new : Context) where
+module _ (abi : Abi) (to : TypeName) (old new : Context) where
   -- a type name
-  pub type_part : (named : NamedByNumber) → Passed (Says others abi (λ o. NameOfTypeIs to o)) a_type old new named
-      → Passed (Says others abi (λ o. PieceIs (OfType to) o)) a_type_told old new named
+  pub type_part : (named : NamedByNumber) → Passed (Says abi (λ o. NameOfTypeIs to o)) a_type old new named
+      → Passed (Says abi (λ o. PieceIs (OfType to) o)) a_type_told old new named
   type_part named passed = record {
     rows = passed.rows;
     handed = passed.handed;
@@ -128,13 +128,13 @@ module _ (others : Others) (abi : Abi) (to : TypeName) (old new : Context) where
   }
 
   pub type_result : (r : Result (Found NamedByNumber) NoMemory)
-      → IfOk r (λ found. Walked (Says others abi (λ o. NameOfTypeIs to o)) a_type old new found)
-      → IfOk r (λ found. Walked (Says others abi (λ o. PieceIs (OfType to) o)) a_type_told old new found)
+      → IfOk r (λ found. Walked (Says abi (λ o. NameOfTypeIs to o)) a_type old new found)
+      → IfOk r (λ found. Walked (Says abi (λ o. PieceIs (OfType to) o)) a_type_told old new found)
   type_result (Ok (FoundToPass named)) passed = type_part named passed
   type_result (Ok (FoundRefused first)) refused = record { grows = refused.grows; found = λ n agrees. TypeRefused (refused.found n agrees) }
   type_result (Err error) refused = tt
 
   pub type_found : (found : Found NamedByNumber)
-      → Walked (Says others abi (λ o. NameOfTypeIs to o)) a_type old new found → Walked (Says others abi (λ o. PieceIs (OfType to) o)) a_type_told old new found
+      → Walked (Says abi (λ o. NameOfTypeIs to o)) a_type old new found → Walked (Says abi (λ o. PieceIs (OfType to) o)) a_type_told old new found
   type_found (FoundToPass named) passed = type_part named passed
   type_found (FoundRefused first) refused = record { grows = refused.grows; found = λ n agrees. TypeRefused (refused.found n agrees) }

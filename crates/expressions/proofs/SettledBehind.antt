@@ -19,6 +19,7 @@ only_none context = record { types = λ number t is. is; structs = refl; environ
 agrees_before_pass : (n : Numbering) (number : ℕ) (old new : Context) (known : KnownByNumber) → HandsOn number old new known → Agrees n new → Agrees n old
 agrees_before_pass n number old new known hands agrees = record {
   types = λ at t is. agrees.types at t (hands.types at t is);
+  numbers = λ at t is. agrees.numbers at t (hands.types at t is);
   signatures = λ at s is. agrees.signatures at s (ap (λ (env : Environment). slice_get env.signatures at) hands.environment ∙ is);
 }
 
@@ -63,6 +64,7 @@ module _ (faults : Numbering → List Fault) (knows : Numbering → Known) (numb
 pub agrees_before_types : (n : Numbering) (old new : Context) → OnlyTypes old new → Agrees n new → Agrees n old
 agrees_before_types n old new only agrees = record {
   types = λ at t is. agrees.types at t (only.types at t is);
+  numbers = λ at t is. agrees.numbers at t (only.types at t is);
   signatures = λ at s is. agrees.signatures at s (ap (λ (env : Environment). slice_get env.signatures at) only.environment ∙ is);
 }
 

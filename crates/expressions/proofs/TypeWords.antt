@@ -42,7 +42,7 @@ use Rattle.expressions.specs.Context.{Context, Declared, declared, Agrees, Grows
 use Rattle.expressions.specs.Found.{Reading, an_operand, a_type}
 use Rattle.expressions.specs.Numbers.{Numbering, handed_at, entity_at, tag_at, named_at}
 use Rattle.expressions.specs.Operated.{Numbers}
-use Rattle.expressions.specs.Others.{Others, struct_declared, enum_declared}
+use Rattle.expressions.specs.Language.{struct_declared, enum_declared}
 use Rattle.expressions.specs.Walked.{Tells, Passed, Stopped, Walked, Says}
 use Rattle.expressions.proofs.Walking.{passed_of, stopped_of}
 use Rattle.expressions.proofs.Growth.{Keeps, keeps_behind, keeps_length, only_types_grows, grows_trans, grows_same}
@@ -113,10 +113,10 @@ enum_layer spec name values listed is braced =
 pub typeof_layer : (spec : TypeSpec) (to : TypeName) → spec ≡ TypeofSpec to → out-TypeSpec spec ≡ OfTypeWords to
 typeof_layer spec to is = ap out-TypeSpec (is ∙ sym (rolls-OfType to)) ∙ out-roll-TypeSpec (OfTypeWords to)
 
-module _ (others : Others) (abi : Abi) (old new : Context) where
+module _ (abi : Abi) (old new : Context) where
   -- what is said of words
   abbrev pub SaysWords : Words → Tells NamedType
-  SaysWords words = Says others abi (λ o. WordsAre words o)
+  SaysWords words = Says abi (λ o. WordsAre words o)
 
   pub basic_words : (basic : BasicType) (number : ℕ) → Numbers (λ n. basic_type abi basic) old new number → Passed (SaysWords (Basic basic)) a_type old new (whole_at number)
   basic_words basic number numbers = named_there (SaysWords (Basic basic)) old new (λ n. basic_type abi basic) number numbers (λ n. BasicSpecifier)
@@ -199,9 +199,9 @@ module _ (others : Others) (abi : Abi) (old new : Context) where
 
   -- `typeof` of an expression
   pub typeof_passes : (expr : Expr) (known : KnownByNumber) (found : Found KnownByNumber) → found ≡ FoundToPass known
-      → Walked (Says others abi (λ o. PieceIs (Unloaded expr) o)) an_operand old new found → Passed (SaysWords (OfExpr expr)) a_type old new (whole_at known.ctype)
+      → Walked (Says abi (λ o. PieceIs (Unloaded expr) o)) an_operand old new found → Passed (SaysWords (OfExpr expr)) a_type old new (whole_at known.ctype)
   typeof_passes expr known found is walked =
-      let passed = passed_of (Says others abi (λ o. PieceIs (Unloaded expr) o)) an_operand old new known found is walked in
+      let passed = passed_of (Says abi (λ o. PieceIs (Unloaded expr) o)) an_operand old new known found is walked in
       record {
         rows = passed.rows;
         handed = passed.handed;
@@ -211,9 +211,9 @@ module _ (others : Others) (abi : Abi) (old new : Context) where
       }
 
   pub typeof_refused : (expr : Expr) (first : Fault) (found : Found KnownByNumber) → found ≡ FoundRefused first
-      → Walked (Says others abi (λ o. PieceIs (Unloaded expr) o)) an_operand old new found → Stopped (SaysWords (OfExpr expr)) old new first
+      → Walked (Says abi (λ o. PieceIs (Unloaded expr) o)) an_operand old new found → Stopped (SaysWords (OfExpr expr)) old new first
   typeof_refused expr first found is walked =
-      let stopped = stopped_of (Says others abi (λ o. PieceIs (Unloaded expr) o)) an_operand old new first found is walked in
+      let stopped = stopped_of (Says abi (λ o. PieceIs (Unloaded expr) o)) an_operand old new first found is walked in
       record { grows = stopped.grows; found = λ n agrees. TypeofRefused (stopped.found n agrees) }
 
   -- words with braces, as one layer of a tree
@@ -223,6 +223,6 @@ module _ (others : Others) (abi : Abi) (old new : Context) where
 
   -- `typeof` of a type
   pub typeof_type : (spec : TypeSpec) (to : TypeName) (r : Result (Found NamedByNumber) NoMemory) → out-TypeSpec spec ≡ OfTypeWords to
-      → IfOk r (λ found. Walked (Says others abi (λ o. NameOfTypeIs to o)) a_type old new found) → IfOk r (λ found. Walked (SaysWords (out-TypeSpec spec)) a_type old new found)
-  typeof_type spec to r is = named_as (Says others abi (λ o. NameOfTypeIs to o)) (out-TypeSpec spec) r (λ n outcome found.
+      → IfOk r (λ found. Walked (Says abi (λ o. NameOfTypeIs to o)) a_type old new found) → IfOk r (λ found. Walked (SaysWords (out-TypeSpec spec)) a_type old new found)
+  typeof_type spec to r is = named_as (Says abi (λ o. NameOfTypeIs to o)) (out-TypeSpec spec) r (λ n outcome found.
       subst (λ (words : Words). SaysWords words n (declared old) outcome (declared new)) (sym is) (TypeofType found))

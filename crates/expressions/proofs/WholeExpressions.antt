@@ -15,24 +15,24 @@ use Rattle.expressions.specs.declared.known.Known.{Known as KnownByNumber}
 use Rattle.expressions.specs.Context.{Context, Declared}
 use Rattle.expressions.specs.Found.{an_expression}
 use Rattle.expressions.specs.Numbers.{Numbering}
-use Rattle.expressions.specs.Others.{Others, language}
+use Rattle.expressions.specs.Language.{language}
 use Rattle.expressions.specs.Walked.{Walked, Says, SaysForm, IsAtNode}
 
-module _ (others : Others) (abi : Abi) (expr : Expr) where
+module _ (abi : Abi) (expr : Expr) where
   from_parts : (n : Numbering) (before after : Declared) (outcome : Outcome Known) (parts : Outcome (List Told))
-      → Finds (language others abi n) before (PiecesAre (pieces_in (out-ExprForm expr.form)) parts) after
-      → IsAtNode (language others abi n) after expr.number expr.place (out-ExprForm expr.form) parts outcome → Finds (language others abi n) before (ExpressionIs expr outcome) after
+      → Finds (language abi n) before (PiecesAre (pieces_in (out-ExprForm expr.form)) parts) after
+      → IsAtNode (language abi n) after expr.number expr.place (out-ExprForm expr.form) parts outcome → Finds (language abi n) before (ExpressionIs expr outcome) after
   from_parts n before after outcome (Passes told handed) found node = WalkedExpression refl found node
   from_parts n before after outcome (Refused first) found refused =
-      subst (λ (o : Outcome Known). Finds (language others abi n) before (ExpressionIs expr o) after) (sym refused) (RefusedInside refl found)
+      subst (λ (o : Outcome Known). Finds (language abi n) before (ExpressionIs expr o) after) (sym refused) (RefusedInside refl found)
 
-  from_form : (n : Numbering) (before after : Declared) (outcome : Outcome Known) → SaysForm others abi expr.number expr.place (out-ExprForm expr.form) n before outcome after
-      → Finds (language others abi n) before (ExpressionIs expr outcome) after
+  from_form : (n : Numbering) (before after : Declared) (outcome : Outcome Known) → SaysForm abi expr.number expr.place (out-ExprForm expr.form) n before outcome after
+      → Finds (language abi n) before (ExpressionIs expr outcome) after
   from_form n before after outcome says = from_parts n before after outcome says.0 says.1 says.2
 
   pub expression_result : (old new : Context) (r : Result (Found KnownByNumber) NoMemory)
-      → IfOk r (λ found. Walked (SaysForm others abi expr.number expr.place (out-ExprForm expr.form)) an_expression old new found)
-      → IfOk r (λ found. Walked (Says others abi (λ o. ExpressionIs expr o)) an_expression old new found)
+      → IfOk r (λ found. Walked (SaysForm abi expr.number expr.place (out-ExprForm expr.form)) an_expression old new found)
+      → IfOk r (λ found. Walked (Says abi (λ o. ExpressionIs expr o)) an_expression old new found)
   expression_result old new (Ok (FoundToPass known)) passed = record {
     rows = passed.rows;
     handed = passed.handed;

@@ -31,24 +31,12 @@ use Rattle.expressions.specs.Declaring.{IsClosed}
 use Rattle.expressions.specs.Found.{a_type, some_members}
 use Rattle.expressions.specs.Numbers.{Numbering, named_at, handed_at, fields_at}
 use Rattle.expressions.specs.Opened.{StructOpens, IsStructOpened}
-use Rattle.expressions.specs.Others.{Others, language, no_statements, struct_completed}
+use Rattle.expressions.specs.Language.{language, struct_completed}
 use Rattle.expressions.specs.Walked.{Stopped, Walked, Says, SaysBy}
 use Rattle.expressions.proofs.Growth.{agrees_before, grows_same, grows_trans, only_types_grows}
 use Rattle.expressions.proofs.MembersSoFar.{fields_at_are}
 use Rattle.expressions.proofs.TypeWords.{declared_by_types, grows_to}
 use Rattle.expressions.proofs.Walking.{passed_of, stopped_of}
-
--- what a tag stands for in front of braces does not depend on statements
-tagged_same : (others : Others) (abi : Abi) (n : Numbering) (name : Identifier) (env : Declared) (tag : Option TagHere)
-    → tagged_struct (language no_statements abi n) name env tag ≡ tagged_struct (language others abi n) name env tag
-tagged_same others abi n name env None = refl
-tagged_same others abi n name env (Some (StructHere number)) = refl
-tagged_same others abi n name env (Some (EnumHere listed)) = refl
-
-pub struct_opening_same : (others : Others) (abi : Abi) (n : Numbering) (name : Option Identifier) (env : Declared)
-    → struct_opening (language no_statements abi n) name env ≡ struct_opening (language others abi n) name env
-struct_opening_same others abi n None env = refl
-struct_opening_same others abi n (Some name) env = tagged_same others abi n name env ((language others abi n).tag_here name.name env)
 
 -- a struct that is completed is another one than those that are complete
 module _ (structs : List StructDef) (number : ℕ) (fields : List Field) where
@@ -90,10 +78,10 @@ module _ (structs : List StructDef) (number : ℕ) (fields : List Field) where
   pub completed_keeps : GrowsTo structs (if may_complete structs number fields then completed structs number fields else structs)
   completed_keeps = if_keeps (may_complete structs number fields) refl
 
-module _ (others : Others) (abi : Abi) (name : Option Identifier) (fields : List FieldDecl) where
+module _ (abi : Abi) (name : Option Identifier) (fields : List FieldDecl) where
   -- what is said of a struct with its braces
   abbrev pub SaysStruct : Numbering → Declared → Outcome NamedType → Declared → Type 0
-  SaysStruct = Says others abi (λ o. WordsAre (Struct name (Some fields)) o)
+  SaysStruct = Says abi (λ o. WordsAre (Struct name (Some fields)) o)
 
   -- its tag is refused
   pub tag_refused : (old new : Context) (first : Fault) (found : Found ℕ) → found ≡ FoundRefused first → IsStructOpened abi name old new found → Stopped SaysStruct old new first
@@ -101,31 +89,31 @@ module _ (others : Others) (abi : Abi) (name : Option Identifier) (fields : List
       let twice : IsStructOpened abi name old new (FoundRefused first) = subst (λ (f : Found ℕ). IsStructOpened abi name old new f) is opened in
       subst (λ (context : Context). Stopped SaysStruct old context first) (sym twice.1) (record {
         grows = grows_same old;
-        found = λ n agrees. StructTwice (sym (struct_opening_same others abi n name (declared old)) ∙ twice.0 n);
+        found = λ n agrees. StructTwice (twice.0 n);
       })
 
   module _ (old inside late : Context) (number : ℕ) (tag : Found ℕ) (opening : tag ≡ FoundToPass number) (opened : IsStructOpened abi name old inside tag)
       (before after : List Member) (items : List FieldDecl) (none : before ≡ []) (same : items ≡ fields) (walk : Found (Unit {0}))
-      (walked : Walked (SaysBy others abi (λ n o. MembersAre (fields_at n before) items o)) (some_members after) inside late walk) where
+      (walked : Walked (SaysBy abi (λ n o. MembersAre (fields_at n before) items o)) (some_members after) inside late walk) where
     opens : StructOpens abi name old inside number
     opens = subst (λ (f : Found ℕ). IsStructOpened abi name old inside f) opening opened
 
-    opens_to : (n : Numbering) → struct_opening (language others abi n) name (declared old) ≡ Opens (number, declared inside)
-    opens_to n = sym (struct_opening_same others abi n name (declared old)) ∙ opens.opens n
+    opens_to : (n : Numbering) → struct_opening (language abi n) name (declared old) ≡ Opens (number, declared inside)
+    opens_to n = opens.opens n
 
     opens_grow : Grows old inside
     opens_grow = grows_to old inside opens.types opens.keeps opens.signatures
 
-    in_braces : (n : Numbering) (outcome : Outcome (List Field)) → Finds (language others abi n) (declared inside) (MembersAre (fields_at n before) items outcome) (declared late)
-        → Finds (language others abi n) (declared inside) (MembersAre [] fields outcome) (declared late)
+    in_braces : (n : Numbering) (outcome : Outcome (List Field)) → Finds (language abi n) (declared inside) (MembersAre (fields_at n before) items outcome) (declared late)
+        → Finds (language abi n) (declared inside) (MembersAre [] fields outcome) (declared late)
     in_braces n outcome found =
-        subst (λ (these : List FieldDecl). Finds (language others abi n) (declared inside) (MembersAre [] these outcome) (declared late)) same
-        (subst (λ (so_far : List Member). Finds (language others abi n) (declared inside) (MembersAre (fields_at n so_far) items outcome) (declared late)) none found)
+        subst (λ (these : List FieldDecl). Finds (language abi n) (declared inside) (MembersAre [] these outcome) (declared late)) same
+        (subst (λ (so_far : List Member). Finds (language abi n) (declared inside) (MembersAre (fields_at n so_far) items outcome) (declared late)) none found)
 
     -- a member is refused
     pub members_refused : (first : Fault) → walk ≡ FoundRefused first → Stopped SaysStruct old late first
     members_refused first is =
-        let stopped = stopped_of (SaysBy others abi (λ n o. MembersAre (fields_at n before) items o)) (some_members after) inside late first walk is walked in
+        let stopped = stopped_of (SaysBy abi (λ n o. MembersAre (fields_at n before) items o)) (some_members after) inside late first walk is walked in
         record {
           grows = grows_trans old inside late opens_grow stopped.grows;
           found = λ n agrees. MembersRefused (opens_to n) (in_braces n (Refused first) (stopped.found n agrees));
@@ -134,7 +122,7 @@ module _ (others : Others) (abi : Abi) (name : Option Identifier) (fields : List
     -- behind its members the struct is complete, or its tag is refused there
     closes : (told : Unit {0}) (new : Context) (found : Found NamedByNumber) → walk ≡ FoundToPass told → IsClosed name number after late new found → Walked SaysStruct a_type old new found
     closes told new (FoundToPass named) is closed =
-        let passed = passed_of (SaysBy others abi (λ n o. MembersAre (fields_at n before) items o)) (some_members after) inside late told walk is walked in
+        let passed = passed_of (SaysBy abi (λ n o. MembersAre (fields_at n before) items o)) (some_members after) inside late told walk is walked in
         let only = closed.numbers.only_types in
         let completes : Grows late closed.middle = record {
           types = λ at t found. rw closed.types found;
@@ -160,7 +148,7 @@ module _ (others : Others) (abi : Abi) (name : Option Identifier) (fields : List
               (subst (λ (end : Declared). SaysStruct n (declared old) (Passes (whole (StructType number)) (map (handed_at n) passed.rows)) end) ends finds);
         }
     closes told new (FoundRefused first) is closed =
-        let passed = passed_of (SaysBy others abi (λ n o. MembersAre (fields_at n before) items o)) (some_members after) inside late told walk is walked in
+        let passed = passed_of (SaysBy abi (λ n o. MembersAre (fields_at n before) items o)) (some_members after) inside late told walk is walked in
         subst (λ (context : Context). Stopped SaysStruct old context first) (sym closed.1) (record {
           grows = grows_trans old inside late opens_grow passed.grows;
           found = λ n agrees. StructCompletedInside (opens_to n) (in_braces n (Passes (fields_at n after) (map (handed_at n) passed.rows)) (passed.found n agrees)) closed.0;

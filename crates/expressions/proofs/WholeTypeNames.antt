@@ -20,7 +20,7 @@ use Rattle.expressions.specs.declared.named_type.NamedType.{NamedType as NamedBy
 use Rattle.expressions.specs.Context.{Context, Declared, declared, Agrees}
 use Rattle.expressions.specs.Found.{a_type, some_sizes}
 use Rattle.expressions.specs.Numbers.{Numbering, named_at, handed_at}
-use Rattle.expressions.specs.Others.{Others, language}
+use Rattle.expressions.specs.Language.{language}
 use Rattle.expressions.specs.Types.{IsDeclared}
 use Rattle.expressions.specs.Walked.{Passed, Stopped, Walked, Says}
 use Rattle.expressions.proofs.Growth.{agrees_before, grows_trans, only_types_grows, below_grows}
@@ -35,31 +35,31 @@ sizes_within to bound sizes same within =
     let whole : max (spec_levels (out-TypeName to).spec) (joined depth (map maybe_levels (out-TypeName to).sizes)) ≤ bound = subst (λ (levels : ℕ). levels ≤ bound) parts within in
     each_within maybe_levels bound sizes (subst (λ (all : List (Option Expr)). joined depth (map maybe_levels all) ≤ bound) (sym same) (omega (arith, whole)))
 
-module _ (others : Others) (abi : Abi) (to : TypeName) where
+module _ (abi : Abi) (to : TypeName) where
   -- its sizes, whatever they are called
   pub sizes_of : (all : List (Option Expr)) (sizes : List Size) (old new : Context) (found : Found (Unit {0})) → all ≡ (out-TypeName to).sizes
-      → Walked (Says others abi (λ o. SizesAre all o)) (some_sizes sizes) old new found
-      → Walked (Says others abi (λ o. SizesAre (out-TypeName to).sizes o)) (some_sizes sizes) old new found
+      → Walked (Says abi (λ o. SizesAre all o)) (some_sizes sizes) old new found
+      → Walked (Says abi (λ o. SizesAre (out-TypeName to).sizes o)) (some_sizes sizes) old new found
   sizes_of all sizes old new found same walked =
-      subst (λ (these : List (Option Expr)). Walked (Says others abi (λ o. SizesAre these o)) (some_sizes sizes) old new found) same walked
+      subst (λ (these : List (Option Expr)). Walked (Says abi (λ o. SizesAre these o)) (some_sizes sizes) old new found) same walked
 
   -- what is refused in its words
   pub words_refused : (old new : Context) (found : Found NamedByNumber) (first : Fault) → found ≡ FoundRefused first
-      → Walked (Says others abi (λ o. WordsAre (out-TypeSpec (out-TypeName to).spec) o)) a_type old new found
-      → Stopped (Says others abi (λ o. NameOfTypeIs to o)) old new first
+      → Walked (Says abi (λ o. WordsAre (out-TypeSpec (out-TypeName to).spec) o)) a_type old new found
+      → Stopped (Says abi (λ o. NameOfTypeIs to o)) old new first
   words_refused old new found first is walked =
-      let stopped = stopped_of (Says others abi (λ o. WordsAre (out-TypeSpec (out-TypeName to).spec) o)) a_type old new first found is walked in
+      let stopped = stopped_of (Says abi (λ o. WordsAre (out-TypeSpec (out-TypeName to).spec) o)) a_type old new first found is walked in
       record { grows = stopped.grows; found = λ n agrees. WordsRefused refl refl (stopped.found n agrees) }
 
   module _ (old mid new : Context) (base : NamedByNumber) (words : Found NamedByNumber) (sizes : List Size) (counts : Found (Unit {0})) where
     -- what is refused in its sizes
     pub sizes_stop : (first : Fault) → words ≡ FoundToPass base → counts ≡ FoundRefused first
-        → Walked (Says others abi (λ o. WordsAre (out-TypeSpec (out-TypeName to).spec) o)) a_type old mid words
-        → Walked (Says others abi (λ o. SizesAre (out-TypeName to).sizes o)) (some_sizes sizes) mid new counts
-        → Stopped (Says others abi (λ o. NameOfTypeIs to o)) old new first
+        → Walked (Says abi (λ o. WordsAre (out-TypeSpec (out-TypeName to).spec) o)) a_type old mid words
+        → Walked (Says abi (λ o. SizesAre (out-TypeName to).sizes o)) (some_sizes sizes) mid new counts
+        → Stopped (Says abi (λ o. NameOfTypeIs to o)) old new first
     sizes_stop first passes stops walked behind_it =
-        let passed = passed_of (Says others abi (λ o. WordsAre (out-TypeSpec (out-TypeName to).spec) o)) a_type old mid base words passes walked in
-        let stopped = stopped_of (Says others abi (λ o. SizesAre (out-TypeName to).sizes o)) (some_sizes sizes) mid new first counts stops behind_it in
+        let passed = passed_of (Says abi (λ o. WordsAre (out-TypeSpec (out-TypeName to).spec) o)) a_type old mid base words passes walked in
+        let stopped = stopped_of (Says abi (λ o. SizesAre (out-TypeName to).sizes o)) (some_sizes sizes) mid new first counts stops behind_it in
         record {
           grows = grows_trans old mid new passed.grows stopped.grows;
           found = λ n agrees. SizesRefused refl refl (passed.found n (agrees_before mid new n stopped.grows agrees)) (stopped.found n agrees);
@@ -67,23 +67,23 @@ module _ (others : Others) (abi : Abi) (to : TypeName) where
 
     -- its words have a type of the context behind its sizes
     pub base_below : words ≡ FoundToPass base → counts ≡ FoundToPass tt
-        → Walked (Says others abi (λ o. WordsAre (out-TypeSpec (out-TypeName to).spec) o)) a_type old mid words
-        → Walked (Says others abi (λ o. SizesAre (out-TypeName to).sizes o)) (some_sizes sizes) mid new counts
+        → Walked (Says abi (λ o. WordsAre (out-TypeSpec (out-TypeName to).spec) o)) a_type old mid words
+        → Walked (Says abi (λ o. SizesAre (out-TypeName to).sizes o)) (some_sizes sizes) mid new counts
         → base.ctype < length new.types
     base_below passes goes walked behind_it =
-        let passed = passed_of (Says others abi (λ o. WordsAre (out-TypeSpec (out-TypeName to).spec) o)) a_type old mid base words passes walked in
-        let counted = passed_of (Says others abi (λ o. SizesAre (out-TypeName to).sizes o)) (some_sizes sizes) mid new tt counts goes behind_it in
+        let passed = passed_of (Says abi (λ o. WordsAre (out-TypeSpec (out-TypeName to).spec) o)) a_type old mid base words passes walked in
+        let counted = passed_of (Says abi (λ o. SizesAre (out-TypeName to).sizes o)) (some_sizes sizes) mid new tt counts goes behind_it in
         below_grows mid new counted.grows base.ctype passed.below
 
     -- the whole
     pub type_named : (later : Context) (named : NamedByNumber) → words ≡ FoundToPass base → counts ≡ FoundToPass tt
-        → Walked (Says others abi (λ o. WordsAre (out-TypeSpec (out-TypeName to).spec) o)) a_type old mid words
-        → Walked (Says others abi (λ o. SizesAre (out-TypeName to).sizes o)) (some_sizes sizes) mid new counts
+        → Walked (Says abi (λ o. WordsAre (out-TypeSpec (out-TypeName to).spec) o)) a_type old mid words
+        → Walked (Says abi (λ o. SizesAre (out-TypeName to).sizes o)) (some_sizes sizes) mid new counts
         → IsDeclared abi base (out-TypeName to).stars sizes new later named
-        → Passed (Says others abi (λ o. NameOfTypeIs to o)) a_type old later named
+        → Passed (Says abi (λ o. NameOfTypeIs to o)) a_type old later named
     type_named later named passes goes walked behind_it declares =
-        let passed = passed_of (Says others abi (λ o. WordsAre (out-TypeSpec (out-TypeName to).spec) o)) a_type old mid base words passes walked in
-        let counted = passed_of (Says others abi (λ o. SizesAre (out-TypeName to).sizes o)) (some_sizes sizes) mid new tt counts goes behind_it in
+        let passed = passed_of (Says abi (λ o. WordsAre (out-TypeSpec (out-TypeName to).spec) o)) a_type old mid base words passes walked in
+        let counted = passed_of (Says abi (λ o. SizesAre (out-TypeName to).sizes o)) (some_sizes sizes) mid new tt counts goes behind_it in
         let only = declares.only_types in
         let meant : Numbering → NamedType = λ n. declared_as (named_at n base) (out-TypeName to).stars sizes (is_large abi new.structs (declared_type (named_at n base) (out-TypeName to).stars sizes)) in
         record {
@@ -94,12 +94,12 @@ module _ (others : Others) (abi : Abi) (to : TypeName) where
           found = λ n agrees.
               let here : Agrees n new = agrees_before new later n (only_types_grows new later only) agrees in
               let there : Agrees n mid = agrees_before mid new n counted.grows here in
-              let found : Finds (language others abi n) (declared old) (NameOfTypeIs to (Passes (meant n) (map (handed_at n) passed.rows ++ map (handed_at n) counted.rows))) (declared new) =
+              let found : Finds (language abi n) (declared old) (NameOfTypeIs to (Passes (meant n) (map (handed_at n) passed.rows ++ map (handed_at n) counted.rows))) (declared new) =
               TypeNamed refl refl (passed.found n there) (counted.found n here) refl in
               let same : declared new ≡ declared later = λ i. record { environment = sym only.environment i; structs = sym only.structs i } in
-              subst (λ (t : NamedType). Finds (language others abi n) (declared old) (NameOfTypeIs to (Passes t (map (handed_at n) (passed.rows ++ counted.rows)))) (declared later)) (sym (declares.meant n agrees))
-              (subst (λ (handed : List Handed). Finds (language others abi n) (declared old) (NameOfTypeIs to (Passes (meant n) handed)) (declared later)) (sym (map-append (handed_at n) passed.rows counted.rows))
-              (subst (λ (place : Declared). Finds (language others abi n) (declared old) (NameOfTypeIs to (Passes (meant n) (map (handed_at n) passed.rows ++ map (handed_at n) counted.rows))) place) same found));
+              subst (λ (t : NamedType). Finds (language abi n) (declared old) (NameOfTypeIs to (Passes t (map (handed_at n) (passed.rows ++ counted.rows)))) (declared later)) (sym (declares.meant n agrees))
+              (subst (λ (handed : List Handed). Finds (language abi n) (declared old) (NameOfTypeIs to (Passes (meant n) handed)) (declared later)) (sym (map-append (handed_at n) passed.rows counted.rows))
+              (subst (λ (place : Declared). Finds (language abi n) (declared old) (NameOfTypeIs to (Passes (meant n) (map (handed_at n) passed.rows ++ map (handed_at n) counted.rows))) place) same found));
         }
 
 -- what is declared, where it is, and of sizes that code calls otherwise

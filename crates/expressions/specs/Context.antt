@@ -22,9 +22,10 @@ pub record Declared : Type 0 where
 abbrev pub declared : Context → Declared
 declared context = record { environment = context.environment; structs = context.structs }
 
--- a numbering has what a context has so far
+-- a numbering has what a context has so far; a type has one number there
 pub record Agrees (n : Numbering) (context : Context) : Type 0 where
   pub types : (number : ℕ) (t : CType) → slice_get context.types number ≡ Some t → n.ctype number ≡ t
+  pub numbers : (number : ℕ) (t : CType) → slice_get context.types number ≡ Some t → n.number t ≡ number
   pub signatures : (number : ℕ) (s : Signature) → slice_get context.environment.signatures number ≡ Some s → n.signature number ≡ s
 
 -- what had a number has it still, a struct that is complete stays as it is (C11 6.7.2.3p1), and none of the structs is gone

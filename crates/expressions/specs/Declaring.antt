@@ -20,7 +20,7 @@ use Rattle.expressions.specs.declared.named_type.NamedType.{NamedType as NamedBy
 use Rattle.expressions.specs.Context.{Context, Declared, declared, Agrees}
 use Rattle.expressions.specs.Numbers.{Numbering, named_at, fields_at}
 use Rattle.expressions.specs.Operated.{Numbers}
-use Rattle.expressions.specs.Others.{struct_completed}
+use Rattle.expressions.specs.Language.{struct_completed}
 
 -- a size that is given
 abbrev pub IsFixed : Place → Size → Found Size → Type 0

@@ -17,7 +17,7 @@ use Rattle.expressions.specs.declared.handed_row.HandedRow.{HandedRow}
 use Rattle.expressions.specs.declared.known.Known.{Known}
 use Rattle.expressions.specs.Context.{Context, Declared, declared, Agrees, Grows}
 use Rattle.expressions.specs.Numbers.{Numbering, handed_at}
-use Rattle.expressions.specs.Others.{Others, language}
+use Rattle.expressions.specs.Language.{language}
 
 -- a value, where an int has it
 abbrev pub int_found : Place → Option ℕ → Found ℕ
@@ -29,18 +29,18 @@ abbrev pub IsIntValue : Context → Place → Known → Found ℕ → Type 0
 IsIntValue context place known found = (n : Numbering) → Agrees n context → found ≡ int_found place (int_value (kind_of context.structs (n.ctype known.ctype)) known.value)
 
 -- a constant in front of others: whatever is found of the others behind it is found of all, or it is refused
-pub record EnumeratorPasses (others : Others) (abi : Abi) (next : Option ℕ) (constant : Enumerator) (old new : Context) (bits : ℕ) : Type 0 where
+pub record EnumeratorPasses (abi : Abi) (next : Option ℕ) (constant : Enumerator) (old new : Context) (bits : ℕ) : Type 0 where
   pub rows : List HandedRow
   pub handed : new.handed ≡ old.handed ++ rows
   pub grows : Grows old new
   pub goes : (n : Numbering) → Agrees n new → (further : List Enumerator) (outcome : Outcome NamedType) (after : Declared)
-      → Finds (language others abi n) (declared new) (EnumeratorsAre (next_value bits) further outcome) after
-      → Finds (language others abi n) (declared old) (EnumeratorsAre next (constant ∷ further) (with_front (map (handed_at n) rows) outcome)) after
+      → Finds (language abi n) (declared new) (EnumeratorsAre (next_value bits) further outcome) after
+      → Finds (language abi n) (declared old) (EnumeratorsAre next (constant ∷ further) (with_front (map (handed_at n) rows) outcome)) after
 
-pub record EnumeratorStops (others : Others) (abi : Abi) (next : Option ℕ) (constant : Enumerator) (old new : Context) (first : Fault) : Type 0 where
+pub record EnumeratorStops (abi : Abi) (next : Option ℕ) (constant : Enumerator) (old new : Context) (first : Fault) : Type 0 where
   pub grows : Grows old new
-  pub found : (n : Numbering) → Agrees n new → (further : List Enumerator) → Finds (language others abi n) (declared old) (EnumeratorsAre next (constant ∷ further) (Refused first)) (declared new)
+  pub found : (n : Numbering) → Agrees n new → (further : List Enumerator) → Finds (language abi n) (declared old) (EnumeratorsAre next (constant ∷ further) (Refused first)) (declared new)
 
-abbrev pub IsEnumerated : Others → Abi → Option ℕ → Enumerator → Context → Context → Found ℕ → Type 0
-IsEnumerated others abi next constant old new (FoundToPass bits) = EnumeratorPasses others abi next constant old new bits
-IsEnumerated others abi next constant old new (FoundRefused first) = EnumeratorStops others abi next constant old new first
+abbrev pub IsEnumerated : Abi → Option ℕ → Enumerator → Context → Context → Found ℕ → Type 0
+IsEnumerated abi next constant old new (FoundToPass bits) = EnumeratorPasses abi next constant old new bits
+IsEnumerated abi next constant old new (FoundRefused first) = EnumeratorStops abi next constant old new first

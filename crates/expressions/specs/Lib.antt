@@ -7,13 +7,13 @@ pub mod Declaring
 pub mod Enumerated
 pub mod Exact
 pub mod Found
+pub mod Language
 pub mod Members
 pub mod Names
 pub mod Nests
 pub mod Numbers
 pub mod Opened
 pub mod Operated
-pub mod Others
 pub mod Pointers
 pub mod Settled
 pub mod Taken

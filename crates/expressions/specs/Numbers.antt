@@ -13,6 +13,9 @@ use Rattle.environment.specs.declared.entity.Lifetime.{Lifetime}
 use Rattle.environment.specs.declared.entity.Lifetime.TheVariants.{Automatic, Static, MainParameter}
 use Rattle.environment.specs.declared.entity.Entity.{Entity as EntityByNumber}
 use Rattle.environment.specs.declared.entity.Entity.TheVariants.{Object, Typedef, Enumerator, Function}
+use Rattle.environment.specs.declared.entity.Binding.{Binding}
+use Rattle.environment.specs.declared.entity.Binding.TheVariants.{Own, WithLinkage}
+use Rattle.environment.specs.declared.entity.Linked.{Linked as LinkedByNumber}
 use Rattle.environment.specs.declared.entity.Signature.{Signature}
 use Rattle.environment.specs.declared.entity.Tag.{Tag as TagByNumber}
 use Rattle.environment.specs.declared.entity.Tag.TheVariants.{Struct, Enum}
@@ -22,16 +25,19 @@ use Rattle.operators.specs.declared.operand.Operand.{Operand as OperandByNumber}
 use Rattle.operators.specs.Broken.{Judgement, Typed, Breaks}
 use Rattle.operators.specs.Kinds.{kind_of}
 use Rattle.operators.specs.Operands.{Operand}
-use Rattle.typing.specs.Entities.{Entity, ObjectIs, FunctionIs, EnumeratorIs, TypedefIs, FunctionEntity, Tag, StructTag, EnumTag, TagHere, StructHere, EnumHere}
+use Rattle.typing.specs.Entities.{Entity, ObjectIs, FunctionIs, EnumeratorIs, TypedefIs, FunctionEntity, Tag, StructTag, EnumTag, TagHere, StructHere, EnumHere, DeclaredType as TypeDeclared, WholeType, ItemsOf, Linked, ObjectLinked, FunctionLinked, NameHere, OwnHere, TypedefHere, LinkedHere}
 use Rattle.typing.specs.Known.{Known}
 use Rattle.typing.specs.NamedTypes.{NamedType}
-use Rattle.typing.specs.Outcomes.{Handed}
+use Rattle.typing.specs.Outcomes.{Handed, ExpressionHanded, StoreHanded, ObjectHanded}
 use Rattle.expressions.specs.declared.known.Known.{Known as KnownByNumber}
 use Rattle.expressions.specs.declared.handed_row.HandedRow.{HandedRow}
+use Rattle.expressions.specs.declared.handed_row.HandedRow.TheVariants.{Expression as ExpressionRow, Store as StoreRow, Object as ObjectRow}
 use Rattle.expressions.specs.declared.named_type.NamedType.{NamedType as NamedByNumber}
 
 pub record Numbering : Type 0 where
   pub ctype : ℕ → CType
+  -- and which number a type has that has one
+  pub number : CType → ℕ
   pub signature : ℕ → Signature
 
 -- the type of an object or a typedef; an array whose size is not known has none that can be written down
@@ -44,6 +50,12 @@ is_of_main Automatic = false
 is_of_main Static = false
 is_of_main MainParameter = true
 
+-- whether it lives as long as the program runs (C11 6.2.4p3)
+abbrev pub is_fixed : Lifetime → Bool
+is_fixed Automatic = false
+is_fixed Static = true
+is_fixed MainParameter = false
+
 abbrev pub function_at : Numbering → Signature → Bool → Bool → FunctionEntity
 function_at n signature defined built_in = record {
   result = n.ctype signature.result;
@@ -55,7 +67,7 @@ function_at n signature defined built_in = record {
 -- what a name stands for
 abbrev pub entity_at : Numbering → EntityByNumber → Entity
 entity_at n (Object ctype token lifetime defined) =
-    ObjectIs (record { ctype = declared_at n ctype; token = token; defined = defined; of_main = is_of_main lifetime })
+    ObjectIs (record { ctype = declared_at n ctype; token = token; defined = defined; of_main = is_of_main lifetime; fixed = is_fixed lifetime })
 entity_at n (Typedef ctype) = TypedefIs (declared_at n ctype)
 entity_at n (Enumerator bits) = EnumeratorIs bits
 entity_at n (Function signature defined built_in) = FunctionIs (function_at n (n.signature signature) defined built_in)
@@ -70,7 +82,33 @@ abbrev pub tag_here_at : TagByNumber → TagHere
 tag_here_at (Struct number) = StructHere number
 tag_here_at (Enum listed) = EnumHere listed
 
--- what is known of an expression, and what is handed on of it
+-- the type that a declaration gave
+abbrev pub declared_type_at : Numbering → DeclaredType → TypeDeclared
+declared_type_at n (Whole number) = WholeType (n.ctype number)
+declared_type_at n (UnsizedArray item) = ItemsOf (n.ctype item)
+
+-- what a scope says of a name: a typedef with its type, anything else of its own, or that it has linkage
+abbrev pub own_at : Numbering → EntityByNumber → NameHere
+own_at n (Typedef ctype) = TypedefHere (declared_type_at n ctype)
+own_at n (Object ctype token lifetime defined) = OwnHere
+own_at n (Enumerator bits) = OwnHere
+own_at n (Function signature defined built_in) = OwnHere
+
+abbrev pub name_here_at : Numbering → Binding → NameHere
+name_here_at n (Own entity) = own_at n entity
+name_here_at n WithLinkage = LinkedHere
+
+-- what has linkage under a name: an object or a function
+abbrev pub linked_entity_at : Numbering → EntityByNumber → Option Linked
+linked_entity_at n (Object ctype token lifetime defined) = Some (ObjectLinked (declared_type_at n ctype))
+linked_entity_at n (Function signature defined built_in) = Some (FunctionLinked (n.ctype (n.signature signature).result) (map n.ctype (n.signature signature).parameters))
+linked_entity_at n (Typedef ctype) = None
+linked_entity_at n (Enumerator bits) = None
+
+abbrev pub linked_at : Numbering → LinkedByNumber → Option Linked
+linked_at n meaning = linked_entity_at n meaning.entity
+
+-- what is known of an expression, and what is handed on
 abbrev pub known_at : Numbering → KnownByNumber → Known
 known_at n known = record {
   ctype = n.ctype known.ctype;
@@ -82,10 +120,13 @@ known_at n known = record {
 }
 
 abbrev pub handed_at : Numbering → HandedRow → Handed
-handed_at n row = record { number = row.number; ctype = n.ctype row.ctype; stands = option_map (entity_at n) row.stands; value = row.value }
+handed_at n (ExpressionRow number ctype stands value) =
+    ExpressionHanded (record { number = number; ctype = n.ctype ctype; stands = option_map (entity_at n) stands; value = value })
+handed_at n (StoreRow object offset ctype number) = StoreHanded (record { object = object; offset = offset; ctype = n.ctype ctype; number = number })
+handed_at n (ObjectRow token ctype fixed zeroed) = ObjectHanded (record { token = token; ctype = n.ctype ctype; fixed = fixed; zeroed = zeroed })
 
 abbrev pub row_of : ℕ → KnownByNumber → HandedRow
-row_of number known = record { number = number; ctype = known.ctype; stands = known.stands; value = known.value }
+row_of number known = ExpressionRow number known.ctype known.stands known.value
 
 -- a type with what is found of it
 abbrev pub named_at : Numbering → NamedByNumber → NamedType

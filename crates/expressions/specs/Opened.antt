@@ -12,11 +12,11 @@ use Rattle.expressions.specs.declared.found.Found.{Found}
 use Rattle.expressions.specs.declared.found.Found.TheVariants.{Passes, Refused}
 use Rattle.expressions.specs.Context.{Context, declared}
 use Rattle.expressions.specs.Numbers.{Numbering}
-use Rattle.expressions.specs.Others.{no_statements, language, struct_completed}
+use Rattle.expressions.specs.Language.{language, struct_completed}
 
 -- the struct whose members follow
 pub record StructOpens (abi : Abi) (name : Option Identifier) (old new : Context) (number : ℕ) : Type 0 where
-  pub opens : (n : Numbering) → struct_opening (language no_statements abi n) name (declared old) ≡ Opens (number, declared new)
+  pub opens : (n : Numbering) → struct_opening (language abi n) name (declared old) ≡ Opens (number, declared new)
   pub types : new.types ≡ old.types
   pub handed : new.handed ≡ old.handed
   pub signatures : new.environment.signatures ≡ old.environment.signatures
@@ -24,11 +24,11 @@ pub record StructOpens (abi : Abi) (name : Option Identifier) (old new : Context
 
 abbrev pub IsStructOpened : Abi → Option Identifier → Context → Context → Found ℕ → Type 0
 IsStructOpened abi name old new (Passes number) = StructOpens abi name old new number
-IsStructOpened abi name old new (Refused first) = ((n : Numbering) → struct_opening (language no_statements abi n) name (declared old) ≡ IsTwice first) × (new ≡ old)
+IsStructOpened abi name old new (Refused first) = ((n : Numbering) → struct_opening (language abi n) name (declared old) ≡ IsTwice first) × (new ≡ old)
 
 -- the enum whose constants follow
 pub record EnumOpens (abi : Abi) (name : Option Identifier) (old new : Context) : Type 0 where
-  pub opens : (n : Numbering) → enum_opening (language no_statements abi n) name (declared old) ≡ Opens (declared new)
+  pub opens : (n : Numbering) → enum_opening (language abi n) name (declared old) ≡ Opens (declared new)
   pub types : new.types ≡ old.types
   pub handed : new.handed ≡ old.handed
   pub signatures : new.environment.signatures ≡ old.environment.signatures
@@ -36,7 +36,7 @@ pub record EnumOpens (abi : Abi) (name : Option Identifier) (old new : Context) 
 
 abbrev pub IsEnumOpened : Abi → Option Identifier → Context → Context → Option Fault → Type 0
 IsEnumOpened abi name old new None = EnumOpens abi name old new
-IsEnumOpened abi name old new (Some first) = ((n : Numbering) → enum_opening (language no_statements abi n) name (declared old) ≡ IsTwice first) × (new ≡ old)
+IsEnumOpened abi name old new (Some first) = ((n : Numbering) → enum_opening (language abi n) name (declared old) ≡ IsTwice first) × (new ≡ old)
 
 -- a struct behind its members
 pub record StructCloses (name : Option Identifier) (number : ℕ) (members : List Member) (old new : Context) : Type 0 where

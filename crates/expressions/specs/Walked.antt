@@ -17,7 +17,7 @@ use Rattle.expressions.specs.declared.handed_row.HandedRow.{HandedRow}
 use Rattle.expressions.specs.Context.{Context, Declared, declared, Agrees, Grows}
 use Rattle.expressions.specs.Found.{Reading}
 use Rattle.expressions.specs.Numbers.{Numbering, handed_at}
-use Rattle.expressions.specs.Others.{Others, language}
+use Rattle.expressions.specs.Language.{language}
 
 -- what is found of a part, in the language that a numbering gives
 abbrev pub Tells : Type 0 → Type 1
@@ -41,19 +41,19 @@ Walked tells reading old new (FoundToPass told) = Passed tells reading old new t
 Walked tells reading old new (FoundRefused first) = Stopped tells old new first
 
 -- a part of a tree in a language
-abbrev pub Says : {A : Type 0} → Others → Abi → (Outcome A → Saying) → Tells A
-Says others abi say n before outcome after = Finds (language others abi n) before (say outcome) after
+abbrev pub Says : {A : Type 0} → Abi → (Outcome A → Saying) → Tells A
+Says abi say n before outcome after = Finds (language abi n) before (say outcome) after
 
 -- one of which is said what numbers stand for
-abbrev pub SaysBy : {A : Type 0} → Others → Abi → (Numbering → Outcome A → Saying) → Tells A
-SaysBy others abi say n before outcome after = Finds (language others abi n) before (say n outcome) after
+abbrev pub SaysBy : {A : Type 0} → Abi → (Numbering → Outcome A → Saying) → Tells A
+SaysBy abi say n before outcome after = Finds (language abi n) before (say n outcome) after
 
 -- an expression by its form
 abbrev pub IsAtNode : (l : Language) → l.Environment → ℕ → Place → Form → Outcome (List Told) → Outcome Known → Type 0
 IsAtNode l after number place form (Passes told handed) outcome = AtNode l after number place handed form told outcome
 IsAtNode l after number place form (Refused first) outcome = outcome ≡ Refused first
 
-abbrev pub SaysForm : Others → Abi → ℕ → Place → Form → Tells Known
-SaysForm others abi number place form n before outcome after =
-    (parts : Outcome (List Told)) × Finds (language others abi n) before (PiecesAre (pieces_in form) parts) after
-    × IsAtNode (language others abi n) after number place form parts outcome
+abbrev pub SaysForm : Abi → ℕ → Place → Form → Tells Known
+SaysForm abi number place form n before outcome after =
+    (parts : Outcome (List Told)) × Finds (language abi n) before (PiecesAre (pieces_in form) parts) after
+    × IsAtNode (language abi n) after number place form parts outcome

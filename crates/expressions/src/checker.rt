@@ -1,13 +1,17 @@
 use cbase::Abi;
-use std::marker::PhantomData;
 
-/// The rules of expressions take the walk over what lies in a tree as a parameter, so that each is proved by itself.
-///
-/// `R` has the rules of statements.
+/// The data layout, and how many levels a part of a tree may have.
 #[derive(Clone, Copy)]
-pub struct Checker<R, F> {
-    /// The rules that are given.
-    pub rules: PhantomData<R>,
+pub struct Within {
+    /// The data layout.
+    pub abi: Abi,
+    /// How many levels: expressions, statements, words of types and initialisers that lie one inside the other.
+    pub depth: u32,
+}
+
+/// The rules take the walk over what lies in a tree as a parameter, so that each is proved by itself.
+#[derive(Clone, Copy)]
+pub struct Checker<F> {
     /// The data layout.
     pub abi: Abi,
     /// How many levels a part that lies in a tree may have.

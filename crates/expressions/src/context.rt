@@ -4,11 +4,13 @@ ghost use Rattle.environment.specs.Environment.{nothing_declared, scope_entered,
 mod casts;
 mod declaring;
 mod interning;
+mod linking;
 mod looking;
 mod measures;
 mod members;
 mod opening;
 mod operating;
+mod standing;
 
 use crate::handed_row::HandedRow;
 use cbase::{List, NoMemory};
@@ -67,7 +69,7 @@ impl Context {
     }
 
     /// Hands on what is found of an expression, behind what was handed on before.
-    pub(crate) fn hand_on(&mut self, row: HandedRow) -> Result<(), NoMemory>
+    pub fn hand_on(&mut self, row: HandedRow) -> Result<(), NoMemory>
         ensures { OnOk result (self.new ≡ record self.old { handed = self.old.handed ++ row ∷ [] }) }
     {
         self.handed.push(row)

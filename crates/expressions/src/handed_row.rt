@@ -1,14 +1,39 @@
 use environment::Entity;
 
-/// What is handed on of an expression.
+/// What is handed on of a text, behind what stands before it.
 #[derive(Clone, Copy)]
-pub struct HandedRow {
-    /// Its number.
-    pub number: u32,
-    /// The number of its own type, before an array becomes a pointer; of a name that is called the type of the call.
-    pub ctype: u32,
-    /// What it stands for, where it is a name.
-    pub stands: Option<Entity>,
-    /// Its value as the bits of its type, where it is an integer constant expression (C11 6.6p6).
-    pub value: Option<u64>,
+pub enum HandedRow {
+    /// An expression, behind those that lie in it.
+    Expression {
+        /// Its number.
+        number: u32,
+        /// The number of its own type, before an array becomes a pointer; of a name that is called the type of the call.
+        ctype: u32,
+        /// What it stands for, where it is a name.
+        stands: Option<Entity>,
+        /// Its value as the bits of its type, where it is an integer constant expression (C11 6.6p6).
+        value: Option<u64>,
+    },
+    /// A store of an initialiser (C11 6.7.9), behind the expressions of its value.
+    Store {
+        /// How many tokens stand before the name of the object that is set.
+        object: u32,
+        /// How many bytes of the object stand before what is set.
+        offset: u32,
+        /// The number of the type of what is set.
+        ctype: u32,
+        /// The number of the expression whose value is stored.
+        number: u32,
+    },
+    /// An object that a declaration makes, behind the stores of its initialiser.
+    Object {
+        /// How many tokens stand before its name.
+        token: u32,
+        /// The number of its type.
+        ctype: u32,
+        /// Whether it lives as long as the program runs (C11 6.2.4p3).
+        fixed: bool,
+        /// Whether its initialiser stands in braces, which set to zero what they do not name (C11 6.7.9p19, p21).
+        zeroed: bool,
+    },
 }

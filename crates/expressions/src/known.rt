@@ -25,7 +25,7 @@ pub struct Known {
 
 impl Known {
     /// A value that is no constant.
-    pub(crate) fn plain(ctype: u32) -> Known
+    pub fn plain(ctype: u32) -> Known
         ensures is { (n : Numbering) → known_at n result ≡ plain (n.ctype ctype) }
         ensures ctype { result.ctype ≡ ctype }
     {
@@ -40,7 +40,7 @@ impl Known {
     }
 
     /// An lvalue.
-    pub(crate) fn located(idiom: Idiom, ctype: u32) -> Known
+    pub fn located(idiom: Idiom, ctype: u32) -> Known
         ensures is { (n : Numbering) → known_at n result ≡ located idiom (n.ctype ctype) }
         ensures ctype { result.ctype ≡ ctype }
     {
@@ -55,7 +55,7 @@ impl Known {
     }
 
     /// The value of an operation on integers, where its operands are constants.
-    pub(crate) fn valued(value: Option<u64>, ctype: u32) -> Known
+    pub fn valued(value: Option<u64>, ctype: u32) -> Known
         ensures is { (n : Numbering) → known_at n result ≡ valued value (n.ctype ctype) }
         ensures ctype { result.ctype ≡ ctype }
     {
@@ -70,7 +70,7 @@ impl Known {
     }
 
     /// What an operator asks of it.
-    pub(crate) fn operand(self) -> Operand
+    pub fn operand(self) -> Operand
         ensures { result ≡ operand_in self }
     {
         Operand {

@@ -1,7 +1,7 @@
 //! Which type and value an expression of C has where it stands, or what is refused in it first (C11 6.3, 6.5 and 6.6), and what a type name is (6.7.7).
 //!
-//! It walks over trees by reference, and asks a context what names, tags and numbers of types stand for. The rules of statements are handed in. It
-//! knows nothing of tokens or of the text.
+//! It walks over trees by reference, and asks a context what names, tags and numbers of types stand for. The walk over what lies in a tree, statements
+//! among it, is handed in. It knows nothing of tokens or of the text.
 #![tactic(auto)]
 
 mod checker;
@@ -13,14 +13,15 @@ mod members;
 mod named_type;
 mod nodes;
 mod part;
-mod rules;
 mod walk;
 
-pub use checker::Checker;
+pub use checker::{Checker, Within};
 pub use context::Context;
 pub use found::Found;
 pub use handed_row::HandedRow;
 pub use known::Known;
 pub use named_type::NamedType;
-pub use part::{Part, Told};
-pub use rules::Rules;
+pub use nodes::first::{all_at, first_of, least, unless};
+pub use part::{Part, Slot, Subject, Told};
+pub use walk::sizes::{arrays_of, found_of_sizes, pointers_to};
+pub use walk::type_names::declare;

@@ -17,7 +17,7 @@ use values::{cast_value, offset_as};
 impl Context {
     /// What is known of a cast to the type of number `to`, where it passes (C11 6.5.4): its value, whether it is a null pointer constant (6.3.2.3p3),
     /// and whether it begins the offsetof idiom.
-    pub(crate) fn cast_known(&self, to: u32, arg: Known) -> Known
+    pub fn cast_known(&self, to: u32, arg: Known) -> Known
         requires to { to < length self.now.types }
         requires arg { arg.ctype < length self.now.types }
         ensures is { (n : Numbering) → Agrees n self.now → known_at n result ≡ cast_known (n.ctype to) (kind_of self.now.structs (n.ctype to)) (kind_of self.now.structs (n.ctype arg.ctype)) (known_at n arg) }

@@ -6,7 +6,7 @@ ghost use Rattle.environment.specs.Environment.{name_bound, tag_declared, signat
 ghost use Rattle.environment.specs.declared.entity.Binding.TheVariants.{Own};
 ghost use Rattle.environment.specs.declared.entity.Tag.TheVariants.{Struct, Enum};
 ghost use Rattle.expressions.specs.Context.{declared};
-ghost use Rattle.expressions.specs.Others.{struct_declared, enum_declared};
+ghost use Rattle.expressions.specs.Language.{struct_declared, enum_declared};
 
 use crate::context::Context;
 use cbase::{List, NoMemory, Text};

@@ -1,4 +1,4 @@
-ghost use Rattle.std.specs.Prelude.{◌≡◌, ◌<◌, ℕ, length, Some, IfSome, is_some, slice_get};
+ghost use Rattle.std.specs.Prelude.{◌≡◌, ◌<◌, ℕ, length, nat_lt, Some, IfSome, is_some, slice_get};
 ghost use Rattle.cbase.specs.Completing.{is_open};
 ghost use Rattle.ctypes.specs.Table.{type_at, type_of, NamesBelow};
 ghost use Rattle.environment.specs.Bounds.{EntityBelow, SignatureBelow};
@@ -22,6 +22,13 @@ impl Context {
         self.types.shape(number)
     }
 
+    /// Whether a number is that of a type. It takes one step.
+    pub fn has_type(&self, number: u32) -> bool
+        ensures { result ≡ nat_lt number (length self.now.types) }
+    {
+        self.types.has(number)
+    }
+
     /// What a name stands for: what the innermost scope that declares it says (C11 6.2.1p4).
     pub fn look_up(&self, name: &[u8]) -> Option<Entity>
         ensures is { result ≡ name_found name.now self.now.environment }
@@ -37,7 +44,7 @@ impl Context {
         self.environment.tag(TagForm::Mentioned, name)
     }
 
-    /// What a tag stands for by a declaration of the innermost scope (C11 6.7.2.3p4-7).
+    /// What a tag stands for by a declaration of the innermost scope (C11 6.7.2.3p4-6).
     pub fn tag_here(&self, name: &[u8]) -> Option<Tag>
         ensures { result ≡ tag_found Declared name.now self.now.environment }
     {
@@ -61,7 +68,7 @@ impl Context {
 
 impl Context {
     /// The signature of a number.
-    pub(crate) fn signature(&self, number: u32) -> &Signature
+    pub fn signature(&self, number: u32) -> &Signature
         requires { number < length self.now.environment.signatures }
         ensures is { slice_get self.now.environment.signatures number ≡ Some result.now }
         ensures below { SignatureBelow (length self.now.types) result.now }
@@ -73,7 +80,7 @@ impl Context {
     }
 
     /// The number of the type of the result of the function with the signature of that number.
-    pub(crate) fn result_of(&self, number: u32) -> u32
+    pub fn result_of(&self, number: u32) -> u32
         requires { number < length self.now.environment.signatures }
         ensures is { (n : Numbering) → Agrees n self.now → n.ctype result ≡ n.ctype (n.signature number).result }
         ensures below { result < length self.now.types }

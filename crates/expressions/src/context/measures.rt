@@ -22,7 +22,7 @@ const MOST_BYTES: u32 = 65_536;
 
 impl Context {
     /// The type of integers that the type of that number is, if it is one.
-    pub(crate) fn integer_type(&self, number: u32) -> Option<IntegerType>
+    pub fn integer_type(&self, number: u32) -> Option<IntegerType>
         requires { number < length self.now.types }
         ensures { (n : Numbering) → Agrees n self.now → result ≡ integer_in (kind_of self.now.structs (n.ctype number)) }
     {
@@ -30,7 +30,7 @@ impl Context {
     }
 
     /// The size of the type of that number, whatever the data layout (C11 6.5.3.4).
-    pub(crate) fn size(&self, number: u32) -> Extent
+    pub fn size(&self, number: u32) -> Extent
         requires { number < length self.now.types }
         ensures { (n : Numbering) (abi : Abi) → Agrees n self.now → result ≡ size_in abi self.now.structs (n.ctype number) }
     {
@@ -38,7 +38,7 @@ impl Context {
     }
 
     /// The layout of the type of that number, whatever the data layout, where it has a size (C11 6.5.3.4, 6.2.8).
-    pub(crate) fn layout(&self, number: u32) -> Option<Layout>
+    pub fn layout(&self, number: u32) -> Option<Layout>
         requires { number < length self.now.types }
         ensures value { result ≡ option_map capped (layout_of Lp64 self.now.structs (type_at self.now.types number)) }
         ensures small { IfSome result IsSmall }
@@ -47,7 +47,7 @@ impl Context {
     }
 
     /// Whether the type of that number is complete (C11 6.2.5p1).
-    pub(crate) fn has_size(&self, number: u32) -> bool
+    pub fn has_size(&self, number: u32) -> bool
         requires { number < length self.now.types }
         ensures { (n : Numbering) → Agrees n self.now → result ≡ has_size self.now.structs (n.ctype number) }
     {
@@ -58,7 +58,7 @@ impl Context {
     }
 
     /// Whether the type of that number has more than 65,536 bytes, with its padding.
-    pub(crate) fn is_large(&self, number: u32) -> bool
+    pub fn is_large(&self, number: u32) -> bool
         requires { number < length self.now.types }
         ensures { (n : Numbering) (abi : Abi) → Agrees n self.now → result ≡ is_large abi self.now.structs (n.ctype number) }
     {
@@ -69,7 +69,7 @@ impl Context {
     }
 
     /// Whether the type of that number is a struct (C11 6.7.2.1).
-    pub(crate) fn is_struct(&self, number: u32) -> bool
+    pub fn is_struct(&self, number: u32) -> bool
         requires { number < length self.now.types }
         ensures { (n : Numbering) → Agrees n self.now → result ≡ is_struct (kind_of self.now.structs (n.ctype number)) }
     {
@@ -80,7 +80,7 @@ impl Context {
     }
 
     /// How many bytes an item of an array of the type of that number has: none for what is no array, and for more than 65,536.
-    pub(crate) fn item_bytes(&self, number: u32) -> Option<u64>
+    pub fn item_bytes(&self, number: u32) -> Option<u64>
         requires { number < length self.now.types }
         ensures { (n : Numbering) (abi : Abi) → Agrees n self.now → result ≡ item_bytes abi self.now.structs (kind_of self.now.structs (n.ctype number)) }
     {
@@ -92,7 +92,7 @@ impl Context {
 
     /// Where the member of that name begins in the struct that the type of that number is: none where there is no such member, and for more than
     /// 65,536 bytes.
-    pub(crate) fn member_offset(&self, number: u32, name: &[u8]) -> Option<u64>
+    pub fn member_offset(&self, number: u32, name: &[u8]) -> Option<u64>
         requires { number < length self.now.types }
         ensures { (n : Numbering) (abi : Abi) → Agrees n self.now → result ≡ member_offset abi self.now.structs (n.ctype number) name.now }
     {
@@ -111,7 +111,7 @@ impl Context {
     }
 
     /// The same of what a pointer of the type of that number leads to, or of the items of an array.
-    pub(crate) fn pointed_offset(&self, number: u32, name: &[u8]) -> Option<u64>
+    pub fn pointed_offset(&self, number: u32, name: &[u8]) -> Option<u64>
         requires { number < length self.now.types }
         ensures { (n : Numbering) (abi : Abi) → Agrees n self.now → result ≡ pointed_offset abi self.now.structs (kind_of self.now.structs (n.ctype number)) name.now }
     {

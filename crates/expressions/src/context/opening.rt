@@ -17,11 +17,11 @@ use std::alloc::Global;
 use typing::Fault;
 
 impl Context {
-    /// The number of the struct whose members follow in braces (C11 6.7.2.3p1, p4, p7): one that this scope declares and that has none yet, or a new one.
+    /// The number of the struct whose members follow in braces (C11 6.7.2.3p1, p4, p6): one that this scope declares and that has none yet, or a new one.
     /// A tag that this scope declares for an enum, or for a struct with members, is rule 2 at it.
     ///
     /// Want of memory is the only error, and nothing is said of the context then.
-    pub(crate) fn open_struct(
+    pub fn open_struct(
         &mut self,
         alloc: Global,
         name: &Option<Identifier>,
@@ -49,11 +49,11 @@ impl Context {
         }
     }
 
-    /// Whether the constants of an enum may follow in braces, which are declared by its tag, where it has one (C11 6.7.2.3p1, p4). A tag that this scope
+    /// Whether the constants of an enum may follow in braces, which are declared by its tag, where it has one (C11 6.7.2.3p1, p4, p6). A tag that this scope
     /// declares for a struct, or for an enum with constants, is rule 2 at it.
     ///
     /// Where memory is wanting all stays as it was.
-    pub(crate) fn open_enum(
+    pub fn open_enum(
         &mut self,
         alloc: Global,
         name: &Option<Identifier>,
@@ -75,7 +75,7 @@ impl Context {
     /// Gives a struct its members at the `}` (C11 6.7.2.1p8). Where it was given members inside its own braces, its tag is rule 2.
     ///
     /// Where memory is wanting all stays as it was.
-    pub(crate) fn close_struct(
+    pub fn close_struct(
         &mut self,
         alloc: Global,
         name: &Option<Identifier>,

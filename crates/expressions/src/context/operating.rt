@@ -19,7 +19,7 @@ use operators::{
 
 impl Context {
     /// The type of a unary operation, or what is broken at its operator (C11 6.5.3.2, 6.5.3.3). Only types get numbers, by each call here.
-    pub(crate) fn unary(&mut self, op: UnaryOp, operand: Operand) -> Result<Outcome, NoMemory>
+    pub fn unary(&mut self, op: UnaryOp, operand: Operand) -> Result<Outcome, NoMemory>
         requires { operand.ctype < length self.old.types }
         ensures { IfOk result (λ outcome. Operates (λ n. unary op (operand_at n self.old.structs operand)) self.old self.new outcome) }
     {
@@ -27,7 +27,7 @@ impl Context {
     }
 
     /// The type of `++` and `--` (C11 6.5.2.4, 6.5.3.1).
-    pub(crate) fn count(&mut self, operand: Operand) -> Result<Outcome, NoMemory>
+    pub fn count(&mut self, operand: Operand) -> Result<Outcome, NoMemory>
         requires { operand.ctype < length self.old.types }
         ensures { IfOk result (λ outcome. Operates (λ n. counted (operand_at n self.old.structs operand)) self.old self.new outcome) }
     {
@@ -35,7 +35,7 @@ impl Context {
     }
 
     /// The type of a binary operation (C11 6.5.5 to 6.5.14 and 6.5.17).
-    pub(crate) fn binary(
+    pub fn binary(
         &mut self,
         op: BinaryOp,
         left: Operand,
@@ -49,7 +49,7 @@ impl Context {
     }
 
     /// The type of `?:` (C11 6.5.15).
-    pub(crate) fn choice(
+    pub fn choice(
         &mut self,
         test: Operand,
         first: Operand,
@@ -64,7 +64,7 @@ impl Context {
     }
 
     /// The type of `=` (C11 6.5.16.1).
-    pub(crate) fn assignment(&mut self, left: Operand, right: Operand) -> Result<Outcome, NoMemory>
+    pub fn assignment(&mut self, left: Operand, right: Operand) -> Result<Outcome, NoMemory>
         requires left { left.ctype < length self.old.types }
         requires right { right.ctype < length self.old.types }
         ensures { IfOk result (λ outcome. Operates (λ n. assigned (operand_at n self.old.structs left) (operand_at n self.old.structs right)) self.old self.new outcome) }
@@ -73,7 +73,7 @@ impl Context {
     }
 
     /// The type of `op=` (C11 6.5.16.2).
-    pub(crate) fn update(
+    pub fn update(
         &mut self,
         op: BinaryOp,
         left: Operand,
@@ -87,7 +87,7 @@ impl Context {
     }
 
     /// The type of `base[index]` (C11 6.5.2.1).
-    pub(crate) fn index(&mut self, base: Operand, index: Operand) -> Result<Outcome, NoMemory>
+    pub fn index(&mut self, base: Operand, index: Operand) -> Result<Outcome, NoMemory>
         requires base { base.ctype < length self.old.types }
         requires index { index.ctype < length self.old.types }
         ensures { IfOk result (λ outcome. Operates (λ n. indexed (decayed (operand_at n self.old.structs base).kind) (decayed (operand_at n self.old.structs index).kind)) self.old self.new outcome) }
@@ -96,7 +96,7 @@ impl Context {
     }
 
     /// The type of `operand.name` (C11 6.5.2.3).
-    pub(crate) fn member(&mut self, operand: Operand, name: &[u8]) -> Result<Outcome, NoMemory>
+    pub fn member(&mut self, operand: Operand, name: &[u8]) -> Result<Outcome, NoMemory>
         requires { operand.ctype < length self.old.types }
         ensures { IfOk result (λ outcome. Operates (λ n. member_of self.old.structs (n.ctype operand.ctype) name.now) self.old self.new outcome) }
     {
@@ -104,11 +104,7 @@ impl Context {
     }
 
     /// The type of `operand->name` (C11 6.5.2.3).
-    pub(crate) fn pointed_member(
-        &mut self,
-        operand: Operand,
-        name: &[u8],
-    ) -> Result<Outcome, NoMemory>
+    pub fn pointed_member(&mut self, operand: Operand, name: &[u8]) -> Result<Outcome, NoMemory>
         requires { operand.ctype < length self.old.types }
         ensures { IfOk result (λ outcome. Operates (λ n. member_through self.old.structs (operand_at n self.old.structs operand).kind name.now) self.old self.new outcome) }
     {
@@ -116,7 +112,7 @@ impl Context {
     }
 
     /// The type of a cast to the type of number `to` (C11 6.5.4).
-    pub(crate) fn cast(
+    pub fn cast(
         &mut self,
         to: u32,
         operand: Operand,
@@ -130,7 +126,7 @@ impl Context {
     }
 
     /// Whether the value of an operand converts without a cast to the type of number `to` (C11 6.5.16.1).
-    pub(crate) fn converts(&self, to: u32, operand: Operand) -> bool
+    pub fn converts(&self, to: u32, operand: Operand) -> bool
         requires to { to < length self.now.types }
         requires operand { operand.ctype < length self.now.types }
         ensures { (n : Numbering) → Agrees n self.now → result ≡ converts (kind_of self.now.structs (n.ctype to)) (decayed (operand_at n self.now.structs operand).kind) operand.null }

@@ -1,7 +1,8 @@
-ghost use Rattle.std.specs.Prelude.{◌≡◌, ◌<◌, ◌++◌, ◌∷◌, [], ℕ, true, is_some, length, OnOk};
+ghost use Rattle.std.specs.Prelude.{◌≡◌, ◌<◌, ◌++◌, ◌∷◌, [], ℕ, Some, length, option_map, OnOk};
 ghost use Rattle.cbase.specs.declared.abi.Abi.{Abi};
 ghost use Rattle.cbase.specs.declared.abi.Abi.TheVariants.{Lp64};
 ghost use Rattle.cbase.specs.declared.tree.expr.ExprForm.TheViews.{out-FieldName};
+ghost use Rattle.cbase.specs.Kept.{capped, IsSmall};
 ghost use Rattle.cbase.specs.Layout.{layout_of};
 ghost use Rattle.ctypes.specs.Structs.{fields_of};
 ghost use Rattle.ctypes.specs.Table.{type_at};
@@ -15,13 +16,13 @@ use crate::context::Context;
 use crate::members::Members;
 use crate::named_type::NamedType;
 use crate::nodes::first::{all_at, first_of, unless};
-use cbase::{FieldName, NoMemory};
+use cbase::{FieldName, Layout, NoMemory};
 use operators::Broken;
 use std::alloc::Global;
 use typing::Fault;
 
 /// What is broken at a member of that type behind others, if anything is: what is found of its type; a field of bits is construct 21, a struct of more than
-/// 65,536 bytes construct 19, two members of one name rule 2 (C11 6.7.2.1p2), a type without a size rule 3 (6.7.2.1p3).
+/// 65,536 bytes construct 19, two members of one name rule 2 (C11 6.2.3, 6.7p3), a type without a size rule 3 (6.7.2.1p3).
 pub(crate) fn member_fault(
     context: &Context,
     members: &Members,
@@ -54,23 +55,22 @@ fn is_twice(members: &Members, name: &FieldName) -> bool
     }
 }
 
-/// Puts a member at which nothing is broken behind the others. Want of memory is the only error, and nothing is said of the members then.
+/// Puts a member of that layout at which nothing is broken behind the others. Want of memory is the only error, and nothing is said of the members then.
 pub(crate) fn add_member(
     alloc: Global,
     context: &Context,
     members: &mut Members,
     name: &FieldName,
     ctype: u32,
+    layout: Layout,
 ) -> Result<(), NoMemory>
     requires below { ctype < length context.now.types }
-    requires sized { is_some (layout_of Lp64 context.now.structs (type_at context.now.types ctype)) ≡ true }
+    requires laid { Some layout ≡ option_map capped (layout_of Lp64 context.now.structs (type_at context.now.types ctype)) }
+    requires small { IsSmall layout }
     requires members { AreMembers context.now members.old.list members.old.names members.old.layout }
     ensures pushed { OnOk result (members.new.list ≡ members.old.list ++ record { name = name_or_none (out-FieldName name.now).name; ctype = ctype } ∷ []) }
     ensures are { OnOk result (AreMembers context.now members.new.list members.new.names members.new.layout) }
 {
-    let Some(layout) = context.layout(ctype) else {
-        unreachable!();
-    };
     match &name.name {
         None => members.push(alloc, b"", ctype, layout),
         Some(name) => members.push(alloc, name.as_slice(), ctype, layout),

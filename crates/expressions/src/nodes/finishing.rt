@@ -60,7 +60,7 @@ pub(crate) fn pass(
     requires { known.ctype < length context.old.types }
     ensures { IfOk result (λ found. IsSettledBy None known number context.old context.new found) }
 {
-    context.hand_on(HandedRow {
+    context.hand_on(HandedRow::Expression {
         number,
         ctype: known.ctype,
         stands: known.stands,

@@ -8,7 +8,7 @@ use operators::Broken;
 use typing::Fault;
 
 /// Whether one thing that is broken comes before another, or is the same: constructs come before rules, and lower numbers first.
-pub(crate) fn comes_before(first: Broken, second: Broken) -> bool
+pub fn comes_before(first: Broken, second: Broken) -> bool
     ensures { result ≡ comes_before first second }
 {
     match (first, second) {
@@ -20,7 +20,7 @@ pub(crate) fn comes_before(first: Broken, second: Broken) -> bool
 }
 
 /// The least of two things that are broken at one place.
-pub(crate) fn least(first: Option<Broken>, second: Option<Broken>) -> Option<Broken>
+pub fn least(first: Option<Broken>, second: Option<Broken>) -> Option<Broken>
     ensures { result ≡ least first second }
 {
     match (first, second) {
@@ -35,7 +35,7 @@ pub(crate) fn least(first: Option<Broken>, second: Option<Broken>) -> Option<Bro
 }
 
 /// What is broken where something is asked that does not hold.
-pub(crate) fn unless(holds: bool, place: Place, broken: Broken) -> Option<Fault>
+pub fn unless(holds: bool, place: Place, broken: Broken) -> Option<Fault>
     ensures { IsFirstOf (unless holds place broken) result }
 {
     if holds {
@@ -46,7 +46,7 @@ pub(crate) fn unless(holds: bool, place: Place, broken: Broken) -> Option<Fault>
 }
 
 /// What is found, at a place.
-pub(crate) fn all_at(place: Place, found: Option<Broken>) -> Option<Fault>
+pub fn all_at(place: Place, found: Option<Broken>) -> Option<Fault>
     ensures { IsFirstOf (all_at place found) result }
 {
     let broken = found?;
@@ -54,7 +54,7 @@ pub(crate) fn all_at(place: Place, found: Option<Broken>) -> Option<Fault>
 }
 
 /// The first of what is broken, of which some is asked before the rest: of what comes equally early, what is asked first.
-pub(crate) fn first_of(one: Option<Fault>, other: Option<Fault>) -> Option<Fault>
+pub fn first_of(one: Option<Fault>, other: Option<Fault>) -> Option<Fault>
     ensures { (faults others : List Fault) → IsFirstOf faults one → IsFirstOf others other → IsFirstOf (faults ++ others) result }
 {
     match (one, other) {

@@ -11,19 +11,18 @@ ghost use Rattle.expressions.specs.Found.{an_expression, one_value, a_value_type
 ghost use Rattle.expressions.specs.Nests.{Nests};
 ghost use Rattle.expressions.specs.Walked.{Walked, Says, SaysForm};
 
-use crate::checker::Checker;
+use crate::checker::{Checker, Within};
 use crate::context::Context;
 use crate::found::Found;
 use crate::known::Known;
 use crate::nodes::finishing::{Node, pass};
 use crate::part::{Part, Told};
-use crate::rules::Rules;
 use cbase::{Expr, NoMemory, Stmt, StmtForm};
 use operators::Broken;
 use std::alloc::Global;
 use typing::Fault;
 
-impl<R: Rules, F: Fn(&mut Context, u32, Part<'_>) -> Result<Found<Told>, NoMemory>> Checker<R, F> {
+impl<F: Fn(&mut Context, Within, Part<'_>) -> Result<Found<Told>, NoMemory>> Checker<F> {
     /// A statement expression, which C11 has not: it has the type of its value.
     pub(crate) fn statement_expression(
         &self,
@@ -32,9 +31,9 @@ impl<R: Rules, F: Fn(&mut Context, u32, Part<'_>) -> Result<Found<Told>, NoMemor
         node: Node,
         body: &[Stmt],
     ) -> Result<Found<Known>, NoMemory>
-        requires nests { Nests R.others self.now.abi self.now.depth (F.pre self.now.inner) (F.post self.now.inner) }
+        requires nests { Nests self.now.abi self.now.depth (F.pre self.now.inner) (F.post self.now.inner) }
         requires deep { All (λ stmt. stmt_levels stmt ≤ self.now.depth) body.now }
-        ensures { (close : Place) → IfOk result (λ found. Walked (SaysForm R.others self.now.abi node.number node.place (Inner body.now close)) an_expression context.old context.new found) }
+        ensures { (close : Place) → IfOk result (λ found. Walked (SaysForm self.now.abi node.number node.place (Inner body.now close)) an_expression context.old context.new found) }
     {
         match self.block(alloc, context, body)? {
             Found::Passes(ctype) => pass(context, node.number, Known::plain(ctype)),
@@ -49,9 +48,9 @@ impl<R: Rules, F: Fn(&mut Context, u32, Part<'_>) -> Result<Found<Told>, NoMemor
         context: &mut Context,
         body: &[Stmt],
     ) -> Result<Found<u32>, NoMemory>
-        requires nests { Nests R.others self.now.abi self.now.depth (F.pre self.now.inner) (F.post self.now.inner) }
+        requires nests { Nests self.now.abi self.now.depth (F.pre self.now.inner) (F.post self.now.inner) }
         requires deep { All (λ stmt. stmt_levels stmt ≤ self.now.depth) body.now }
-        ensures { IfOk result (λ found. Walked (Says R.others self.now.abi (λ o. PiecesAre (BlockOf body.now ∷ []) o)) one_value context.old context.new found) }
+        ensures { IfOk result (λ found. Walked (Says self.now.abi (λ o. PiecesAre (BlockOf body.now ∷ []) o)) one_value context.old context.new found) }
     {
         context.enter(alloc)?;
         let found = self.statements(context, body)?;
@@ -60,10 +59,10 @@ impl<R: Rules, F: Fn(&mut Context, u32, Part<'_>) -> Result<Found<Told>, NoMemor
     }
 
     /// Its statements: the value is that of the last one where that is an expression, and else there is none.
-    fn statements(&self, context: &mut Context, body: &[Stmt]) -> Result<Found<u32>, NoMemory>
-        requires nests { Nests R.others self.now.abi self.now.depth (F.pre self.now.inner) (F.post self.now.inner) }
+    pub fn statements(&self, context: &mut Context, body: &[Stmt]) -> Result<Found<u32>, NoMemory>
+        requires nests { Nests self.now.abi self.now.depth (F.pre self.now.inner) (F.post self.now.inner) }
         requires deep { All (λ stmt. stmt_levels stmt ≤ self.now.depth) body.now }
-        ensures { IfOk result (λ found. Walked (Says R.others self.now.abi (λ o. StatementsAre body.now o)) a_value_type context.old context.new found) }
+        ensures { IfOk result (λ found. Walked (Says self.now.abi (λ o. StatementsAre body.now o)) a_value_type context.old context.new found) }
     {
         for at in 0..body.len() {
             let stmt = &body[at];
@@ -81,9 +80,9 @@ impl<R: Rules, F: Fn(&mut Context, u32, Part<'_>) -> Result<Found<Told>, NoMemor
 
     /// The value of a block: a struct is none, rule 4 at the expression.
     fn last_value(&self, context: &mut Context, expr: &Expr) -> Result<Found<u32>, NoMemory>
-        requires nests { Nests R.others self.now.abi self.now.depth (F.pre self.now.inner) (F.post self.now.inner) }
+        requires nests { Nests self.now.abi self.now.depth (F.pre self.now.inner) (F.post self.now.inner) }
         requires deep { expr_levels expr.now ≤ self.now.depth }
-        ensures { (stmt : StmtTree) → value_in (out-StmtForm stmt.form) ≡ Some expr.now → IfOk result (λ found. Walked (Says R.others self.now.abi (λ o. StatementsAre (stmt ∷ []) o)) a_value_type context.old context.new found) }
+        ensures { (stmt : StmtTree) → value_in (out-StmtForm stmt.form) ≡ Some expr.now → IfOk result (λ found. Walked (Says self.now.abi (λ o. StatementsAre (stmt ∷ []) o)) a_value_type context.old context.new found) }
     {
         match self.loaded(context, expr)? {
             Found::Passes(known) => {

@@ -11,7 +11,7 @@ ghost use Rattle.expressions.specs.Numbers.{function_at};
 ghost use Rattle.expressions.specs.Settled.{Settled};
 ghost use Rattle.expressions.specs.Walked.{Walked, SaysForm};
 
-use crate::checker::Checker;
+use crate::checker::{Checker, Within};
 use crate::context::Context;
 use crate::found::Found;
 use crate::known::Known;
@@ -19,7 +19,6 @@ use crate::nodes::calling::{Callee, call_node};
 use crate::nodes::finishing::{Node, settle};
 use crate::nodes::first::unless;
 use crate::part::{Part, Told};
-use crate::rules::Rules;
 use cbase::{Expr, ExprForm, NoMemory};
 use environment::Entity;
 use operators::Broken;
@@ -39,7 +38,7 @@ struct NamedFunction<'a> {
     built_in: bool,
 }
 
-impl<R: Rules, F: Fn(&mut Context, u32, Part<'_>) -> Result<Found<Told>, NoMemory>> Checker<R, F> {
+impl<F: Fn(&mut Context, Within, Part<'_>) -> Result<Found<Told>, NoMemory>> Checker<F> {
     /// A call (C11 6.5.2.2).
     pub(crate) fn call(
         &self,
@@ -49,10 +48,10 @@ impl<R: Rules, F: Fn(&mut Context, u32, Part<'_>) -> Result<Found<Told>, NoMemor
         callee: &Expr,
         args: &[Expr],
     ) -> Result<Found<Known>, NoMemory>
-        requires nests { Nests R.others self.now.abi self.now.depth (F.pre self.now.inner) (F.post self.now.inner) }
+        requires nests { Nests self.now.abi self.now.depth (F.pre self.now.inner) (F.post self.now.inner) }
         requires callee { expr_levels callee.now ≤ self.now.depth }
         requires args { All (λ arg. expr_levels arg ≤ self.now.depth) args.now }
-        ensures { IfOk result (λ found. Walked (SaysForm R.others self.now.abi node.number node.place (Call callee.now args.now)) an_expression context.old context.new found) }
+        ensures { IfOk result (λ found. Walked (SaysForm self.now.abi node.number node.place (Call callee.now args.now)) an_expression context.old context.new found) }
     {
         let mut known = Vec::new(alloc);
         match named_function(context, callee) {
@@ -73,13 +72,13 @@ impl<R: Rules, F: Fn(&mut Context, u32, Part<'_>) -> Result<Found<Told>, NoMemor
         args: &[Expr],
         known: &mut Vec<Known>,
     ) -> Result<Found<Known>, NoMemory>
-        requires nests { Nests R.others self.now.abi self.now.depth (F.pre self.now.inner) (F.post self.now.inner) }
+        requires nests { Nests self.now.abi self.now.depth (F.pre self.now.inner) (F.post self.now.inner) }
         requires args { All (λ arg. expr_levels arg ≤ self.now.depth) args.now }
         requires named { named callee.now ≡ Some function.name.now }
         requires found { name_found function.name.now context.old.environment ≡ Some (Function function.signature function.defined function.built_in) }
         requires signature { function.signature < length context.old.environment.signatures }
         requires empty { known.old.items ≡ [] }
-        ensures { IfOk result (λ found. Walked (SaysForm R.others self.now.abi node.number node.place (Call callee.now args.now)) an_expression context.old context.new found) }
+        ensures { IfOk result (λ found. Walked (SaysForm self.now.abi node.number node.place (Call callee.now args.now)) an_expression context.old context.new found) }
     {
         match called_function(context, callee, function)? {
             Found::Passes(_) => {}
@@ -111,12 +110,12 @@ impl<R: Rules, F: Fn(&mut Context, u32, Part<'_>) -> Result<Found<Told>, NoMemor
         args: &[Expr],
         known: &mut Vec<Known>,
     ) -> Result<Found<Known>, NoMemory>
-        requires nests { Nests R.others self.now.abi self.now.depth (F.pre self.now.inner) (F.post self.now.inner) }
+        requires nests { Nests self.now.abi self.now.depth (F.pre self.now.inner) (F.post self.now.inner) }
         requires callee { expr_levels callee.now ≤ self.now.depth }
         requires args { All (λ arg. expr_levels arg ≤ self.now.depth) args.now }
         requires other { (name : List ℕ) (signature : ℕ) (defined built_in : Bool) → named callee.now ≡ Some name → name_found name context.old.environment ≡ Some (Function signature defined built_in) → ⊥ }
         requires empty { known.old.items ≡ [] }
-        ensures { IfOk result (λ found. Walked (SaysForm R.others self.now.abi node.number node.place (Call callee.now args.now)) an_expression context.old context.new found) }
+        ensures { IfOk result (λ found. Walked (SaysForm self.now.abi node.number node.place (Call callee.now args.now)) an_expression context.old context.new found) }
     {
         match self.loaded(context, callee)? {
             Found::Passes(_) => {}

@@ -10,13 +10,12 @@ ghost use Rattle.expressions.specs.Found.{a_type, some_bits};
 ghost use Rattle.expressions.specs.Nests.{Nests};
 ghost use Rattle.expressions.specs.Walked.{Walked, Says};
 
-use crate::checker::Checker;
+use crate::checker::{Checker, Within};
 use crate::context::Context;
 use crate::found::Found;
 use crate::known::Known;
 use crate::named_type::NamedType;
 use crate::part::{Part, Told};
-use crate::rules::Rules;
 use cbase::{Enumerator, Expr, Identifier, List, NoMemory, Place};
 use environment::Entity;
 use operators::Broken;
@@ -24,7 +23,7 @@ use std::alloc::Global;
 use typing::Fault;
 use values::{int_value, next_value};
 
-impl<R: Rules, F: Fn(&mut Context, u32, Part<'_>) -> Result<Found<Told>, NoMemory>> Checker<R, F> {
+impl<F: Fn(&mut Context, Within, Part<'_>) -> Result<Found<Told>, NoMemory>> Checker<F> {
     /// What is found of an enum with its constants in braces (C11 6.7.2.2): its tag, and the constants in the order of the text, each of which is in scope
     /// behind its value (6.2.1p7).
     ///
@@ -36,9 +35,9 @@ impl<R: Rules, F: Fn(&mut Context, u32, Part<'_>) -> Result<Found<Told>, NoMemor
         name: &Option<Identifier>,
         values: &List<Enumerator>,
     ) -> Result<Found<NamedType>, NoMemory>
-        requires nests { Nests R.others self.now.abi self.now.depth (F.pre self.now.inner) (F.post self.now.inner) }
+        requires nests { Nests self.now.abi self.now.depth (F.pre self.now.inner) (F.post self.now.inner) }
         requires deep { spec_levels (EnumSpec name.now (Some values.now)) ≤ self.now.depth + 1 }
-        ensures { IfOk result (λ found. Walked (Says R.others self.now.abi (λ o. WordsAre (Enum name.now (Some values.now)) o)) a_type context.old context.new found) }
+        ensures { IfOk result (λ found. Walked (Says self.now.abi (λ o. WordsAre (Enum name.now (Some values.now)) o)) a_type context.old context.new found) }
     {
         match context.open_enum(alloc, name)? {
             Some(fault) => Ok(Found::Refused(fault)),
@@ -53,9 +52,9 @@ impl<R: Rules, F: Fn(&mut Context, u32, Part<'_>) -> Result<Found<Told>, NoMemor
         context: &mut Context,
         values: &[Enumerator],
     ) -> Result<Found<NamedType>, NoMemory>
-        requires nests { Nests R.others self.now.abi self.now.depth (F.pre self.now.inner) (F.post self.now.inner) }
+        requires nests { Nests self.now.abi self.now.depth (F.pre self.now.inner) (F.post self.now.inner) }
         requires deep { All (λ value. enumerator_levels value ≤ self.now.depth) values.now }
-        ensures { IfOk result (λ found. Walked (Says R.others self.now.abi (λ o. EnumeratorsAre (Some 0) values.now o)) a_type context.old context.new found) }
+        ensures { IfOk result (λ found. Walked (Says self.now.abi (λ o. EnumeratorsAre (Some 0) values.now o)) a_type context.old context.new found) }
     {
         let mut next = Some(0);
         for constant in values {
@@ -79,9 +78,9 @@ impl<R: Rules, F: Fn(&mut Context, u32, Part<'_>) -> Result<Found<Told>, NoMemor
         next: Option<u32>,
         constant: &Enumerator,
     ) -> Result<Found<u32>, NoMemory>
-        requires nests { Nests R.others self.now.abi self.now.depth (F.pre self.now.inner) (F.post self.now.inner) }
+        requires nests { Nests self.now.abi self.now.depth (F.pre self.now.inner) (F.post self.now.inner) }
         requires deep { enumerator_levels constant.now ≤ self.now.depth }
-        ensures { IfOk result (λ found. IsEnumerated R.others self.now.abi next constant.now context.old context.new found) }
+        ensures { IfOk result (λ found. IsEnumerated self.now.abi next constant.now context.old context.new found) }
     {
         if context.is_declared_here(constant.name.as_slice()) {
             return Ok(Found::Refused(twice(constant.place)));
@@ -106,9 +105,9 @@ impl<R: Rules, F: Fn(&mut Context, u32, Part<'_>) -> Result<Found<Told>, NoMemor
         next: Option<u32>,
         value: &Option<Expr>,
     ) -> Result<Found<u32>, NoMemory>
-        requires nests { Nests R.others self.now.abi self.now.depth (F.pre self.now.inner) (F.post self.now.inner) }
+        requires nests { Nests self.now.abi self.now.depth (F.pre self.now.inner) (F.post self.now.inner) }
         requires deep { maybe_levels value.now ≤ self.now.depth }
-        ensures { IfOk result (λ found. Walked (Says R.others self.now.abi (λ o. ValueOfEnumerator place next value.now o)) some_bits context.old context.new found) }
+        ensures { IfOk result (λ found. Walked (Says self.now.abi (λ o. ValueOfEnumerator place next value.now o)) some_bits context.old context.new found) }
     {
         match value {
             None => Ok(int_or_refused(place, next)),

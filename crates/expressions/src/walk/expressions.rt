@@ -7,17 +7,16 @@ ghost use Rattle.expressions.specs.Found.{an_expression};
 ghost use Rattle.expressions.specs.Nests.{Nests};
 ghost use Rattle.expressions.specs.Walked.{Walked, Says, SaysForm};
 
-use crate::checker::Checker;
+use crate::checker::{Checker, Within};
 use crate::context::Context;
 use crate::found::Found;
 use crate::known::Known;
 use crate::nodes::finishing::Node;
 use crate::part::{Part, Told};
-use crate::rules::Rules;
 use cbase::{Expr, ExprForm, NoMemory};
 use std::alloc::Global;
 
-impl<R: Rules, F: Fn(&mut Context, u32, Part<'_>) -> Result<Found<Told>, NoMemory>> Checker<R, F> {
+impl<F: Fn(&mut Context, Within, Part<'_>) -> Result<Found<Told>, NoMemory>> Checker<F> {
     /// What is found of an expression (C11 6.5): its type and what else is known of it, or the first thing that is refused in it.
     ///
     /// Its parts are walked in the order of the text, and the expression itself behind them. What is found of each expression in it that passes is
@@ -28,10 +27,10 @@ impl<R: Rules, F: Fn(&mut Context, u32, Part<'_>) -> Result<Found<Told>, NoMemor
         context: &mut Context,
         expr: &Expr,
     ) -> Result<Found<Known>, NoMemory>
-        requires nests { Nests R.others self.now.abi self.now.depth (F.pre self.now.inner) (F.post self.now.inner) }
+        requires nests { Nests self.now.abi self.now.depth (F.pre self.now.inner) (F.post self.now.inner) }
         requires deep { expr_levels expr.now ≤ self.now.depth + 1 }
-        ensures found { IfOk result (λ found. Walked (Says R.others self.now.abi (λ o. ExpressionIs expr.now o)) an_expression context.old context.new found) }
-        ensures nothing_else { IfOk result (λ found. NothingElse R.others self.now.abi expr.now context.old context.new found) }
+        ensures found { IfOk result (λ found. Walked (Says self.now.abi (λ o. ExpressionIs expr.now o)) an_expression context.old context.new found) }
+        ensures nothing_else { IfOk result (λ found. NothingElse self.now.abi expr.now context.old context.new found) }
     {
         let node = Node {
             number: expr.number,
@@ -48,9 +47,9 @@ impl<R: Rules, F: Fn(&mut Context, u32, Part<'_>) -> Result<Found<Told>, NoMemor
         node: Node,
         form: &ExprForm,
     ) -> Result<Found<Known>, NoMemory>
-        requires nests { Nests R.others self.now.abi self.now.depth (F.pre self.now.inner) (F.post self.now.inner) }
+        requires nests { Nests self.now.abi self.now.depth (F.pre self.now.inner) (F.post self.now.inner) }
         requires deep { form_levels form.now ≤ self.now.depth }
-        ensures { IfOk result (λ found. Walked (SaysForm R.others self.now.abi node.number node.place (out-ExprForm form.now)) an_expression context.old context.new found) }
+        ensures { IfOk result (λ found. Walked (SaysForm self.now.abi node.number node.place (out-ExprForm form.now)) an_expression context.old context.new found) }
     {
         match form {
             ExprForm::Name(name) => self.name(context, node, name.as_slice()),

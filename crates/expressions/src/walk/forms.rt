@@ -7,7 +7,7 @@ ghost use Rattle.expressions.specs.Found.{an_expression};
 ghost use Rattle.expressions.specs.Nests.{Nests};
 ghost use Rattle.expressions.specs.Walked.{Walked, SaysForm};
 
-use crate::checker::Checker;
+use crate::checker::{Checker, Within};
 use crate::context::Context;
 use crate::found::Found;
 use crate::known::Known;
@@ -24,11 +24,10 @@ use crate::nodes::operations::{
 };
 use crate::nodes::sizes::{size_node, type_size_node};
 use crate::part::{Part, Told};
-use crate::rules::Rules;
 use cbase::{BinaryOp, Expr, Identifier, NoMemory, TypeName, UnaryOp};
 use std::alloc::Global;
 
-impl<R: Rules, F: Fn(&mut Context, u32, Part<'_>) -> Result<Found<Told>, NoMemory>> Checker<R, F> {
+impl<F: Fn(&mut Context, Within, Part<'_>) -> Result<Found<Told>, NoMemory>> Checker<F> {
     /// A name (C11 6.5.1).
     pub(crate) fn name(
         &self,
@@ -36,8 +35,8 @@ impl<R: Rules, F: Fn(&mut Context, u32, Part<'_>) -> Result<Found<Told>, NoMemor
         node: Node,
         name: &[u8],
     ) -> Result<Found<Known>, NoMemory>
-        requires nests { Nests R.others self.now.abi self.now.depth (F.pre self.now.inner) (F.post self.now.inner) }
-        ensures { IfOk result (λ found. Walked (SaysForm R.others self.now.abi node.number node.place (Name name.now)) an_expression context.old context.new found) }
+        requires nests { Nests self.now.abi self.now.depth (F.pre self.now.inner) (F.post self.now.inner) }
+        ensures { IfOk result (λ found. Walked (SaysForm self.now.abi node.number node.place (Name name.now)) an_expression context.old context.new found) }
     {
         name_node(context, node, name)
     }
@@ -49,8 +48,8 @@ impl<R: Rules, F: Fn(&mut Context, u32, Part<'_>) -> Result<Found<Told>, NoMemor
         node: Node,
         spelling: &[u8],
     ) -> Result<Found<Known>, NoMemory>
-        requires nests { Nests R.others self.now.abi self.now.depth (F.pre self.now.inner) (F.post self.now.inner) }
-        ensures { IfOk result (λ found. Walked (SaysForm R.others self.now.abi node.number node.place (Constant spelling.now)) an_expression context.old context.new found) }
+        requires nests { Nests self.now.abi self.now.depth (F.pre self.now.inner) (F.post self.now.inner) }
+        ensures { IfOk result (λ found. Walked (SaysForm self.now.abi node.number node.place (Constant spelling.now)) an_expression context.old context.new found) }
     {
         constant_node(context, node, self.abi, spelling)
     }
@@ -63,9 +62,9 @@ impl<R: Rules, F: Fn(&mut Context, u32, Part<'_>) -> Result<Found<Told>, NoMemor
         op: UnaryOp,
         arg: &Expr,
     ) -> Result<Found<Known>, NoMemory>
-        requires nests { Nests R.others self.now.abi self.now.depth (F.pre self.now.inner) (F.post self.now.inner) }
+        requires nests { Nests self.now.abi self.now.depth (F.pre self.now.inner) (F.post self.now.inner) }
         requires arg { expr_levels arg.now ≤ self.now.depth }
-        ensures { IfOk result (λ found. Walked (SaysForm R.others self.now.abi node.number node.place (Unary op arg.now)) an_expression context.old context.new found) }
+        ensures { IfOk result (λ found. Walked (SaysForm self.now.abi node.number node.place (Unary op arg.now)) an_expression context.old context.new found) }
     {
         match op {
             UnaryOp::Address => self.address(context, node, arg),
@@ -83,9 +82,9 @@ impl<R: Rules, F: Fn(&mut Context, u32, Part<'_>) -> Result<Found<Told>, NoMemor
         node: Node,
         arg: &Expr,
     ) -> Result<Found<Known>, NoMemory>
-        requires nests { Nests R.others self.now.abi self.now.depth (F.pre self.now.inner) (F.post self.now.inner) }
+        requires nests { Nests self.now.abi self.now.depth (F.pre self.now.inner) (F.post self.now.inner) }
         requires arg { expr_levels arg.now ≤ self.now.depth }
-        ensures { IfOk result (λ found. Walked (SaysForm R.others self.now.abi node.number node.place (Unary Address arg.now)) an_expression context.old context.new found) }
+        ensures { IfOk result (λ found. Walked (SaysForm self.now.abi node.number node.place (Unary Address arg.now)) an_expression context.old context.new found) }
     {
         match self.unloaded(context, arg)? {
             Found::Passes(a) => address_node(context, node, a),
@@ -100,9 +99,9 @@ impl<R: Rules, F: Fn(&mut Context, u32, Part<'_>) -> Result<Found<Told>, NoMemor
         node: Node,
         arg: &Expr,
     ) -> Result<Found<Known>, NoMemory>
-        requires nests { Nests R.others self.now.abi self.now.depth (F.pre self.now.inner) (F.post self.now.inner) }
+        requires nests { Nests self.now.abi self.now.depth (F.pre self.now.inner) (F.post self.now.inner) }
         requires arg { expr_levels arg.now ≤ self.now.depth }
-        ensures { IfOk result (λ found. Walked (SaysForm R.others self.now.abi node.number node.place (Unary Follow arg.now)) an_expression context.old context.new found) }
+        ensures { IfOk result (λ found. Walked (SaysForm self.now.abi node.number node.place (Unary Follow arg.now)) an_expression context.old context.new found) }
     {
         match self.loaded(context, arg)? {
             Found::Passes(a) => indirection_node(context, node, a),
@@ -118,10 +117,10 @@ impl<R: Rules, F: Fn(&mut Context, u32, Part<'_>) -> Result<Found<Told>, NoMemor
         op: UnaryOp,
         arg: &Expr,
     ) -> Result<Found<Known>, NoMemory>
-        requires nests { Nests R.others self.now.abi self.now.depth (F.pre self.now.inner) (F.post self.now.inner) }
+        requires nests { Nests self.now.abi self.now.depth (F.pre self.now.inner) (F.post self.now.inner) }
         requires value { is_arithmetic op ≡ true }
         requires arg { expr_levels arg.now ≤ self.now.depth }
-        ensures { IfOk result (λ found. Walked (SaysForm R.others self.now.abi node.number node.place (Unary op arg.now)) an_expression context.old context.new found) }
+        ensures { IfOk result (λ found. Walked (SaysForm self.now.abi node.number node.place (Unary op arg.now)) an_expression context.old context.new found) }
     {
         match self.loaded(context, arg)? {
             Found::Passes(a) => unary_node(context, node, op, a),
@@ -138,10 +137,10 @@ impl<R: Rules, F: Fn(&mut Context, u32, Part<'_>) -> Result<Found<Told>, NoMemor
         left: &Expr,
         right: &Expr,
     ) -> Result<Found<Known>, NoMemory>
-        requires nests { Nests R.others self.now.abi self.now.depth (F.pre self.now.inner) (F.post self.now.inner) }
+        requires nests { Nests self.now.abi self.now.depth (F.pre self.now.inner) (F.post self.now.inner) }
         requires left { expr_levels left.now ≤ self.now.depth }
         requires right { expr_levels right.now ≤ self.now.depth }
-        ensures { IfOk result (λ found. Walked (SaysForm R.others self.now.abi node.number node.place (Binary op left.now right.now)) an_expression context.old context.new found) }
+        ensures { IfOk result (λ found. Walked (SaysForm self.now.abi node.number node.place (Binary op left.now right.now)) an_expression context.old context.new found) }
     {
         match self.two(context, left, right)? {
             Found::Passes((a, b)) => binary_node(context, node, op, a, b),
@@ -157,10 +156,10 @@ impl<R: Rules, F: Fn(&mut Context, u32, Part<'_>) -> Result<Found<Told>, NoMemor
         left: &Expr,
         right: &Expr,
     ) -> Result<Found<Known>, NoMemory>
-        requires nests { Nests R.others self.now.abi self.now.depth (F.pre self.now.inner) (F.post self.now.inner) }
+        requires nests { Nests self.now.abi self.now.depth (F.pre self.now.inner) (F.post self.now.inner) }
         requires left { expr_levels left.now ≤ self.now.depth }
         requires right { expr_levels right.now ≤ self.now.depth }
-        ensures { IfOk result (λ found. Walked (SaysForm R.others self.now.abi node.number node.place (Assign None left.now right.now)) an_expression context.old context.new found) }
+        ensures { IfOk result (λ found. Walked (SaysForm self.now.abi node.number node.place (Assign None left.now right.now)) an_expression context.old context.new found) }
     {
         match self.two(context, left, right)? {
             Found::Passes((a, b)) => assignment_node(context, node, a, b, right.place),
@@ -177,10 +176,10 @@ impl<R: Rules, F: Fn(&mut Context, u32, Part<'_>) -> Result<Found<Told>, NoMemor
         left: &Expr,
         right: &Expr,
     ) -> Result<Found<Known>, NoMemory>
-        requires nests { Nests R.others self.now.abi self.now.depth (F.pre self.now.inner) (F.post self.now.inner) }
+        requires nests { Nests self.now.abi self.now.depth (F.pre self.now.inner) (F.post self.now.inner) }
         requires left { expr_levels left.now ≤ self.now.depth }
         requires right { expr_levels right.now ≤ self.now.depth }
-        ensures { IfOk result (λ found. Walked (SaysForm R.others self.now.abi node.number node.place (Assign (Some op) left.now right.now)) an_expression context.old context.new found) }
+        ensures { IfOk result (λ found. Walked (SaysForm self.now.abi node.number node.place (Assign (Some op) left.now right.now)) an_expression context.old context.new found) }
     {
         match self.two(context, left, right)? {
             Found::Passes((a, b)) => update_node(context, node, op, a, b),
@@ -195,9 +194,9 @@ impl<R: Rules, F: Fn(&mut Context, u32, Part<'_>) -> Result<Found<Told>, NoMemor
         node: Node,
         arg: &Expr,
     ) -> Result<Found<Known>, NoMemory>
-        requires nests { Nests R.others self.now.abi self.now.depth (F.pre self.now.inner) (F.post self.now.inner) }
+        requires nests { Nests self.now.abi self.now.depth (F.pre self.now.inner) (F.post self.now.inner) }
         requires arg { expr_levels arg.now ≤ self.now.depth }
-        ensures { (up after : Bool) → IfOk result (λ found. Walked (SaysForm R.others self.now.abi node.number node.place (Count up after arg.now)) an_expression context.old context.new found) }
+        ensures { (up after : Bool) → IfOk result (λ found. Walked (SaysForm self.now.abi node.number node.place (Count up after arg.now)) an_expression context.old context.new found) }
     {
         match self.loaded(context, arg)? {
             Found::Passes(a) => counting_node(context, node, a),
@@ -214,11 +213,11 @@ impl<R: Rules, F: Fn(&mut Context, u32, Part<'_>) -> Result<Found<Told>, NoMemor
         one: &Expr,
         other: &Expr,
     ) -> Result<Found<Known>, NoMemory>
-        requires nests { Nests R.others self.now.abi self.now.depth (F.pre self.now.inner) (F.post self.now.inner) }
+        requires nests { Nests self.now.abi self.now.depth (F.pre self.now.inner) (F.post self.now.inner) }
         requires test { expr_levels test.now ≤ self.now.depth }
         requires one { expr_levels one.now ≤ self.now.depth }
         requires other { expr_levels other.now ≤ self.now.depth }
-        ensures { IfOk result (λ found. Walked (SaysForm R.others self.now.abi node.number node.place (Choose test.now one.now other.now)) an_expression context.old context.new found) }
+        ensures { IfOk result (λ found. Walked (SaysForm self.now.abi node.number node.place (Choose test.now one.now other.now)) an_expression context.old context.new found) }
     {
         match self.three(context, test, one, other)? {
             Found::Passes((t, a, b)) => choice_node(context, node, t, a, b),
@@ -235,10 +234,10 @@ impl<R: Rules, F: Fn(&mut Context, u32, Part<'_>) -> Result<Found<Told>, NoMemor
         to: &TypeName,
         arg: &Expr,
     ) -> Result<Found<Known>, NoMemory>
-        requires nests { Nests R.others self.now.abi self.now.depth (F.pre self.now.inner) (F.post self.now.inner) }
+        requires nests { Nests self.now.abi self.now.depth (F.pre self.now.inner) (F.post self.now.inner) }
         requires to { type_name_levels to.now ≤ self.now.depth }
         requires arg { expr_levels arg.now ≤ self.now.depth }
-        ensures { IfOk result (λ found. Walked (SaysForm R.others self.now.abi node.number node.place (Cast to.now arg.now)) an_expression context.old context.new found) }
+        ensures { IfOk result (λ found. Walked (SaysForm self.now.abi node.number node.place (Cast to.now arg.now)) an_expression context.old context.new found) }
     {
         match self.type_and_operand(alloc, context, to, arg)? {
             Found::Passes((named, a)) => cast_node(context, node, named, a),
@@ -253,9 +252,9 @@ impl<R: Rules, F: Fn(&mut Context, u32, Part<'_>) -> Result<Found<Told>, NoMemor
         node: Node,
         arg: &Expr,
     ) -> Result<Found<Known>, NoMemory>
-        requires nests { Nests R.others self.now.abi self.now.depth (F.pre self.now.inner) (F.post self.now.inner) }
+        requires nests { Nests self.now.abi self.now.depth (F.pre self.now.inner) (F.post self.now.inner) }
         requires arg { expr_levels arg.now ≤ self.now.depth }
-        ensures { IfOk result (λ found. Walked (SaysForm R.others self.now.abi node.number node.place (SizeOf arg.now)) an_expression context.old context.new found) }
+        ensures { IfOk result (λ found. Walked (SaysForm self.now.abi node.number node.place (SizeOf arg.now)) an_expression context.old context.new found) }
     {
         match self.unloaded(context, arg)? {
             Found::Passes(a) => size_node(context, node, a),
@@ -271,9 +270,9 @@ impl<R: Rules, F: Fn(&mut Context, u32, Part<'_>) -> Result<Found<Told>, NoMemor
         node: Node,
         to: &TypeName,
     ) -> Result<Found<Known>, NoMemory>
-        requires nests { Nests R.others self.now.abi self.now.depth (F.pre self.now.inner) (F.post self.now.inner) }
+        requires nests { Nests self.now.abi self.now.depth (F.pre self.now.inner) (F.post self.now.inner) }
         requires to { type_name_levels to.now ≤ self.now.depth }
-        ensures { IfOk result (λ found. Walked (SaysForm R.others self.now.abi node.number node.place (SizeOfType to.now)) an_expression context.old context.new found) }
+        ensures { IfOk result (λ found. Walked (SaysForm self.now.abi node.number node.place (SizeOfType to.now)) an_expression context.old context.new found) }
     {
         match self.type_name(alloc, context, to)? {
             Found::Passes(named) => type_size_node(context, node, named),
@@ -290,10 +289,10 @@ impl<R: Rules, F: Fn(&mut Context, u32, Part<'_>) -> Result<Found<Told>, NoMemor
         path: &[cbase::Part],
         alloc: Global,
     ) -> Result<Found<Known>, NoMemory>
-        requires nests { Nests R.others self.now.abi self.now.depth (F.pre self.now.inner) (F.post self.now.inner) }
+        requires nests { Nests self.now.abi self.now.depth (F.pre self.now.inner) (F.post self.now.inner) }
         requires to { type_name_levels to.now ≤ self.now.depth }
         requires path { All (λ part. part_levels part ≤ self.now.depth) path.now }
-        ensures { IfOk result (λ found. Walked (SaysForm R.others self.now.abi node.number node.place (OffsetOf to.now path.now)) an_expression context.old context.new found) }
+        ensures { IfOk result (λ found. Walked (SaysForm self.now.abi node.number node.place (OffsetOf to.now path.now)) an_expression context.old context.new found) }
     {
         let mut words = Vec::new(alloc);
         self.offset_by(alloc, context, node, to, path, &mut words)
@@ -309,11 +308,11 @@ impl<R: Rules, F: Fn(&mut Context, u32, Part<'_>) -> Result<Found<Told>, NoMemor
         path: &[cbase::Part],
         words: &mut Vec<u64>,
     ) -> Result<Found<Known>, NoMemory>
-        requires nests { Nests R.others self.now.abi self.now.depth (F.pre self.now.inner) (F.post self.now.inner) }
+        requires nests { Nests self.now.abi self.now.depth (F.pre self.now.inner) (F.post self.now.inner) }
         requires to { type_name_levels to.now ≤ self.now.depth }
         requires path { All (λ part. part_levels part ≤ self.now.depth) path.now }
         requires empty { words.old.items ≡ [] }
-        ensures { IfOk result (λ found. Walked (SaysForm R.others self.now.abi node.number node.place (OffsetOf to.now path.now)) an_expression context.old context.new found) }
+        ensures { IfOk result (λ found. Walked (SaysForm self.now.abi node.number node.place (OffsetOf to.now path.now)) an_expression context.old context.new found) }
     {
         match self.type_and_indices(alloc, context, to, path, words)? {
             Found::Passes(named) => offset_node(context, node, named, path, words),
@@ -329,10 +328,10 @@ impl<R: Rules, F: Fn(&mut Context, u32, Part<'_>) -> Result<Found<Told>, NoMemor
         base: &Expr,
         index: &Expr,
     ) -> Result<Found<Known>, NoMemory>
-        requires nests { Nests R.others self.now.abi self.now.depth (F.pre self.now.inner) (F.post self.now.inner) }
+        requires nests { Nests self.now.abi self.now.depth (F.pre self.now.inner) (F.post self.now.inner) }
         requires base { expr_levels base.now ≤ self.now.depth }
         requires index { expr_levels index.now ≤ self.now.depth }
-        ensures { IfOk result (λ found. Walked (SaysForm R.others self.now.abi node.number node.place (Index base.now index.now)) an_expression context.old context.new found) }
+        ensures { IfOk result (λ found. Walked (SaysForm self.now.abi node.number node.place (Index base.now index.now)) an_expression context.old context.new found) }
     {
         match self.two(context, base, index)? {
             Found::Passes((a, b)) => index_node(context, node, a, b),
@@ -348,9 +347,9 @@ impl<R: Rules, F: Fn(&mut Context, u32, Part<'_>) -> Result<Found<Told>, NoMemor
         base: &Expr,
         name: &Identifier,
     ) -> Result<Found<Known>, NoMemory>
-        requires nests { Nests R.others self.now.abi self.now.depth (F.pre self.now.inner) (F.post self.now.inner) }
+        requires nests { Nests self.now.abi self.now.depth (F.pre self.now.inner) (F.post self.now.inner) }
         requires base { expr_levels base.now ≤ self.now.depth }
-        ensures { IfOk result (λ found. Walked (SaysForm R.others self.now.abi node.number node.place (ExprForm::Member base.now name.now false)) an_expression context.old context.new found) }
+        ensures { IfOk result (λ found. Walked (SaysForm self.now.abi node.number node.place (ExprForm::Member base.now name.now false)) an_expression context.old context.new found) }
     {
         match self.unloaded(context, base)? {
             Found::Passes(a) => member_node(context, node, a, name),
@@ -366,9 +365,9 @@ impl<R: Rules, F: Fn(&mut Context, u32, Part<'_>) -> Result<Found<Told>, NoMemor
         base: &Expr,
         name: &Identifier,
     ) -> Result<Found<Known>, NoMemory>
-        requires nests { Nests R.others self.now.abi self.now.depth (F.pre self.now.inner) (F.post self.now.inner) }
+        requires nests { Nests self.now.abi self.now.depth (F.pre self.now.inner) (F.post self.now.inner) }
         requires base { expr_levels base.now ≤ self.now.depth }
-        ensures { IfOk result (λ found. Walked (SaysForm R.others self.now.abi node.number node.place (ExprForm::Member base.now name.now true)) an_expression context.old context.new found) }
+        ensures { IfOk result (λ found. Walked (SaysForm self.now.abi node.number node.place (ExprForm::Member base.now name.now true)) an_expression context.old context.new found) }
     {
         match self.loaded(context, base)? {
             Found::Passes(a) => pointed_member_node(context, node, a, name),
@@ -382,8 +381,8 @@ impl<R: Rules, F: Fn(&mut Context, u32, Part<'_>) -> Result<Found<Told>, NoMemor
         context: &mut Context,
         node: Node,
     ) -> Result<Found<Known>, NoMemory>
-        requires nests { Nests R.others self.now.abi self.now.depth (F.pre self.now.inner) (F.post self.now.inner) }
-        ensures { IfOk result (λ found. Walked (SaysForm R.others self.now.abi node.number node.place (AssertFail)) an_expression context.old context.new found) }
+        requires nests { Nests self.now.abi self.now.depth (F.pre self.now.inner) (F.post self.now.inner) }
+        ensures { IfOk result (λ found. Walked (SaysForm self.now.abi node.number node.place (AssertFail)) an_expression context.old context.new found) }
     {
         let ctype = context.void()?;
         pass(context, node.number, Known::plain(ctype))

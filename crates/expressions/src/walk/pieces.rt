@@ -7,27 +7,22 @@ ghost use Rattle.expressions.specs.Nests.{Nests};
 ghost use Rattle.expressions.specs.Taken.{IsLoaded, IsIndex, IsSize};
 ghost use Rattle.expressions.specs.Walked.{Walked, Says};
 
-use crate::checker::Checker;
+use crate::checker::{Checker, Within};
 use crate::context::Context;
 use crate::found::Found;
 use crate::known::Known;
 use crate::part::{Part, Told};
-use crate::rules::Rules;
 use cbase::{Expr, NoMemory, Place};
 use operators::Broken;
 use typing::{Fault, Size};
 use values::{count_of, word_of};
 
-impl<R: Rules, F: Fn(&mut Context, u32, Part<'_>) -> Result<Found<Told>, NoMemory>> Checker<R, F> {
+impl<F: Fn(&mut Context, Within, Part<'_>) -> Result<Found<Told>, NoMemory>> Checker<F> {
     /// An operand whose value is taken, or that is stored to: an lvalue of an incomplete type is rule 3 at it (C11 6.3.2.1p2).
-    pub(crate) fn loaded(
-        &self,
-        context: &mut Context,
-        expr: &Expr,
-    ) -> Result<Found<Known>, NoMemory>
-        requires nests { Nests R.others self.now.abi self.now.depth (F.pre self.now.inner) (F.post self.now.inner) }
+    pub fn loaded(&self, context: &mut Context, expr: &Expr) -> Result<Found<Known>, NoMemory>
+        requires nests { Nests self.now.abi self.now.depth (F.pre self.now.inner) (F.post self.now.inner) }
         requires deep { expr_levels expr.now ≤ self.now.depth }
-        ensures { IfOk result (λ found. Walked (Says R.others self.now.abi (λ o. PieceIs (Loaded expr.now) o)) an_operand context.old context.new found) }
+        ensures { IfOk result (λ found. Walked (Says self.now.abi (λ o. PieceIs (Loaded expr.now) o)) an_operand context.old context.new found) }
     {
         match self.ask_expression(context, expr)? {
             Found::Passes(known) => Ok(load(context, expr.place, known)),
@@ -36,23 +31,19 @@ impl<R: Rules, F: Fn(&mut Context, u32, Part<'_>) -> Result<Found<Told>, NoMemor
     }
 
     /// An operand of which only the place or the type is asked.
-    pub(crate) fn unloaded(
-        &self,
-        context: &mut Context,
-        expr: &Expr,
-    ) -> Result<Found<Known>, NoMemory>
-        requires nests { Nests R.others self.now.abi self.now.depth (F.pre self.now.inner) (F.post self.now.inner) }
+    pub fn unloaded(&self, context: &mut Context, expr: &Expr) -> Result<Found<Known>, NoMemory>
+        requires nests { Nests self.now.abi self.now.depth (F.pre self.now.inner) (F.post self.now.inner) }
         requires deep { expr_levels expr.now ≤ self.now.depth }
-        ensures { IfOk result (λ found. Walked (Says R.others self.now.abi (λ o. PieceIs (Unloaded expr.now) o)) an_operand context.old context.new found) }
+        ensures { IfOk result (λ found. Walked (Says self.now.abi (λ o. PieceIs (Unloaded expr.now) o)) an_operand context.old context.new found) }
     {
         self.ask_expression(context, expr)
     }
 
     /// An index in `__builtin_offsetof`, as a word of 64 bits: one that is no integer constant expression is rule 9 at it.
-    pub(crate) fn index(&self, context: &mut Context, expr: &Expr) -> Result<Found<u64>, NoMemory>
-        requires nests { Nests R.others self.now.abi self.now.depth (F.pre self.now.inner) (F.post self.now.inner) }
+    pub fn index(&self, context: &mut Context, expr: &Expr) -> Result<Found<u64>, NoMemory>
+        requires nests { Nests self.now.abi self.now.depth (F.pre self.now.inner) (F.post self.now.inner) }
         requires deep { expr_levels expr.now ≤ self.now.depth }
-        ensures { IfOk result (λ found. Walked (Says R.others self.now.abi (λ o. PieceIs (ConstantIndex expr.now) o)) an_index context.old context.new found) }
+        ensures { IfOk result (λ found. Walked (Says self.now.abi (λ o. PieceIs (ConstantIndex expr.now) o)) an_index context.old context.new found) }
     {
         match self.loaded(context, expr)? {
             Found::Passes(known) => Ok(index_in(context, expr.place, known)),
@@ -61,14 +52,10 @@ impl<R: Rules, F: Fn(&mut Context, u32, Part<'_>) -> Result<Found<Told>, NoMemor
     }
 
     /// A size of an array: an integer constant expression under 1 is rule 9 at it (C11 6.7.6.2p1).
-    pub(crate) fn array_size(
-        &self,
-        context: &mut Context,
-        expr: &Expr,
-    ) -> Result<Found<Size>, NoMemory>
-        requires nests { Nests R.others self.now.abi self.now.depth (F.pre self.now.inner) (F.post self.now.inner) }
+    pub fn array_size(&self, context: &mut Context, expr: &Expr) -> Result<Found<Size>, NoMemory>
+        requires nests { Nests self.now.abi self.now.depth (F.pre self.now.inner) (F.post self.now.inner) }
         requires deep { expr_levels expr.now ≤ self.now.depth }
-        ensures { IfOk result (λ found. Walked (Says R.others self.now.abi (λ o. PieceIs (SizeOfArray expr.now) o)) a_size context.old context.new found) }
+        ensures { IfOk result (λ found. Walked (Says self.now.abi (λ o. PieceIs (SizeOfArray expr.now) o)) a_size context.old context.new found) }
     {
         match self.loaded(context, expr)? {
             Found::Passes(known) => Ok(size_in(context, expr.place, known)),

@@ -7,17 +7,16 @@ ghost use Rattle.expressions.specs.Found.{two_operands, three_operands, some_ope
 ghost use Rattle.expressions.specs.Nests.{Nests};
 ghost use Rattle.expressions.specs.Walked.{Walked, Says};
 
-use crate::checker::Checker;
+use crate::checker::{Checker, Within};
 use crate::context::Context;
 use crate::found::Found;
 use crate::known::Known;
 use crate::named_type::NamedType;
 use crate::part::{Part, Told};
-use crate::rules::Rules;
 use cbase::{Expr, NoMemory, TypeName};
 use std::alloc::Global;
 
-impl<R: Rules, F: Fn(&mut Context, u32, Part<'_>) -> Result<Found<Told>, NoMemory>> Checker<R, F> {
+impl<F: Fn(&mut Context, Within, Part<'_>) -> Result<Found<Told>, NoMemory>> Checker<F> {
     /// Two operands.
     pub(crate) fn two(
         &self,
@@ -25,10 +24,10 @@ impl<R: Rules, F: Fn(&mut Context, u32, Part<'_>) -> Result<Found<Told>, NoMemor
         left: &Expr,
         right: &Expr,
     ) -> Result<Found<(Known, Known)>, NoMemory>
-        requires nests { Nests R.others self.now.abi self.now.depth (F.pre self.now.inner) (F.post self.now.inner) }
+        requires nests { Nests self.now.abi self.now.depth (F.pre self.now.inner) (F.post self.now.inner) }
         requires left { expr_levels left.now ≤ self.now.depth }
         requires right { expr_levels right.now ≤ self.now.depth }
-        ensures { IfOk result (λ found. Walked (Says R.others self.now.abi (λ o. PiecesAre (Loaded left.now ∷ Loaded right.now ∷ []) o)) two_operands context.old context.new found) }
+        ensures { IfOk result (λ found. Walked (Says self.now.abi (λ o. PiecesAre (Loaded left.now ∷ Loaded right.now ∷ []) o)) two_operands context.old context.new found) }
     {
         let a = match self.loaded(context, left)? {
             Found::Passes(known) => known,
@@ -48,11 +47,11 @@ impl<R: Rules, F: Fn(&mut Context, u32, Part<'_>) -> Result<Found<Told>, NoMemor
         one: &Expr,
         other: &Expr,
     ) -> Result<Found<(Known, Known, Known)>, NoMemory>
-        requires nests { Nests R.others self.now.abi self.now.depth (F.pre self.now.inner) (F.post self.now.inner) }
+        requires nests { Nests self.now.abi self.now.depth (F.pre self.now.inner) (F.post self.now.inner) }
         requires test { expr_levels test.now ≤ self.now.depth }
         requires one { expr_levels one.now ≤ self.now.depth }
         requires other { expr_levels other.now ≤ self.now.depth }
-        ensures { IfOk result (λ found. Walked (Says R.others self.now.abi (λ o. PiecesAre (Loaded test.now ∷ Loaded one.now ∷ Loaded other.now ∷ []) o)) three_operands context.old context.new found) }
+        ensures { IfOk result (λ found. Walked (Says self.now.abi (λ o. PiecesAre (Loaded test.now ∷ Loaded one.now ∷ Loaded other.now ∷ []) o)) three_operands context.old context.new found) }
     {
         let t = match self.loaded(context, test)? {
             Found::Passes(known) => known,
@@ -71,10 +70,10 @@ impl<R: Rules, F: Fn(&mut Context, u32, Part<'_>) -> Result<Found<Told>, NoMemor
         args: &[Expr],
         known: &mut Vec<Known>,
     ) -> Result<Found<()>, NoMemory>
-        requires nests { Nests R.others self.now.abi self.now.depth (F.pre self.now.inner) (F.post self.now.inner) }
+        requires nests { Nests self.now.abi self.now.depth (F.pre self.now.inner) (F.post self.now.inner) }
         requires deep { All (λ arg. expr_levels arg ≤ self.now.depth) args.now }
         requires empty { known.old.items ≡ [] }
-        ensures walk { IfOk result (λ found. Walked (Says R.others self.now.abi (λ o. PiecesAre (map Loaded args.now) o)) (some_operands known.new.items) context.old context.new found) }
+        ensures walk { IfOk result (λ found. Walked (Says self.now.abi (λ o. PiecesAre (map Loaded args.now) o)) (some_operands known.new.items) context.old context.new found) }
         ensures count { IfOk result (λ found. IsCounted found (length known.new.items) (length args.now)) }
     {
         for arg in args {
@@ -94,10 +93,10 @@ impl<R: Rules, F: Fn(&mut Context, u32, Part<'_>) -> Result<Found<Told>, NoMemor
         to: &TypeName,
         arg: &Expr,
     ) -> Result<Found<(NamedType, Known)>, NoMemory>
-        requires nests { Nests R.others self.now.abi self.now.depth (F.pre self.now.inner) (F.post self.now.inner) }
+        requires nests { Nests self.now.abi self.now.depth (F.pre self.now.inner) (F.post self.now.inner) }
         requires to { type_name_levels to.now ≤ self.now.depth }
         requires arg { expr_levels arg.now ≤ self.now.depth }
-        ensures { IfOk result (λ found. Walked (Says R.others self.now.abi (λ o. PiecesAre (OfType to.now ∷ Loaded arg.now ∷ []) o)) a_type_and_operand context.old context.new found) }
+        ensures { IfOk result (λ found. Walked (Says self.now.abi (λ o. PiecesAre (OfType to.now ∷ Loaded arg.now ∷ []) o)) a_type_and_operand context.old context.new found) }
     {
         let named = match self.type_name(alloc, context, to)? {
             Found::Passes(named) => named,
@@ -116,10 +115,10 @@ impl<R: Rules, F: Fn(&mut Context, u32, Part<'_>) -> Result<Found<Told>, NoMemor
         path: &[cbase::Part],
         words: &mut Vec<u64>,
     ) -> Result<Found<()>, NoMemory>
-        requires nests { Nests R.others self.now.abi self.now.depth (F.pre self.now.inner) (F.post self.now.inner) }
+        requires nests { Nests self.now.abi self.now.depth (F.pre self.now.inner) (F.post self.now.inner) }
         requires deep { All (λ part. part_levels part ≤ self.now.depth) path.now }
         requires empty { words.old.items ≡ [] }
-        ensures walk { IfOk result (λ found. Walked (Says R.others self.now.abi (λ o. PiecesAre (indices_in path.now) o)) (some_indices words.new.items) context.old context.new found) }
+        ensures walk { IfOk result (λ found. Walked (Says self.now.abi (λ o. PiecesAre (indices_in path.now) o)) (some_indices words.new.items) context.old context.new found) }
         ensures count { IfOk result (λ found. IsCounted found (length words.new.items) (length (indices_in path.now))) }
     {
         for part in path {
@@ -143,11 +142,11 @@ impl<R: Rules, F: Fn(&mut Context, u32, Part<'_>) -> Result<Found<Told>, NoMemor
         path: &[cbase::Part],
         words: &mut Vec<u64>,
     ) -> Result<Found<NamedType>, NoMemory>
-        requires nests { Nests R.others self.now.abi self.now.depth (F.pre self.now.inner) (F.post self.now.inner) }
+        requires nests { Nests self.now.abi self.now.depth (F.pre self.now.inner) (F.post self.now.inner) }
         requires to { type_name_levels to.now ≤ self.now.depth }
         requires deep { All (λ part. part_levels part ≤ self.now.depth) path.now }
         requires empty { words.old.items ≡ [] }
-        ensures walk { IfOk result (λ found. Walked (Says R.others self.now.abi (λ o. PiecesAre (OfType to.now ∷ indices_in path.now) o)) (a_type_and_indices words.new.items) context.old context.new found) }
+        ensures walk { IfOk result (λ found. Walked (Says self.now.abi (λ o. PiecesAre (OfType to.now ∷ indices_in path.now) o)) (a_type_and_indices words.new.items) context.old context.new found) }
         ensures count { IfOk result (λ found. IsCounted found (length words.new.items) (length (indices_in path.now))) }
     {
         let named = match self.type_name(alloc, context, to)? {

@@ -10,7 +10,7 @@ use operators::Broken;
 use typing::Size;
 
 /// The type of stars behind a type (C11 6.7.6.1).
-pub(crate) fn pointers_to(context: &mut Context, ctype: u32, stars: u32) -> Result<u32, NoMemory>
+pub fn pointers_to(context: &mut Context, ctype: u32, stars: u32) -> Result<u32, NoMemory>
     requires { ctype < length context.old.types }
     ensures { IfOk result (λ number. Numbers (λ n. with_stars stars (n.ctype ctype)) context.old context.new number) }
 {
@@ -24,7 +24,7 @@ pub(crate) fn pointers_to(context: &mut Context, ctype: u32, stars: u32) -> Resu
 }
 
 /// The type of sizes behind a type, the outermost first (C11 6.7.6.2).
-pub(crate) fn arrays_of(context: &mut Context, ctype: u32, sizes: &[Size]) -> Result<u32, NoMemory>
+pub fn arrays_of(context: &mut Context, ctype: u32, sizes: &[Size]) -> Result<u32, NoMemory>
     requires { ctype < length context.old.types }
     ensures { IfOk result (λ number. Numbers (λ n. with_sizes sizes.now (n.ctype ctype)) context.old context.new number) }
 {
@@ -48,7 +48,7 @@ fn items(size: Size) -> u64
 }
 
 /// The least of what is found of sizes.
-pub(crate) fn found_of_sizes(sizes: &[Size]) -> Option<Broken>
+pub fn found_of_sizes(sizes: &[Size]) -> Option<Broken>
     ensures { result ≡ found_of_sizes sizes.now }
 {
     let mut found = None;

@@ -2,6 +2,8 @@ ghost use Rattle.std.specs.Prelude.{◌≡◌, ◌≤◌, ◌<◌, ◌+◌, ℕ,
 ghost use Rattle.cbase.specs.declared.tree.expr.ExprForm.TheOpen.{Struct};
 ghost use Rattle.cbase.specs.declared.tree.spec.TypeSpec.TheVariants.{Struct as StructSpec};
 ghost use Rattle.ctrees.specs.Levels.{spec_levels, field_decl_levels, field_name_levels, maybe_levels};
+ghost use Rattle.operators.specs.declared.found.Broken.TheVariants.{Rule};
+ghost use Rattle.typing.specs.Faults.{fault};
 ghost use Rattle.typing.specs.Typing.{WordsAre, MembersAre, DeclarationIs, NamesAre, MemberIs, MemberSizesAre, MemberSizeIs, WidthIs};
 ghost use Rattle.cbase.specs.declared.abi.Abi.{Abi};
 ghost use Rattle.expressions.specs.Counted.{WherePasses};
@@ -12,14 +14,13 @@ ghost use Rattle.expressions.specs.Nests.{Nests};
 ghost use Rattle.expressions.specs.Numbers.{named_at, fields_at};
 ghost use Rattle.expressions.specs.Walked.{Walked, Says, SaysBy};
 
-use crate::checker::Checker;
+use crate::checker::{Checker, Within};
 use crate::context::Context;
 use crate::found::Found;
 use crate::members::Members;
 use crate::named_type::NamedType;
 use crate::nodes::declared_members::{add_member, member_fault};
 use crate::part::{Part, Told};
-use crate::rules::Rules;
 use crate::walk::type_names::declare;
 use cbase::{Expr, FieldDecl, FieldName, Identifier, List, NoMemory, Place};
 use ctypes::Member;
@@ -27,7 +28,7 @@ use operators::Broken;
 use std::alloc::Global;
 use typing::{Fault, Size};
 
-impl<R: Rules, F: Fn(&mut Context, u32, Part<'_>) -> Result<Found<Told>, NoMemory>> Checker<R, F> {
+impl<F: Fn(&mut Context, Within, Part<'_>) -> Result<Found<Told>, NoMemory>> Checker<F> {
     /// What is found of a struct with its members in braces (C11 6.7.2.1): its tag, the declarations of the members in the order of the text, and its tag
     /// again at the `}`, behind which it is complete.
     ///
@@ -39,9 +40,9 @@ impl<R: Rules, F: Fn(&mut Context, u32, Part<'_>) -> Result<Found<Told>, NoMemor
         name: &Option<Identifier>,
         fields: &List<FieldDecl>,
     ) -> Result<Found<NamedType>, NoMemory>
-        requires nests { Nests R.others self.now.abi self.now.depth (F.pre self.now.inner) (F.post self.now.inner) }
+        requires nests { Nests self.now.abi self.now.depth (F.pre self.now.inner) (F.post self.now.inner) }
         requires deep { spec_levels (StructSpec name.now (Some fields.now)) ≤ self.now.depth + 1 }
-        ensures { IfOk result (λ found. Walked (Says R.others self.now.abi (λ o. WordsAre (Struct name.now (Some fields.now)) o)) a_type context.old context.new found) }
+        ensures { IfOk result (λ found. Walked (Says self.now.abi (λ o. WordsAre (Struct name.now (Some fields.now)) o)) a_type context.old context.new found) }
     {
         let number = match context.open_struct(alloc, name)? {
             Found::Passes(number) => number,
@@ -62,10 +63,10 @@ impl<R: Rules, F: Fn(&mut Context, u32, Part<'_>) -> Result<Found<Told>, NoMemor
         fields: &[FieldDecl],
         members: &mut Members,
     ) -> Result<Found<()>, NoMemory>
-        requires nests { Nests R.others self.now.abi self.now.depth (F.pre self.now.inner) (F.post self.now.inner) }
+        requires nests { Nests self.now.abi self.now.depth (F.pre self.now.inner) (F.post self.now.inner) }
         requires deep { All (λ field. field_decl_levels field ≤ self.now.depth) fields.now }
         requires members { AreMembers context.old members.old.list members.old.names members.old.layout }
-        ensures found { IfOk result (λ found. Walked (SaysBy R.others self.now.abi (λ n o. MembersAre (fields_at n members.old.list) fields.now o)) (some_members members.new.list) context.old context.new found) }
+        ensures found { IfOk result (λ found. Walked (SaysBy self.now.abi (λ n o. MembersAre (fields_at n members.old.list) fields.now o)) (some_members members.new.list) context.old context.new found) }
         ensures members { IfOk result (λ found. WherePasses found (AreMembers context.new members.new.list members.new.names members.new.layout)) }
     {
         for field in fields {
@@ -85,10 +86,10 @@ impl<R: Rules, F: Fn(&mut Context, u32, Part<'_>) -> Result<Found<Told>, NoMemor
         field: &FieldDecl,
         members: &mut Members,
     ) -> Result<Found<()>, NoMemory>
-        requires nests { Nests R.others self.now.abi self.now.depth (F.pre self.now.inner) (F.post self.now.inner) }
+        requires nests { Nests self.now.abi self.now.depth (F.pre self.now.inner) (F.post self.now.inner) }
         requires deep { field_decl_levels field.now ≤ self.now.depth }
         requires members { AreMembers context.old members.old.list members.old.names members.old.layout }
-        ensures found { IfOk result (λ found. Walked (SaysBy R.others self.now.abi (λ n o. DeclarationIs (fields_at n members.old.list) field.now o)) (some_members members.new.list) context.old context.new found) }
+        ensures found { IfOk result (λ found. Walked (SaysBy self.now.abi (λ n o. DeclarationIs (fields_at n members.old.list) field.now o)) (some_members members.new.list) context.old context.new found) }
         ensures members { IfOk result (λ found. WherePasses found (AreMembers context.new members.new.list members.new.names members.new.layout)) }
     {
         match self.words(alloc, context, &field.spec)? {
@@ -108,11 +109,11 @@ impl<R: Rules, F: Fn(&mut Context, u32, Part<'_>) -> Result<Found<Told>, NoMemor
         names: &[FieldName],
         members: &mut Members,
     ) -> Result<Found<()>, NoMemory>
-        requires nests { Nests R.others self.now.abi self.now.depth (F.pre self.now.inner) (F.post self.now.inner) }
+        requires nests { Nests self.now.abi self.now.depth (F.pre self.now.inner) (F.post self.now.inner) }
         requires deep { All (λ name. field_name_levels name ≤ self.now.depth) names.now }
         requires base { base.ctype < length context.old.types }
         requires members { AreMembers context.old members.old.list members.old.names members.old.layout }
-        ensures found { IfOk result (λ found. Walked (SaysBy R.others self.now.abi (λ n o. NamesAre (named_at n base) (fields_at n members.old.list) names.now o)) (some_members members.new.list) context.old context.new found) }
+        ensures found { IfOk result (λ found. Walked (SaysBy self.now.abi (λ n o. NamesAre (named_at n base) (fields_at n members.old.list) names.now o)) (some_members members.new.list) context.old context.new found) }
         ensures members { IfOk result (λ found. WherePasses found (AreMembers context.new members.new.list members.new.names members.new.layout)) }
     {
         for name in names {
@@ -133,11 +134,11 @@ impl<R: Rules, F: Fn(&mut Context, u32, Part<'_>) -> Result<Found<Told>, NoMemor
         name: &FieldName,
         members: &mut Members,
     ) -> Result<Found<()>, NoMemory>
-        requires nests { Nests R.others self.now.abi self.now.depth (F.pre self.now.inner) (F.post self.now.inner) }
+        requires nests { Nests self.now.abi self.now.depth (F.pre self.now.inner) (F.post self.now.inner) }
         requires deep { field_name_levels name.now ≤ self.now.depth }
         requires base { base.ctype < length context.old.types }
         requires members { AreMembers context.old members.old.list members.old.names members.old.layout }
-        ensures found { IfOk result (λ found. Walked (SaysBy R.others self.now.abi (λ n o. MemberIs (named_at n base) (fields_at n members.old.list) name.now o)) (some_members members.new.list) context.old context.new found) }
+        ensures found { IfOk result (λ found. Walked (SaysBy self.now.abi (λ n o. MemberIs (named_at n base) (fields_at n members.old.list) name.now o)) (some_members members.new.list) context.old context.new found) }
         ensures members { IfOk result (λ found. WherePasses found (AreMembers context.new members.new.list members.new.names members.new.layout)) }
     {
         let mut sizes = Vec::new(alloc);
@@ -154,16 +155,16 @@ impl<R: Rules, F: Fn(&mut Context, u32, Part<'_>) -> Result<Found<Told>, NoMemor
     }
 
     /// The sizes of a member, the outermost first, which are put behind one another (C11 6.7.6.2).
-    fn member_sizes(
+    pub fn member_sizes(
         &self,
         context: &mut Context,
         sizes: &[Option<Expr>],
         found: &mut Vec<Size>,
     ) -> Result<Found<()>, NoMemory>
-        requires nests { Nests R.others self.now.abi self.now.depth (F.pre self.now.inner) (F.post self.now.inner) }
+        requires nests { Nests self.now.abi self.now.depth (F.pre self.now.inner) (F.post self.now.inner) }
         requires deep { All (λ size. maybe_levels size ≤ self.now.depth) sizes.now }
         requires empty { found.old.items ≡ [] }
-        ensures { IfOk result (λ told. Walked (Says R.others self.now.abi (λ o. MemberSizesAre sizes.now o)) (some_sizes found.new.items) context.old context.new told) }
+        ensures { IfOk result (λ told. Walked (Says self.now.abi (λ o. MemberSizesAre sizes.now o)) (some_sizes found.new.items) context.old context.new told) }
     {
         for size in sizes {
             match self.member_size(context, size)? {
@@ -180,9 +181,9 @@ impl<R: Rules, F: Fn(&mut Context, u32, Part<'_>) -> Result<Found<Told>, NoMemor
         context: &mut Context,
         size: &Option<Expr>,
     ) -> Result<Found<Size>, NoMemory>
-        requires nests { Nests R.others self.now.abi self.now.depth (F.pre self.now.inner) (F.post self.now.inner) }
+        requires nests { Nests self.now.abi self.now.depth (F.pre self.now.inner) (F.post self.now.inner) }
         requires deep { maybe_levels size.now ≤ self.now.depth }
-        ensures { IfOk result (λ told. Walked (Says R.others self.now.abi (λ o. MemberSizeIs size.now o)) a_member_size context.old context.new told) }
+        ensures { IfOk result (λ told. Walked (Says self.now.abi (λ o. MemberSizeIs size.now o)) a_member_size context.old context.new told) }
     {
         match size {
             None => Ok(Found::Passes(Size::LeftOut)),
@@ -195,9 +196,9 @@ impl<R: Rules, F: Fn(&mut Context, u32, Part<'_>) -> Result<Found<Told>, NoMemor
 
     /// How many bits a member has, of which nothing is asked (C11 6.7.2.1p4).
     fn width(&self, context: &mut Context, bits: &Option<Expr>) -> Result<Found<()>, NoMemory>
-        requires nests { Nests R.others self.now.abi self.now.depth (F.pre self.now.inner) (F.post self.now.inner) }
+        requires nests { Nests self.now.abi self.now.depth (F.pre self.now.inner) (F.post self.now.inner) }
         requires deep { maybe_levels bits.now ≤ self.now.depth }
-        ensures { IfOk result (λ told. Walked (Says R.others self.now.abi (λ o. WidthIs bits.now o)) nothing context.old context.new told) }
+        ensures { IfOk result (λ told. Walked (Says self.now.abi (λ o. WidthIs bits.now o)) nothing context.old context.new told) }
     {
         match bits {
             None => Ok(Found::Passes(())),
@@ -235,12 +236,23 @@ fn take_member(
     ensures taken { (abi : Abi) → IfOk result (λ found. IsMemberTaken abi context.now members.old.list members.new.list name.now named found) }
     ensures members { IfOk result (λ found. WherePasses found (AreMembers context.now members.new.list members.new.names members.new.layout)) }
 {
-    match member_fault(context, members, name, named) {
-        Some(fault) => Ok(Found::Refused(fault)),
-        None => {
-            add_member(alloc, context, members, name, named.ctype)?;
-            Ok(Found::Passes(()))
-        }
+    if let Some(fault) = member_fault(context, members, name, named) {
+        return Ok(Found::Refused(fault));
+    }
+    let Some(layout) = context.layout(named.ctype) else {
+        return Ok(Found::Refused(sizeless(name.place)));
+    };
+    add_member(alloc, context, members, name, named.ctype, layout)?;
+    Ok(Found::Passes(()))
+}
+
+/// A member whose type has no size.
+fn sizeless(place: Place) -> Fault
+    ensures { result ≡ fault place (Rule 3) }
+{
+    Fault {
+        place,
+        broken: Broken::Rule(3),
     }
 }
 

@@ -8,20 +8,19 @@ ghost use Rattle.expressions.specs.Nests.{Nests};
 ghost use Rattle.expressions.specs.Types.{IsDeclared};
 ghost use Rattle.expressions.specs.Walked.{Walked, Says};
 
-use crate::checker::Checker;
+use crate::checker::{Checker, Within};
 use crate::context::Context;
 use crate::found::Found;
 use crate::named_type::NamedType;
 use crate::nodes::first::least;
 use crate::part::{Part, Told};
-use crate::rules::Rules;
 use crate::walk::sizes::{arrays_of, found_of_sizes, pointers_to};
 use cbase::{Expr, NoMemory, TypeName};
 use operators::Broken;
 use std::alloc::Global;
 use typing::Size;
 
-impl<R: Rules, F: Fn(&mut Context, u32, Part<'_>) -> Result<Found<Told>, NoMemory>> Checker<R, F> {
+impl<F: Fn(&mut Context, Within, Part<'_>) -> Result<Found<Told>, NoMemory>> Checker<F> {
     /// What is found of a type name (C11 6.7.7): words, stars and sizes, in the order of the text.
     ///
     /// A size that is no integer constant expression, one that is left out, and a type of more than 65,536 bytes are found at the expression that
@@ -32,9 +31,9 @@ impl<R: Rules, F: Fn(&mut Context, u32, Part<'_>) -> Result<Found<Told>, NoMemor
         context: &mut Context,
         to: &TypeName,
     ) -> Result<Found<NamedType>, NoMemory>
-        requires nests { Nests R.others self.now.abi self.now.depth (F.pre self.now.inner) (F.post self.now.inner) }
+        requires nests { Nests self.now.abi self.now.depth (F.pre self.now.inner) (F.post self.now.inner) }
         requires deep { type_name_levels to.now ≤ self.now.depth }
-        ensures { IfOk result (λ found. Walked (Says R.others self.now.abi (λ o. NameOfTypeIs to.now o)) a_type context.old context.new found) }
+        ensures { IfOk result (λ found. Walked (Says self.now.abi (λ o. NameOfTypeIs to.now o)) a_type context.old context.new found) }
     {
         let base = match self.words(alloc, context, &to.spec)? {
             Found::Passes(base) => base,
@@ -48,16 +47,16 @@ impl<R: Rules, F: Fn(&mut Context, u32, Part<'_>) -> Result<Found<Told>, NoMemor
     }
 
     /// The sizes behind a type, the outermost first, which are put behind one another (C11 6.7.6.2).
-    fn sizes(
+    pub fn sizes(
         &self,
         context: &mut Context,
         sizes: &[Option<Expr>],
         found: &mut Vec<Size>,
     ) -> Result<Found<()>, NoMemory>
-        requires nests { Nests R.others self.now.abi self.now.depth (F.pre self.now.inner) (F.post self.now.inner) }
+        requires nests { Nests self.now.abi self.now.depth (F.pre self.now.inner) (F.post self.now.inner) }
         requires deep { All (λ size. maybe_levels size ≤ self.now.depth) sizes.now }
         requires empty { found.old.items ≡ [] }
-        ensures { IfOk result (λ told. Walked (Says R.others self.now.abi (λ o. SizesAre sizes.now o)) (some_sizes found.new.items) context.old context.new told) }
+        ensures { IfOk result (λ told. Walked (Says self.now.abi (λ o. SizesAre sizes.now o)) (some_sizes found.new.items) context.old context.new told) }
     {
         for size in sizes {
             match size {
@@ -73,7 +72,7 @@ impl<R: Rules, F: Fn(&mut Context, u32, Part<'_>) -> Result<Found<Told>, NoMemor
 }
 
 /// The type of stars and sizes behind another one, with the least of what is found of it.
-pub(crate) fn declare(
+pub fn declare(
     context: &mut Context,
     base: NamedType,
     stars: u32,

@@ -10,29 +10,28 @@ ghost use Rattle.expressions.specs.Found.{a_type};
 ghost use Rattle.expressions.specs.Nests.{Nests};
 ghost use Rattle.expressions.specs.Walked.{Walked, Says};
 
-use crate::checker::Checker;
+use crate::checker::{Checker, Within};
 use crate::context::Context;
 use crate::found::Found;
 use crate::named_type::NamedType;
 use crate::part::{Part, Told};
-use crate::rules::Rules;
 use cbase::{BasicType, Expr, Identifier, NoMemory, TypeSpec, bytes_of_rank};
 use environment::{DeclaredType, Entity, Tag};
 use operators::Broken;
 use std::alloc::Global;
 use typing::Fault;
 
-impl<R: Rules, F: Fn(&mut Context, u32, Part<'_>) -> Result<Found<Told>, NoMemory>> Checker<R, F> {
+impl<F: Fn(&mut Context, Within, Part<'_>) -> Result<Found<Told>, NoMemory>> Checker<F> {
     /// The words of a type (C11 6.7.2).
-    pub(crate) fn words(
+    pub fn words(
         &self,
         alloc: Global,
         context: &mut Context,
         spec: &TypeSpec,
     ) -> Result<Found<NamedType>, NoMemory>
-        requires nests { Nests R.others self.now.abi self.now.depth (F.pre self.now.inner) (F.post self.now.inner) }
+        requires nests { Nests self.now.abi self.now.depth (F.pre self.now.inner) (F.post self.now.inner) }
         requires deep { spec_levels spec.now ≤ self.now.depth }
-        ensures { IfOk result (λ found. Walked (Says R.others self.now.abi (λ o. WordsAre (out-TypeSpec spec.now) o)) a_type context.old context.new found) }
+        ensures { IfOk result (λ found. Walked (Says self.now.abi (λ o. WordsAre (out-TypeSpec spec.now) o)) a_type context.old context.new found) }
     {
         match spec {
             TypeSpec::Basic(basic) => self.basic(context, *basic),
@@ -58,8 +57,8 @@ impl<R: Rules, F: Fn(&mut Context, u32, Part<'_>) -> Result<Found<Told>, NoMemor
 
     /// Neither a tag nor braces: they name no type, rule 1 where it is held. The grammar reads none.
     fn nothing(&self, context: &mut Context) -> Result<Found<NamedType>, NoMemory>
-        ensures of_struct { IfOk result (λ found. Walked (Says R.others self.now.abi (λ o. WordsAre (Struct None None) o)) a_type context.old context.new found) }
-        ensures of_enum { IfOk result (λ found. Walked (Says R.others self.now.abi (λ o. WordsAre (Enum None None) o)) a_type context.old context.new found) }
+        ensures of_struct { IfOk result (λ found. Walked (Says self.now.abi (λ o. WordsAre (Struct None None) o)) a_type context.old context.new found) }
+        ensures of_enum { IfOk result (λ found. Walked (Says self.now.abi (λ o. WordsAre (Enum None None) o)) a_type context.old context.new found) }
     {
         Ok(Found::Passes(NamedType {
             ctype: context.void()?,
@@ -69,9 +68,9 @@ impl<R: Rules, F: Fn(&mut Context, u32, Part<'_>) -> Result<Found<Told>, NoMemor
 
     /// `typeof` of an expression, in which an array stays one. C11 has none.
     fn type_of(&self, context: &mut Context, expr: &Expr) -> Result<Found<NamedType>, NoMemory>
-        requires nests { Nests R.others self.now.abi self.now.depth (F.pre self.now.inner) (F.post self.now.inner) }
+        requires nests { Nests self.now.abi self.now.depth (F.pre self.now.inner) (F.post self.now.inner) }
         requires deep { expr_levels expr.now ≤ self.now.depth }
-        ensures { IfOk result (λ found. Walked (Says R.others self.now.abi (λ o. WordsAre (OfExpr expr.now) o)) a_type context.old context.new found) }
+        ensures { IfOk result (λ found. Walked (Says self.now.abi (λ o. WordsAre (OfExpr expr.now) o)) a_type context.old context.new found) }
     {
         match self.unloaded(context, expr)? {
             Found::Passes(known) => Ok(whole(known.ctype)),
@@ -81,7 +80,7 @@ impl<R: Rules, F: Fn(&mut Context, u32, Part<'_>) -> Result<Found<Told>, NoMemor
 
     /// A type of keywords alone (C11 6.7.2p5).
     fn basic(&self, context: &mut Context, basic: BasicType) -> Result<Found<NamedType>, NoMemory>
-        ensures { IfOk result (λ found. Walked (Says R.others self.now.abi (λ o. WordsAre (Basic basic) o)) a_type context.old context.new found) }
+        ensures { IfOk result (λ found. Walked (Says self.now.abi (λ o. WordsAre (Basic basic) o)) a_type context.old context.new found) }
     {
         let ctype = match basic {
             BasicType::Void => context.void()?,
@@ -95,7 +94,7 @@ impl<R: Rules, F: Fn(&mut Context, u32, Part<'_>) -> Result<Found<Told>, NoMemor
 
     /// The name of a type (C11 6.7.8). A typedef of an array whose size is not known is rule 3 where it is held, and a name of no type rule 1.
     fn typedef(&self, context: &mut Context, name: &[u8]) -> Result<Found<NamedType>, NoMemory>
-        ensures { IfOk result (λ found. Walked (Says R.others self.now.abi (λ o. WordsAre (Named name.now) o)) a_type context.old context.new found) }
+        ensures { IfOk result (λ found. Walked (Says self.now.abi (λ o. WordsAre (Named name.now) o)) a_type context.old context.new found) }
     {
         let rule = match context.look_up(name) {
             Some(
@@ -126,7 +125,7 @@ impl<R: Rules, F: Fn(&mut Context, u32, Part<'_>) -> Result<Found<Told>, NoMemor
         context: &mut Context,
         tag: &Identifier,
     ) -> Result<Found<NamedType>, NoMemory>
-        ensures { IfOk result (λ found. Walked (Says R.others self.now.abi (λ o. WordsAre (Struct (Some tag.now) None) o)) a_type context.old context.new found) }
+        ensures { IfOk result (λ found. Walked (Says self.now.abi (λ o. WordsAre (Struct (Some tag.now) None) o)) a_type context.old context.new found) }
     {
         let number = match context.tag(tag.name.as_slice()) {
             Some(Tag::Struct(number)) => number,
@@ -143,7 +142,7 @@ impl<R: Rules, F: Fn(&mut Context, u32, Part<'_>) -> Result<Found<Told>, NoMemor
         context: &mut Context,
         tag: &Identifier,
     ) -> Result<Found<NamedType>, NoMemory>
-        ensures { IfOk result (λ found. Walked (Says R.others self.now.abi (λ o. WordsAre (Enum (Some tag.now) None) o)) a_type context.old context.new found) }
+        ensures { IfOk result (λ found. Walked (Says self.now.abi (λ o. WordsAre (Enum (Some tag.now) None) o)) a_type context.old context.new found) }
     {
         match context.tag(tag.name.as_slice()) {
             Some(Tag::Enum { .. }) => {}

@@ -3,18 +3,18 @@ use Rattle.expressions.proofs.Loops.{arguments_start, arguments_next, arguments_
 use Rattle.expressions.proofs.checker.Checker.arguments.Goals as goal
 
 pub loop-arg-init : goal.loop-arg-init
-loop-arg-init g c = arguments_start g.R.Rules.others c.args.self.now.abi c.args.args.now _ c.args.context.now c.requires.empty
+loop-arg-init g c = arguments_start c.args.self.now.abi c.args.args.now _ c.args.context.now c.requires.empty
 
 pub returns-in-Refused-clause-walk : goal.returns-in-Refused-clause-walk
-returns-in-Refused-clause-walk g c = arguments_refused g.R.Rules.others c.args.self.now.abi c.args.args.now c.loop-arg.known.items c.args.context.now c.loop-arg.context c.loaded.new.context c.loop-arg.arg-index c.arg-item.result c.in-Refused.fault c.in_ok-one.field-0
+returns-in-Refused-clause-walk g c = arguments_refused c.args.self.now.abi c.args.args.now c.loop-arg.known.items c.args.context.now c.loop-arg.context c.loaded.new.context c.loop-arg.arg-index c.arg-item.result c.in-Refused.fault c.in_ok-one.field-0
     c.loop-arg-test.true c.arg-item.is c.in-Refused.is c.in_ok-one.ensures c.loop-arg.invariant
 
 pub loop-arg-preserved : goal.loop-arg-preserved
-loop-arg-preserved g c = arguments_next g.R.Rules.others c.args.self.now.abi c.args.args.now c.loop-arg.known.items _ c.args.context.now c.loop-arg.context c.loaded.new.context c.loop-arg.arg-index c.arg-item.result c.in-Passes.one c.in_ok-one.field-0
+loop-arg-preserved g c = arguments_next c.args.self.now.abi c.args.args.now c.loop-arg.known.items _ c.args.context.now c.loop-arg.context c.loaded.new.context c.loop-arg.arg-index c.arg-item.result c.in-Passes.one c.in_ok-one.field-0
     c.loop-arg-test.true c.arg-item.is c.in_ok-push-in-Passes.ensures.items c.in-Passes.is c.in_ok-one.ensures c.loop-arg.invariant
 
 pub returns-clause-walk : goal.returns-clause-walk
-returns-clause-walk g c = arguments_end g.R.Rules.others c.args.self.now.abi c.args.args.now c.loop-arg.known.items c.args.context.now c.loop-arg.context c.loop-arg.arg-index (omega arith) c.loop-arg.invariant
+returns-clause-walk g c = arguments_end c.args.self.now.abi c.args.args.now c.loop-arg.known.items c.args.context.now c.loop-arg.context c.loop-arg.arg-index (omega arith) c.loop-arg.invariant
 
 pub returns-clause-count : goal.returns-clause-count
-returns-clause-count g c = arguments_counted g.R.Rules.others c.args.self.now.abi c.args.args.now c.loop-arg.known.items c.args.context.now c.loop-arg.context c.loop-arg.arg-index (omega arith) c.loop-arg.invariant
+returns-clause-count g c = arguments_counted c.args.self.now.abi c.args.args.now c.loop-arg.known.items c.args.context.now c.loop-arg.context c.loop-arg.arg-index (omega arith) c.loop-arg.invariant

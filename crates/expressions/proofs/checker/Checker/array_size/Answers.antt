@@ -3,8 +3,8 @@ use Rattle.expressions.proofs.Walking.{passed_of}
 use Rattle.expressions.proofs.checker.Checker.array_size.Goals as goal
 
 pub returns-in-Passes : goal.returns-in-Passes
-returns-in-Passes g c = size_part g.R.Rules.others c.args.self.now.abi c.args.expr.now c.args.context.now c.loaded.new.context c.in-Passes.known c.size_in.result
+returns-in-Passes g c = size_part c.args.self.now.abi c.args.expr.now c.args.context.now c.loaded.new.context c.in-Passes.known c.size_in.result
     (passed_of _ _ _ _ _ c.in_ok-known.field-0 c.in-Passes.is c.in_ok-known.ensures) c.size_in.ensures
 
 pub returns-in-Refused : goal.returns-in-Refused
-returns-in-Refused g c = size_refused g.R.Rules.others c.args.self.now.abi c.args.expr.now c.args.context.now c.loaded.new.context c.in-Refused.fault c.in_ok-known.field-0 c.in-Refused.is c.in_ok-known.ensures
+returns-in-Refused g c = size_refused c.args.self.now.abi c.args.expr.now c.args.context.now c.loaded.new.context c.in-Refused.fault c.in_ok-known.field-0 c.in-Refused.is c.in_ok-known.ensures

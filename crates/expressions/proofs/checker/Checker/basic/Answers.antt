@@ -13,4 +13,4 @@ returns g c =
       | in-Bool+in_ok-ctype-in-Bool w ↦ rw (w.context-is, w.ctype-is, w.in-Bool.is) w.in_ok-ctype-in-Bool.ensures
       | in-Integer+in_ok-ctype-in-Integer w ↦ rw (w.context-is, w.ctype-is, w.in-Integer.is) (rw w.bytes_of_rank.ensures at w.in_ok-ctype-in-Integer.ensures)
     ] in
-    rw c.whole.ensures (basic_words g.R.Rules.others c.args.self.now.abi c.args.context.now c.match-basic.context c.args.basic c.match-basic.ctype numbers)
+    rw c.whole.ensures (basic_words c.args.self.now.abi c.args.context.now c.match-basic.context c.args.basic c.match-basic.ctype numbers)

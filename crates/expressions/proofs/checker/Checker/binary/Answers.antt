@@ -1,15 +1,15 @@
 use Rattle.cbase.specs.declared.tree.expr.ExprForm.TheOpen.{Binary}
 use Rattle.expressions.specs.Context.{declared}
 use Rattle.expressions.specs.Numbers.{known_at}
-use Rattle.expressions.specs.Others.{language}
+use Rattle.expressions.specs.Language.{language}
 use Rattle.expressions.proofs.ByRule.{binary_rule}
 use Rattle.expressions.specs.Found.{two_operands}
 use Rattle.expressions.proofs.Walking.{judged_result, passed_of, refused_form}
 use Rattle.expressions.proofs.checker.Checker.binary.Goals as goal
 
 pub returns-in-Passes : goal.returns-in-Passes
-returns-in-Passes g c = judged_result g.R.Rules.others c.args.self.now.abi c.args.node.number c.args.node.place (Binary c.args.op c.args.left.now c.args.right.now) two_operands c.args.context.now c.two.new.context _ (c.in-Passes.a, c.in-Passes.b) _ _ _ c.binary_node.result c.binary_node.ensures
-    (passed_of _ _ _ _ _ c.in_ok-a.field-0 c.in-Passes.is c.in_ok-a.ensures) (λ n handed. binary_rule (language g.R.Rules.others c.args.self.now.abi n) (declared c.two.new.context) c.args.node.number c.args.node.place handed c.args.op c.args.left.now c.args.right.now (known_at n c.in-Passes.a) (known_at n c.in-Passes.b))
+returns-in-Passes g c = judged_result c.args.self.now.abi c.args.node.number c.args.node.place (Binary c.args.op c.args.left.now c.args.right.now) two_operands c.args.context.now c.two.new.context _ (c.in-Passes.a, c.in-Passes.b) _ _ _ c.binary_node.result c.binary_node.ensures
+    (passed_of _ _ _ _ _ c.in_ok-a.field-0 c.in-Passes.is c.in_ok-a.ensures) (λ n handed. binary_rule (language c.args.self.now.abi n) (declared c.two.new.context) c.args.node.number c.args.node.place handed c.args.op c.args.left.now c.args.right.now (known_at n c.in-Passes.a) (known_at n c.in-Passes.b))
 
 pub returns-in-Refused : goal.returns-in-Refused
-returns-in-Refused g c = refused_form g.R.Rules.others c.args.self.now.abi c.args.node.number c.args.node.place (Binary c.args.op c.args.left.now c.args.right.now) two_operands c.args.context.now c.two.new.context c.in-Refused.fault c.in_ok-a.field-0 c.in-Refused.is c.in_ok-a.ensures
+returns-in-Refused g c = refused_form c.args.self.now.abi c.args.node.number c.args.node.place (Binary c.args.op c.args.left.now c.args.right.now) two_operands c.args.context.now c.two.new.context c.in-Refused.fault c.in_ok-a.field-0 c.in-Refused.is c.in_ok-a.ensures

@@ -3,4 +3,4 @@ use Rattle.expressions.proofs.checker.Checker.block.Goals as goal
 use Rattle.expressions.proofs.Blocks.{block_walked}
 
 pub returns : goal.returns
-returns g c = block_walked g.R.Rules.others c.args.self.now.abi c.args.body.now c.args.context.now c.enter.new.self c.statements.new.context c.leave.new.self c.in_ok-enter.ensures.ok c.leave.ensures c.in_ok-found.found c.in_ok-found.ensures
+returns g c = block_walked c.args.self.now.abi c.args.body.now c.args.context.now c.enter.new.self c.statements.new.context c.leave.new.self c.in_ok-enter.ensures.ok c.leave.ensures c.in_ok-found.found c.in_ok-found.ensures

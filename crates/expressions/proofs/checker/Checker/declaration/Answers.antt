@@ -9,12 +9,12 @@ member_names-requires-clause-deep g c = names_within c.args.field.now c.as_slice
 
 pub member_names-requires-clause-members : goal.member_names-requires-clause-members
 member_names-requires-clause-members g c = are_members_grow c.args.context.now c.words.new.context
-    (words_grow g.R.Rules.others c.args.self.now.abi c.args.field.now c.args.members.now.list c.args.context.now c.words.new.context c.in-Passes.base c.in_ok-base.field-0 c.in-Passes.is c.in_ok-base.ensures)
+    (words_grow c.args.self.now.abi c.args.field.now c.args.members.now.list c.args.context.now c.words.new.context c.in-Passes.base c.in_ok-base.field-0 c.in-Passes.is c.in_ok-base.ensures)
     c.args.members.now.list c.args.members.now.names c.args.members.now.layout c.requires.members
 
 pub returns-in-Passes-clause-found : goal.returns-in-Passes-clause-found
-returns-in-Passes-clause-found g c = declaration_found g.R.Rules.others c.args.self.now.abi c.args.field.now c.args.members.now.list c.args.context.now c.words.new.context c.member_names.new.context c.in-Passes.base c.member_names.new.members.list c.as_slice.result.now
+returns-in-Passes-clause-found g c = declaration_found c.args.self.now.abi c.args.field.now c.args.members.now.list c.args.context.now c.words.new.context c.member_names.new.context c.in-Passes.base c.member_names.new.members.list c.as_slice.result.now
     c.in_ok-base.field-0 c.member_names.result c.as_slice.ensures c.in-Passes.is c.in_ok-base.ensures c.member_names.ensures.found
 
 pub returns-in-Refused-clause-found : goal.returns-in-Refused-clause-found
-returns-in-Refused-clause-found g c = words_stop g.R.Rules.others c.args.self.now.abi c.args.field.now c.args.members.now.list c.args.context.now c.words.new.context c.in-Refused.fault c.in_ok-base.field-0 c.in-Refused.is c.in_ok-base.ensures
+returns-in-Refused-clause-found g c = words_stop c.args.self.now.abi c.args.field.now c.args.members.now.list c.args.context.now c.words.new.context c.in-Refused.fault c.in_ok-base.field-0 c.in-Refused.is c.in_ok-base.ensures

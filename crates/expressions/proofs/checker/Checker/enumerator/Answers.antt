@@ -6,23 +6,23 @@ use Rattle.expressions.proofs.checker.Checker.enumerator.Goals as goal
 pub returns-then-is_declared_here : goal.returns-then-is_declared_here
 returns-then-is_declared_here g c =
     let here = name_here c.args.constant.now c.as_slice.result.now c.args.context.now c.is_declared_here.result true c.as_slice.ensures c.is_declared_here.ensures c.if-is_declared_here.true in
-    rw c.twice.ensures (constant_twice g.R.Rules.others c.args.self.now.abi c.args.next c.args.constant.now c.args.context.now here)
+    rw c.twice.ensures (constant_twice c.args.self.now.abi c.args.next c.args.constant.now c.args.context.now here)
 
 pub returns-in-Refused : goal.returns-in-Refused
 returns-in-Refused g c =
     let fresh = name_here c.args.constant.now c.as_slice.result.now c.args.context.now c.is_declared_here.result false c.as_slice.ensures c.is_declared_here.ensures c.if-is_declared_here.false in
-    constant_refused g.R.Rules.others c.args.self.now.abi c.args.next c.args.constant.now c.args.context.now c.enumerator_value.new.context c.in-Refused.fault c.in_ok-bits.field-0 fresh c.in-Refused.is c.in_ok-bits.ensures
+    constant_refused c.args.self.now.abi c.args.next c.args.constant.now c.args.context.now c.enumerator_value.new.context c.in-Refused.fault c.in_ok-bits.field-0 fresh c.in-Refused.is c.in_ok-bits.ensures
 
 pub returns-then-is_declared_here-2 : goal.returns-then-is_declared_here-2
 returns-then-is_declared_here-2 g c =
     let fresh = name_here c.args.constant.now c.as_slice.result.now c.args.context.now c.is_declared_here.result false c.as_slice.ensures c.is_declared_here.ensures c.if-is_declared_here.false in
     let inside = name_here c.args.constant.now c.as_slice-2.result.now c.enumerator_value.new.context c.is_declared_here-2.result true c.as_slice-2.ensures c.is_declared_here-2.ensures c.if-is_declared_here-2.true in
-    rw c.twice-then-is_declared_here-2.ensures (constant_inside g.R.Rules.others c.args.self.now.abi c.args.next c.args.constant.now c.args.context.now c.enumerator_value.new.context c.in-Passes.bits c.in_ok-bits.field-0
+    rw c.twice-then-is_declared_here-2.ensures (constant_inside c.args.self.now.abi c.args.next c.args.constant.now c.args.context.now c.enumerator_value.new.context c.in-Passes.bits c.in_ok-bits.field-0
     fresh c.in-Passes.is c.in_ok-bits.ensures inside)
 
 pub returns : goal.returns
 returns g c =
     let fresh = name_here c.args.constant.now c.as_slice.result.now c.args.context.now c.is_declared_here.result false c.as_slice.ensures c.is_declared_here.ensures c.if-is_declared_here.false in
     let unbound = name_here c.args.constant.now c.as_slice-2.result.now c.enumerator_value.new.context c.is_declared_here-2.result false c.as_slice-2.ensures c.is_declared_here-2.ensures c.if-is_declared_here-2.false in
-    constant_passes g.R.Rules.others c.args.self.now.abi c.args.next c.args.constant.now c.args.context.now c.enumerator_value.new.context c.declare.new.self c.in-Passes.bits c.in_ok-bits.field-0
+    constant_passes c.args.self.now.abi c.args.next c.args.constant.now c.args.context.now c.enumerator_value.new.context c.declare.new.self c.in-Passes.bits c.in_ok-bits.field-0
     fresh c.in-Passes.is c.in_ok-bits.ensures unbound (rw c.as_slice-3.ensures at c.in_ok-declare.ensures.ok)

@@ -3,9 +3,9 @@ use Rattle.expressions.proofs.WholeExpressions.{expression_result}
 use Rattle.expressions.proofs.checker.Checker.expression.Goals as goal
 
 pub returns-clause-found : goal.returns-clause-found
-returns-clause-found g c = expression_result g.R.Rules.others c.args.self.now.abi c.args.expr.now c.args.context.now _ c.form.result c.form.ensures
+returns-clause-found g c = expression_result c.args.self.now.abi c.args.expr.now c.args.context.now _ c.form.result c.form.ensures
 
 pub returns-clause-nothing_else : goal.returns-clause-nothing_else
 returns-clause-nothing_else g c =
-    nothing_else_result g.R.Rules.others c.args.self.now.abi c.args.expr.now c.args.context.now _ c.form.result
-    (expression_result g.R.Rules.others c.args.self.now.abi c.args.expr.now c.args.context.now _ c.form.result c.form.ensures)
+    nothing_else_result c.args.self.now.abi c.args.expr.now c.args.context.now _ c.form.result
+    (expression_result c.args.self.now.abi c.args.expr.now c.args.context.now _ c.form.result c.form.ensures)

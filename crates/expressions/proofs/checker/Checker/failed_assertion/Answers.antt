@@ -4,15 +4,15 @@ use Rattle.cbase.specs.declared.tree.expr.ExprForm.TheOpen.{AssertFail}
 use Rattle.typing.specs.Known.{plain}
 use Rattle.expressions.specs.Context.{declared}
 use Rattle.expressions.specs.Found.{no_parts}
-use Rattle.expressions.specs.Others.{language}
+use Rattle.expressions.specs.Language.{language}
 use Rattle.expressions.proofs.ByRule.{assertion_rule}
 use Rattle.expressions.proofs.Judging.{each_settled}
 use Rattle.expressions.proofs.Walking.{settled_result, nothing_walked}
 use Rattle.expressions.proofs.checker.Checker.failed_assertion.Goals as goal
 
 pub returns : goal.returns
-returns g c = settled_result g.R.Rules.others c.args.self.now.abi c.args.node.number c.args.node.place AssertFail no_parts c.args.context.now c.args.context.now _ tt (λ n. []) (λ n. plain VoidType) c.pass.result
+returns g c = settled_result c.args.self.now.abi c.args.node.number c.args.node.place AssertFail no_parts c.args.context.now c.args.context.now _ tt (λ n. []) (λ n. plain VoidType) c.pass.result
     (each_settled c.pass.result (λ n. []) (λ n. plain VoidType) None c.plain.result c.args.node.number c.args.context.now _ _ c.in_ok-ctype.ensures.only_types
     (λ n agrees. refl) (λ n agrees. c.plain.ensures.is n ∙ ap plain (c.in_ok-ctype.ensures.meant n agrees)) c.pass.ensures)
-    (nothing_walked g.R.Rules.others c.args.self.now.abi c.args.context.now)
-    (λ n handed outcome agrees settled. assertion_rule (language g.R.Rules.others c.args.self.now.abi n) (declared c.args.context.now) c.args.node.number c.args.node.place handed outcome settled)
+    (nothing_walked c.args.self.now.abi c.args.context.now)
+    (λ n handed outcome agrees settled. assertion_rule (language c.args.self.now.abi n) (declared c.args.context.now) c.args.node.number c.args.node.place handed outcome settled)

@@ -12,7 +12,7 @@ name-requires g c = record { nests = c.requires.nests }
 
 pub returns-in-Name : goal.returns-in-Name
 returns-in-Name g c =
-    form_alike g.R.Rules.others c.args.self.now.abi c.args.node.number c.args.node.place (Name c.as_slice.result.now) (out-ExprForm c.args.form.now) c.args.context.now _ c.name.result
+    form_alike c.args.self.now.abi c.args.node.number c.args.node.place (Name c.as_slice.result.now) (out-ExprForm c.args.form.now) c.args.context.now _ c.name.result
     (ap Name c.as_slice.ensures ∙ sym (ap out-ExprForm c.in-Name.is ∙ outs-Name c.in-Name.name)) c.name.ensures
 
 pub constant-requires : goal.constant-requires
@@ -20,7 +20,7 @@ constant-requires g c = record { nests = c.requires.nests }
 
 pub returns-in-Constant : goal.returns-in-Constant
 returns-in-Constant g c =
-    form_alike g.R.Rules.others c.args.self.now.abi c.args.node.number c.args.node.place (Constant c.as_slice-in-Constant.result.now) (out-ExprForm c.args.form.now) c.args.context.now _ c.constant.result
+    form_alike c.args.self.now.abi c.args.node.number c.args.node.place (Constant c.as_slice-in-Constant.result.now) (out-ExprForm c.args.form.now) c.args.context.now _ c.constant.result
     (ap Constant c.as_slice-in-Constant.ensures ∙ sym (ap out-ExprForm c.in-Constant.is ∙ outs-Constant c.in-Constant.spelling)) c.constant.ensures
 
 pub unary-requires-clause-nests : goal.unary-requires-clause-nests
@@ -31,7 +31,7 @@ unary-requires-clause-arg g c = one_within c.args.form.now _ _ _ c.args.self.now
 
 pub returns-in-Unary : goal.returns-in-Unary
 returns-in-Unary g c =
-    form_alike g.R.Rules.others c.args.self.now.abi c.args.node.number c.args.node.place (Unary c.in-Unary.op c.get.result.now) (out-ExprForm c.args.form.now) c.args.context.now _ c.unary.result
+    form_alike c.args.self.now.abi c.args.node.number c.args.node.place (Unary c.in-Unary.op c.get.result.now) (out-ExprForm c.args.form.now) c.args.context.now _ c.unary.result
     (ap (Unary c.in-Unary.op) c.get.ensures ∙ sym (ap out-ExprForm c.in-Unary.is ∙ outs-Unary c.in-Unary.op c.in-Unary.arg)) c.unary.ensures
 
 pub binary-requires-clause-nests : goal.binary-requires-clause-nests
@@ -45,7 +45,7 @@ binary-requires-clause-right g c = second_within c.args.form.now _ _ _ _ c.args.
 
 pub returns-in-Binary : goal.returns-in-Binary
 returns-in-Binary g c =
-    form_alike g.R.Rules.others c.args.self.now.abi c.args.node.number c.args.node.place (Binary c.in-Binary.op c.get-in-Binary.result.now c.get-in-Binary-2.result.now) (out-ExprForm c.args.form.now) c.args.context.now _ c.binary.result
+    form_alike c.args.self.now.abi c.args.node.number c.args.node.place (Binary c.in-Binary.op c.get-in-Binary.result.now c.get-in-Binary-2.result.now) (out-ExprForm c.args.form.now) c.args.context.now _ c.binary.result
     ((λ i. Binary c.in-Binary.op (c.get-in-Binary.ensures i) (c.get-in-Binary-2.ensures i)) ∙ sym (ap out-ExprForm c.in-Binary.is ∙ outs-Binary c.in-Binary.op c.in-Binary.left c.in-Binary.right)) c.binary.ensures
 
 pub assignment-requires-clause-nests : goal.assignment-requires-clause-nests
@@ -73,7 +73,7 @@ pub count-requires-clause-arg : goal.count-requires-clause-arg
 count-requires-clause-arg g c = one_within c.args.form.now _ _ _ c.args.self.now.depth c.in-Count.is (count_levels c.in-Count.up c.in-Count.after c.in-Count.arg) (ap expr_levels c.get-in-Count.ensures) c.requires.deep
 
 pub returns-in-Count : goal.returns-in-Count
-returns-in-Count g c = form_alike g.R.Rules.others c.args.self.now.abi c.args.node.number c.args.node.place (Count c.in-Count.up c.in-Count.after c.get-in-Count.result.now) (out-ExprForm c.args.form.now) c.args.context.now _ c.count.result
+returns-in-Count g c = form_alike c.args.self.now.abi c.args.node.number c.args.node.place (Count c.in-Count.up c.in-Count.after c.get-in-Count.result.now) (out-ExprForm c.args.form.now) c.args.context.now _ c.count.result
     (ap (Count c.in-Count.up c.in-Count.after) c.get-in-Count.ensures ∙ sym (ap out-ExprForm c.in-Count.is ∙ outs-Count c.in-Count.up c.in-Count.after c.in-Count.arg)) (c.count.ensures c.in-Count.up c.in-Count.after)
 
 pub choice-requires-clause-nests : goal.choice-requires-clause-nests
@@ -90,7 +90,7 @@ choice-requires-clause-other g c = third_within c.args.form.now _ _ _ _ _ c.args
 
 pub returns-in-Choose : goal.returns-in-Choose
 returns-in-Choose g c =
-    form_alike g.R.Rules.others c.args.self.now.abi c.args.node.number c.args.node.place (Choose c.get-in-Choose.result.now c.get-in-Choose-2.result.now c.get-in-Choose-3.result.now) (out-ExprForm c.args.form.now) c.args.context.now _ c.choice.result
+    form_alike c.args.self.now.abi c.args.node.number c.args.node.place (Choose c.get-in-Choose.result.now c.get-in-Choose-2.result.now c.get-in-Choose-3.result.now) (out-ExprForm c.args.form.now) c.args.context.now _ c.choice.result
     ((λ i. Choose (c.get-in-Choose.ensures i) (c.get-in-Choose-2.ensures i) (c.get-in-Choose-3.ensures i)) ∙ sym (ap out-ExprForm c.in-Choose.is ∙ outs-Choose c.in-Choose.test c.in-Choose.yes c.in-Choose.no)) c.choice.ensures
 
 pub cast-requires-clause-nests : goal.cast-requires-clause-nests
@@ -104,7 +104,7 @@ cast-requires-clause-arg g c = second_within c.args.form.now _ _ _ _ c.args.self
 
 pub returns-in-Cast : goal.returns-in-Cast
 returns-in-Cast g c =
-    form_alike g.R.Rules.others c.args.self.now.abi c.args.node.number c.args.node.place (Cast c.in-Cast.to c.get-in-Cast.result.now) (out-ExprForm c.args.form.now) c.args.context.now _ c.cast.result
+    form_alike c.args.self.now.abi c.args.node.number c.args.node.place (Cast c.in-Cast.to c.get-in-Cast.result.now) (out-ExprForm c.args.form.now) c.args.context.now _ c.cast.result
     (ap (Cast c.in-Cast.to) c.get-in-Cast.ensures ∙ sym (ap out-ExprForm c.in-Cast.is ∙ outs-Cast c.in-Cast.to c.in-Cast.arg)) c.cast.ensures
 
 pub size-requires-clause-nests : goal.size-requires-clause-nests
@@ -115,7 +115,7 @@ size-requires-clause-arg g c = one_within c.args.form.now _ _ _ c.args.self.now.
 
 pub returns-in-SizeOf : goal.returns-in-SizeOf
 returns-in-SizeOf g c =
-    form_alike g.R.Rules.others c.args.self.now.abi c.args.node.number c.args.node.place (SizeOf c.get-in-SizeOf.result.now) (out-ExprForm c.args.form.now) c.args.context.now _ c.size.result
+    form_alike c.args.self.now.abi c.args.node.number c.args.node.place (SizeOf c.get-in-SizeOf.result.now) (out-ExprForm c.args.form.now) c.args.context.now _ c.size.result
     (ap SizeOf c.get-in-SizeOf.ensures ∙ sym (ap out-ExprForm c.in-SizeOf.is ∙ outs-SizeOf c.in-SizeOf.arg)) c.size.ensures
 
 pub type_size-requires-clause-nests : goal.type_size-requires-clause-nests
@@ -126,7 +126,7 @@ type_size-requires-clause-to g c = one_within c.args.form.now _ _ _ c.args.self.
 
 pub returns-in-SizeOfType : goal.returns-in-SizeOfType
 returns-in-SizeOfType g c =
-    form_alike g.R.Rules.others c.args.self.now.abi c.args.node.number c.args.node.place (SizeOfType c.in-SizeOfType.to) (out-ExprForm c.args.form.now) c.args.context.now _ c.type_size.result
+    form_alike c.args.self.now.abi c.args.node.number c.args.node.place (SizeOfType c.in-SizeOfType.to) (out-ExprForm c.args.form.now) c.args.context.now _ c.type_size.result
     (sym (ap out-ExprForm c.in-SizeOfType.is ∙ outs-SizeOfType c.in-SizeOfType.to)) c.type_size.ensures
 
 pub offset-requires-clause-nests : goal.offset-requires-clause-nests
@@ -140,7 +140,7 @@ offset-requires-clause-path g c = path_within c.args.form.now c.in-OffsetOf.to c
 
 pub returns-in-OffsetOf : goal.returns-in-OffsetOf
 returns-in-OffsetOf g c =
-    form_alike g.R.Rules.others c.args.self.now.abi c.args.node.number c.args.node.place (OffsetOf c.in-OffsetOf.to c.as_slice-in-OffsetOf.result.now) (out-ExprForm c.args.form.now) c.args.context.now _ c.offset.result
+    form_alike c.args.self.now.abi c.args.node.number c.args.node.place (OffsetOf c.in-OffsetOf.to c.as_slice-in-OffsetOf.result.now) (out-ExprForm c.args.form.now) c.args.context.now _ c.offset.result
     (ap (OffsetOf c.in-OffsetOf.to) c.as_slice-in-OffsetOf.ensures ∙ sym (ap out-ExprForm c.in-OffsetOf.is ∙ outs-OffsetOf c.in-OffsetOf.to c.in-OffsetOf.path)) c.offset.ensures
 
 pub subscript-requires-clause-nests : goal.subscript-requires-clause-nests
@@ -154,7 +154,7 @@ subscript-requires-clause-index g c = second_within c.args.form.now _ _ _ _ c.ar
 
 pub returns-in-Index : goal.returns-in-Index
 returns-in-Index g c =
-    form_alike g.R.Rules.others c.args.self.now.abi c.args.node.number c.args.node.place (Index c.get-in-Index.result.now c.get-in-Index-2.result.now) (out-ExprForm c.args.form.now) c.args.context.now _ c.subscript.result
+    form_alike c.args.self.now.abi c.args.node.number c.args.node.place (Index c.get-in-Index.result.now c.get-in-Index-2.result.now) (out-ExprForm c.args.form.now) c.args.context.now _ c.subscript.result
     ((λ i. Index (c.get-in-Index.ensures i) (c.get-in-Index-2.ensures i)) ∙ sym (ap out-ExprForm c.in-Index.is ∙ outs-Index c.in-Index.base c.in-Index.index)) c.subscript.ensures
 
 pub member-requires-clause-nests : goal.member-requires-clause-nests
@@ -180,7 +180,7 @@ call-requires-clause-args g c = arguments_within c.args.form.now c.in-Call.calle
 
 pub returns-in-Call : goal.returns-in-Call
 returns-in-Call g c =
-    form_alike g.R.Rules.others c.args.self.now.abi c.args.node.number c.args.node.place (Call c.get-in-Call.result.now c.as_slice-in-Call.result.now) (out-ExprForm c.args.form.now) c.args.context.now _ c.call.result
+    form_alike c.args.self.now.abi c.args.node.number c.args.node.place (Call c.get-in-Call.result.now c.as_slice-in-Call.result.now) (out-ExprForm c.args.form.now) c.args.context.now _ c.call.result
     ((λ i. Call (c.get-in-Call.ensures i) (c.as_slice-in-Call.ensures i)) ∙ sym (ap out-ExprForm c.in-Call.is ∙ outs-Call c.in-Call.callee c.in-Call.args)) c.call.ensures
 
 pub statement_expression-requires-clause-nests : goal.statement_expression-requires-clause-nests
@@ -190,7 +190,7 @@ pub statement_expression-requires-clause-deep : goal.statement_expression-requir
 statement_expression-requires-clause-deep g c = body_within c.args.form.now c.in-Inner.body c.as_slice-in-Inner.result.now c.in-Inner.close c.args.self.now.depth c.in-Inner.is c.as_slice-in-Inner.ensures c.requires.deep
 
 pub returns-in-Inner : goal.returns-in-Inner
-returns-in-Inner g c = form_alike g.R.Rules.others c.args.self.now.abi c.args.node.number c.args.node.place (Inner c.as_slice-in-Inner.result.now c.in-Inner.close) (out-ExprForm c.args.form.now) c.args.context.now _ c.statement_expression.result
+returns-in-Inner g c = form_alike c.args.self.now.abi c.args.node.number c.args.node.place (Inner c.as_slice-in-Inner.result.now c.in-Inner.close) (out-ExprForm c.args.form.now) c.args.context.now _ c.statement_expression.result
     (ap (λ body. Inner body c.in-Inner.close) c.as_slice-in-Inner.ensures ∙ sym (ap out-ExprForm c.in-Inner.is ∙ outs-Inner c.in-Inner.body c.in-Inner.close)) (c.statement_expression.ensures c.in-Inner.close)
 
 pub failed_assertion-requires : goal.failed_assertion-requires
@@ -198,5 +198,5 @@ failed_assertion-requires g c = record { nests = c.requires.nests }
 
 pub returns-in-AssertFail : goal.returns-in-AssertFail
 returns-in-AssertFail g c =
-    form_alike g.R.Rules.others c.args.self.now.abi c.args.node.number c.args.node.place (AssertFail) (out-ExprForm c.args.form.now) c.args.context.now _ c.failed_assertion.result
+    form_alike c.args.self.now.abi c.args.node.number c.args.node.place (AssertFail) (out-ExprForm c.args.form.now) c.args.context.now _ c.failed_assertion.result
     (sym (ap out-ExprForm c.in-AssertFail.is ∙ outs-AssertFail)) c.failed_assertion.ensures

@@ -8,8 +8,8 @@ use Rattle.expressions.proofs.Walking.{judged_result, passed_of, refused_form}
 use Rattle.expressions.proofs.checker.Checker.indirection.Goals as goal
 
 pub returns-in-Passes : goal.returns-in-Passes
-returns-in-Passes g c = judged_result g.R.Rules.others c.args.self.now.abi c.args.node.number c.args.node.place (Unary Follow c.args.arg.now) one_operand c.args.context.now c.loaded.new.context _ c.in-Passes.a _ _ _ c.indirection_node.result c.indirection_node.ensures
-    (passed_of _ _ _ _ _ c.in_ok-a.field-0 c.in-Passes.is (loaded_alone g.R.Rules.others c.args.self.now.abi c.args.arg.now c.args.context.now c.loaded.new.context c.in_ok-a.field-0 c.in_ok-a.ensures)) (λ n handed. Indirection refl)
+returns-in-Passes g c = judged_result c.args.self.now.abi c.args.node.number c.args.node.place (Unary Follow c.args.arg.now) one_operand c.args.context.now c.loaded.new.context _ c.in-Passes.a _ _ _ c.indirection_node.result c.indirection_node.ensures
+    (passed_of _ _ _ _ _ c.in_ok-a.field-0 c.in-Passes.is (loaded_alone c.args.self.now.abi c.args.arg.now c.args.context.now c.loaded.new.context c.in_ok-a.field-0 c.in_ok-a.ensures)) (λ n handed. Indirection refl)
 
 pub returns-in-Refused : goal.returns-in-Refused
-returns-in-Refused g c = refused_form g.R.Rules.others c.args.self.now.abi c.args.node.number c.args.node.place (Unary Follow c.args.arg.now) one_operand c.args.context.now c.loaded.new.context c.in-Refused.fault c.in_ok-a.field-0 c.in-Refused.is (loaded_alone g.R.Rules.others c.args.self.now.abi c.args.arg.now c.args.context.now c.loaded.new.context c.in_ok-a.field-0 c.in_ok-a.ensures)
+returns-in-Refused g c = refused_form c.args.self.now.abi c.args.node.number c.args.node.place (Unary Follow c.args.arg.now) one_operand c.args.context.now c.loaded.new.context c.in-Refused.fault c.in_ok-a.field-0 c.in-Refused.is (loaded_alone c.args.self.now.abi c.args.arg.now c.args.context.now c.loaded.new.context c.in_ok-a.field-0 c.in_ok-a.ensures)

@@ -3,8 +3,8 @@ use Rattle.expressions.proofs.Walking.{passed_of}
 use Rattle.expressions.proofs.checker.Checker.loaded.Goals as goal
 
 pub returns-in-Passes : goal.returns-in-Passes
-returns-in-Passes g c = loaded_part g.R.Rules.others c.args.self.now.abi c.args.expr.now c.args.context.now c.ask_expression.new.context c.in-Passes.known c.load.result
+returns-in-Passes g c = loaded_part c.args.self.now.abi c.args.expr.now c.args.context.now c.ask_expression.new.context c.in-Passes.known c.load.result
     (passed_of _ _ _ _ _ c.in_ok-known.field-0 c.in-Passes.is c.in_ok-known.ensures) c.load.ensures
 
 pub returns-in-Refused : goal.returns-in-Refused
-returns-in-Refused g c = loaded_refused g.R.Rules.others c.args.self.now.abi c.args.expr.now c.args.context.now c.ask_expression.new.context c.in-Refused.fault c.in_ok-known.field-0 c.in-Refused.is c.in_ok-known.ensures
+returns-in-Refused g c = loaded_refused c.args.self.now.abi c.args.expr.now c.args.context.now c.ask_expression.new.context c.in-Refused.fault c.in_ok-known.field-0 c.in-Refused.is c.in_ok-known.ensures

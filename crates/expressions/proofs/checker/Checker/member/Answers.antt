@@ -7,8 +7,8 @@ use Rattle.expressions.proofs.Walking.{judged_result, passed_of, refused_form}
 use Rattle.expressions.proofs.checker.Checker.member.Goals as goal
 
 pub returns-in-Passes : goal.returns-in-Passes
-returns-in-Passes g c = judged_result g.R.Rules.others c.args.self.now.abi c.args.node.number c.args.node.place (ExprForm::Member c.args.base.now c.args.name.now false) one_operand c.args.context.now c.unloaded.new.context _ c.in-Passes.a _ _ _ c.member_node.result (c.member_node.ensures c.args.self.now.abi)
-    (passed_of _ _ _ _ _ c.in_ok-a.field-0 c.in-Passes.is (unloaded_alone g.R.Rules.others c.args.self.now.abi c.args.base.now c.args.context.now c.unloaded.new.context c.in_ok-a.field-0 c.in_ok-a.ensures)) (λ n handed. MemberOfStruct refl refl)
+returns-in-Passes g c = judged_result c.args.self.now.abi c.args.node.number c.args.node.place (ExprForm::Member c.args.base.now c.args.name.now false) one_operand c.args.context.now c.unloaded.new.context _ c.in-Passes.a _ _ _ c.member_node.result (c.member_node.ensures c.args.self.now.abi)
+    (passed_of _ _ _ _ _ c.in_ok-a.field-0 c.in-Passes.is (unloaded_alone c.args.self.now.abi c.args.base.now c.args.context.now c.unloaded.new.context c.in_ok-a.field-0 c.in_ok-a.ensures)) (λ n handed. MemberOfStruct refl refl)
 
 pub returns-in-Refused : goal.returns-in-Refused
-returns-in-Refused g c = refused_form g.R.Rules.others c.args.self.now.abi c.args.node.number c.args.node.place (ExprForm::Member c.args.base.now c.args.name.now false) one_operand c.args.context.now c.unloaded.new.context c.in-Refused.fault c.in_ok-a.field-0 c.in-Refused.is (unloaded_alone g.R.Rules.others c.args.self.now.abi c.args.base.now c.args.context.now c.unloaded.new.context c.in_ok-a.field-0 c.in_ok-a.ensures)
+returns-in-Refused g c = refused_form c.args.self.now.abi c.args.node.number c.args.node.place (ExprForm::Member c.args.base.now c.args.name.now false) one_operand c.args.context.now c.unloaded.new.context c.in-Refused.fault c.in_ok-a.field-0 c.in-Refused.is (unloaded_alone c.args.self.now.abi c.args.base.now c.args.context.now c.unloaded.new.context c.in_ok-a.field-0 c.in_ok-a.ensures)

@@ -4,15 +4,15 @@ use Rattle.expressions.proofs.checker.Checker.member_sizes.Goals as goal
 use Rattle.expressions.proofs.MemberSizes.{sizes_start, sizes_next, sizes_refused, sizes_end}
 
 pub loop-size-init : goal.loop-size-init
-loop-size-init g c = sizes_start g.R.Rules.others c.args.self.now.abi c.args.sizes.now _ c.args.context.now c.requires.empty
+loop-size-init g c = sizes_start c.args.self.now.abi c.args.sizes.now _ c.args.context.now c.requires.empty
 
 pub returns-in-Refused : goal.returns-in-Refused
-returns-in-Refused g c = sizes_refused g.R.Rules.others c.args.self.now.abi c.args.sizes.now c.loop-size.found.items c.args.context.now c.loop-size.context c.member_size.new.context c.loop-size.size-index c.size-item.result c.in-Refused.fault c.in_ok-one.field-0
+returns-in-Refused g c = sizes_refused c.args.self.now.abi c.args.sizes.now c.loop-size.found.items c.args.context.now c.loop-size.context c.member_size.new.context c.loop-size.size-index c.size-item.result c.in-Refused.fault c.in_ok-one.field-0
     c.loop-size-test.true c.size-item.is c.in-Refused.is c.in_ok-one.ensures c.loop-size.invariant
 
 pub loop-size-preserved : goal.loop-size-preserved
-loop-size-preserved g c = sizes_next g.R.Rules.others c.args.self.now.abi c.args.sizes.now c.loop-size.found.items c.push.new.self.items c.args.context.now c.loop-size.context c.member_size.new.context c.loop-size.size-index c.size-item.result c.in-Passes.one c.in_ok-one.field-0
+loop-size-preserved g c = sizes_next c.args.self.now.abi c.args.sizes.now c.loop-size.found.items c.push.new.self.items c.args.context.now c.loop-size.context c.member_size.new.context c.loop-size.size-index c.size-item.result c.in-Passes.one c.in_ok-one.field-0
     c.loop-size-test.true c.size-item.is c.in_ok-push-in-Passes.ensures.items c.in-Passes.is c.in_ok-one.ensures c.loop-size.invariant
 
 pub returns : goal.returns
-returns g c = sizes_end g.R.Rules.others c.args.self.now.abi c.args.sizes.now c.loop-size.found.items c.args.context.now c.loop-size.context c.loop-size.size-index (omega arith) c.loop-size.invariant
+returns g c = sizes_end c.args.self.now.abi c.args.sizes.now c.loop-size.found.items c.args.context.now c.loop-size.context c.loop-size.size-index (omega arith) c.loop-size.invariant

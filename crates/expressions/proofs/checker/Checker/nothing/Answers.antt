@@ -6,7 +6,7 @@ use Rattle.expressions.proofs.checker.Checker.nothing.Goals as goal
 use Rattle.expressions.proofs.TypeWords.{nothing_named}
 
 pub returns-clause-of_struct : goal.returns-clause-of_struct
-returns-clause-of_struct g c = nothing_named g.R.Rules.others c.args.self.now.abi c.args.context.now c.void.new.self (Struct None None) c.in_ok-void.field-0 c.in_ok-void.ensures (λ n. StructOfNothing)
+returns-clause-of_struct g c = nothing_named c.args.self.now.abi c.args.context.now c.void.new.self (Struct None None) c.in_ok-void.field-0 c.in_ok-void.ensures (λ n. StructOfNothing)
 
 pub returns-clause-of_enum : goal.returns-clause-of_enum
-returns-clause-of_enum g c = nothing_named g.R.Rules.others c.args.self.now.abi c.args.context.now c.void.new.self (Enum None None) c.in_ok-void.field-0 c.in_ok-void.ensures (λ n. EnumOfNothing)
+returns-clause-of_enum g c = nothing_named c.args.self.now.abi c.args.context.now c.void.new.self (Enum None None) c.in_ok-void.field-0 c.in_ok-void.ensures (λ n. EnumOfNothing)

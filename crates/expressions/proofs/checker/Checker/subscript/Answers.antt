@@ -6,8 +6,8 @@ use Rattle.expressions.proofs.Walking.{judged_result, passed_of, refused_form}
 use Rattle.expressions.proofs.checker.Checker.subscript.Goals as goal
 
 pub returns-in-Passes : goal.returns-in-Passes
-returns-in-Passes g c = judged_result g.R.Rules.others c.args.self.now.abi c.args.node.number c.args.node.place (Index c.args.base.now c.args.index.now) two_operands c.args.context.now c.two.new.context _ (c.in-Passes.a, c.in-Passes.b) _ _ _ c.index_node.result (c.index_node.ensures c.args.self.now.abi)
+returns-in-Passes g c = judged_result c.args.self.now.abi c.args.node.number c.args.node.place (Index c.args.base.now c.args.index.now) two_operands c.args.context.now c.two.new.context _ (c.in-Passes.a, c.in-Passes.b) _ _ _ c.index_node.result (c.index_node.ensures c.args.self.now.abi)
     (passed_of _ _ _ _ _ c.in_ok-a.field-0 c.in-Passes.is c.in_ok-a.ensures) (λ n handed. Subscript refl refl refl)
 
 pub returns-in-Refused : goal.returns-in-Refused
-returns-in-Refused g c = refused_form g.R.Rules.others c.args.self.now.abi c.args.node.number c.args.node.place (Index c.args.base.now c.args.index.now) two_operands c.args.context.now c.two.new.context c.in-Refused.fault c.in_ok-a.field-0 c.in-Refused.is c.in_ok-a.ensures
+returns-in-Refused g c = refused_form c.args.self.now.abi c.args.node.number c.args.node.place (Index c.args.base.now c.args.index.now) two_operands c.args.context.now c.two.new.context c.in-Refused.fault c.in_ok-a.field-0 c.in-Refused.is c.in_ok-a.ensures

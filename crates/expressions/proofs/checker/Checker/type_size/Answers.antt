@@ -9,8 +9,8 @@ use Rattle.expressions.proofs.Walking.{settled_result, passed_of, refused_form}
 use Rattle.expressions.proofs.checker.Checker.type_size.Goals as goal
 
 pub returns-in-Passes : goal.returns-in-Passes
-returns-in-Passes g c = settled_result g.R.Rules.others c.args.self.now.abi c.args.node.number c.args.node.place (SizeOfType c.args.to.now) one_type c.args.context.now c.type_name.new.context _ c.in-Passes.named _ _ c.type_size_node.result (c.type_size_node.ensures c.args.self.now.abi)
-    (passed_of _ _ _ _ _ c.in_ok-named.field-0 c.in-Passes.is (one_result g.R.Rules.others c.args.self.now.abi (OfType c.args.to.now) a_type_told one_type _ _ (Ok c.in_ok-named.field-0) (λ n one. refl) (λ count one below. below) (type_found g.R.Rules.others c.args.self.now.abi c.args.to.now c.args.context.now c.type_name.new.context c.in_ok-named.field-0 c.in_ok-named.ensures))) (λ n handed outcome agrees settled. SizeOfTypeName refl settled)
+returns-in-Passes g c = settled_result c.args.self.now.abi c.args.node.number c.args.node.place (SizeOfType c.args.to.now) one_type c.args.context.now c.type_name.new.context _ c.in-Passes.named _ _ c.type_size_node.result (c.type_size_node.ensures c.args.self.now.abi)
+    (passed_of _ _ _ _ _ c.in_ok-named.field-0 c.in-Passes.is (one_result c.args.self.now.abi (OfType c.args.to.now) a_type_told one_type _ _ (Ok c.in_ok-named.field-0) (λ n one. refl) (λ count one below. below) (type_found c.args.self.now.abi c.args.to.now c.args.context.now c.type_name.new.context c.in_ok-named.field-0 c.in_ok-named.ensures))) (λ n handed outcome agrees settled. SizeOfTypeName refl settled)
 
 pub returns-in-Refused : goal.returns-in-Refused
-returns-in-Refused g c = refused_form g.R.Rules.others c.args.self.now.abi c.args.node.number c.args.node.place (SizeOfType c.args.to.now) one_type c.args.context.now c.type_name.new.context c.in-Refused.fault c.in_ok-named.field-0 c.in-Refused.is (one_result g.R.Rules.others c.args.self.now.abi (OfType c.args.to.now) a_type_told one_type _ _ (Ok c.in_ok-named.field-0) (λ n one. refl) (λ count one below. below) (type_found g.R.Rules.others c.args.self.now.abi c.args.to.now c.args.context.now c.type_name.new.context c.in_ok-named.field-0 c.in_ok-named.ensures))
+returns-in-Refused g c = refused_form c.args.self.now.abi c.args.node.number c.args.node.place (SizeOfType c.args.to.now) one_type c.args.context.now c.type_name.new.context c.in-Refused.fault c.in_ok-named.field-0 c.in-Refused.is (one_result c.args.self.now.abi (OfType c.args.to.now) a_type_told one_type _ _ (Ok c.in_ok-named.field-0) (λ n one. refl) (λ count one below. below) (type_found c.args.self.now.abi c.args.to.now c.args.context.now c.type_name.new.context c.in_ok-named.field-0 c.in_ok-named.ensures))

@@ -1,0 +1,45 @@
+ghost use Rattle.std.specs.Prelude.{◌≡◌, length, IfSome, OnOk, OnErr};
+ghost use Rattle.environment.specs.Bounds.{BindingBelow, EntityBelow, LinkedBelow};
+ghost use Rattle.environment.specs.Environment.{name_linked};
+ghost use Rattle.environment.specs.Linkage.{linked_declared};
+ghost use Rattle.environment.specs.Names.{value_in};
+ghost use Rattle.environment.specs.Scopes.{found_here};
+
+use crate::context::Context;
+use cbase::NoMemory;
+use environment::{Binding, Linked};
+use std::alloc::Global;
+
+impl Context {
+    /// How the innermost scope binds a name (C11 6.7p3).
+    pub fn binding_here(&self, name: &[u8]) -> Option<Binding>
+        ensures is { result ≡ found_here name.now self.now.environment.names }
+        ensures below { IfSome result (BindingBelow (length self.now.types) self.now.environment.signatures) }
+    {
+        self.environment.binding_here(name)
+    }
+
+    /// What has linkage under a name, whether or not the name is in scope (C11 6.2.2p2).
+    pub fn linked(&self, name: &[u8]) -> Option<Linked>
+        ensures is { result ≡ value_in name.now self.now.environment.linked }
+        ensures below { IfSome result (LinkedBelow (length self.now.types) self.now.environment.signatures) }
+    {
+        self.environment.linked(name)
+    }
+
+    /// Declares a name with linkage in the innermost scope, and says what has linkage under it, in the whole text (C11 6.2.2).
+    ///
+    /// Want of memory is the only error, and nothing is said of the context then.
+    pub fn declare_linked(
+        &mut self,
+        alloc: Global,
+        name: &[u8],
+        meaning: Linked,
+    ) -> Result<(), NoMemory>
+        requires { EntityBelow (length self.old.types) self.old.environment.signatures meaning.entity }
+        ensures { OnOk result (self.new ≡ record self.old { environment = linked_declared name.now meaning self.old.environment }) }
+    {
+        self.environment.link(alloc, name, meaning)?;
+        self.environment.declare(alloc, name, Binding::WithLinkage)
+    }
+}
