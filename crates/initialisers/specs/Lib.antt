@@ -1,0 +1,4 @@
+pub mod Constants
+pub mod Filled
+pub mod Storing
+pub mod Surplus
