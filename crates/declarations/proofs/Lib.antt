@@ -1,0 +1,9 @@
+pub mod AgainOrNot
+pub mod BehindNames
+pub mod Bound
+pub mod DeclLevels
+pub mod DeclaredNames
+pub mod Given
+pub mod GivingNames
+pub mod OneNumber
+pub mod Words
