@@ -6,8 +6,8 @@ Usage, at the project's root: tests/expressions.py            compares the rows 
 The rows are those of crates/expression_rows/stdin, with the answers of crates/expression_rows/stdout, which the gate compares with what the program
 prints. Of each expression that passes, gcc is asked by static assertions whether it has that type (`__builtin_types_compatible_p`), that size and
 that value, and of each that a rule refuses whether gcc has something to say against it; for the rows of LLP64 clang is asked, where there is one. Types
-of one size and sign are one type in the rows. Where gcc differs by design it is not asked: see `UNLIKE`. The last rows there are random, made by this
-script with the seed 1. The gate does not run it.
+of one size and sign are one type in the rows. Where gcc differs by design it is not asked: see `UNLIKE`. Rows of statements, declarations and initialisers
+are not asked, and no rows behind them: those in front of them end with random ones, made by this script with the seed 1. The gate does not run it.
 """
 import random
 import re
@@ -40,15 +40,19 @@ UNLIKE = {
     "n ? q : r", "n ? y : z", "x = x", "(x = x).a", "(void)x", "n ? g() : 1", "n ? g() : q", "n ? x : x", "x, n", "n, x", "({ x; })",
     "open", "&open", "open[0]", "sizeof(enum e)", "({ sizeof(struct w *); }) + sizeof(enum w)",
     "sizeof(char[(int)&((struct s *)0)->b])", "(unsigned long)&((struct o *)0)->l", "(typeof(void[2]) *)p",
-    "sizeof(struct t { int z; }) + sizeof *z",
+    "sizeof(struct t { int z; }) + sizeof *z", "({ return; })",
 }
+
+# the heading behind which no row is asked
+BEHIND = "# expression statements and blocks (C11 6.8.2, 6.8.3)"
 
 
 def rows():
-    """The rows with their answers, less the headings."""
+    """The rows of expressions with their answers, less the headings."""
     asked = (ROWS / "stdin").read_text().splitlines()
     told = (ROWS / "stdout").read_text().splitlines()
     assert len(asked) == len(told)
+    asked = asked[:asked.index(BEHIND)]
     return [(*row.split(" ", 1), answer) for row, answer in zip(asked, told) if not row.startswith("#")]
 
 

@@ -1,3 +1,1 @@
 mod Growing
-mod Levels
-mod Told

@@ -3,15 +3,15 @@ ghost use Rattle.ctokens.specs.InText.{LieInText};
 ghost use Rattle.ctokens.specs.TokenList.{AreNumbered};
 ghost use Rattle.ctrees.specs.Levels.{expr_levels};
 
-use crate::declarations::declare;
+use crate::declared::{Around, declare};
 use crate::printing::{shown_fault, shown_known};
 use crate::reading::cut;
-use crate::walking::found_of;
 use cbase::{Abi, Expr, NoMemory};
 use cread_expr::{ReadExpr, Scope, read_expr};
 use ctokens::Tokens;
 use expressions::{Context, Found};
 use std::alloc::Global;
+use tree_walk::expression_found;
 
 /// What is printed for a line.
 pub fn answer_of_line(alloc: Global, line: &str) -> Result<String, NoMemory> {
@@ -22,22 +22,24 @@ pub fn answer_of_line(alloc: Global, line: &str) -> Result<String, NoMemory> {
         return Ok(String::from_str(alloc, "no row")?);
     };
     match layout {
-        "lp64" => answer(alloc, Abi::Lp64, text),
-        "llp64" => answer(alloc, Abi::Llp64, text),
+        "lp64" => answer(alloc, Abi::Lp64, Around::IntFunction, text),
+        "llp64" => answer(alloc, Abi::Llp64, Around::IntFunction, text),
+        "void" => answer(alloc, Abi::Lp64, Around::VoidFunction, text),
+        "file" => answer(alloc, Abi::Lp64, Around::File, text),
         _ => Ok(String::from_str(alloc, "no layout")?),
     }
 }
 
 /// What is printed for an expression.
-fn answer(alloc: Global, abi: Abi, text: &str) -> Result<String, NoMemory> {
+fn answer(alloc: Global, abi: Abi, around: Around, text: &str) -> Result<String, NoMemory> {
     match cut(alloc, text.as_bytes())? {
         None => Ok(String::from_str(alloc, "no tokens")?),
-        Some(t) => answer_of_tokens(alloc, abi, &t),
+        Some(t) => answer_of_tokens(alloc, abi, around, &t),
     }
 }
 
 /// What is printed for the tokens of an expression.
-fn answer_of_tokens(alloc: Global, abi: Abi, t: &Tokens) -> Result<String, NoMemory>
+fn answer_of_tokens(alloc: Global, abi: Abi, around: Around, t: &Tokens) -> Result<String, NoMemory>
     requires text { LieInText t.now }
     requires numbered { AreNumbered t.now.list }
 {
@@ -46,7 +48,7 @@ fn answer_of_tokens(alloc: Global, abi: Abi, t: &Tokens) -> Result<String, NoMem
     scope.declare(alloc, b"S", true)?;
     let read = read_expr(alloc, t, &scope, 0)?;
     let answer = match &read {
-        Some(read) => answer_of_read(alloc, abi, read, t.list.len()),
+        Some(read) => answer_of_read(alloc, abi, around, read, t.list.len()),
         None => no_expression(alloc),
     };
     drop(read);
@@ -62,6 +64,7 @@ fn no_expression(alloc: Global) -> Result<String, NoMemory> {
 fn answer_of_read(
     alloc: Global,
     abi: Abi,
+    around: Around,
     read: &ReadExpr,
     count: usize,
 ) -> Result<String, NoMemory>
@@ -71,18 +74,23 @@ fn answer_of_read(
         return no_expression(alloc);
     }
     let mut context = Context::new(alloc);
-    let answer = answer_of_expression(&mut context, abi, &read.expr);
+    let answer = answer_of_expression(&mut context, abi, around, &read.expr);
     drop(context);
     answer
 }
 
 /// What is printed for an expression, of a context in which nothing is declared yet.
-fn answer_of_expression(context: &mut Context, abi: Abi, expr: &Expr) -> Result<String, NoMemory>
+fn answer_of_expression(
+    context: &mut Context,
+    abi: Abi,
+    around: Around,
+    expr: &Expr,
+) -> Result<String, NoMemory>
     requires { expr_levels expr.now ≤ 1024 }
 {
     let alloc = context.alloc;
-    declare(context, abi)?;
-    match found_of(context, abi, expr)? {
+    declare(context, abi, around)?;
+    match expression_found(context, abi, expr)? {
         Found::Passes(known) => shown_known(alloc, context, known),
         Found::Refused(fault) => shown_fault(alloc, fault),
     }

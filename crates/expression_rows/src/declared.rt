@@ -8,7 +8,7 @@
 //!     void *malloc(unsigned long); void *calloc(unsigned long, unsigned long); void free(void *);
 //!     void *memset(void *, int, unsigned long); void *memcpy(void *, void *, unsigned long);
 //!
-//! `missing` and `lost` have no definition, `count` is an int parameter of `main`, and `args` one of another function, written `int args[3]`. The last five functions are built in. What has the type
+//! The text defines all objects but `missing`, and the functions `f`, `g` and `byval`. `missing` and `lost` have no definition, `count` is an int parameter of `main`, and `args` one of another function, written `int args[3]`. The last five functions are built in. What has the type
 //! `unsigned long` here has `unsigned long long` where a long has 4 bytes, for sizes.
 use crate::naming::{
     Body, Standing, enumerator, function, member, object, parameter, typedef, unsized_array,
@@ -31,9 +31,29 @@ const T: Base = Base::Struct(1);
 
 const O: Base = Base::Struct(2);
 
+/// What the text defines of this: all objects but `missing`, and the functions with a body.
+const DEFINED: [&[u8]; 27] = [
+    b"n", b"u", b"c", b"k", b"h", b"m", b"w", b"v", b"j", b"truth", b"p", b"q", b"r", b"row",
+    b"grid", b"x", b"y", b"z", b"x2", b"y2", b"vast", b"open", b"args", b"count", b"f", b"g",
+    b"byval",
+];
+
+/// Where the expressions stand.
+#[derive(Clone, Copy)]
+pub enum Around {
+    /// In the body of a function whose result is an `int`.
+    IntFunction,
+    /// In that of a function without a result.
+    VoidFunction,
+    /// Outside of functions.
+    File,
+}
+
 /// Declares all of this in a data layout.
-pub fn declare(context: &mut Context, abi: Abi) -> Result<(), NoMemory> {
+pub fn declare(context: &mut Context, abi: Abi, around: Around) -> Result<(), NoMemory> {
     let alloc = context.alloc;
+    define(context)?;
+    stand(context, around)?;
     context.enter(alloc)?;
     let long = bytes_of_rank(Rank::Long, abi);
     declare_structs(context, long)?;
@@ -44,6 +64,31 @@ pub fn declare(context: &mut Context, abi: Abi) -> Result<(), NoMemory> {
     declare_arrays(context)?;
     declare_functions(context)?;
     declare_built_in(context)
+}
+
+/// Says what the text defines.
+fn define(context: &mut Context) -> Result<(), NoMemory> {
+    let alloc = context.alloc;
+    for name in DEFINED {
+        context.define(alloc, name)?;
+    }
+    Ok(())
+}
+
+/// Goes into the function around the expressions, if there is one.
+fn stand(context: &mut Context, around: Around) -> Result<(), NoMemory> {
+    match around {
+        Around::IntFunction => {
+            let result = context.integer(4, true)?;
+            context.set_function(Some(result));
+        }
+        Around::VoidFunction => {
+            let result = context.void()?;
+            context.set_function(Some(result));
+        }
+        Around::File => {}
+    }
+    Ok(())
 }
 
 /// The structs: `s` has the number 0, `t` 1 and `o` 2. A long has `long` bytes.
