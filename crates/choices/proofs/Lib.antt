@@ -1,0 +1,13 @@
+pub mod Complete
+pub mod Counts
+pub mod Digits
+pub mod Endings
+pub mod Fronts
+pub mod Whole
+pub mod Worked
+pub mod Longest
+pub mod Numbers
+pub mod OneAnswer
+pub mod Parts
+pub mod Refusals
+pub mod Texts

@@ -1,0 +1,6 @@
+pub mod Answers
+pub mod Examples
+pub mod Format
+pub mod Reading
+pub mod Run
+pub mod Written
