@@ -94,12 +94,10 @@ def instructions(file, wanted):
     return int(re.search(r"I\s+refs:\s+([\d,]+)", said).group(1).replace(",", ""))
 
 
-def main():
-    is_counted = sys.argv[1:] == ["--instructions"]
-    measure, sizes = (instructions, [size // 10 for size in SIZES]) if is_counted else (seconds, SIZES)
-    subprocess.run(["rt", "run"], cwd=CRATE, stdin=subprocess.DEVNULL, stdout=subprocess.DEVNULL, check=True)
+def measured(kinds, measure, sizes):
+    """Prints, for each kind, what a part costs in each size as a ratio to the smallest one."""
     with tempfile.TemporaryDirectory() as folder:
-        for kind, (expression, wanted) in KINDS.items():
+        for kind, (expression, wanted) in kinds.items():
             first = None
             for count in sizes:
                 file = Path(folder, f"{kind}-{count}")
@@ -108,6 +106,12 @@ def main():
                 file.unlink()
                 first = first or cost
                 print(f"{kind}, {count:,}: {cost / first:.2f}", flush=True)
+
+
+def main(kinds=KINDS, sizes=SIZES):
+    is_counted = sys.argv[1:] == ["--instructions"]
+    subprocess.run(["rt", "run"], cwd=CRATE, stdin=subprocess.DEVNULL, stdout=subprocess.DEVNULL, check=True)
+    measured(kinds, *((instructions, [size // 10 for size in sizes]) if is_counted else (seconds, sizes)))
 
 
 if __name__ == "__main__":
