@@ -23,7 +23,8 @@ use std::alloc::Global;
 /// What is found of an initialiser of what is set in an object, or of one for which there is no place (C11 6.7.9): its expressions are walked in the order of
 /// the text, and a store is handed on behind each value.
 ///
-/// Want of memory is the only error, and nothing is said of the context then. An object of more than 65,536 bytes, which no program has, is answered in the same way.
+/// Want of memory is the only error, and nothing is said of the context then. What would be set more than 2^32 bytes behind the front of an array whose size its parts
+/// tell is answered in the same way, and so is what lies in a part of more than 65,536 bytes, of which no object is made.
 pub fn initialiser<F: Fn(&mut Context, Within, Part<'_>) -> Result<Found<Told>, NoMemory>>(
     checker: &Checker<F>,
     _alloc: Global,
