@@ -1,0 +1,12 @@
+-- What holds of languages that carry over.
+use Rattle.typing.specs.Sample.{sample, Declarations}
+use Rattle.typing.specs.SampleFile.{file}
+use Rattle.languages.specs.Carries.{Carries, Carried}
+
+-- each environment
+abbrev pub Anywhere : Declarations → Type 0
+Anywhere env = Unit {0}
+
+-- what is found by the language of the examples is found from where any map leads that carries it over to itself
+abbrev pub FindsWhatIsCarried : Type 0
+FindsWhatIsCarried = (to : Declarations → Declarations) → Carries sample sample file file to Anywhere → Carried sample sample file file to Anywhere
