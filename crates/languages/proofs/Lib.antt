@@ -4,3 +4,4 @@ pub mod Nodes
 pub mod Parts
 pub mod Items
 pub mod Carried
+pub mod Itself

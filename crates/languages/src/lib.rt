@@ -7,4 +7,4 @@
 
 mod laws;
 
-pub use laws::what_is_found_carries_over;
+pub use laws::{each_language_carries_itself, what_is_found_carries_over};
