@@ -6,7 +6,7 @@ use Rattle.cbase.specs.declared.place.Place.{Place}
 use Rattle.report.specs.declared.warning.Warning.{Warning}
 use Rattle.report.specs.declared.answer.Answer.{Answer}
 use Rattle.report.specs.declared.answer.Why.{Why}
-use Rattle.report.specs.declared.answer.Why.TheVariants.{Lexical, Deep, NoMain, Syntax}
+use Rattle.report.specs.declared.answer.Why.TheVariants.{Lexical, Deep, NoMain, Syntax, Rule}
 use Rattle.report.specs.declared.answer.Answer.TheVariants.{Safe, Warned, NotRead, Construct, NotYet, TooLong, Usage, ReadFault, OutOfMemory}
 use Rattle.report.specs.declared.answer.Shown.{Shown}
 use Rattle.cbase.specs.Refused.{IsConstruct}
@@ -31,12 +31,17 @@ abbrev pub warning_line : List (List ℕ) → Warning → List ℕ
 warning_line names warning =
     place_text names warning.place ++ (codes ": " ++ (severity warning.error ++ (codes ": " ++ kind_phrase warning.kind)))
 
+-- `FILE: not read: rule R at file:line:column`
+abbrev pub rule_line : List ℕ → List (List ℕ) → ℕ → Place → List ℕ
+rule_line file names number place = file ++ (codes ": not read: rule " ++ (decimal number ++ (codes " at " ++ place_text names place)))
+
 -- why a file is not read
 abbrev pub why_line : List ℕ → List (List ℕ) → Why → List ℕ
 why_line file names (Lexical place) = file ++ (codes ": not read: no token at " ++ place_text names place)
 why_line file names (Deep place) = file ++ (codes ": not read: too deep at " ++ place_text names place)
 why_line file names NoMain = file ++ codes ": not read: no main"
 why_line file names (Syntax place) = file ++ (codes ": not read: syntax at " ++ place_text names place)
+why_line file names (Rule number place) = rule_line file names number place
 
 -- `FILE: gave up: NAME at file:line:column`
 abbrev pub construct_line : List ℕ → List (List ℕ) → ℕ → Place → List ℕ
@@ -74,6 +79,7 @@ HasPlace names (Lexical place) = place.file < length names
 HasPlace names (Deep place) = place.file < length names
 HasPlace names NoMain = Unit {0}
 HasPlace names (Syntax place) = place.file < length names
+HasPlace names (Rule number place) = place.file < length names
 
 -- each place that is printed has a name for its file, each kind is one, and so is each construct
 abbrev pub HasPrintable : List (List ℕ) → Answer → Type 0

@@ -24,6 +24,14 @@ pub enum Why {
         /// That of the first token of the item.
         place: Place,
     },
+    /// An item that main needs is read, and a rule of C on types, declarations or statements is broken in it
+    /// (C11 6.5 to 6.9).
+    Rule {
+        /// The number of the rule, from 1; docs/language.md tells each.
+        number: u8,
+        /// That of the token where it is broken.
+        place: Place,
+    },
 }
 
 /// What the program answers.
@@ -41,7 +49,8 @@ pub enum Answer {
         /// What is wrong with it.
         why: Why,
     },
-    /// An item that main needs changes a layout, or is not read and has a construct of C that is given up.
+    /// An item that main needs changes a layout, is not read and has a construct of C that is given up, or is read and its
+    /// types show one.
     Construct {
         /// The number of the construct, from 1, goto, to 21, bit-field; each has a printed name.
         number: u8,

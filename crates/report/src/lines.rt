@@ -9,7 +9,7 @@ use cbase::{NoMemory, Place, Text};
 use std::alloc::Global;
 
 /// Appends a number in decimal, without leading zeros.
-fn push_number(alloc: Global, text: &mut Text, number: u32) -> Result<(), NoMemory>
+pub(crate) fn push_number(alloc: Global, text: &mut Text, number: u32) -> Result<(), NoMemory>
     ensures { OnOk result (text.new ≡ text.old ++ decimal number) }
 {
     let digits = format!(in alloc; "{number}")?;

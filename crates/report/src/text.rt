@@ -1,11 +1,11 @@
 ghost use Rattle.std.specs.Prelude.{◌≡◌, ◌∷◌, [], ◌++◌, ◌<◌, IfOk, OnOk, length, map, codes};
 ghost use Rattle.std.specs.List.{All};
 ghost use Rattle.cbase.specs.Refused.{IsConstruct};
-ghost use Rattle.report.specs.Report.{HasPlace, HasPrintable, IsPrintable, construct_line, lines_text, place_text, report_bytes, warning_line, why_line};
+ghost use Rattle.report.specs.Report.{HasPlace, HasPrintable, IsPrintable, construct_line, lines_text, place_text, report_bytes, rule_line, warning_line, why_line};
 
 use crate::answer::{Answer, Shown, Why};
 use crate::construct::name_of_construct;
-use crate::lines::{push_place, push_warning};
+use crate::lines::{push_number, push_place, push_warning};
 use crate::warning::Warning;
 use cbase::{NoMemory, Place, Text};
 use std::alloc::Global;
@@ -75,7 +75,30 @@ pub(crate) fn why_text(
         Why::Deep { place } => line_at(alloc, file, b": not read: too deep at ", names, place),
         Why::NoMain => file_line(alloc, file, b": not read: no main\n"),
         Why::Syntax { place } => line_at(alloc, file, b": not read: syntax at ", names, place),
+        Why::Rule { number, place } => rule_text(alloc, file, names, number, place),
     }
+}
+
+/// The line that tells which rule is broken, with its newline.
+#[tactic(auto, using(std::proofs::Common::append_assoc))]
+fn rule_text(
+    alloc: Global,
+    file: &Text,
+    names: &[Text],
+    number: u8,
+    place: Place,
+) -> Result<Text, NoMemory>
+    requires { place.file < length names.now }
+    ensures { IfOk result (λ text. text
+        ≡ lines_text (rule_line file.now names.now number place ∷ [])) }
+{
+    let mut text = Text::from_slice(alloc, file.as_slice())?;
+    text.extend(b": not read: rule ")?;
+    push_number(alloc, &mut text, u32::from(number))?;
+    text.extend(b" at ")?;
+    push_place(alloc, &mut text, names, &place)?;
+    text.extend(b"\n")?;
+    Ok(text)
 }
 
 /// A line that begins with the file and ends with a place, given what stands between the two.
