@@ -1,0 +1,4 @@
+pub mod Needed
+pub mod Refusals
+pub mod Steps
+pub mod Walk

@@ -1,0 +1,34 @@
+-- What going over items leaves, by what numbers of types mean.
+use Rattle.std.specs.Prelude.{◌≡◌, ◌++◌, List, map}
+use Rattle.cbase.specs.declared.abi.Abi.{Abi}
+use Rattle.cbase.specs.declared.tree.item.Item.{Item}
+use Rattle.cgrammar.specs.Phrases.{Context as Standing}
+use Rattle.cread.specs.InOrder.{at_file}
+use Rattle.ctokens.specs.declared.item_span.ItemSpan.{ItemSpan}
+use Rattle.ctokens.specs.declared.token.Tokens.{Tokens}
+use Rattle.expressions.specs.Context.{Context, declared, Agrees, Grows}
+use Rattle.expressions.specs.FileScope.{file_scope}
+use Rattle.expressions.specs.Language.{language}
+use Rattle.expressions.specs.Numbers.{Numbering, handed_at}
+use Rattle.expressions.specs.declared.handed_row.HandedRow.{HandedRow}
+use Rattle.ccheck.specs.declared.items_checked.ItemsChecked.{ItemsChecked}
+use Rattle.ccheck.specs.declared.items_checked.ItemsChecked.TheVariants.{AllPass, FirstRefused}
+use Rattle.ccheck.specs.declared.refusal.Refusal.{Refusal}
+use Rattle.ccheck.specs.Walk.{ArePassing, IsFirstRefused}
+
+-- all so far are read and pass
+pub record PassSoFar (t : Tokens) (abi : Abi) (spans : List ItemSpan) (program : List Item) (after : Standing) (old new : Context) : Type 0 where
+  pub rows : List HandedRow
+  pub handed : new.handed ≡ old.handed ++ rows
+  pub grows : Grows old new
+  pub passing : (n : Numbering) → Agrees n new
+      → ArePassing t (language abi n) (file_scope abi n) spans at_file (declared old) program (map (handed_at n) rows) after (declared new)
+
+-- one is the first that is refused
+pub record RefusedFirst (t : Tokens) (abi : Abi) (spans : List ItemSpan) (old new : Context) (refusal : Refusal) : Type 0 where
+  pub grows : Grows old new
+  pub first : (n : Numbering) → Agrees n new → IsFirstRefused t (language abi n) (file_scope abi n) spans at_file (declared old) refusal
+
+abbrev pub AreChecked : Tokens → Abi → List ItemSpan → Context → Context → ItemsChecked → Type 0
+AreChecked t abi spans old new (AllPass program) = (after : Standing) × PassSoFar t abi spans program after old new
+AreChecked t abi spans old new (FirstRefused refusal) = RefusedFirst t abi spans old new refusal
