@@ -31,7 +31,7 @@ module _ {t : Tokens} {l : Language} {file : FileScope l} where
   -- it is not read
   pub unread_behind : {spans : List ItemSpan} {before middle : Context} {env inside : l.Environment} {items : List Item} {handed : List Handed} {unread : Unread} (span : ItemSpan) (others : List ItemSpan)
       → ArePassing t l file spans before env items handed middle inside → IsUnread t span.first span.after middle unread
-      → IsFirstRefused t l file (spans ++ span ∷ others) before env (of_unread unread)
+      → IsFirstRefused t l file (spans ++ span ∷ others) before env (of_unread unread) inside
   unread_behind span others NoItem is = NotRead is refl
   unread_behind span others (OneItem first told rest all) is = Later first told (unread_behind span others rest is)
 
@@ -39,6 +39,6 @@ module _ {t : Tokens} {l : Language} {file : FileScope l} where
   pub broken_behind : {spans : List ItemSpan} {before middle after : Context} {env inside behind : l.Environment} {items : List Item} {item : Item} {handed : List Handed} {fault : Fault} (span : ItemSpan) (others : List ItemSpan)
       → ArePassing t l file spans before env items handed middle inside → IsItemRead t span.first span.after middle item after
       → FindsItem t l file span inside item (Refused fault) behind
-      → IsFirstRefused t l file (spans ++ span ∷ others) before env (of_fault t fault)
+      → IsFirstRefused t l file (spans ++ span ∷ others) before env (of_fault t fault) behind
   broken_behind span others NoItem read found = Broken read found refl
   broken_behind span others (OneItem first told rest all) read found = Later first told (broken_behind span others rest read found)

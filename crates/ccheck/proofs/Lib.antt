@@ -1,2 +1,7 @@
+mod Answered
 mod Behind
+mod Carrying
+mod ItemSteps
+mod Named
 pub mod OneAnswer
+mod Spans

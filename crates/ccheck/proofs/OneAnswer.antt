@@ -48,47 +48,47 @@ module _ (t : Tokens) (l : Language) (file : FileScope l) where
       (subst (λ (context : Context). ArePassing t l file spans context within items further after inside) next rest)) left in
       (λ i. same i ∷ tail i, sym all ∙ ((λ i. one_handed handed told outcome i ++ rows i) ∙ whole), last)
 
-  never_both : (spans : List ItemSpan) (before after : Context) (env inside : l.Environment) (items : List Item) (handed : List Handed) (refusal : Refusal)
-      → ArePassing t l file spans before env items handed after inside → IsFirstRefused t l file spans before env refusal → ⊥
-  never_both _ _ _ _ _ _ _ _ NoItem refused = elim refused [ ]
-  never_both _ before _ env _ _ _ refusal (OneItem {middle} {span} {item} read found rest all) (NotRead {unread} stops is) =
+  never_both : (spans : List ItemSpan) (before after : Context) (env inside outside : l.Environment) (items : List Item) (handed : List Handed) (refusal : Refusal)
+      → ArePassing t l file spans before env items handed after inside → IsFirstRefused t l file spans before env refusal outside → ⊥
+  never_both _ _ _ _ _ _ _ _ _ NoItem refused = elim refused [ ]
+  never_both _ before _ env _ _ _ _ refusal (OneItem {middle} {span} {item} read found rest all) (NotRead {unread} stops is) =
       read_or_unread t span.first span.after before middle item unread read stops
-  never_both _ before _ env _ _ _ refusal (OneItem {middle} {inside = within} {span} {item} {handed} read found rest all) (Broken {middle = second} {after} {item = other} {fault} also too is) =
-      let (same, next, outcome, env_same) = one_found span before middle second env within after item other (Passes tt handed) (Refused fault) read also found too in
+  never_both _ before _ env _ outside _ _ refusal (OneItem {middle} {inside = within} {span} {item} {handed} read found rest all) (Broken {middle = second} {item = other} {fault} also too is) =
+      let (same, next, outcome, env_same) = one_found span before middle second env within outside item other (Passes tt handed) (Refused fault) read also found too in
       passes_or_not handed fault outcome
-  never_both _ before after env inside _ _ refusal (OneItem {middle} {inside = within} {span} {spans} {item} {items} {handed} {further} read found rest all)
+  never_both _ before after env inside outside _ _ refusal (OneItem {middle} {inside = within} {span} {spans} {item} {items} {handed} {further} read found rest all)
       (Later {middle = second} {inside = around} {item = other} {handed = told} also too more) =
       let (same, next, outcome, env_same) = one_found span before middle second env within around item other (Passes tt handed) (Passes tt told) read also found too in
-      never_both spans second after around inside items further refusal
+      never_both spans second after around inside outside items further refusal
       (subst (λ (e : l.Environment). ArePassing t l file spans second e items further after inside) env_same
       (subst (λ (context : Context). ArePassing t l file spans context within items further after inside) next rest)) more
 
-  one_refusal : (spans : List ItemSpan) (before : Context) (env : l.Environment) (refusal other : Refusal)
-      → IsFirstRefused t l file spans before env refusal → IsFirstRefused t l file spans before env other → refusal ≡ other
-  one_refusal _ before env refusal other (NotRead {span} {unread} stops is) (NotRead {unread = second} also is2) =
+  one_refusal : (spans : List ItemSpan) (before : Context) (env inside outside : l.Environment) (refusal other : Refusal)
+      → IsFirstRefused t l file spans before env refusal inside → IsFirstRefused t l file spans before env other outside → refusal ≡ other
+  one_refusal _ before env _ _ refusal other (NotRead {span} {unread} stops is) (NotRead {unread = second} also is2) =
       sym is ∙ (ap of_unread (one_unread t span.first span.after before unread second stops also) ∙ is2)
-  one_refusal _ before env refusal other (NotRead {span} {unread} stops is) (Broken {middle} {item} read found is2) =
+  one_refusal _ before env _ _ refusal other (NotRead {span} {unread} stops is) (Broken {middle} {item} read found is2) =
       absurd (read_or_unread t span.first span.after before middle item unread read stops)
-  one_refusal _ before env refusal other (NotRead {span} {unread} stops is) (Later {middle} {item} read found rest) =
+  one_refusal _ before env _ _ refusal other (NotRead {span} {unread} stops is) (Later {middle} {item} read found rest) =
       absurd (read_or_unread t span.first span.after before middle item unread read stops)
-  one_refusal _ before env refusal other (Broken {middle} {span} {item} read found is) (NotRead {unread} stops is2) =
+  one_refusal _ before env _ _ refusal other (Broken {middle} {span} {item} read found is) (NotRead {unread} stops is2) =
       absurd (read_or_unread t span.first span.after before middle item unread read stops)
-  one_refusal _ before env refusal other (Broken {middle} {after} {span} {item} {fault} read found is) (Broken {middle = second} {after = behind} {item = another} {fault = next} also too is2) =
-      let (same, middles, outcome, env_same) = one_found span before middle second env after behind item another (Refused fault) (Refused next) read also found too in
+  one_refusal _ before env inside outside refusal other (Broken {middle} {span} {item} {fault} read found is) (Broken {middle = second} {item = another} {fault = next} also too is2) =
+      let (same, middles, outcome, env_same) = one_found span before middle second env inside outside item another (Refused fault) (Refused next) read also found too in
       sym is ∙ (ap (of_fault t) (one_fault fault next outcome) ∙ is2)
-  one_refusal _ before env refusal other (Broken {middle} {after} {span} {item} {fault} read found is) (Later {middle = second} {inside} {item = another} {handed} also too rest) =
-      let (same, middles, outcome, env_same) = one_found span before second middle env inside after another item (Passes tt handed) (Refused fault) also read too found in
+  one_refusal _ before env inside outside refusal other (Broken {middle} {span} {item} {fault} read found is) (Later {middle = second} {inside = around} {item = another} {handed} also too rest) =
+      let (same, middles, outcome, env_same) = one_found span before second middle env around inside another item (Passes tt handed) (Refused fault) also read too found in
       absurd (passes_or_not handed fault outcome)
-  one_refusal _ before env refusal other (Later {middle} {span} {item} read found rest) (NotRead {unread} stops is2) =
+  one_refusal _ before env _ _ refusal other (Later {middle} {span} {item} read found rest) (NotRead {unread} stops is2) =
       absurd (read_or_unread t span.first span.after before middle item unread read stops)
-  one_refusal _ before env refusal other (Later {middle} {inside} {span} {item} {handed} read found rest) (Broken {middle = second} {after} {item = another} {fault} also too is2) =
-      let (same, middles, outcome, env_same) = one_found span before middle second env inside after item another (Passes tt handed) (Refused fault) read also found too in
+  one_refusal _ before env inside outside refusal other (Later {middle} {inside = within} {span} {item} {handed} read found rest) (Broken {middle = second} {item = another} {fault} also too is2) =
+      let (same, middles, outcome, env_same) = one_found span before middle second env within outside item another (Passes tt handed) (Refused fault) read also found too in
       absurd (passes_or_not handed fault outcome)
-  one_refusal _ before env refusal other (Later {middle} {inside} {span} {spans} {item} {handed} read found rest) (Later {middle = second} {inside = around} {item = another} {handed = told} also too more) =
-      let (same, middles, outcome, env_same) = one_found span before middle second env inside around item another (Passes tt handed) (Passes tt told) read also found too in
-      one_refusal spans second around refusal other
-      (subst (λ (e : l.Environment). IsFirstRefused t l file spans second e refusal) env_same
-      (subst (λ (context : Context). IsFirstRefused t l file spans context inside refusal) middles rest)) more
+  one_refusal _ before env inside outside refusal other (Later {middle} {inside = within} {span} {spans} {item} {handed} read found rest) (Later {middle = second} {inside = around} {item = another} {handed = told} also too more) =
+      let (same, middles, outcome, env_same) = one_found span before middle second env within around item another (Passes tt handed) (Passes tt told) read also found too in
+      one_refusal spans second around inside outside refusal other
+      (subst (λ (e : l.Environment). IsFirstRefused t l file spans second e refusal inside) env_same
+      (subst (λ (context : Context). IsFirstRefused t l file spans context within refusal inside) middles rest)) more
 
 pub one_answer : (l : Language) (file : FileScope l) → HaveOneAnswer l file
 one_answer l file = record {

@@ -1,3 +1,5 @@
+pub mod Checked
+pub mod Named
 pub mod Needed
 pub mod Refusals
 pub mod Steps

@@ -32,32 +32,32 @@ pub data ArePassing (t : Tokens) (l : Language) (file : FileScope l) : List Item
       → handed ++ further ≡ all
       → ArePassing t l file (span ∷ spans) before env (item ∷ items) all after behind
 
--- the first that is refused, with what is answered of it
-pub data IsFirstRefused (t : Tokens) (l : Language) (file : FileScope l) : List ItemSpan → Context → l.Environment → Refusal → Type 0 where
+-- the first that is refused, with what is answered of it, and what is declared behind that
+pub data IsFirstRefused (t : Tokens) (l : Language) (file : FileScope l) : List ItemSpan → Context → l.Environment → Refusal → l.Environment → Type 0 where
   -- it is not read
   NotRead : {before : Context} {env : l.Environment} {span : ItemSpan} {spans : List ItemSpan} {unread : Unread} {refusal : Refusal}
       → IsUnread t span.first span.after before unread
       → of_unread unread ≡ refusal
-      → IsFirstRefused t l file (span ∷ spans) before env refusal
+      → IsFirstRefused t l file (span ∷ spans) before env refusal env
   -- it is read, and something is refused in it
-  Broken : {before middle : Context} {env after : l.Environment} {span : ItemSpan} {spans : List ItemSpan} {item : Item} {fault : Fault} {refusal : Refusal}
+  Broken : {before middle : Context} {env behind : l.Environment} {span : ItemSpan} {spans : List ItemSpan} {item : Item} {fault : Fault} {refusal : Refusal}
       → IsItemRead t span.first span.after before item middle
-      → FindsItem t l file span env item (Refused fault) after
+      → FindsItem t l file span env item (Refused fault) behind
       → of_fault t fault ≡ refusal
-      → IsFirstRefused t l file (span ∷ spans) before env refusal
+      → IsFirstRefused t l file (span ∷ spans) before env refusal behind
   -- it is read and passes, and one behind it is the first
-  Later : {before middle : Context} {env inside : l.Environment} {span : ItemSpan} {spans : List ItemSpan} {item : Item} {handed : List Handed} {refusal : Refusal}
+  Later : {before middle : Context} {env inside behind : l.Environment} {span : ItemSpan} {spans : List ItemSpan} {item : Item} {handed : List Handed} {refusal : Refusal}
       → IsItemRead t span.first span.after before item middle
       → FindsItem t l file span env item (Passes tt handed) inside
-      → IsFirstRefused t l file spans middle inside refusal
-      → IsFirstRefused t l file (span ∷ spans) before env refusal
+      → IsFirstRefused t l file spans middle inside refusal behind
+      → IsFirstRefused t l file (span ∷ spans) before env refusal behind
 
 -- Of items one answer is true at most.
 pub record HaveOneAnswer (l : Language) (file : FileScope l) : Type 0 where
   pub one_program : (t : Tokens) (spans : List ItemSpan) (before after behind : Context) (env inside outside : l.Environment) (items others : List Item) (handed told : List Handed)
       → ArePassing t l file spans before env items handed after inside → ArePassing t l file spans before env others told behind outside
       → (items ≡ others) × (handed ≡ told) × (inside ≡ outside)
-  pub never_both : (t : Tokens) (spans : List ItemSpan) (before after : Context) (env inside : l.Environment) (items : List Item) (handed : List Handed) (refusal : Refusal)
-      → ArePassing t l file spans before env items handed after inside → IsFirstRefused t l file spans before env refusal → ⊥
-  pub one_refusal : (t : Tokens) (spans : List ItemSpan) (before : Context) (env : l.Environment) (refusal other : Refusal)
-      → IsFirstRefused t l file spans before env refusal → IsFirstRefused t l file spans before env other → refusal ≡ other
+  pub never_both : (t : Tokens) (spans : List ItemSpan) (before after : Context) (env inside outside : l.Environment) (items : List Item) (handed : List Handed) (refusal : Refusal)
+      → ArePassing t l file spans before env items handed after inside → IsFirstRefused t l file spans before env refusal outside → ⊥
+  pub one_refusal : (t : Tokens) (spans : List ItemSpan) (before : Context) (env inside outside : l.Environment) (refusal other : Refusal)
+      → IsFirstRefused t l file spans before env refusal inside → IsFirstRefused t l file spans before env other outside → refusal ≡ other

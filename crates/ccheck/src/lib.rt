@@ -1,9 +1,16 @@
 //! Whether the items that main needs pass: each is read and then checked, before the next is read, and the first that is refused is answered.
 //!
-//! It knows which items these are from who calls it, and how they are read and what is found of them from the crates below. It knows nothing of files and
-//! reports, nor of what a program does when it runs.
+//! It knows how items are read and what is found of them from the crates below. It knows nothing of files and reports, nor of what a program does when it
+//! runs.
 #![tactic(auto)]
 
+mod checking;
+mod items_checked;
+mod laws;
+mod program;
 mod refusal;
 
+pub use checking::{Checked, check};
+pub use laws::items_have_one_answer;
+pub use program::TypedProgram;
 pub use refusal::Refusal;

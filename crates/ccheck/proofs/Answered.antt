@@ -1,0 +1,57 @@
+-- What is found of the items of a text from its beginning is what is answered of them.
+use Rattle.std.proofs.Common.{◌≡◌, ◌++◌, ℕ, Bool, List, [], map, refl, sym, ◌∙◌, subst}
+use Rattle.cbase.specs.declared.abi.Abi.{Abi}
+use Rattle.cbase.specs.declared.tree.item.Item.{Item}
+use Rattle.cgrammar.specs.Phrases.{Context as Standing}
+use Rattle.cread.specs.InOrder.{at_file}
+use Rattle.ctokens.specs.declared.item_span.ItemSpan.{ItemSpan}
+use Rattle.ctokens.specs.declared.token.Tokens.{Tokens}
+use Rattle.definitions.specs.Defined.{bodied_names, defined_names}
+use Rattle.expressions.specs.Context.{Context, declared, Agrees}
+use Rattle.expressions.specs.FileScope.{file_scope}
+use Rattle.expressions.specs.Language.{language}
+use Rattle.expressions.specs.Numbers.{Numbering, handed_at}
+use Rattle.expressions.specs.declared.handed_row.HandedRow.{HandedRow}
+use Rattle.expressions.proofs.Growth.{agrees_before}
+use Rattle.languages.specs.AtTypes.{declarations_at, HasSignatures}
+use Rattle.languages.specs.Begins.{Begins}
+use Rattle.languages.specs.CLanguage.{Declarations, c_language, c_file}
+use Rattle.languages.specs.CLaws.{FindsWhatContextsFind}
+use Rattle.languages.specs.LeadsBack.{LeadsBack}
+use Rattle.ccheck.specs.declared.program.TypedProgram.{TypedProgram}
+use Rattle.ccheck.specs.declared.refusal.Refusal.{Refusal}
+use Rattle.ccheck.specs.Checked.{IsTyped, IsRefused, at_beginning}
+use Rattle.ccheck.specs.Needed.{spans_of}
+use Rattle.ccheck.specs.Steps.{PassSoFar, RefusedFirst}
+use Rattle.ccheck.specs.Walk.{ArePassing, IsFirstRefused}
+use Rattle.ccheck.proofs.Carrying.{passing_carried, refused_carried}
+
+module _ (t : Tokens) (items : List ItemSpan) (numbers : List ℕ) (abi : Abi) (strict : Bool) (carried : FindsWhatContextsFind) (old new : Context)
+    (begins : Begins abi strict (bodied_names t items) (defined_names t items) old) where
+  -- a context by its signatures
+  valid : (n : Numbering) → Agrees n new → HasSignatures n (declared new)
+  valid n agrees = agrees.signatures
+
+  pub are_typed : (program : List Item) (after : Standing) (read_by : (n : Numbering) × Agrees n new × LeadsBack n) → PassSoFar t abi (spans_of items numbers) program after old new
+      → IsTyped t items numbers abi strict (record { program = program; context = new; abi = abi; strict = strict })
+  are_typed program after read_by passed = record {
+    abi_is = refl;
+    strict_is = refl;
+    after = after;
+    passing = λ n agrees back.
+        let (passing, before) = passing_carried t (language abi n) (c_language abi) (file_scope abi n) (c_file abi) (declarations_at n) (HasSignatures n) (carried abi n back) (passed.passing n agrees) (valid n agrees) in
+        let begun : declarations_at n (declared old) ≡ at_beginning t items abi strict = begins.declares n (agrees_before old new n passed.grows agrees) in
+        let rows : passed.rows ≡ new.handed = sym (passed.handed ∙ (λ i. begins.handed i ++ passed.rows)) in
+        subst (λ (env : Declarations). ArePassing t (c_language abi) (c_file abi) (spans_of items numbers) at_file env program (map (handed_at n) new.handed) after (declarations_at n (declared new))) begun
+        (subst (λ (handed : List HandedRow). ArePassing t (c_language abi) (c_file abi) (spans_of items numbers) at_file (declarations_at n (declared old)) program (map (handed_at n) handed) after (declarations_at n (declared new))) rows
+        passing);
+    read_by = read_by;
+  }
+
+  pub is_refused : (refusal : Refusal) (read_by : (n : Numbering) × Agrees n new × LeadsBack n) → RefusedFirst t abi (spans_of items numbers) old new refusal
+      → IsRefused t items numbers abi strict refusal
+  is_refused refusal (n, agrees, back) refused =
+      let (first, before) = refused_carried t (language abi n) (c_language abi) (file_scope abi n) (c_file abi) (declarations_at n) (HasSignatures n) (carried abi n back) (refused.first n agrees) (valid n agrees) in
+      let begun : declarations_at n (declared old) ≡ at_beginning t items abi strict = begins.declares n (agrees_before old new n refused.grows agrees) in
+      (declarations_at n (declared new),
+      subst (λ (env : Declarations). IsFirstRefused t (c_language abi) (c_file abi) (spans_of items numbers) at_file env refusal (declarations_at n (declared new))) begun first)
