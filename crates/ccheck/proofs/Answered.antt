@@ -32,20 +32,24 @@ module _ (t : Tokens) (items : List ItemSpan) (numbers : List ℕ) (abi : Abi) (
   valid : (n : Numbering) → Agrees n new → HasSignatures n (declared new)
   valid n agrees = agrees.signatures
 
+  passing_in_c : (program : List Item) (after : Standing) (passed : PassSoFar t abi (spans_of items numbers) program after old new) (n : Numbering) → Agrees n new → LeadsBack n
+      → ArePassing t (c_language abi) (c_file abi) (spans_of items numbers) at_file (at_beginning t items abi strict) program (map (handed_at n) new.handed) after (declarations_at n (declared new))
+  passing_in_c program after passed n agrees back =
+      let (passing, before) = passing_carried t (language abi n) (c_language abi) (file_scope abi n) (c_file abi) (declarations_at n) (HasSignatures n) (carried abi n back) (passed.passing n agrees) (valid n agrees) in
+      let begun : declarations_at n (declared old) ≡ at_beginning t items abi strict = begins.declares n (agrees_before old new n passed.grows agrees) in
+      let rows : passed.rows ≡ new.handed = sym (passed.handed ∙ (λ i. begins.handed i ++ passed.rows)) in
+      subst (λ (env : Declarations). ArePassing t (c_language abi) (c_file abi) (spans_of items numbers) at_file env program (map (handed_at n) new.handed) after (declarations_at n (declared new))) begun
+      (subst (λ (handed : List HandedRow). ArePassing t (c_language abi) (c_file abi) (spans_of items numbers) at_file (declarations_at n (declared old)) program (map (handed_at n) handed) after (declarations_at n (declared new))) rows
+      passing)
+
   pub are_typed : (program : List Item) (after : Standing) (read_by : (n : Numbering) × Agrees n new × LeadsBack n) → PassSoFar t abi (spans_of items numbers) program after old new
       → IsTyped t items numbers abi strict (record { program = program; context = new; abi = abi; strict = strict })
-  are_typed program after read_by passed = record {
+  are_typed program after (number, agreeing, backwards) passed = record {
     abi_is = refl;
     strict_is = refl;
     after = after;
-    passing = λ n agrees back.
-        let (passing, before) = passing_carried t (language abi n) (c_language abi) (file_scope abi n) (c_file abi) (declarations_at n) (HasSignatures n) (carried abi n back) (passed.passing n agrees) (valid n agrees) in
-        let begun : declarations_at n (declared old) ≡ at_beginning t items abi strict = begins.declares n (agrees_before old new n passed.grows agrees) in
-        let rows : passed.rows ≡ new.handed = sym (passed.handed ∙ (λ i. begins.handed i ++ passed.rows)) in
-        subst (λ (env : Declarations). ArePassing t (c_language abi) (c_file abi) (spans_of items numbers) at_file env program (map (handed_at n) new.handed) after (declarations_at n (declared new))) begun
-        (subst (λ (handed : List HandedRow). ArePassing t (c_language abi) (c_file abi) (spans_of items numbers) at_file (declarations_at n (declared old)) program (map (handed_at n) handed) after (declarations_at n (declared new))) rows
-        passing);
-    read_by = read_by;
+    passing = passing_in_c program after passed;
+    checked = (program, map (handed_at number) new.handed, after, declarations_at number (declared new), passing_in_c program after passed number agreeing backwards);
   }
 
   pub is_refused : (refusal : Refusal) (read_by : (n : Numbering) × Agrees n new × LeadsBack n) → RefusedFirst t abi (spans_of items numbers) old new refusal

@@ -1,6 +1,7 @@
 -- What is answered of the items that main needs.
 use Rattle.std.specs.Prelude.{◌≡◌, ℕ, Bool, List, map}
 use Rattle.cbase.specs.declared.abi.Abi.{Abi}
+use Rattle.cbase.specs.declared.tree.item.Item.{Item}
 use Rattle.cgrammar.specs.Phrases.{Context as Standing}
 use Rattle.cread.specs.InOrder.{at_file}
 use Rattle.ctokens.specs.declared.item_span.ItemSpan.{ItemSpan}
@@ -8,6 +9,7 @@ use Rattle.ctokens.specs.declared.token.Tokens.{Tokens}
 use Rattle.definitions.specs.Defined.{bodied_names, defined_names}
 use Rattle.expressions.specs.Context.{declared, Agrees}
 use Rattle.expressions.specs.Numbers.{Numbering, handed_at}
+use Rattle.typing.specs.Outcomes.{Handed}
 use Rattle.languages.specs.AtTypes.{declarations_at}
 use Rattle.languages.specs.CBegin.{c_begin}
 use Rattle.languages.specs.CLanguage.{Declarations, c_language, c_file}
@@ -23,7 +25,13 @@ use Rattle.ccheck.specs.Walk.{ArePassing, IsFirstRefused}
 abbrev pub at_beginning : Tokens → List ItemSpan → Abi → Bool → Declarations
 at_beginning t items abi strict = c_begin abi strict (bodied_names t items) (defined_names t items)
 
--- each of them is read and passes, and that is handed on of them; whatever the numbers of types in it are read by
+-- each of them is read and passes
+abbrev pub IsChecked : Tokens → List ItemSpan → List ℕ → Abi → Bool → Type 0
+IsChecked t items numbers abi strict =
+    (program : List Item) × (handed : List Handed) × (after : Standing) × (behind : Declarations)
+    × ArePassing t (c_language abi) (c_file abi) (spans_of items numbers) at_file (at_beginning t items abi strict) program handed after behind
+
+-- and that is the program, and that is handed on of them, whatever the numbers of types in it are read by
 pub record IsTyped (t : Tokens) (items : List ItemSpan) (numbers : List ℕ) (abi : Abi) (strict : Bool) (p : TypedProgram) : Type 0 where
   pub abi_is : p.abi ≡ abi
   pub strict_is : p.strict ≡ strict
@@ -31,8 +39,7 @@ pub record IsTyped (t : Tokens) (items : List ItemSpan) (numbers : List ℕ) (ab
   pub passing : (n : Numbering) → Agrees n p.context → LeadsBack n
       → ArePassing t (c_language abi) (c_file abi) (spans_of items numbers) at_file (at_beginning t items abi strict) p.program (map (handed_at n) p.context.handed)
       after (declarations_at n (declared p.context))
-  -- and there is something by which they are read
-  pub read_by : (n : Numbering) × Agrees n p.context × LeadsBack n
+  pub checked : IsChecked t items numbers abi strict
 
 -- the first of them that is refused is answered so
 abbrev pub IsRefused : Tokens → List ItemSpan → List ℕ → Abi → Bool → Refusal → Type 0

@@ -1,6 +1,5 @@
 pub mod Exactness
 pub mod FaultPlaces
-pub mod NeededItems
-pub mod Told
+pub pub mod Told
 pub mod OneVerdict
 pub mod Printed

@@ -1,5 +1,5 @@
 -- Of one file at most one verdict is true.
-use Rattle.std.proofs.Common.{◌≡◌, ℕ, ◌<◌, ◌≤◌, ◌⊎◌, inl, inr, Option, None, Some, Result, Ok, Err, List, [], ◌∷◌, length, map, ◌↔◌, refl, ap, sym, ◌∙◌, subst, arith}
+use Rattle.std.proofs.Common.{◌≡◌, ℕ, ◌<◌, ◌≤◌, ◌⊎◌, false, inl, inr, Option, None, Some, Result, Ok, Err, List, [], ◌∷◌, length, map, ◌↔◌, refl, ap, sym, ◌∙◌, subst, arith}
 use Rattle.cbase.specs.declared.place.Place.{Place}
 use Rattle.ctokens.specs.InText.{most_bytes}
 use Rattle.ctokens.specs.declared.token.Tokens.{Tokens}
@@ -10,9 +10,15 @@ use Rattle.ctokens.specs.TokenList.{AreTokens, IsLexical}
 use Rattle.ctokens.specs.Items.{IsItems}
 use Rattle.ctokens.specs.Need.{IsNeed}
 use Rattle.ctokens.specs.ItemRows.{item_rows}
-use Rattle.cread.specs.InOrder.{AreRead, HaveOneReading, IsFirstUnread, at_file}
-use Rattle.cread.specs.declared.unread.Unread.{Unread}
-use Rattle.cread.specs.declared.unread.Unread.TheVariants as unread
+use Rattle.cbase.specs.declared.abi.Abi.{Abi}
+use Rattle.cbase.specs.declared.abi.Abi.TheVariants.{Lp64}
+use Rattle.cread.specs.InOrder.{at_file}
+use Rattle.languages.specs.CLanguage.{c_language, c_file}
+use Rattle.ccheck.specs.declared.refusal.Refusal.{Refusal}
+use Rattle.ccheck.specs.declared.refusal.Refusal.TheVariants as refusal
+use Rattle.ccheck.specs.Checked.{IsChecked, IsRefused, at_beginning}
+use Rattle.ccheck.specs.Needed.{spans_of}
+use Rattle.ccheck.specs.Walk.{HaveOneAnswer}
 use Rattle.report.specs.declared.answer.Why.TheVariants as why
 use Rattle.report.specs.declared.answer.Answer.{Answer}
 use Rattle.report.specs.declared.answer.Answer.TheVariants.{Safe, Warned, NotRead, Construct, NotYet, TooLong, Usage, ReadFault, OutOfMemory}
@@ -20,7 +26,6 @@ use Rattle.report.specs.declared.warning.Warning.{Warning}
 use Rattle.first_form.specs.declared.line.Program.{Program}
 use Rattle.first_form.specs.declared.token.PlacedToken.{PlacedToken}
 use Rattle.first_form.specs.FirstForm.{IsFormed, IsProgram}
-use Rattle.verdicts.specs.Needed.{spans_of}
 use Rattle.verdicts.specs.Verdict.{HasNoMain, HasNoToken, IsExact, IsFirstForm, IsRead, IsSound, IsTooDeep, IsVerdict, Judges, answer_of, verdict_of}
 use Rattle.verdicts.specs.Warnings.{AreWarnings, warning_of}
 use Rattle.first_form.proofs.Ascending.{same_faults, same_numbers, no_member}
@@ -44,22 +49,22 @@ IsStage file bytes AtLong = 4194305 ≤ length bytes
 
 abbrev HasForm : Tokens → List ItemSpan → List ℕ → Answer → Type 0
 HasForm t items numbers answer =
-    AreRead t (spans_of items numbers) × (row : List PlacedToken) × (program : Program) × (warnings : List Warning) × IsFirstForm t items numbers row program
+    IsChecked t items numbers Lp64 false × (row : List PlacedToken) × (program : Program) × (warnings : List Warning) × IsFirstForm t items numbers row program
     × AreWarnings row program warnings × (answer ≡ verdict_of warnings)
 
 abbrev HasNoForm : Tokens → List ItemSpan → List ℕ → Answer → Type 0
 HasNoForm t items numbers answer =
-    AreRead t (spans_of items numbers) × ((row : List PlacedToken) (program : Program) → IsFirstForm t items numbers row program → ⊥) × (answer ≡ NotYet)
+    IsChecked t items numbers Lp64 false × ((row : List PlacedToken) (program : Program) → IsFirstForm t items numbers row program → ⊥) × (answer ≡ NotYet)
 
-abbrev IsUnreadSo : Tokens → List ItemSpan → List ℕ → Answer → Type 0
-IsUnreadSo t items numbers answer = (reason : Unread) × IsFirstUnread t (spans_of items numbers) at_file reason × (answer ≡ answer_of reason)
+abbrev IsRefusedSo : Tokens → List ItemSpan → List ℕ → Answer → Type 0
+IsRefusedSo t items numbers answer = (reason : Refusal) × IsRefused t items numbers Lp64 false reason × (answer ≡ answer_of reason)
 
 -- what is answered there
 abbrev Fits : Stage → Answer → Type 0
 Fits (AtLexical place) answer = answer ≡ NotRead (why.Lexical place)
 Fits (AtDeep place) answer = answer ≡ NotRead (why.Deep place)
 Fits AtNoMain answer = answer ≡ NotRead why.NoMain
-Fits (AtRead t items numbers) answer = IsUnreadSo t items numbers answer ⊎ (HasForm t items numbers answer ⊎ HasNoForm t items numbers answer)
+Fits (AtRead t items numbers) answer = IsRefusedSo t items numbers answer ⊎ (HasForm t items numbers answer ⊎ HasNoForm t items numbers answer)
 Fits AtLong answer = answer ≡ TooLong 4194305
 
 -- a row of warnings for a program that no run of which meets a fault
@@ -87,9 +92,11 @@ stage_of file bytes (NotRead (why.Lexical place)) verdict judged = (AtLexical pl
 stage_of file bytes (NotRead (why.Deep place)) verdict judged = (AtDeep place, judged, refl)
 stage_of file bytes (NotRead why.NoMain) verdict judged = (AtNoMain, judged, refl)
 stage_of file bytes (NotRead (why.Syntax place)) verdict (short, (t, items, numbers, read, first)) =
-    (AtRead t items numbers, (short, read), inl (unread.Syntax place, first, refl))
+    (AtRead t items numbers, (short, read), inl (refusal.Syntax place, first, refl))
+stage_of file bytes (NotRead (why.Rule number place)) verdict (short, (t, items, numbers, read, first)) =
+    (AtRead t items numbers, (short, read), inl (refusal.Rule number place, first, refl))
 stage_of file bytes (Construct number place) verdict (short, (t, items, numbers, read, first)) =
-    (AtRead t items numbers, (short, read), inl (unread.Construct number place, first, refl))
+    (AtRead t items numbers, (short, read), inl (refusal.Construct number place, first, refl))
 stage_of file bytes NotYet verdict (short, (t, items, numbers, read, all, none)) = (AtRead t items numbers, (short, read), inr (inr (all, none, refl)))
 stage_of file bytes (TooLong taken) verdict (is, inside) = (AtLong, omega (arith, is, inside), ap TooLong is)
 stage_of file bytes Usage verdict judged = absurd verdict
@@ -133,16 +140,18 @@ module _ (one_list : (file text : List ℕ) (tokens others : Tokens) → AreToke
     (one_place : (file text : List ℕ) (lexical other : Lexical) → IsLexical file text lexical → IsLexical file text other → lexical ≡ other)
     (never_both : (file text : List ℕ) (tokens : Tokens) (lexical : Lexical) → AreTokens file text tokens → IsLexical file text lexical → ⊥)
     (one_items : (t : Tokens) (answer other : Result (List ItemSpan) Deep) → IsItems t answer → IsItems t other → answer ≡ other)
-    (one_reading : HaveOneReading)
+    (one_answer : (abi : Abi) → HaveOneAnswer (c_language abi) (c_file abi))
     (file bytes : List ℕ) where
   -- of the items that main needs one answer is true
-  read_or_unread : (t : Tokens) (items : List ItemSpan) (numbers : List ℕ) (reason : Unread) → AreRead t (spans_of items numbers)
-      → IsFirstUnread t (spans_of items numbers) at_file reason → ⊥
-  read_or_unread t items numbers reason (program, behind, read) is = one_reading.never_both t (spans_of items numbers) at_file behind program reason read is
+  pass_or_refused : (t : Tokens) (items : List ItemSpan) (numbers : List ℕ) (reason : Refusal) → IsChecked t items numbers Lp64 false
+      → IsRefused t items numbers Lp64 false reason → ⊥
+  pass_or_refused t items numbers reason (program, handed, after, inside, passing) (behind, first) =
+      (one_answer Lp64).never_both t (spans_of items numbers) at_file after (at_beginning t items Lp64 false) inside behind program handed reason passing first
 
-  one_unread : (t : Tokens) (items : List ItemSpan) (numbers : List ℕ) (reason other : Unread) → IsFirstUnread t (spans_of items numbers) at_file reason
-      → IsFirstUnread t (spans_of items numbers) at_file other → reason ≡ other
-  one_unread t items numbers reason other is also = one_reading.one_unread t (spans_of items numbers) at_file reason other is also
+  one_refusal : (t : Tokens) (items : List ItemSpan) (numbers : List ℕ) (reason other : Refusal) → IsRefused t items numbers Lp64 false reason
+      → IsRefused t items numbers Lp64 false other → reason ≡ other
+  one_refusal t items numbers reason other (behind, is) (outside, also) =
+      (one_answer Lp64).one_refusal t (spans_of items numbers) at_file (at_beginning t items Lp64 false) behind outside reason other is also
 
   one_fit : (stage : Stage) (answer other : Answer) → Fits stage answer → Fits stage other → answer ≡ other
   one_fit (AtLexical place) answer other is also = is ∙ sym also
@@ -150,13 +159,13 @@ module _ (one_list : (file text : List ℕ) (tokens others : Tokens) → AreToke
   one_fit AtNoMain answer other is also = is ∙ sym also
   one_fit AtLong answer other is also = is ∙ sym also
   one_fit (AtRead t items numbers) answer other (inl (reason, by, is)) (inl (second, also, is2)) =
-      is ∙ (ap answer_of (one_unread t items numbers reason second by also) ∙ sym is2)
+      is ∙ (ap answer_of (one_refusal t items numbers reason second by also) ∙ sym is2)
   one_fit (AtRead t items numbers) answer other (inl (reason, by, is)) (inr (inl (read, row, program, warnings, form, are, is2))) =
-      absurd (read_or_unread t items numbers reason read by)
-  one_fit (AtRead t items numbers) answer other (inl (reason, by, is)) (inr (inr (read, none, is2))) = absurd (read_or_unread t items numbers reason read by)
+      absurd (pass_or_refused t items numbers reason read by)
+  one_fit (AtRead t items numbers) answer other (inl (reason, by, is)) (inr (inr (read, none, is2))) = absurd (pass_or_refused t items numbers reason read by)
   one_fit (AtRead t items numbers) answer other (inr (inl (read, row, program, warnings, form, are, is))) (inl (reason, by, is2)) =
-      absurd (read_or_unread t items numbers reason read by)
-  one_fit (AtRead t items numbers) answer other (inr (inr (read, none, is))) (inl (reason, by, is2)) = absurd (read_or_unread t items numbers reason read by)
+      absurd (pass_or_refused t items numbers reason read by)
+  one_fit (AtRead t items numbers) answer other (inr (inr (read, none, is))) (inl (reason, by, is2)) = absurd (pass_or_refused t items numbers reason read by)
   one_fit (AtRead t items numbers) answer other (inr (inl (read, row, program, warnings, form, are, is))) (inr (inl (read2, row2, program2, warnings2, form2, are2, is2))) =
       let (rows, programs) = one_form t items numbers row row2 program program2 form form2 in
       let there : AreWarnings row2 program2 warnings =
@@ -254,6 +263,7 @@ long_only file bytes long (NotRead (why.Lexical place)) verdict = (λ same. absu
 long_only file bytes long (NotRead (why.Deep place)) verdict = (λ same. absurd cc, λ (short, judged). absurd (omega arith))
 long_only file bytes long (NotRead why.NoMain) verdict = (λ same. absurd cc, λ (short, judged). absurd (omega arith))
 long_only file bytes long (NotRead (why.Syntax place)) verdict = (λ same. absurd cc, λ (short, judged). absurd (omega arith))
+long_only file bytes long (NotRead (why.Rule number place)) verdict = (λ same. absurd cc, λ (short, judged). absurd (omega arith))
 long_only file bytes long (Construct number place) verdict = (λ same. absurd cc, λ (short, judged). absurd (omega arith))
 long_only file bytes long NotYet verdict = (λ same. absurd cc, λ (short, judged). absurd (omega arith))
 long_only file bytes long (TooLong taken) verdict =

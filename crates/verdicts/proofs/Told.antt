@@ -1,5 +1,5 @@
 -- What is answered of a text with these tokens is true of each file with them.
-use Rattle.std.proofs.Common.{◌≡◌, ℕ, ◌<◌, ◌≤◌, inl, inr, None, Some, Ok, Err, List, [], ◌∷◌, length, map, slice_get, refl, sym, ◌∙◌, subst, arith}
+use Rattle.std.proofs.Common.{◌≡◌, ℕ, ◌<◌, ◌≤◌, false, inl, inr, None, Some, Ok, Err, List, [], ◌∷◌, length, map, slice_get, refl, sym, ◌∙◌, subst, arith}
 use Rattle.std.specs.List.{All}
 use Rattle.cbase.specs.declared.place.Place.{Place}
 use Rattle.ctokens.specs.declared.token.Token.{Token as Lexeme}
@@ -10,10 +10,12 @@ use Rattle.ctokens.specs.TokenList.{HasNamedFiles}
 use Rattle.ctokens.specs.Items.{IsFirstDeep, IsItems}
 use Rattle.ctokens.specs.Need.{IsNeed}
 use Rattle.ctokens.specs.ItemRows.{item_rows}
-use Rattle.cread.specs.InOrder.{AreRead, IsFirstUnread, at_file}
-use Rattle.cread.specs.Named.{IsNamed}
-use Rattle.cread.specs.declared.unread.Unread.{Unread}
-use Rattle.cread.specs.declared.unread.Unread.TheVariants as unread
+use Rattle.cbase.specs.declared.abi.Abi.TheVariants.{Lp64}
+use Rattle.ccheck.specs.declared.program.TypedProgram.{TypedProgram}
+use Rattle.ccheck.specs.declared.refusal.Refusal.{Refusal}
+use Rattle.ccheck.specs.declared.refusal.Refusal.TheVariants as refusal
+use Rattle.ccheck.specs.Checked.{IsChecked, IsRefused, IsTyped}
+use Rattle.ccheck.specs.Named.{IsNamed}
 use Rattle.std.proofs.lemmas.Option.{slice_get_cases, get_or_from_slice_get}
 use Rattle.report.specs.declared.answer.Why.TheVariants as why
 use Rattle.report.specs.declared.answer.Answer.TheVariants.{NotRead, NotYet}
@@ -24,7 +26,6 @@ use Rattle.first_form.specs.declared.token.PlacedToken.{PlacedToken}
 use Rattle.first_form.specs.FirstForm.{IsFormed}
 use Rattle.first_form.specs.Faults.{AreFaults}
 use Rattle.first_form.specs.Row.{item_tokens}
-use Rattle.verdicts.specs.Needed.{spans_of}
 use Rattle.verdicts.specs.Told.{IsTold}
 use Rattle.verdicts.specs.Verdict.{IsFirstForm, IsSound, answer_of, only_item, verdict_of}
 use Rattle.verdicts.specs.Warnings.{AreWarnings, warning_of}
@@ -60,24 +61,34 @@ no_main_told t items is need = record {
   verdict = tt;
 }
 
--- the first item that is not read is told with its reason
-pub unread_told : (t : Tokens) (items : List ItemSpan) (numbers : List ℕ) (reason : Unread) → IsItems t (Ok items) → IsNeed (item_rows t items) (Some numbers)
-    → IsFirstUnread t (spans_of items numbers) at_file reason → IsNamed t.names reason → IsTold t (answer_of reason)
-unread_told t items numbers (unread.Construct number place) is need first named = record {
+-- the first item that is refused is told with its reason
+pub refused_told : (t : Tokens) (items : List ItemSpan) (numbers : List ℕ) (reason : Refusal) → IsItems t (Ok items) → IsNeed (item_rows t items) (Some numbers)
+    → IsRefused t items numbers Lp64 false reason → IsNamed t.names reason → IsTold t (answer_of reason)
+refused_told t items numbers (refusal.Construct number place) is need first named = record {
   judged = λ file bytes short are. (short, (t, items, numbers, record { are_tokens = are; are_items = is; are_needed = need }, first));
   named = λ file bytes are. (t, are, refl);
   printable = named;
   verdict = tt;
 }
-unread_told t items numbers (unread.Syntax place) is need first named = record {
+refused_told t items numbers (refusal.Syntax place) is need first named = record {
   judged = λ file bytes short are. (short, (t, items, numbers, record { are_tokens = are; are_items = is; are_needed = need }, first));
   named = λ file bytes are. (t, are, refl);
-  printable = named.1;
+  printable = named;
+  verdict = tt;
+}
+refused_told t items numbers (refusal.Rule number place) is need first named = record {
+  judged = λ file bytes short are. (short, (t, items, numbers, record { are_tokens = are; are_items = is; are_needed = need }, first));
+  named = λ file bytes are. (t, are, refl);
+  printable = named;
   verdict = tt;
 }
 
+-- items that are typed pass
+pub typed_is_checked : (t : Tokens) (items : List ItemSpan) (numbers : List ℕ) (p : TypedProgram) → IsTyped t items numbers Lp64 false p → IsChecked t items numbers Lp64 false
+typed_is_checked t items numbers p typed = typed.checked
+
 not_yet_told : (t : Tokens) (items : List ItemSpan) (numbers : List ℕ) → IsItems t (Ok items) → IsNeed (item_rows t items) (Some numbers)
-    → AreRead t (spans_of items numbers) → ((row : List PlacedToken) (program : Program) → IsFirstForm t items numbers row program → ⊥) → IsTold t NotYet
+    → IsChecked t items numbers Lp64 false → ((row : List PlacedToken) (program : Program) → IsFirstForm t items numbers row program → ⊥) → IsTold t NotYet
 not_yet_told t items numbers is need read none = record {
   judged = λ file bytes short are. (short, (t, items, numbers, record { are_tokens = are; are_items = is; are_needed = need }, read, none));
   named = λ file bytes are. (t, are, refl);
@@ -86,12 +97,12 @@ not_yet_told t items numbers is need read none = record {
 }
 
 pub no_item_told : (t : Tokens) (items : List ItemSpan) (numbers : List ℕ) → IsItems t (Ok items) → IsNeed (item_rows t items) (Some numbers)
-    → AreRead t (spans_of items numbers) → None ≡ only_item items numbers → IsTold t NotYet
+    → IsChecked t items numbers Lp64 false → None ≡ only_item items numbers → IsTold t NotYet
 no_item_told t items numbers is need read none =
     not_yet_told t items numbers is need read (λ row program form. let alone = none ∙ form.alone in absurd cc)
 
 pub no_form_told : (t : Tokens) (items : List ItemSpan) (numbers : List ℕ) (span : ItemSpan) → IsItems t (Ok items) → IsNeed (item_rows t items) (Some numbers)
-    → AreRead t (spans_of items numbers) → Some span ≡ only_item items numbers → ((row : List PlacedToken) (program : Program) → IsFormed t span row program → ⊥) → IsTold t NotYet
+    → IsChecked t items numbers Lp64 false → Some span ≡ only_item items numbers → ((row : List PlacedToken) (program : Program) → IsFormed t span row program → ⊥) → IsTold t NotYet
 no_form_told t items numbers span is need read only none =
     not_yet_told t items numbers is need read (λ row program form.
     let same : span ≡ form.span = (let both = only ∙ form.alone in cc) in
@@ -104,7 +115,7 @@ sound_of_none row program [] are is fault reaches = no_member fault ((are.reache
 sound_of_none row program (first ∷ rest) are is fault reaches = cc
 
 pub form_told : (t : Tokens) (items : List ItemSpan) (numbers : List ℕ) (span : ItemSpan) (row : List PlacedToken) (program : Program) (warnings : List Warning)
-    → HasNamedFiles t → IsItems t (Ok items) → IsNeed (item_rows t items) (Some numbers) → AreRead t (spans_of items numbers) → Some span ≡ only_item items numbers → IsFormed t span row program
+    → HasNamedFiles t → IsItems t (Ok items) → IsNeed (item_rows t items) (Some numbers) → IsChecked t items numbers Lp64 false → Some span ≡ only_item items numbers → IsFormed t span row program
     → AreWarnings row program warnings → All (λ warning. (5 ≤ warning.kind) × (warning.kind ≤ 7)) warnings → IsTold t (verdict_of warnings)
 form_told t items numbers span row program [] named is need read only formed are kinds = record {
   judged = λ file bytes short all. (

@@ -1,4 +1,3 @@
-pub mod Needed
 pub mod Warnings
 pub mod Shown
 pub mod Verdict

@@ -23,6 +23,7 @@ AreNames file bytes (NotRead (why.Lexical place)) names = (lexical : Lexical) ×
 AreNames file bytes (NotRead (why.Deep place)) names = AreTextNames file bytes names
 AreNames file bytes (NotRead why.NoMain) names = AreTextNames file bytes names
 AreNames file bytes (NotRead (why.Syntax place)) names = AreTextNames file bytes names
+AreNames file bytes (NotRead (why.Rule number place)) names = AreTextNames file bytes names
 AreNames file bytes (Construct number place) names = AreTextNames file bytes names
 AreNames file bytes NotYet names = AreTextNames file bytes names
 AreNames file bytes (TooLong taken) names = names ≡ []

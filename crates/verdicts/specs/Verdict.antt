@@ -9,9 +9,10 @@ use Rattle.ctokens.specs.TokenList.{AreTokens, IsLexical}
 use Rattle.ctokens.specs.Items.{IsItems}
 use Rattle.ctokens.specs.Need.{IsNeed}
 use Rattle.ctokens.specs.ItemRows.{item_rows}
-use Rattle.cread.specs.declared.unread.Unread.{Unread}
-use Rattle.cread.specs.declared.unread.Unread.TheVariants as unread
-use Rattle.cread.specs.InOrder.{AreRead, IsFirstUnread, at_file}
+use Rattle.cbase.specs.declared.abi.Abi.TheVariants.{Lp64}
+use Rattle.ccheck.specs.declared.refusal.Refusal.{Refusal}
+use Rattle.ccheck.specs.declared.refusal.Refusal.TheVariants as refusal
+use Rattle.ccheck.specs.Checked.{IsChecked, IsRefused}
 use Rattle.report.specs.declared.answer.Why.TheVariants as why
 use Rattle.report.specs.declared.answer.Answer.{Answer}
 use Rattle.report.specs.declared.answer.Answer.TheVariants.{Safe, Warned, NotRead, Construct, NotYet, TooLong, Usage, ReadFault, OutOfMemory}
@@ -21,7 +22,6 @@ use Rattle.first_form.specs.declared.line.Program.{Program}
 use Rattle.first_form.specs.declared.token.PlacedToken.{PlacedToken}
 use Rattle.first_form.specs.FirstForm.{IsFormed}
 use Rattle.first_form.specs.Runs.{Reaches}
-use Rattle.verdicts.specs.Needed.{spans_of}
 use Rattle.verdicts.specs.Warnings.{AreWarnings}
 
 -- no run of the program, with any choices and however long, meets a fault
@@ -58,28 +58,28 @@ IsTooDeep file bytes place = (t : Tokens) × AreTokens file bytes t × IsItems t
 abbrev pub HasNoMain : List ℕ → List ℕ → Type 0
 HasNoMain file bytes = (t : Tokens) × (items : List ItemSpan) × AreTokens file bytes t × IsItems t (Ok items) × IsNeed (item_rows t items) None
 
--- the items that main needs are read in the order of the text, each behind the items before it, and the first that is
--- not read is not for this reason
-abbrev pub HasUnread : List ℕ → List ℕ → Unread → Type 0
-HasUnread file bytes reason =
-    (t : Tokens) × (items : List ItemSpan) × (numbers : List ℕ) × IsRead file bytes t items numbers × IsFirstUnread t (spans_of items numbers) at_file reason
+-- the items that main needs are read and checked in the order of the text, each behind the items before it, and the first that is
+-- refused is so for this reason
+abbrev pub HasRefused : List ℕ → List ℕ → Refusal → Type 0
+HasRefused file bytes reason =
+    (t : Tokens) × (items : List ItemSpan) × (numbers : List ℕ) × IsRead file bytes t items numbers × IsRefused t items numbers Lp64 false reason
 
--- each item that main needs is read, and main needs more than one, or one that is not of the first form
+-- each item that main needs is read and passes, and main needs more than one, or one that is not of the first form
 abbrev pub HasOtherForm : List ℕ → List ℕ → Type 0
 HasOtherForm file bytes =
-    (t : Tokens) × (items : List ItemSpan) × (numbers : List ℕ) × IsRead file bytes t items numbers × AreRead t (spans_of items numbers)
+    (t : Tokens) × (items : List ItemSpan) × (numbers : List ℕ) × IsRead file bytes t items numbers × IsChecked t items numbers Lp64 false
     × ((row : List PlacedToken) (program : Program) → IsFirstForm t items numbers row program → ⊥)
 
--- the bytes hold a main of the first form, which is read, and these are its warnings
+-- the bytes hold a main of the first form, which passes, and these are its warnings
 abbrev pub HasWarnings : List ℕ → List ℕ → List Warning → Type 0
 HasWarnings file bytes warnings =
-    (t : Tokens) × (items : List ItemSpan) × (numbers : List ℕ) × IsRead file bytes t items numbers × AreRead t (spans_of items numbers)
+    (t : Tokens) × (items : List ItemSpan) × (numbers : List ℕ) × IsRead file bytes t items numbers × IsChecked t items numbers Lp64 false
     × ((row : List PlacedToken) × (program : Program) × IsFirstForm t items numbers row program × AreWarnings row program warnings)
 
--- the bytes hold a main of the first form, which is read, and no run of which meets a fault
+-- the bytes hold a main of the first form, which passes, and no run of which meets a fault
 abbrev pub HasSoundMain : List ℕ → List ℕ → Type 0
 HasSoundMain file bytes =
-    (t : Tokens) × (items : List ItemSpan) × (numbers : List ℕ) × IsRead file bytes t items numbers × AreRead t (spans_of items numbers)
+    (t : Tokens) × (items : List ItemSpan) × (numbers : List ℕ) × IsRead file bytes t items numbers × IsChecked t items numbers Lp64 false
     × ((row : List PlacedToken) × (program : Program) × IsFirstForm t items numbers row program × IsSound program)
 
 -- what an answer says of the bytes of the file with this name
@@ -89,8 +89,9 @@ Judges file bytes (Warned warnings) = (length bytes ≤ most_bytes) × HasWarnin
 Judges file bytes (NotRead (why.Lexical place)) = (length bytes ≤ most_bytes) × HasNoToken file bytes place
 Judges file bytes (NotRead (why.Deep place)) = (length bytes ≤ most_bytes) × IsTooDeep file bytes place
 Judges file bytes (NotRead why.NoMain) = (length bytes ≤ most_bytes) × HasNoMain file bytes
-Judges file bytes (NotRead (why.Syntax place)) = (length bytes ≤ most_bytes) × HasUnread file bytes (unread.Syntax place)
-Judges file bytes (Construct number place) = (length bytes ≤ most_bytes) × HasUnread file bytes (unread.Construct number place)
+Judges file bytes (NotRead (why.Syntax place)) = (length bytes ≤ most_bytes) × HasRefused file bytes (refusal.Syntax place)
+Judges file bytes (NotRead (why.Rule number place)) = (length bytes ≤ most_bytes) × HasRefused file bytes (refusal.Rule number place)
+Judges file bytes (Construct number place) = (length bytes ≤ most_bytes) × HasRefused file bytes (refusal.Construct number place)
 Judges file bytes NotYet = (length bytes ≤ most_bytes) × HasOtherForm file bytes
 Judges file bytes (TooLong taken) = (taken ≡ most_bytes + 1) × (taken ≤ length bytes)
 Judges file bytes Usage = Unit {0}
@@ -102,10 +103,11 @@ abbrev pub verdict_of : List Warning → Answer
 verdict_of [] = Safe
 verdict_of (warning ∷ rest) = Warned (warning ∷ rest)
 
--- the answer of a text with an item that is not read, for this reason
-abbrev pub answer_of : Unread → Answer
-answer_of (unread.Construct number place) = Construct number place
-answer_of (unread.Syntax place) = NotRead (why.Syntax place)
+-- the answer of a text with an item that is refused, for this reason
+abbrev pub answer_of : Refusal → Answer
+answer_of (refusal.Construct number place) = Construct number place
+answer_of (refusal.Syntax place) = NotRead (why.Syntax place)
+answer_of (refusal.Rule number place) = NotRead (why.Rule number place)
 
 -- the answer says something of a file
 abbrev pub IsVerdict : Answer → Type 0

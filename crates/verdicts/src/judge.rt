@@ -4,20 +4,19 @@ ghost use Rattle.ctokens.specs.Items.{IsInside, IsItems};
 ghost use Rattle.ctokens.specs.Need.{IsNeed};
 ghost use Rattle.ctokens.specs.ItemRows.{item_rows};
 ghost use Rattle.ctokens.specs.InText.{LieInText, most_bytes};
-ghost use Rattle.cread.specs.InOrder.{AreRead};
 ghost use Rattle.ctokens.specs.TokenList.{HasNamedFiles, AreNumbered};
 ghost use Rattle.report.specs.Report.{HasPrintable};
+ghost use Rattle.ccheck.specs.Checked.{IsChecked};
+ghost use Rattle.cbase.specs.declared.abi.Abi.TheVariants.{Lp64};
 ghost use Rattle.first_form.specs.FirstForm.{IsSmall};
-ghost use Rattle.verdicts.specs.Needed.{spans_of};
 ghost use Rattle.verdicts.specs.Told.{IsTold};
 ghost use Rattle.verdicts.specs.Verdict.{IsExact, IsVerdict, Judges, answer_of, only_item, verdict_of};
 ghost use Rattle.verdicts.specs.Shown.{AreNames};
 ghost use Rattle.verdicts.specs.Warnings.{AreWarnings};
 
-use crate::needed_items::{ReadNeeded, read_needed};
 use crate::warnings::warnings_of;
-use cbase::{List, NoMemory, Text};
-use cread::{Unread, items_have_one_reading};
+use cbase::{Abi, List, NoMemory, Text};
+use ccheck::{Checked, Refusal, check, items_have_one_answer};
 use ctokens::{
     Deep, ItemSpan, Lexical, Tokens, items, needed, one_item_list, one_token_list, tokens_of_bytes,
 };
@@ -38,8 +37,8 @@ pub struct Judged {
 /// The answer to the bytes of a whole file, given the name of the file.
 ///
 /// `NotRead` where there is a place without a token, a bracket at depth 257 or no main, the first of these; `Construct`,
-/// or `NotRead` for its syntax, where an item that main needs is not read, for the first of them; `Safe` or `Warned` where
-/// main needs one item alone, which is of the first form; and else `NotYet`.
+/// or `NotRead` for its syntax or for a rule, where an item that main needs is refused, for the first of them; `Safe` or `Warned`
+/// where main needs one item alone, which is of the first form; and else `NotYet`.
 #[tactic(auto, using(crate::proofs::OneVerdict::exact_verdict))]
 pub fn judge(alloc: Global, file: &[u8], text: &[u8]) -> Result<Judged, NoMemory>
     requires { length text.now ≤ most_bytes }
@@ -51,7 +50,7 @@ pub fn judge(alloc: Global, file: &[u8], text: &[u8]) -> Result<Judged, NoMemory
 {
     one_token_list();
     one_item_list();
-    items_have_one_reading();
+    items_have_one_answer();
     let judged = answer_of_text(alloc, file, text)?;
     Ok(judged)
 }
@@ -130,16 +129,16 @@ fn answer_of_items(alloc: Global, t: &Tokens, items: &List<ItemSpan>) -> Result<
 {
     match needed(alloc, t, items)? {
         None => Ok(Answer::NotRead { why: Why::NoMain }),
-        Some(numbers) => answer_of_needed(alloc, t, items.as_slice(), numbers.as_slice()),
+        Some(numbers) => answer_of_needed(alloc, t, items, numbers.as_slice()),
     }
 }
 
-/// The answer to a text where main needs the items with these numbers: they are read in order.
-#[tactic(auto, using(crate::proofs::Told::unread_told))]
+/// The answer to a text where main needs the items with these numbers: they are read and checked in order.
+#[tactic(auto, using(crate::proofs::Told::refused_told, crate::proofs::Told::typed_is_checked))]
 fn answer_of_needed(
     alloc: Global,
     t: &Tokens,
-    items: &[ItemSpan],
+    items: &List<ItemSpan>,
     numbers: &[u32],
 ) -> Result<Answer, NoMemory>
     requires text { LieInText t.now }
@@ -150,27 +149,30 @@ fn answer_of_needed(
     requires needed { IsNeed (item_rows t.now items.now) (Some numbers.now) }
     ensures { IfOk result (IsTold t.now) }
 {
-    match read_needed(alloc, t, items, numbers)? {
-        ReadNeeded::Unread(unread) => Ok(answer_of(unread)),
-        ReadNeeded::Read(_) => answer_of_read(alloc, t, items, numbers),
+    match check(alloc, t, items, numbers, Abi::Lp64, false)? {
+        Checked::Refused(refusal) => Ok(answer_of(refusal)),
+        Checked::Typed(_) => answer_of_checked(alloc, t, items.as_slice(), numbers),
     }
 }
 
-/// The answer where an item that main needs is not read, for this reason.
-fn answer_of(unread: Unread) -> Answer
-    ensures { result ≡ answer_of unread }
+/// The answer where an item that main needs is refused so.
+fn answer_of(refusal: Refusal) -> Answer
+    ensures { result ≡ answer_of refusal }
 {
-    match unread {
-        Unread::Construct { number, place } => Answer::Construct { number, place },
-        Unread::Syntax { place } => Answer::NotRead {
+    match refusal {
+        Refusal::Construct { number, place } => Answer::Construct { number, place },
+        Refusal::Syntax { place } => Answer::NotRead {
             why: Why::Syntax { place },
+        },
+        Refusal::Rule { number, place } => Answer::NotRead {
+            why: Why::Rule { number, place },
         },
     }
 }
 
-/// The answer to a text where main needs the items with these numbers, which are read.
+/// The answer to a text where main needs the items with these numbers, which pass.
 #[tactic(auto, using(crate::proofs::Told::no_item_told, crate::proofs::Told::no_form_told, crate::proofs::Told::form_told))]
-fn answer_of_read(
+fn answer_of_checked(
     alloc: Global,
     t: &Tokens,
     items: &[ItemSpan],
@@ -181,7 +183,7 @@ fn answer_of_read(
     requires spans { IsItems t.now (Ok items.now) }
     requires inside { All (IsInside (length t.now.list)) items.now }
     requires needed { IsNeed (item_rows t.now items.now) (Some numbers.now) }
-    requires read { AreRead t.now (spans_of items.now numbers.now) }
+    requires checked { IsChecked t.now items.now numbers.now Lp64 false }
     ensures { IfOk result (IsTold t.now) }
 {
     let Some(span) = only_item(items, numbers) else {

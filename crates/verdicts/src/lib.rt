@@ -6,7 +6,6 @@
 
 mod judge;
 mod laws;
-mod needed_items;
 mod top;
 mod warnings;
 
