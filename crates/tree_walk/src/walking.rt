@@ -1,16 +1,19 @@
 //! The walk over the parts of a tree, which hands itself in as the walk over what lies in them.
 ghost use Rattle.std.specs.Prelude.{◌≡◌, ◌≤◌, ◌+◌, IfOk, length};
-ghost use Rattle.ctrees.specs.Levels.{expr_levels, stmt_levels};
+ghost use Rattle.ctrees.specs.Levels.{expr_levels, item_levels, stmt_levels};
 ghost use Rattle.expressions.specs.Found.{an_expression, nothing};
 ghost use Rattle.expressions.specs.Nests.{Nests, IsTold, IsPartBelow, part_levels};
 ghost use Rattle.expressions.specs.Walked.{Walked, Says};
 ghost use Rattle.typing.specs.Typing.{ExpressionIs, StatementIs};
 ghost use Rattle.expressions.specs.Exact.{NothingElse as ExpressionIsNothingElse};
-ghost use Rattle.tree_walk.specs.Exact.{NothingElse};
+ghost use Rattle.items.specs.InFile.{SaysInFile};
+ghost use Rattle.typing.specs.Items.{ItemIs};
+ghost use Rattle.tree_walk.specs.Exact.{ItemIsNothingElse, NothingElse};
 
-use cbase::{Abi, Expr, NoMemory, Stmt};
+use cbase::{Abi, Expr, Item, NoMemory, Place, Stmt};
 use expressions::{Checker, Context, Found, Known, Part, Told, Within};
 use initialisers::initialiser;
+use items::item;
 use statements::statement;
 
 /// How many levels a tree that is read has at most.
@@ -64,6 +67,41 @@ fn statement_walked(context: &mut Context, abi: Abi, stmt: &Stmt) -> Result<Foun
         Found::Passes(_) => unreachable!(),
         Found::Refused(fault) => Ok(Found::Refused(fault)),
     }
+}
+
+/// What is found of an item of the file that begins at a place (C11 6.9), or the first thing that is refused in it: that is found of it, and nothing else.
+///
+/// Want of memory is the only error, and nothing is said of the context then.
+pub fn item_found(
+    context: &mut Context,
+    abi: Abi,
+    place: Place,
+    it: &Item,
+) -> Result<Found<()>, NoMemory>
+    requires { item_levels it.now ≤ 1024 }
+    ensures found { IfOk result (λ found. Walked (SaysInFile abi (λ o. ItemIs place it.now o)) nothing context.old context.new found) }
+    ensures nothing_else { IfOk result (λ found. ItemIsNothingElse abi place it.now context.old context.new found) }
+{
+    item_walked(context, abi, place, it)
+}
+
+/// What is found of an item of the file.
+fn item_walked(
+    context: &mut Context,
+    abi: Abi,
+    place: Place,
+    it: &Item,
+) -> Result<Found<()>, NoMemory>
+    requires { item_levels it.now ≤ 1024 }
+    ensures { IfOk result (λ found. Walked (SaysInFile abi (λ o. ItemIs place it.now o)) nothing context.old context.new found) }
+{
+    let alloc = context.alloc;
+    let checker = Checker {
+        abi,
+        depth: MOST_LEVELS,
+        inner: walk,
+    };
+    item(&checker, alloc, context, place, it)
 }
 
 /// A whole tree in a data layout.

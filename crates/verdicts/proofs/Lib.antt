@@ -1,5 +1,5 @@
 pub mod Exactness
 pub mod FaultPlaces
-pub pub mod Told
+pub mod Told
 pub mod OneVerdict
 pub mod Printed
