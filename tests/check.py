@@ -3,16 +3,21 @@
 
 Usage: python3 tests/check.py
 answers/ has short texts whose answers were worked out by hand, preprocessed/ programs as gcc -E writes them. What is
-wanted of NAME.c or NAME.i stands in NAME.expect. It prints a line for each that differs; the status is 1 where one does, and
-where the picture of docs/flow.md is not that of its rows.
+wanted of NAME.c or NAME.i stands in NAME.expect. answers/types.rows has one program a line, and below it the status and the
+report that are wanted of it as a file t.c; a line that begins with `# ` says what the rows below it show. It prints a line for each
+that differs; the status is 1 where one does, and where the picture of docs/flow.md is not that of its rows.
 """
+import re
 import subprocess
 import sys
+import tempfile
 from pathlib import Path
 
 HOME = Path(__file__).resolve().parent
 PROGRAM = HOME.parent / "predator"
 FOLDERS = (("answers", "*.c"), ("preprocessed", "*.i"))
+ROWS = HOME / "answers" / "types.rows"
+ESCAPED = {b"n": b"\n", b"t": b"\t", b"r": b"\r", b"s": b" "}
 
 
 def wanted(file):
@@ -38,6 +43,43 @@ def differing(files):
     return count
 
 
+def byte(escape):
+    """The byte that an escape stands for."""
+    digits, letter = escape.groups()
+    return bytes.fromhex(digits.decode()) if digits else ESCAPED.get(letter, letter)
+
+
+def unescaped(text):
+    r"""The bytes of a text of a row: its escapes are \n, \t, \r, \s for a blank, \\ and \x with two hexadecimal digits."""
+    return re.sub(rb"\\x([0-9a-f]{2})|\\(.)", byte, text)
+
+
+def rows(file):
+    """The rows of a file: of each the heading above it, the bytes of the program, and the bytes and the status that are wanted."""
+    heading, found, lines = "", [], iter(file.read_bytes().split(b"\n")[:-1])
+    for line in lines:
+        if line.startswith(b"# "):
+            heading = line.decode()
+        else:
+            status, _, report = next(lines).partition(b" ")
+            found.append((heading, unescaped(line), (unescaped(report), int(status))))
+    return found
+
+
+def differing_rows(found):
+    """How many of these rows are answered otherwise than is wanted."""
+    count = 0
+    with tempfile.TemporaryDirectory() as folder:
+        file = Path(folder, "t.c")
+        for heading, text, want in found:
+            file.write_bytes(text)
+            got = answered(file)
+            if got != want:
+                count += 1
+                print(f"{heading}: {text!r} differs: wanted {want!r}, got {got!r}")
+    return count
+
+
 def main():
     is_wrong = False
     for folder, pattern in FOLDERS:
@@ -45,6 +87,10 @@ def main():
         count = differing(files)
         is_wrong = is_wrong or count > 0 or not files
         print(f"{folder}: {len(files) - count} of {len(files)} programs as wanted")
+    found = rows(ROWS)
+    count = differing_rows(found)
+    is_wrong = is_wrong or count > 0 or not found
+    print(f"{ROWS.name}: {len(found) - count} of {len(found)} programs as wanted")
     picture = subprocess.run([sys.executable, HOME.parent / "tools" / "flow_picture.py", "--check"])
     return 1 if is_wrong or picture.returncode else 0
 
