@@ -1,7 +1,9 @@
-pub mod Seen
+pub mod Carried
 pub mod Changes
+pub mod Coded
+pub mod Items
+pub mod Itself
+pub mod LeadingBack
 pub mod Nodes
 pub mod Parts
-pub mod Items
-pub mod Carried
-pub mod Itself
+pub mod Seen

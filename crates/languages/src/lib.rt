@@ -5,6 +5,8 @@
 //! over, `proofs/Carried.antt` that what it finds does, for every two languages, and the functions here are laws.
 #![tactic(auto)]
 
+mod contexts;
 mod laws;
 
+pub use contexts::leads_back;
 pub use laws::{each_language_carries_itself, what_is_found_carries_over};
