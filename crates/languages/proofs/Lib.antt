@@ -1,9 +1,14 @@
+pub mod AtTypes
+pub mod Beginning
+pub mod CCarries
 pub mod Carried
 pub mod Changes
 pub mod Coded
+pub mod InFront
 pub mod Items
 pub mod Itself
 pub mod LeadingBack
+pub mod Mapped
 pub mod Nodes
 pub mod Parts
 pub mod Seen

@@ -1,6 +1,7 @@
-//! Laws of what contexts declare. Each is the contract of a call that does nothing.
+//! Laws of what contexts declare, and of C. Each is the contract of a call that does nothing.
 ghost use Rattle.expressions.specs.Context.{Agrees};
 ghost use Rattle.expressions.specs.Numbers.{Numbering};
+ghost use Rattle.languages.specs.CLaws.{ContextsCarryOver, FindsWhatContextsFind, BuiltInsStand, NothingIsDeclared};
 ghost use Rattle.languages.specs.LeadsBack.{LeadsBack};
 
 use expressions::Context;
@@ -11,3 +12,19 @@ pub fn leads_back(context: &Context)
 {
     context.has_a_numbering();
 }
+
+/// The language of a context carries over to that of C, where its numbers are read back to every type.
+pub fn contexts_carry_over()
+    ensures { ContextsCarryOver }
+{}
+
+/// What is found in a part of a text, or in an item, by the numbers of a context is found in it in C (C11 6.3, 6.5 to 6.9).
+pub fn c_finds_what_contexts_find()
+    ensures { FindsWhatContextsFind }
+{}
+
+/// In front of a text the names of functions that are built in stand for these, where the text has no body for them, and no other name stands for anything.
+pub fn built_ins_stand_in_front()
+    ensures stand { BuiltInsStand }
+    ensures here { NothingIsDeclared }
+{}
