@@ -4,6 +4,7 @@ pub mod CCarries
 pub mod Carried
 pub mod Changes
 pub mod Coded
+pub mod FromTheFront
 pub mod InFront
 pub mod Items
 pub mod Itself

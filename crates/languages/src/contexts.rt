@@ -1,7 +1,7 @@
 //! Laws of what contexts declare, and of C. Each is the contract of a call that does nothing.
 ghost use Rattle.expressions.specs.Context.{Agrees};
 ghost use Rattle.expressions.specs.Numbers.{Numbering};
-ghost use Rattle.languages.specs.CLaws.{ContextsCarryOver, FindsWhatContextsFind, BuiltInsStand, NothingIsDeclared};
+ghost use Rattle.languages.specs.CLaws.{ContextsCarryOver, FindsWhatContextsFind, FindsFromTheFront, BuiltInsStand, NothingIsDeclared};
 ghost use Rattle.languages.specs.LeadsBack.{LeadsBack};
 
 use expressions::Context;
@@ -21,6 +21,11 @@ pub fn contexts_carry_over()
 /// What is found in a part of a text, or in an item, by the numbers of a context is found in it in C (C11 6.3, 6.5 to 6.9).
 pub fn c_finds_what_contexts_find()
     ensures { FindsWhatContextsFind }
+{}
+
+/// What is found of items from the front of a text on, by the numbers of contexts, is found in C from its front on (C11 6.9).
+pub fn c_finds_from_the_front()
+    ensures { FindsFromTheFront }
 {}
 
 /// In front of a text the names of functions that are built in stand for these, where the text has no body for them, and no other name stands for anything.

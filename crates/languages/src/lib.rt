@@ -11,6 +11,7 @@ mod contexts;
 mod laws;
 
 pub use contexts::{
-    built_ins_stand_in_front, c_finds_what_contexts_find, contexts_carry_over, leads_back,
+    built_ins_stand_in_front, c_finds_from_the_front, c_finds_what_contexts_find,
+    contexts_carry_over, leads_back,
 };
 pub use laws::{each_language_carries_itself, what_is_found_carries_over};
