@@ -1,2 +1,10 @@
+pub mod AtTypes
+pub mod Begins
+pub mod CBegin
+pub mod CLanguage
+pub mod CLaws
 pub mod Carries
 pub mod Laws
+pub mod LeadsBack
+pub mod Mapped
+pub mod Meanings

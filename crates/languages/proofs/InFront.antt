@@ -1,0 +1,63 @@
+-- What names stand for in front of a text.
+use Rattle.std.proofs.Common.{◌≡◌, ℕ, List, [], ◌∷◌, Option, None, Some, refl, ap, ◌∙◌}
+use Rattle.std.specs.Prelude.{Bool, true, false, not, option_map, if◌then◌else◌}
+use Rattle.std.specs.Str.{bytes_eq}
+use Rattle.std.proofs.lemmas.Slice.Eq.{bytes_eq-Decides}
+use Rattle.environment.specs.BuiltIns.{FunctionType, built_ins}
+use Rattle.environment.specs.Names.{Entries, value_in}
+use Rattle.environment.specs.Scopes.{first_answer}
+use Rattle.languages.specs.CBegin.{is_among, without_body, built_in_link, linkage_alone}
+use Rattle.languages.specs.CLaws.{built_in, BuiltInsStand, NothingIsDeclared}
+use Rattle.languages.specs.Mapped.{entries_mapped}
+use Rattle.languages.specs.Meanings.{Binding, Link, meaning_of, entity_of}
+use Rattle.languages.proofs.Mapped.{value_mapped}
+
+-- a name that is left out has no value, and any other one has what it had
+kept_value : (bodied : List (List ℕ)) (name : List ℕ) (table : Entries FunctionType)
+    → value_in name (without_body bodied table) ≡ (if is_among name bodied then None else value_in name table)
+kept_value bodied name [] = nothing (is_among name bodied)
+  where
+    nothing : (among : Bool) → ◌≡◌ {A = Option FunctionType} None (if among then None else None)
+    nothing true = refl
+    nothing false = refl
+kept_value bodied name (entry ∷ table) = step (bytes_eq name entry.0) refl (is_among entry.0 bodied) refl (is_among name bodied) refl (kept_value bodied name table)
+  where
+    kept : Entries FunctionType
+    kept = without_body bodied table
+
+    step : (same : Bool) → bytes_eq name entry.0 ≡ same → (there : Bool) → is_among entry.0 bodied ≡ there → (here : Bool) → is_among name bodied ≡ here
+        → value_in name kept ≡ (if here then None else value_in name table)
+        → value_in name (if not there then entry ∷ kept else kept) ≡ (if here then None else (if same then Some entry.1 else value_in name table))
+    step true same true there true here rest = rest
+    step true same false there false here rest = ap (λ b. if b then Some entry.1 else value_in name kept) same
+    step true same true there false here rest =
+        let e : is_among name bodied ≡ is_among entry.0 bodied = ap (λ x. is_among x bodied) ((bytes_eq-Decides name entry.0).0 same) in cc
+    step true same false there true here rest =
+        let e : is_among name bodied ≡ is_among entry.0 bodied = ap (λ x. is_among x bodied) ((bytes_eq-Decides name entry.0).0 same) in cc
+    step false other true there here among rest = rest
+    step false other false there here among rest = ap (λ b. if b then Some entry.1 else value_in name kept) other ∙ rest
+
+-- what has linkage under a name, and nothing else, is declared around the file
+module _ (name : List ℕ) (table : Entries FunctionType) where
+  stands : (o : Option FunctionType) (links : Entries Link) → value_in name links ≡ option_map built_in_link o
+      → option_map entity_of (meaning_of name links (first_answer (option_map linkage_alone o) None)) ≡ option_map built_in o
+  stands None links same = refl
+  stands (Some function) links same = ap (λ (link : Option Link). option_map entity_of (option_map (λ (l : Link). l.meaning) link)) same
+
+  stands_so : option_map entity_of (meaning_of name (entries_mapped built_in_link table) (first_answer (value_in name (entries_mapped linkage_alone table)) None))
+      ≡ option_map built_in (value_in name table)
+  stands_so =
+      ap (λ (b : Option Binding). option_map entity_of (meaning_of name (entries_mapped built_in_link table) (first_answer b None))) (value_mapped linkage_alone name table)
+      ∙ stands (value_in name table) (entries_mapped built_in_link table) (value_mapped built_in_link name table)
+
+option_if : (test : Bool) (o : Option FunctionType) → option_map built_in (if test then None else o) ≡ (if test then None else option_map built_in o)
+option_if true o = refl
+option_if false o = refl
+
+pub built_ins_stand : BuiltInsStand
+built_ins_stand abi strict bodied defined name =
+    stands_so name (without_body bodied (built_ins abi))
+    ∙ (ap (option_map built_in) (kept_value bodied name (built_ins abi)) ∙ option_if (is_among name bodied) (value_in name (built_ins abi)))
+
+pub nothing_is_declared : NothingIsDeclared
+nothing_is_declared abi strict bodied defined name = refl

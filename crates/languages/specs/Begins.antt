@@ -1,0 +1,12 @@
+-- A context in front of the first item of a text.
+use Rattle.std.specs.Prelude.{◌≡◌, ℕ, Bool, List, []}
+use Rattle.cbase.specs.declared.abi.Abi.{Abi}
+use Rattle.expressions.specs.Context.{Context, Agrees, declared}
+use Rattle.expressions.specs.Numbers.{Numbering}
+use Rattle.languages.specs.AtTypes.{declarations_at}
+use Rattle.languages.specs.CBegin.{c_begin}
+
+-- it declares what C declares there, whatever its numbers are read by, and hands nothing on
+pub record Begins (abi : Abi) (strict : Bool) (bodied defined : List (List ℕ)) (context : Context) : Type 0 where
+  pub declares : (n : Numbering) → Agrees n context → declarations_at n (declared context) ≡ c_begin abi strict bodied defined
+  pub handed : context.handed ≡ []

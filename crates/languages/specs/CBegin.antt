@@ -1,0 +1,44 @@
+-- The place in front of the first item of a text (C11 6.9).
+use Rattle.std.specs.Prelude.{not, ℕ, Bool, true, false, List, [], ◌∷◌, None}
+use Rattle.std.specs.List.{filter, list_any}
+use Rattle.std.specs.Str.{bytes_eq}
+use Rattle.cbase.specs.declared.abi.Abi.{Abi}
+use Rattle.environment.specs.BuiltIns.{FunctionType, built_ins}
+use Rattle.environment.specs.Names.{Entries}
+use Rattle.typing.specs.Entities.{NotDefined}
+use Rattle.languages.specs.CLanguage.{Declarations, scope_entered}
+use Rattle.languages.specs.Mapped.{entries_mapped}
+use Rattle.languages.specs.Meanings.{AFunction, Binding, WithLinkage, Link}
+
+abbrev pub is_among : List ℕ → List (List ℕ) → Bool
+is_among name names = list_any (bytes_eq name) names
+
+-- a name of the table is built in exactly where the text has no definition of it with a body: these are the names that have one
+abbrev pub without_body : List (List ℕ) → Entries FunctionType → Entries FunctionType
+without_body bodied table = filter (λ entry. not (is_among entry.0 bodied)) table
+
+abbrev pub built_in_link : FunctionType → Link
+built_in_link function = record {
+  meaning = AFunction (record { result = function.result; params = function.parameters; defined = false; built_in = true });
+  definition = NotDefined;
+}
+
+abbrev pub linkage_alone : FunctionType → Binding
+linkage_alone function = WithLinkage
+
+-- around all items one scope declares the functions that are built in, with linkage, and nothing else is declared
+abbrev pub around_file : Bool → List (List ℕ) → Entries FunctionType → Declarations
+around_file strict defined table = record {
+  names = entries_mapped linkage_alone table ∷ [];
+  tags = [] ∷ [];
+  links = entries_mapped built_in_link table;
+  structs = [];
+  in_loop = false;
+  result = None;
+  strict = strict;
+  defines = λ name. is_among name defined;
+}
+
+-- the file scope inside it is empty (6.2.1p4)
+abbrev pub c_begin : Abi → Bool → List (List ℕ) → List (List ℕ) → Declarations
+c_begin abi strict bodied defined = scope_entered (around_file strict defined (without_body bodied (built_ins abi)))
