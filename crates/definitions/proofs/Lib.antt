@@ -1,0 +1,2 @@
+pub mod Outermost
+pub mod Kept

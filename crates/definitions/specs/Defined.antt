@@ -1,0 +1,107 @@
+-- The names with linkage that a text defines, asked of its tokens alone (C11 6.9p5).
+--
+-- An item that ends with a body defines each name that it declares at depth 0 (C11 6.9.1). An item without a body and without
+-- `typedef` defines those of them that no `(` follows, since a head alone declares a function; and where it has `extern`, only
+-- those of these that have an initialiser (C11 6.9.2).
+use Rattle.std.specs.Prelude.{ℕ, Bool, true, false, not, ◌&&◌, ◌||◌, if◌then◌else◌, List, [], ◌∷◌, ◌++◌, map, nat_eq}
+use Rattle.std.specs.List.{flat_map}
+use Rattle.ctokens.specs.declared.item_span.ItemSpan.{ItemSpan}
+use Rattle.ctokens.specs.declared.token.Token.{Token}
+use Rattle.ctokens.specs.declared.token.Tokens.{Tokens}
+use Rattle.ctokens.specs.TokenSymbols.{token_word}
+use Rattle.definitions.specs.declared.form.Form.{Form}
+use Rattle.definitions.specs.declared.form.Form.TheVariants.{Body, Typedef, Extern, Plain}
+use Rattle.definitions.specs.declared.form.StorageWord.TheVariants as storage
+use Rattle.definitions.specs.declared.role.Role.{Role}
+use Rattle.definitions.specs.declared.role.Role.TheVariants.{Other}
+use Rattle.definitions.specs.declared.sign.Sign.{Sign}
+use Rattle.definitions.specs.Roles.{follows_declared, is_comma, is_equals, is_left_parenthesis, is_name, is_semicolon, is_tag_word}
+use Rattle.definitions.specs.Rows.{depth_after, ends_with_body, has_storage, item_row}
+
+-- the form of an item with this row: one that ends with a body, and else a declaration, by its storage word
+abbrev pub form_of : List Sign → Form
+form_of row =
+    if ends_with_body row then Body
+    else (if has_storage storage.Typedef 0 row then Typedef else (if has_storage storage.Extern 0 row then Extern else Plain))
+
+-- whether an item of the form defines a name that it declares, where it is known whether a `(` follows the name, and whether
+-- its declarator has an initialiser (C11 6.9.1p1, 6.9.2p1, 6.9.2p2)
+abbrev pub defines : Form → Bool → Bool → Bool
+defines Body function initialised = true
+defines Typedef function initialised = false
+defines Extern function initialised = not function && initialised
+defines Plain function initialised = not function
+
+-- whether an initialiser begins at a token: a `=` at depth 0
+abbrev pub begins_initialiser : ℕ → Role → Bool
+begins_initialiser depth role = nat_eq depth 0 && is_equals role
+
+-- whether a declarator ends at a token: a `,` or `;` at depth 0
+abbrev pub ends_declarator : ℕ → Role → Bool
+ends_declarator depth role = nat_eq depth 0 && (is_comma role || is_semicolon role)
+
+-- whether the declarator that begins at a row has an initialiser: a `=` stands at depth 0 before the next `,` or `;`
+-- there (C11 6.7p1)
+abbrev pub has_initialiser : ℕ → List Sign → Bool
+has_initialiser depth [] = false
+has_initialiser depth (sign ∷ rest) =
+    if begins_initialiser depth sign.role then true
+    else (if ends_declarator depth sign.role then false else has_initialiser (depth_after depth sign.role) rest)
+
+-- whether a `=` stands at depth 0 since the last `,` there, behind a token
+abbrev pub set_after : ℕ → Bool → Role → Bool
+set_after depth set role = if nat_eq depth 0 then (is_equals role || (not (is_comma role) && set)) else set
+
+-- whether an item declares the word that a row begins with, where `before` is the token before it: a word, not a keyword, at
+-- depth 0 that is followed by `(`, `[`, `=`, `,`, `;` or `asm`, stands behind no `=` at depth 0 since the last `,` at depth 0, and
+-- is no tag, which stands behind `struct`, `union` or `enum` (C11 6.7.6)
+abbrev pub declares : Role → ℕ → Bool → List Sign → Bool
+declares before depth set [] = false
+declares before depth set (word ∷ []) = false
+declares before depth set (word ∷ (next ∷ rest)) =
+    (nat_eq depth 0 && not set) && ((is_name word.role && follows_declared next.role) && not (is_tag_word before))
+
+-- whether a `(` stands behind the word that a row begins with
+abbrev pub is_function : List Sign → Bool
+is_function [] = false
+is_function (word ∷ []) = false
+is_function (word ∷ (next ∷ rest)) = is_left_parenthesis next.role
+
+-- whether an item of the form defines the word that a row begins with
+abbrev pub defines_word : Form → Role → ℕ → Bool → List Sign → Bool
+defines_word form before depth set row = declares before depth set row && defines form (is_function row) (has_initialiser depth row)
+
+-- the words that an item of the form defines in a row; `before` is the token before the row, `depth` the number of brackets
+-- that are open there, and `set` whether a `=` stands at depth 0 since the last `,` at depth 0
+abbrev pub defined_in : Form → Role → ℕ → Bool → List Sign → List Token
+defined_in form before depth set [] = []
+defined_in form before depth set (sign ∷ rest) =
+    (if defines_word form before depth set (sign ∷ rest) then sign.token ∷ [] else [])
+    ++ defined_in form sign.role (depth_after depth sign.role) (set_after depth set sign.role) rest
+
+-- the names that an item of the form with this row defines
+abbrev pub names_in : List ℕ → Form → List Sign → List (List ℕ)
+names_in text form row = map (token_word text) (defined_in form Other 0 false row)
+
+-- those names where the form is that of an item that ends with a body, and else none
+abbrev pub bodied_in : List ℕ → Form → List Sign → List (List ℕ)
+bodied_in text Body row = names_in text Body row
+bodied_in text Typedef row = []
+bodied_in text Extern row = []
+bodied_in text Plain row = []
+
+-- the names that an item with this row defines with a body
+abbrev pub bodied_by : List ℕ → List Sign → List (List ℕ)
+bodied_by text row = bodied_in text (form_of row) row
+
+-- the names that an item with this row defines
+abbrev pub defined_by : List ℕ → List Sign → List (List ℕ)
+defined_by text row = names_in text (form_of row) row
+
+-- the names that the items of a text define with a body, in order
+abbrev pub bodied_names : Tokens → List ItemSpan → List (List ℕ)
+bodied_names t items = flat_map (λ (span : ItemSpan). bodied_by t.text (item_row t span)) items
+
+-- the names that the items of a text define, in order
+abbrev pub defined_names : Tokens → List ItemSpan → List (List ℕ)
+defined_names t items = flat_map (λ (span : ItemSpan). defined_by t.text (item_row t span)) items

@@ -1,0 +1,73 @@
+ghost use Rattle.std.specs.Prelude.{◌≡◌, ◌++◌, length, IfOk, OnOk};
+ghost use Rattle.std.specs.List.{All};
+ghost use Rattle.ctokens.specs.InText.{LieInText};
+ghost use Rattle.ctokens.specs.Items.{IsInside};
+ghost use Rattle.ctokens.specs.Passed.{passed_tokens};
+ghost use Rattle.definitions.specs.Defined.{bodied_by, bodied_names, defined_by, defined_names};
+ghost use Rattle.definitions.specs.Rows.{item_row};
+
+use crate::form::{Form, form_of};
+use crate::found::Definitions;
+use crate::names::push_defined;
+use crate::row::signs;
+use cbase::{List, NoMemory};
+use ctokens::{ItemSpan, Tokens, passed_over};
+use std::alloc::Global;
+
+/// Appends the names that an item of the text defines.
+fn push_item(
+    alloc: Global,
+    found: &mut Definitions,
+    t: &Tokens,
+    passed: &[bool],
+    span: ItemSpan,
+) -> Result<(), NoMemory>
+    requires text { LieInText t.now }
+    requires passed { passed.now ≡ passed_tokens t.now }
+    requires same { length passed.now ≡ length t.now.list }
+    requires span { IsInside (length t.now.list) span }
+    ensures bodied { OnOk result (found.new.bodied ≡ found.old.bodied ++ bodied_by t.now.text (item_row t.now span)) }
+    ensures defined { OnOk result (found.new.defined ≡ found.old.defined ++ defined_by t.now.text (item_row t.now span)) }
+{
+    let text = t.text.as_slice();
+    let first = span.first as usize;
+    let after = span.after as usize;
+    let row = signs(
+        alloc,
+        text,
+        &t.list.as_slice()[first..after],
+        &passed[first..after],
+    )?;
+    let form = form_of(row.as_slice());
+    push_defined(alloc, &mut found.defined, text, form, row.as_slice())?;
+    if let Form::Body = form {
+        push_defined(alloc, &mut found.bodied, text, form, row.as_slice())?;
+    }
+    Ok(())
+}
+
+/// The names with linkage that the items of a text define (C11 6.9p5), asked of its tokens alone.
+///
+/// An item that ends with a body defines each name that it declares at depth 0. An item without a body and without
+/// `typedef` defines those of them that no `(` follows; where it has `extern`, only those of these that have an initialiser.
+/// Each token of an item is looked at a fixed number of times.
+pub fn definitions(
+    alloc: Global,
+    t: &Tokens,
+    items: &List<ItemSpan>,
+) -> Result<Definitions, NoMemory>
+    requires text { LieInText t.now }
+    requires spans { All (IsInside (length t.now.list)) items.now }
+    ensures bodied { IfOk result (λ found. found.bodied ≡ bodied_names t.now items.now) }
+    ensures defined { IfOk result (λ found. found.defined ≡ defined_names t.now items.now) }
+{
+    let passed = passed_over(alloc, t)?;
+    let mut found = Definitions {
+        bodied: List::new(alloc),
+        defined: List::new(alloc),
+    };
+    for span in items.as_slice() {
+        push_item(alloc, &mut found, t, passed.as_slice(), *span)?;
+    }
+    Ok(found)
+}

@@ -1,0 +1,146 @@
+//! Which names an item of a form defines.
+
+ghost use Rattle.std.specs.Prelude.{◌≡◌, ◌≤◌, ◌∷◌, ◌++◌, false, length, map, OnOk};
+ghost use Rattle.std.specs.List.{All};
+ghost use Rattle.ctokens.specs.InText.{most_bytes};
+ghost use Rattle.definitions.specs.Defined.{declares, defines, defines_word, has_initialiser, is_function, names_in, set_after};
+ghost use Rattle.definitions.specs.Rows.{HasBytes, depth_after};
+
+use crate::form::Form;
+use crate::role::Role;
+use crate::sign::Sign;
+use crate::steps::{begins_initialiser, depth_after, ends_declarator, set_after};
+use crate::tables::token_word;
+use cbase::{List, NoMemory, Text};
+use std::alloc::Global;
+
+/// What is known of an item before one of its tokens.
+#[derive(Clone, Copy)]
+struct Before {
+    /// The token before it.
+    role: Role,
+    /// How many brackets are open.
+    depth: u32,
+    /// Whether a `=` stands at depth 0 since the last `,` at depth 0.
+    set: bool,
+    /// Whether a `=` stands at depth 0 from here on, before the next `,` or `;` there.
+    initialised: bool,
+}
+
+/// Whether the declarator that begins at a row has an initialiser.
+fn has_initialiser(row: &[Sign]) -> bool
+    requires { length row.now ≤ most_bytes }
+    ensures { result ≡ has_initialiser 0 row.now }
+{
+    let mut depth: u32 = 0;
+    for sign in row {
+        if begins_initialiser(depth, sign.role) {
+            return true;
+        }
+        if ends_declarator(depth, sign.role) {
+            return false;
+        }
+        depth = depth_after(depth, sign.role);
+    }
+    false
+}
+
+/// Whether a `(` stands behind the word that a row begins with.
+fn is_function(row: &[Sign]) -> bool
+    ensures { result ≡ is_function row.now }
+{
+    match row {
+        [_, next, ..] => matches!(next.role, Role::LeftParenthesis),
+        _ => false,
+    }
+}
+
+/// Whether an item of the form defines a name that it declares, where it is known whether a `(` follows the name, and whether
+/// its declarator has an initialiser.
+fn defines(form: Form, function: bool, initialised: bool) -> bool
+    ensures { result ≡ defines form function initialised }
+{
+    match form {
+        Form::Body => true,
+        Form::Typedef => false,
+        Form::Extern => !function && initialised,
+        Form::Plain => !function,
+    }
+}
+
+/// Whether an item declares the word that a row begins with.
+fn declares(before: Before, row: &[Sign]) -> bool
+    ensures { result ≡ declares before.role before.depth before.set row.now }
+{
+    match row {
+        [word, next, ..] => {
+            before.depth == 0
+                && !before.set
+                && word.role.is_name()
+                && next.role.follows_declared()
+                && !before.role.is_tag_word()
+        }
+        _ => false,
+    }
+}
+
+/// Whether an item of the form defines the word that a row begins with.
+fn defines_word(form: Form, before: Before, row: &[Sign]) -> bool
+    requires { before.initialised ≡ has_initialiser before.depth row.now }
+    ensures { result ≡ defines_word form before.role before.depth before.set row.now }
+{
+    declares(before, row) && defines(form, is_function(row), before.initialised)
+}
+
+/// What is known behind a token, which this row follows.
+#[tactic(auto, using(crate::proofs::Outermost::over_outermost))]
+fn behind(before: Before, sign: Sign, rest: &[Sign]) -> Before
+    requires few { before.depth ≤ most_bytes }
+    requires short { length rest.now ≤ most_bytes }
+    requires known { before.initialised ≡ has_initialiser before.depth (sign ∷ rest.now) }
+    ensures role { result.role ≡ sign.role }
+    ensures depth { result.depth ≡ depth_after before.depth sign.role }
+    ensures set { result.set ≡ set_after before.depth before.set sign.role }
+    ensures known { result.initialised ≡ has_initialiser result.depth rest.now }
+{
+    let role = sign.role;
+    let over = begins_initialiser(before.depth, role) || ends_declarator(before.depth, role);
+    let initialised = if over {
+        has_initialiser(rest)
+    } else {
+        before.initialised
+    };
+    Before {
+        role,
+        depth: depth_after(before.depth, role),
+        set: set_after(before.depth, before.set, role),
+        initialised,
+    }
+}
+
+/// Appends the names that an item of the form with this row defines.
+pub(crate) fn push_defined(
+    alloc: Global,
+    found: &mut List<Text>,
+    text: &[u8],
+    form: Form,
+    row: &[Sign],
+) -> Result<(), NoMemory>
+    requires few { length row.now ≤ most_bytes }
+    requires bytes { All (λ sign. HasBytes text.now sign.token) row.now }
+    ensures { OnOk result (found.new ≡ found.old ++ names_in text.now form row.now) }
+{
+    let mut before = Before {
+        role: Role::Other,
+        depth: 0,
+        set: false,
+        initialised: has_initialiser(row),
+    };
+    for (i, sign) in row.iter().enumerate() {
+        if defines_word(form, before, row.split_at(i).1) {
+            found.push(Text::from_slice(alloc, token_word(text, sign.token))?)?;
+        }
+        before = behind(before, *sign, row.split_at(i + 1).1);
+    }
+    Ok(())
+}

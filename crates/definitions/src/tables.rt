@@ -1,0 +1,99 @@
+//! The roles of tokens by their bytes.
+
+ghost use Rattle.std.specs.Prelude.{◌≡◌, ◌<◌, ◌≤◌, length, map};
+ghost use Rattle.ctokens.specs.SymbolRows.{row_read};
+ghost use Rattle.ctokens.specs.TokenSymbols.{token_word, word_of};
+ghost use Rattle.definitions.specs.Roles.{mark_role, role_in, token_role, word_role};
+
+use crate::role::Role;
+use ctokens::{Token, TokenKind, is_identifier, read_as};
+
+/// The keywords that matter here.
+const WORDS: [(&'static str, Role); 8] = [
+    ("struct", Role::TagWord),
+    ("union", Role::TagWord),
+    ("enum", Role::TagWord),
+    ("typedef", Role::Typedef),
+    ("extern", Role::Extern),
+    ("asm", Role::Assembly),
+    ("__asm", Role::Assembly),
+    ("__asm__", Role::Assembly),
+];
+
+/// The marks that matter here.
+const MARKS: [(&'static str, Role); 9] = [
+    ("(", Role::LeftParenthesis),
+    (")", Role::RightParenthesis),
+    ("[", Role::LeftBracket),
+    ("]", Role::RightBracket),
+    ("{", Role::LeftBrace),
+    ("}", Role::RightBrace),
+    (";", Role::Semicolon),
+    (",", Role::Comma),
+    ("=", Role::Equals),
+];
+
+/// The role of the row that has these bytes, or `Other` where there is no such row.
+fn role_in(rows: &[(&str, Role)], bytes: &[u8]) -> Role
+    ensures { result ≡ role_in (map row_read rows.now) bytes.now }
+{
+    for row in rows {
+        if row.0.as_bytes() == bytes {
+            return row.1;
+        }
+    }
+    Role::Other
+}
+
+/// The role of a word, as it is read.
+#[tactic(auto, unfolding(crate::specs::Roles::word_role))]
+fn word_role(word: &[u8]) -> Role
+    ensures { result ≡ word_role word.now }
+{
+    if is_identifier(word) {
+        return Role::Name;
+    }
+    role_in(WORDS.as_slice(), word)
+}
+
+/// The role of a mark.
+#[tactic(auto, unfolding(crate::specs::Roles::mark_role))]
+fn mark_role(bytes: &[u8]) -> Role
+    ensures { result ≡ mark_role bytes.now }
+{
+    role_in(MARKS.as_slice(), bytes)
+}
+
+/// The role of a token of the text.
+pub(crate) fn token_role(text: &[u8], token: Token) -> Role
+    requires order { token.from < token.to }
+    requires inside { token.to ≤ length text.now }
+    ensures { result ≡ token_role text.now token }
+{
+    let bytes = &text[token.from as usize..token.to as usize];
+    match token.kind {
+        TokenKind::Word => word_role(read_as(bytes)),
+        TokenKind::Number | TokenKind::Letter | TokenKind::Quoted => Role::Other,
+        TokenKind::Mark => mark_role(bytes),
+    }
+}
+
+/// The word of a token with these bytes, as it is read; none for a token of another kind.
+#[tactic(auto, unfolding(ctokens::specs::TokenSymbols::word_of))]
+fn word_of(kind: TokenKind, bytes: &[u8]) -> &[u8]
+    ensures { result.now ≡ word_of kind bytes.now }
+{
+    match kind {
+        TokenKind::Word => read_as(bytes),
+        TokenKind::Number | TokenKind::Letter | TokenKind::Quoted | TokenKind::Mark => &[],
+    }
+}
+
+/// The word of a token of the text, as it is read; none for a token of another kind.
+pub(crate) fn token_word(text: &[u8], token: Token) -> &[u8]
+    requires order { token.from < token.to }
+    requires inside { token.to ≤ length text.now }
+    ensures { result.now ≡ token_word text.now token }
+{
+    word_of(token.kind, &text[token.from as usize..token.to as usize])
+}
