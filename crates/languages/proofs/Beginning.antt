@@ -22,7 +22,7 @@ use Rattle.expressions.specs.Context.{Declared}
 use Rattle.expressions.specs.Language.{linked_function}
 use Rattle.expressions.specs.Numbers.{Numbering}
 use Rattle.languages.specs.AtTypes.{binding_at, link_at, declarations_at}
-use Rattle.languages.specs.CBegin.{is_among, without_body, built_in_link, linkage_alone, around_file}
+use Rattle.languages.specs.CBegin.{is_among, without_body, built_in_link, linkage_alone, with_functions}
 use Rattle.languages.specs.CLanguage.{Declarations}
 use Rattle.languages.specs.Mapped.{entries_mapped}
 use Rattle.languages.specs.Meanings.{AFunction, WithLinkage}
@@ -46,16 +46,16 @@ module _ {A B : Type 0} (f : A → B) (name : List ℕ) (value : A) (table : Ent
 
 -- one more function that is built in
 module _ (n : Numbering) (strict : Bool) (defined : List (List ℕ)) (name : List ℕ) (function : FunctionType) (table : Entries FunctionType) (none : value_in name table ≡ None) where
-  one_more : record (around_file strict defined table) {
-    names = declared name WithLinkage (around_file strict defined table).names;
-    links = with_value name (built_in_link function) (around_file strict defined table).links;
-  } ≡ around_file strict defined (table ++ (name, function) ∷ [])
-  one_more = λ i. record (around_file strict defined table) {
+  one_more : record (with_functions strict defined table) {
+    names = declared name WithLinkage (with_functions strict defined table).names;
+    links = with_value name (built_in_link function) (with_functions strict defined table).links;
+  } ≡ with_functions strict defined (table ++ (name, function) ∷ [])
+  one_more = λ i. record (with_functions strict defined table) {
     names = grown linkage_alone name function table none i ∷ [];
     links = grown built_in_link name function table none i;
   }
 
-  module _ (before : Declared) (signature : Signature) (so_far : declarations_at n before ≡ around_file strict defined table)
+  module _ (before : Declared) (signature : Signature) (so_far : declarations_at n before ≡ with_functions strict defined table)
       (number : n.signature (length before.environment.signatures) ≡ signature) (result : n.ctype signature.result ≡ function.result)
       (parameters : map n.ctype signature.parameters ≡ function.parameters) where
     link_is : link_at n (linked_function (length before.environment.signatures) false true NotDefinedByNow) ≡ built_in_link function
@@ -68,7 +68,7 @@ module _ (n : Numbering) (strict : Bool) (defined : List (List ℕ)) (name : Lis
 
     pub built_in_declared : declarations_at n (record before {
       environment = linked_declared name (linked_function (length before.environment.signatures) false true NotDefinedByNow) (signature_added signature before.environment);
-    }) ≡ around_file strict defined (table ++ (name, function) ∷ [])
+    }) ≡ with_functions strict defined (table ++ (name, function) ∷ [])
     built_in_declared =
         linked_with n name (linked_function (length before.environment.signatures) false true NotDefinedByNow) (built_in_link function)
         (declared name LinkageByNumber before.environment.names) (declared name WithLinkage (declarations_at n before).names)

@@ -1,13 +1,13 @@
 -- What names stand for in front of a text.
 use Rattle.std.proofs.Common.{◌≡◌, ℕ, List, [], ◌∷◌, Option, None, Some, refl, ap, ◌∙◌}
-use Rattle.std.specs.Prelude.{Bool, true, false, not, option_map, if◌then◌else◌}
+use Rattle.std.specs.Prelude.{Bool, true, false, not, is_some, option_map, if◌then◌else◌}
 use Rattle.std.specs.Str.{bytes_eq}
 use Rattle.std.proofs.lemmas.Slice.Eq.{bytes_eq-Decides}
 use Rattle.environment.specs.BuiltIns.{FunctionType, built_ins}
 use Rattle.environment.specs.Names.{Entries, value_in}
 use Rattle.environment.specs.Scopes.{first_answer}
 use Rattle.languages.specs.CBegin.{is_among, without_body, built_in_link, linkage_alone}
-use Rattle.languages.specs.CLaws.{built_in, BuiltInsStand, NothingIsDeclared}
+use Rattle.languages.specs.CLaws.{built_in, BuiltInsStand, BuiltInsAreHere}
 use Rattle.languages.specs.Mapped.{entries_mapped}
 use Rattle.languages.specs.Meanings.{Binding, Link, meaning_of, entity_of}
 use Rattle.languages.proofs.Mapped.{value_mapped}
@@ -37,7 +37,7 @@ kept_value bodied name (entry ∷ table) = step (bytes_eq name entry.0) refl (is
     step false other true there here among rest = rest
     step false other false there here among rest = ap (λ b. if b then Some entry.1 else value_in name kept) other ∙ rest
 
--- what has linkage under a name, and nothing else, is declared around the file
+-- what has linkage under a name, and nothing else, is declared in the file scope
 module _ (name : List ℕ) (table : Entries FunctionType) where
   stands : (o : Option FunctionType) (links : Entries Link) → value_in name links ≡ option_map built_in_link o
       → option_map entity_of (meaning_of name links (first_answer (option_map linkage_alone o) None)) ≡ option_map built_in o
@@ -59,5 +59,16 @@ built_ins_stand abi strict bodied defined name =
     stands_so name (without_body bodied (built_ins abi))
     ∙ (ap (option_map built_in) (kept_value bodied name (built_ins abi)) ∙ option_if (is_among name bodied) (value_in name (built_ins abi)))
 
-pub nothing_is_declared : NothingIsDeclared
-nothing_is_declared abi strict bodied defined name = refl
+some_mapped : (o : Option FunctionType) → is_some (option_map linkage_alone o) ≡ is_some o
+some_mapped None = refl
+some_mapped (Some function) = refl
+
+some_if : (test : Bool) (o : Option FunctionType) → is_some (if test then None else o) ≡ (if test then false else is_some o)
+some_if true o = refl
+some_if false o = refl
+
+pub built_ins_are_here : BuiltInsAreHere
+built_ins_are_here abi strict bodied defined name =
+    ap is_some (value_mapped linkage_alone name (without_body bodied (built_ins abi)))
+    ∙ (some_mapped (value_in name (without_body bodied (built_ins abi)))
+    ∙ (ap is_some (kept_value bodied name (built_ins abi)) ∙ some_if (is_among name bodied) (value_in name (built_ins abi))))

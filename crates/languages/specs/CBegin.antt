@@ -6,7 +6,7 @@ use Rattle.cbase.specs.declared.abi.Abi.{Abi}
 use Rattle.environment.specs.BuiltIns.{FunctionType, built_ins}
 use Rattle.environment.specs.Names.{Entries}
 use Rattle.typing.specs.Entities.{NotDefined}
-use Rattle.languages.specs.CLanguage.{Declarations, scope_entered}
+use Rattle.languages.specs.CLanguage.{Declarations}
 use Rattle.languages.specs.Mapped.{entries_mapped}
 use Rattle.languages.specs.Meanings.{AFunction, Binding, WithLinkage, Link}
 
@@ -26,9 +26,10 @@ built_in_link function = record {
 abbrev pub linkage_alone : FunctionType → Binding
 linkage_alone function = WithLinkage
 
--- around all items one scope declares the functions that are built in, with linkage, and nothing else is declared
-abbrev pub around_file : Bool → List (List ℕ) → Entries FunctionType → Declarations
-around_file strict defined table = record {
+-- the file scope has the names of these functions, with linkage, before its first item (6.2.1p4, 7.1.3p1), and nothing else is declared: so a block may hide such a
+-- name, and outside of functions it is no typedef and no constant
+abbrev pub with_functions : Bool → List (List ℕ) → Entries FunctionType → Declarations
+with_functions strict defined table = record {
   names = entries_mapped linkage_alone table ∷ [];
   tags = [] ∷ [];
   links = entries_mapped built_in_link table;
@@ -39,6 +40,5 @@ around_file strict defined table = record {
   defines = λ name. is_among name defined;
 }
 
--- the file scope inside it is empty (6.2.1p4)
 abbrev pub c_begin : Abi → Bool → List (List ℕ) → List (List ℕ) → Declarations
-c_begin abi strict bodied defined = scope_entered (around_file strict defined (without_body bodied (built_ins abi)))
+c_begin abi strict bodied defined = with_functions strict defined (without_body bodied (built_ins abi))

@@ -44,6 +44,8 @@ BuiltInsStand =
     (abi : Abi) (strict : Bool) (bodied defined : List (List ℕ)) (name : List ℕ)
     → (c_language abi).entity name (c_begin abi strict bodied defined) ≡ (if is_among name bodied then None else option_map built_in (value_in name (built_ins abi)))
 
--- and the file scope declares none
-abbrev pub NothingIsDeclared : Type 0
-NothingIsDeclared = (abi : Abi) (strict : Bool) (bodied defined : List (List ℕ)) (name : List ℕ) → (c_language abi).is_declared_here name (c_begin abi strict bodied defined) ≡ false
+-- and the file scope declares these alone
+abbrev pub BuiltInsAreHere : Type 0
+BuiltInsAreHere =
+    (abi : Abi) (strict : Bool) (bodied defined : List (List ℕ)) (name : List ℕ)
+    → (c_language abi).is_declared_here name (c_begin abi strict bodied defined) ≡ (if is_among name bodied then false else is_some (value_in name (built_ins abi)))

@@ -1,7 +1,7 @@
 //! Laws of what contexts declare, and of C. Each is the contract of a call that does nothing.
 ghost use Rattle.expressions.specs.Context.{Agrees};
 ghost use Rattle.expressions.specs.Numbers.{Numbering};
-ghost use Rattle.languages.specs.CLaws.{ContextsCarryOver, FindsWhatContextsFind, FindsFromTheFront, BuiltInsStand, NothingIsDeclared};
+ghost use Rattle.languages.specs.CLaws.{ContextsCarryOver, FindsWhatContextsFind, FindsFromTheFront, BuiltInsStand, BuiltInsAreHere};
 ghost use Rattle.languages.specs.LeadsBack.{LeadsBack};
 
 use expressions::Context;
@@ -28,8 +28,9 @@ pub fn c_finds_from_the_front()
     ensures { FindsFromTheFront }
 {}
 
-/// In front of a text the names of functions that are built in stand for these, where the text has no body for them, and no other name stands for anything.
+/// In front of a text the names of functions that are built in stand for these, where the text has no body for them, and
+/// the file scope has these names; no other name stands for anything.
 pub fn built_ins_stand_in_front()
     ensures stand { BuiltInsStand }
-    ensures here { NothingIsDeclared }
+    ensures here { BuiltInsAreHere }
 {}
