@@ -107,6 +107,11 @@ fn a_text_that_is_not_read_has_its_place(rt: HostRuntime) -> Result<(), Fail> {
     };
     let want = b"t.c: not read: too deep at a.h:7:280\n";
     assert!(rt; prints_with(alloc, two_names(alloc)?, deep, want)?);
+    let rule = Answer::NotRead {
+        why: Why::Rule { number: 13, place },
+    };
+    let want = b"t.c: not read: rule 13 at a.h:7:280\n";
+    assert!(rt; prints_with(alloc, two_names(alloc)?, rule, want)?);
     let syntax = Answer::NotRead {
         why: Why::Syntax { place },
     };
