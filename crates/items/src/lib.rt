@@ -4,4 +4,17 @@
 //! by the crates below. It knows nothing of tokens or of the text.
 #![tactic(auto)]
 
+mod complete;
+mod declaring;
+mod definitions;
+mod giving;
+mod handing;
 mod heads;
+mod initialising;
+mod item;
+mod names;
+mod object;
+mod objects;
+mod telling;
+
+pub use item::item;
