@@ -1,2 +1,3 @@
 pub mod InFile
+pub mod Names
 pub mod Objects

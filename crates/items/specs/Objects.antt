@@ -26,8 +26,8 @@ use Rattle.expressions.specs.declared.handed_row.HandedRow.{HandedRow}
 use Rattle.expressions.specs.declared.handed_row.HandedRow.TheVariants.{Object as ObjectRow, Link as LinkRow}
 use Rattle.expressions.specs.declared.named_type.NamedType.{NamedType as NamedByNumber}
 use Rattle.expressions.specs.Context.{Context, declared, Agrees, Grows, OnlyTypes}
-use Rattle.expressions.specs.FileScope.{definition_at, definition_by_now, file_scope}
-use Rattle.expressions.specs.Language.{language, token_by_now}
+use Rattle.expressions.specs.FileScope.{definition_at, file_scope}
+use Rattle.expressions.specs.Language.{definition_by_now, language, token_by_now}
 use Rattle.expressions.specs.Numbers.{Numbering, declared_type_at, named_at}
 use Rattle.expressions.specs.Settled.{IsFirstOf}
 use Rattle.declarations.specs.Given.{composite_by_now, here_at, linked_now}

@@ -90,6 +90,6 @@ fn function<F: Fn(&mut Context, Within, Part<'_>) -> Result<Found<Told>, NoMemor
     };
     let found = definition(checker, alloc, context, storage, base, head, body)?;
     context.leave();
-    context.set_result(None);
+    context.set_function(None);
     Ok(found)
 }

@@ -1,0 +1,7 @@
+mod Behind
+mod DeclaringObjects
+mod FileInitialisers
+mod FileNames
+mod GivingObjects
+mod Items
+mod ObjectNames
