@@ -99,12 +99,12 @@ module _ (abi : Abi) (name : DeclaredTree) (listed : Bool) where
         (grows_by_rows mid new (ap (λ (c : Context). c.types) handed) (ap (λ (c : Context). c.structs) handed) (ap (λ (c : Context). c.environment.signatures) handed))
         (ap (λ (c : Context). c.handed) handed)
         (λ n front then agrees stored.
-            let whole : SaysBehind (Whole number) (Some init) n (declared old) (Passes tt (front ++ static_row listed (out-Declared name).place (WholeType (n.ctype number)) (in_braces (out-Init init)))) (declared mid) = FileInitialised refl stored in
-            let rows : front ++ static_row listed (out-Declared name).place (WholeType (n.ctype number)) (in_braces (out-Init init)) ≡ front ++ map (handed_at n) (static_rows listed (out-Declared name).place (Whole number) zeroed) =
-            ap (λ (all : Bool). front ++ static_row listed (out-Declared name).place (WholeType (n.ctype number)) all) (sym braced)
-            ∙ ap (λ (more : List Handed). front ++ more) (sym (static_rows_are n listed (out-Declared name).place (Whole number) zeroed)) in
-            subst (λ (after : Declared). SaysBehind (Whole number) (Some init) n (declared old) (Passes tt (front ++ map (handed_at n) (static_rows listed (out-Declared name).place (Whole number) zeroed))) after) (sym (ap declared handed))
-            (subst (λ (all : List Handed). SaysBehind (Whole number) (Some init) n (declared old) (Passes tt all) (declared mid)) rows whole))
+        let whole : SaysBehind (Whole number) (Some init) n (declared old) (Passes tt (front ++ static_row listed (out-Declared name).place (WholeType (n.ctype number)) (in_braces (out-Init init)))) (declared mid) = FileInitialised refl stored in
+        let rows : front ++ static_row listed (out-Declared name).place (WholeType (n.ctype number)) (in_braces (out-Init init)) ≡ front ++ map (handed_at n) (static_rows listed (out-Declared name).place (Whole number) zeroed) =
+        ap (λ (all : Bool). front ++ static_row listed (out-Declared name).place (WholeType (n.ctype number)) all) (sym braced)
+        ∙ ap (λ (more : List Handed). front ++ more) (sym (static_rows_are n listed (out-Declared name).place (Whole number) zeroed)) in
+        subst (λ (after : Declared). SaysBehind (Whole number) (Some init) n (declared old) (Passes tt (front ++ map (handed_at n) (static_rows listed (out-Declared name).place (Whole number) zeroed))) after) (sym (ap declared handed))
+        (subst (λ (all : List Handed). SaysBehind (Whole number) (Some init) n (declared old) (Passes tt all) (declared mid)) rows whole))
         (passed_of (SaysStored number) nothing old mid told found is walked)
 
     pub object_refused : (old new : Context) (number : ℕ) (first : Fault) (found : Found (Unit {0})) → found ≡ FoundRefused first
@@ -161,16 +161,16 @@ module _ (abi : Abi) (name : DeclaredTree) (listed : Bool) where
         size_passes told =
             rows_behind SaysItems (SaysBehind (UnsizedArray item) (Some init)) old mid new (static_rows listed (out-Declared name).place (Whole number) true) told.grows told.handed
             (λ n front then agrees stored.
-                let meant : n.ctype number ≡ ArrayType (n.ctype item) (length parts) = meant_then n then in
-                let asked = told.asked n (n.ctype item) then meant in
-                let whole = FileArrayInitialised asked.0 layer stored asked.1 asked.2 in
-                let rows : front ++ static_row listed (out-Declared name).place (told_type (n.ctype item) (length parts)) true ≡ front ++ map (handed_at n) (static_rows listed (out-Declared name).place (Whole number) true) =
-                ap (λ (t : CType). front ++ static_row listed (out-Declared name).place (WholeType t) true) (sym meant)
-                ∙ ap (λ (more : List Handed). front ++ more) (sym (static_rows_are n listed (out-Declared name).place (Whole number) true)) in
-                subst (λ (after : Declared). SaysBehind (UnsizedArray item) (Some init) n (declared old) (Passes tt (front ++ map (handed_at n) (static_rows listed (out-Declared name).place (Whole number) true))) after)
-                (sym (told.declares n (n.ctype item) then meant))
-                (subst (λ (all : List Handed). SaysBehind (UnsizedArray item) (Some init) n (declared old) (Passes tt all)
-                (name_declared (language abi n) (out-Declared name).name (out-Declared name).place.at (LinkedGiven (ObjectLinked (told_type (n.ctype item) (length parts)))) (declared mid))) rows whole))
+            let meant : n.ctype number ≡ ArrayType (n.ctype item) (length parts) = meant_then n then in
+            let asked = told.asked n (n.ctype item) then meant in
+            let whole = FileArrayInitialised asked.0 layer stored asked.1 asked.2 in
+            let rows : front ++ static_row listed (out-Declared name).place (told_type (n.ctype item) (length parts)) true ≡ front ++ map (handed_at n) (static_rows listed (out-Declared name).place (Whole number) true) =
+            ap (λ (t : CType). front ++ static_row listed (out-Declared name).place (WholeType t) true) (sym meant)
+            ∙ ap (λ (more : List Handed). front ++ more) (sym (static_rows_are n listed (out-Declared name).place (Whole number) true)) in
+            subst (λ (after : Declared). SaysBehind (UnsizedArray item) (Some init) n (declared old) (Passes tt (front ++ map (handed_at n) (static_rows listed (out-Declared name).place (Whole number) true))) after)
+            (sym (told.declares n (n.ctype item) then meant))
+            (subst (λ (all : List Handed). SaysBehind (UnsizedArray item) (Some init) n (declared old) (Passes tt all)
+            (name_declared (language abi n) (out-Declared name).name (out-Declared name).place.at (LinkedGiven (ObjectLinked (told_type (n.ctype item) (length parts)))) (declared mid))) rows whole))
             items_pass
 
         size_found : (found : Found (Unit {0})) → IsArrayTold abi name listed number (length parts) mid new found → Walked (SaysBehind (UnsizedArray item) (Some init)) nothing old new found

@@ -1,4 +1,5 @@
 mod Behind
+mod BuiltIns
 mod DeclaringObjects
 mod FileInitialisers
 mod FileNames

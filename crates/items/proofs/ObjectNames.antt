@@ -111,7 +111,7 @@ module _ (abi : Abi) (storage : Storage) (base : NamedByNumber) (name : Declared
             let front = sizes_pass told is in
             let whole = FileNameGiven asked.0 refl params no_typedef (front.found n here) asked.1 asked.2 (behind_declared n outcome last agrees found) in
             let rows : map (handed_at n) front.rows ++ link_row (language abi n) (file_scope abi n) (out-Declared name) (object_declared (language abi n) (file_scope abi n) storage (named_at n base) (out-Declared name) sizes (declared mid))
-                ≡ map (handed_at n) (front.rows ++ link_rows name late) =
+            ≡ map (handed_at n) (front.rows ++ link_rows name late) =
             ap (λ (place : Declared). map (handed_at n) front.rows ++ link_row (language abi n) (file_scope abi n) (out-Declared name) place) (sym (gives.declares n agrees))
             ∙ sym (map-append (handed_at n) front.rows (link_rows name late)) in
             subst (λ (handed : List Handed). SaysObject n (declared old) (with_front handed outcome) last) rows whole

@@ -52,7 +52,7 @@ abbrev pub IsObjectJudged : Numbering → Context → Declared → Object → Op
 IsObjectJudged n context name object found first = (other : Bool)
     × IsAgain (here_at n context (out-Declared name).name) (linked_now n context (out-Declared name).name) (given Extern (declared_type_at n object.given)) other
     × IsFirstOf (name_faults (out-Declared name).place found (other || is_twice (definition_at object.before) (definition_at object.adds))
-        (is_complete_by context.structs (definition_at object.adds) (declared_type_at n object.ctype))) first
+    (is_complete_by context.structs (definition_at object.adds) (declared_type_at n object.ctype))) first
 
 -- what is asked of it in the language of a context
 abbrev pub IsObjectAsked : Abi → Storage → NamedByNumber → Declared → List Size → Context → Option Fault → Numbering → Type 0

@@ -61,7 +61,14 @@ fn declared<F: Fn(&mut Context, Within, Part<'_>) -> Result<Found<Told>, NoMemor
     match checker.words(alloc, context, &decl.spec)? {
         Found::Passes(base) => {
             let storage = decl.storage;
-            names(checker, alloc, context, storage, base, decl.names.as_slice())
+            names(
+                checker,
+                alloc,
+                context,
+                storage,
+                base,
+                decl.names.as_slice(),
+            )
         }
         Found::Refused(fault) => Ok(Found::Refused(fault)),
     }

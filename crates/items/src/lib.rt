@@ -4,6 +4,9 @@
 //! by the crates below. It knows nothing of tokens or of the text.
 #![tactic(auto)]
 
+mod begin;
+mod built_in_types;
+mod built_ins;
 mod complete;
 mod declaring;
 mod definitions;
@@ -17,4 +20,5 @@ mod object;
 mod objects;
 mod telling;
 
+pub use begin::begin;
 pub use item::item;
