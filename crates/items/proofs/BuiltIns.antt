@@ -1,7 +1,7 @@
 -- The functions that are built in are declared one behind the other.
 use Rattle.std.proofs.Common.{◌≡◌, ◌∙◌, ◌<◌, ◌≤◌, ◌+◌, ◌||◌, ℕ, suc, Bool, true, false, List, [], ◌∷◌, ◌++◌, map, drop, length, get_or, refl, sym, ap, subst, arith, All, Result, Ok, Err, OnOk}
 use Rattle.std.proofs.lemmas.List.{drop_all, map-append}
-use Rattle.std.proofs.lemmas.List.Elements.{All-append}
+use Rattle.std.proofs.lemmas.List.Elements.{All-nil, All-push}
 use Rattle.std.specs.Str.{bytes_eq}
 use denote.Ref.{Bor}
 use Rattle.cbase.specs.declared.abi.Abi.{Abi}
@@ -46,27 +46,17 @@ pointer_number t old mid new item number first second = record {
 -- numbers of types, one behind the other
 pub no_numbers : (context : Context) (numbers : List ℕ) → numbers ≡ [] → AreNumbers [] context context numbers
 no_numbers context numbers none = subst (λ (these : List ℕ). AreNumbers [] context context these) (sym none)
-    (record { only_types = only_types_same context; below = λ at default within. absurd (not_within at within); meant = λ n agrees. refl })
-  where
-    not_within : (at : ℕ) → at < 0 → ⊥
-    not_within at within = omega (arith, within)
+    (record { only_types = only_types_same context; below = All-nil (λ (one : ℕ). one < length context.types); meant = λ n agrees. refl })
 
 below_later : (old new : Context) (numbers : List ℕ) → OnlyTypes old new → All (λ number. number < length old.types) numbers → All (λ number. number < length new.types) numbers
 below_later old new numbers only below = λ at default within. below_only_types old new only (get_or numbers at default) (below at default within)
-
-one_below : (count number : ℕ) → number < count → All (λ (one : ℕ). one < count) (number ∷ [])
-one_below count number below = λ at default within. first at default within
-  where
-    first : (at default : ℕ) → at < 1 → get_or (number ∷ []) at default < count
-    first 0 default within = below
-    first (suc at) default within = absurd (omega (arith, within))
 
 pub one_more_number : (types : List CType) (t : CType) (old mid new : Context) (before after : List ℕ) → AreNumbers types old mid before → IsNumberBehind t mid new before after
     → AreNumbers (types ++ t ∷ []) old new after
 one_more_number types t old mid new before after first second =
     subst (λ (these : List ℕ). AreNumbers (types ++ t ∷ []) old new these) (sym second.1) (record {
       only_types = only_types_trans old mid new first.only_types second.2.only_types;
-      below = All-append (λ (one : ℕ). one < length new.types) before (second.0 ∷ []) (below_later mid new before second.2.only_types first.below) (one_below (length new.types) second.0 second.2.below);
+      below = All-push (λ (one : ℕ). one < length new.types) before second.0 (below_later mid new before second.2.only_types first.below) second.2.below;
       meant = λ n agrees.
           map-append n.ctype before (second.0 ∷ [])
           ∙ λ i. first.meant n (agrees_before_types mid new n second.2.only_types agrees) i ++ second.2.meant n agrees i ∷ [];

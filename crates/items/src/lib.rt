@@ -4,7 +4,7 @@
 //! by the crates below. It knows nothing of tokens or of the text.
 #![tactic(auto)]
 
-mod begin;
+mod beginning;
 mod built_in_types;
 mod built_ins;
 mod complete;
@@ -14,11 +14,11 @@ mod giving;
 mod handing;
 mod heads;
 mod initialising;
-mod item;
 mod names;
 mod object;
 mod objects;
 mod telling;
+mod walk;
 
-pub use begin::begin;
-pub use item::item;
+pub use beginning::begin;
+pub use walk::item;
