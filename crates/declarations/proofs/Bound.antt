@@ -6,6 +6,7 @@ use Rattle.cbase.specs.declared.tree.decl.Storage.{Storage}
 use Rattle.cbase.specs.declared.tree.decl.Storage.TheVariants.{Plain, Typedef, Extern, Static}
 use Rattle.environment.specs.declared.entity.DeclaredType.{DeclaredType}
 use Rattle.environment.specs.declared.entity.DeclaredType.TheVariants.{Whole, UnsizedArray}
+use Rattle.environment.specs.declared.entity.Definition.{Definition}
 use Rattle.environment.specs.declared.entity.Entity.{Entity}
 use Rattle.environment.specs.declared.entity.Entity.TheVariants as entity
 use Rattle.environment.specs.declared.entity.Linked.{Linked as LinkedByNumber}
@@ -17,14 +18,14 @@ use Rattle.environment.specs.Names.{value_in}
 use Rattle.typing.specs.Declarations.{composite, given, object_row}
 use Rattle.typing.specs.Entities.{Linked, ObjectLinked}
 use Rattle.expressions.specs.Context.{Context, Declared, Agrees}
-use Rattle.expressions.specs.Language.{defined_by_now, lifetime_of, linked_object, name_linked_as, object_declared, token_by_now, typedef_declared}
+use Rattle.expressions.specs.Language.{definition_by_now, lifetime_of, linked_object, name_linked_as, object_declared, token_by_now, typedef_declared}
 use Rattle.expressions.specs.Numbers.{Numbering, declared_type_at, handed_at, linked_at}
 use Rattle.declarations.specs.Given.{bound, composite_by_now, object_rows}
 use Rattle.declarations.proofs.OneNumber.{declared_back}
 
 -- the composite type, by numbers
-composite_in_is : (n : Numbering) (before : Entity) (by_now : Bool) (t : DeclaredType)
-    → composite (linked_at n (record { entity = before; defined = by_now })) (ObjectLinked (declared_type_at n t)) ≡ ObjectLinked (declared_type_at n (composite_by_now (Some (record { entity = before; defined = by_now })) t))
+composite_in_is : (n : Numbering) (before : Entity) (by_now : Definition) (t : DeclaredType)
+    → composite (linked_at n (record { entity = before; definition = by_now })) (ObjectLinked (declared_type_at n t)) ≡ ObjectLinked (declared_type_at n (composite_by_now (Some (record { entity = before; definition = by_now })) t))
 composite_in_is n (entity.Object (Whole number) token lifetime defined) by_now t = refl
 composite_in_is n (entity.Object (UnsizedArray item) token lifetime defined) by_now t = refl
 composite_in_is n (entity.Typedef before) by_now t = refl
@@ -34,11 +35,11 @@ composite_in_is n (entity.Function signature defined built_in) by_now t = refl
 pub composite_is : (n : Numbering) (before : Option LinkedByNumber) (t : DeclaredType)
     → composite (option_and_then (linked_at n) before) (ObjectLinked (declared_type_at n t)) ≡ ObjectLinked (declared_type_at n (composite_by_now before t))
 composite_is n None t = refl
-composite_is n (Some meaning) t = composite_in_is n meaning.entity meaning.defined t
+composite_is n (Some meaning) t = composite_in_is n meaning.entity meaning.definition t
 
 -- its number is below where those of both types are
-composite_in_below : (count : ℕ) (signatures : List Signature) (before : Entity) (by_now : Bool) (t : DeclaredType) → EntityBelow count signatures before → DeclaredBelow count t
-    → DeclaredBelow count (composite_by_now (Some (record { entity = before; defined = by_now })) t)
+composite_in_below : (count : ℕ) (signatures : List Signature) (before : Entity) (by_now : Definition) (t : DeclaredType) → EntityBelow count signatures before → DeclaredBelow count t
+    → DeclaredBelow count (composite_by_now (Some (record { entity = before; definition = by_now })) t)
 composite_in_below count signatures (entity.Object (Whole number) token lifetime defined) by_now t below also = below
 composite_in_below count signatures (entity.Object (UnsizedArray item) token lifetime defined) by_now t below also = also
 composite_in_below count signatures (entity.Typedef before) by_now t below also = also
@@ -48,7 +49,7 @@ composite_in_below count signatures (entity.Function signature defined built_in)
 pub composite_below : (count : ℕ) (signatures : List Signature) (before : Option LinkedByNumber) (t : DeclaredType) → IfSome before (LinkedBelow count signatures) → DeclaredBelow count t
     → DeclaredBelow count (composite_by_now before t)
 composite_below count signatures None t below also = also
-composite_below count signatures (Some meaning) t below also = composite_in_below count signatures meaning.entity meaning.defined t below also
+composite_below count signatures (Some meaning) t below also = composite_in_below count signatures meaning.entity meaning.definition t below also
 
 -- an object without linkage
 pub object_bound : (n : Numbering) (context : Context) (name : List ℕ) (token : ℕ) (fixed : Bool) (t : DeclaredType) (before : Declared) → Agrees n context → DeclaredBelow (length context.types) t
@@ -63,7 +64,7 @@ pub linked_bound : (n : Numbering) (context : Context) (name : List ℕ) (token 
 linked_bound n context name token t before agrees below =
     ap (λ (number : DeclaredType). record before {
       environment = linked_declared name
-          (linked_object number (token_by_now (value_in name before.environment.linked) token) (is_some (value_in name before.environment.definitions)) (defined_by_now (value_in name before.environment.linked)))
+          (linked_object number (token_by_now (value_in name before.environment.linked) token) (is_some (value_in name before.environment.definitions)) (definition_by_now (value_in name before.environment.linked)))
           before.environment;
     }) (sym (declared_back n context agrees (composite_by_now (value_in name before.environment.linked) t) below))
     ∙ ap (λ (linked : Linked). name_linked_as n name token linked before) (sym (composite_is n (value_in name before.environment.linked) t))

@@ -36,7 +36,7 @@ use Rattle.expressions.specs.declared.handed_row.HandedRow.{HandedRow}
 use Rattle.expressions.specs.declared.handed_row.HandedRow.TheVariants.{Object as ObjectRow}
 use Rattle.expressions.specs.declared.named_type.NamedType.{NamedType as NamedByNumber}
 use Rattle.expressions.specs.Context.{Context, declared, Agrees, Grows, OnlyTypes}
-use Rattle.expressions.specs.Language.{language, linked_object, defined_by_now, lifetime_of, token_by_now}
+use Rattle.expressions.specs.Language.{language, linked_object, definition_by_now, lifetime_of, token_by_now}
 use Rattle.expressions.specs.Numbers.{Numbering, declared_type_at, linked_at, name_here_at, named_at}
 use Rattle.expressions.specs.Settled.{IsFirstOf}
 
@@ -103,7 +103,7 @@ composite_by_now (Some meaning) t = composite_in meaning.entity t
 -- a name is declared by the storage word of its declaration
 abbrev pub linked_by_now : List ℕ → ℕ → DeclaredType → Environment → LinkedByNumber
 linked_by_now name token t env = linked_object (composite_by_now (value_in name env.linked) t) (token_by_now (value_in name env.linked) token)
-    (is_some (value_in name env.definitions)) (defined_by_now (value_in name env.linked))
+    (is_some (value_in name env.definitions)) (definition_by_now (value_in name env.linked))
 
 abbrev pub bound : List ℕ → ℕ → Storage → DeclaredType → Environment → Environment
 bound name token Plain t env = own_declared name (entity.Object t token (lifetime_of false) true) env

@@ -6,13 +6,13 @@ ghost use Rattle.environment.specs.Bounds.{DeclaredBelow};
 ghost use Rattle.environment.specs.Linkage.{own_declared};
 ghost use Rattle.environment.specs.Names.{value_in};
 ghost use Rattle.expressions.specs.Context.{Agrees, declared};
-ghost use Rattle.expressions.specs.Language.{defined_by_now, language, lifetime_of, token_by_now};
+ghost use Rattle.expressions.specs.Language.{definition_by_now, language, lifetime_of, token_by_now};
 ghost use Rattle.expressions.specs.Numbers.{Numbering, declared_type_at};
 ghost use Rattle.typing.specs.Declarations.{given, name_declared};
 ghost use Rattle.declarations.specs.Given.{bound, composite_by_now};
 
 use cbase::{NoMemory, Storage};
-use environment::{DeclaredType, Entity, Lifetime, Linked};
+use environment::{DeclaredType, Definition, Entity, Lifetime, Linked};
 use expressions::Context;
 use std::alloc::Global;
 
@@ -95,7 +95,7 @@ fn declare_linked(
     };
     let meaning = Linked {
         entity,
-        defined: defined_by_now(before),
+        definition: definition_by_now(before),
     };
     context.declare_linked(alloc, name, meaning)
 }
@@ -133,12 +133,12 @@ fn token_by_now(before: Option<Linked>, token: u32) -> u32
     }
 }
 
-/// Whether it has an initialiser by now.
-fn defined_by_now(before: Option<Linked>) -> bool
-    ensures { result ≡ defined_by_now before }
+/// What the text so far has for it.
+fn definition_by_now(before: Option<Linked>) -> Definition
+    ensures { result ≡ definition_by_now before }
 {
     match before {
-        Some(meaning) => meaning.defined,
-        None => false,
+        Some(meaning) => meaning.definition,
+        None => Definition::NotDefined,
     }
 }

@@ -1,8 +1,9 @@
 -- What is declared at a place of a text: names and tags, which are two name spaces (C11 6.2.3), by scope; what has linkage under
 -- a name; and the signatures of functions, each at its number. And what statements ask of the place: whether it lies in the body
--- of a loop, what the function around it gives back, and which names the whole text defines.
+-- of a loop, what the function around it gives back, which names the whole text defines, and whether `main` may not be called.
 use Rattle.std.specs.Prelude.{ℕ, Bool, false, List, [], ◌∷◌, ◌++◌, Option, None, Some, option_map, is_some}
 use Rattle.environment.specs.declared.entity.Entity.{Entity}
+use Rattle.environment.specs.declared.entity.Definition.{Definition}
 use Rattle.environment.specs.declared.entity.Linked.{Linked}
 use Rattle.environment.specs.declared.entity.Binding.{Binding}
 use Rattle.environment.specs.declared.entity.Binding.TheVariants.{Own, WithLinkage}
@@ -12,12 +13,12 @@ use Rattle.environment.specs.declared.entity.TagForm.{TagForm}
 use Rattle.environment.specs.declared.entity.TagForm.TheVariants.{Declared, Mentioned}
 use Rattle.environment.specs.declared.environment.Environment.{Environment}
 use Rattle.environment.specs.Names.{Entries, value_in, with_value}
-use Rattle.environment.specs.Scopes.{found, found_here, declared, entered, left}
+use Rattle.environment.specs.Scopes.{found, found_here, declared, declared_around, entered, left}
 
 -- outside all scopes, in a text of which no definition is known
 abbrev pub nothing_declared : Environment
 nothing_declared =
-    record { names = []; tags = []; linked = []; signatures = []; in_loop = false; result = None; definitions = [] }
+    record { names = []; tags = []; linked = []; signatures = []; in_loop = false; result = None; definitions = []; strict = false }
 
 -- what a name that is bound so stands for: what has linkage has the type that all its declarations so far give
 abbrev pub resolved : List ℕ → Entries Linked → Option Binding → Option Entity
@@ -50,12 +51,24 @@ scope_left env = record env { names = left env.names; tags = left env.tags }
 abbrev pub name_bound : List ℕ → Binding → Environment → Environment
 name_bound name binding env = record env { names = declared name binding env.names }
 
+-- a name is declared in the scope around the innermost one
+abbrev pub name_bound_around : List ℕ → Binding → Environment → Environment
+name_bound_around name binding env = record env { names = declared_around name binding env.names }
+
 abbrev pub tag_declared : List ℕ → Tag → Environment → Environment
 tag_declared tag meaning env = record env { tags = declared tag meaning env.tags }
 
 -- what has linkage under a name is that from here on, in the whole text
 abbrev pub name_linked : List ℕ → Linked → Environment → Environment
 name_linked name meaning env = record env { linked = with_value name meaning env.linked }
+
+-- the text so far has so much for what has linkage under a name; where nothing has, nothing changes
+abbrev pub definition_of_linked : List ℕ → Definition → Option Linked → Environment → Environment
+definition_of_linked name definition None env = env
+definition_of_linked name definition (Some meaning) env = name_linked name (record meaning { definition = definition }) env
+
+abbrev pub definition_set : List ℕ → Definition → Environment → Environment
+definition_set name definition env = definition_of_linked name definition (value_in name env.linked) env
 
 -- a signature has the number of those before it
 abbrev pub signature_added : Signature → Environment → Environment
@@ -76,3 +89,7 @@ name_defined name env = record env { definitions = with_value name tt env.defini
 -- whether it has one
 abbrev pub is_defined : List ℕ → Environment → Bool
 is_defined name env = is_some (value_in name env.definitions)
+
+-- `main` may not be called from here on, or it may
+abbrev pub strict_set : Bool → Environment → Environment
+strict_set strict env = record env { strict = strict }

@@ -32,6 +32,20 @@ abbrev pub kept_in : {A : Type 0} → List ℕ → Kept A → List (Entries (Kep
 kept_in name kept [] = []
 kept_in name kept (innermost ∷ outer) = with_value name kept innermost ∷ outer
 
+-- another thing kept of a name that the innermost scope declares
+abbrev pub changed_in : {A : Type 0} → List ℕ → Kept A → List (Entries (Kept A)) → List (Entries (Kept A))
+changed_in name kept [] = []
+changed_in name kept (innermost ∷ outer) = changed name kept innermost ∷ outer
+
+-- what is kept of a name in the scope around the innermost one, and with that kept of it there
+abbrev pub kept_around : {A : Type 0} → List ℕ → List (Entries (Kept A)) → Option (Kept A)
+kept_around name [] = None
+kept_around name (innermost ∷ outer) = kept_here name outer
+
+abbrev pub kept_in_around : {A : Type 0} → List ℕ → Kept A → List (Entries (Kept A)) → List (Entries (Kept A))
+kept_in_around name kept [] = []
+kept_in_around name kept (innermost ∷ outer) = innermost ∷ kept_in name kept outer
+
 -- each name of a scope is visible as it was around that scope
 abbrev pub uncovered : {A : Type 0} → Entries (Kept A) → Entries (Option A) → Entries (Option A)
 uncovered [] visible = visible

@@ -12,7 +12,7 @@ use Rattle.environment.specs.declared.linkage.Standing.TheVariants.{File, Block}
 use Rattle.environment.specs.declared.linkage.Kind.{Kind}
 use Rattle.environment.specs.declared.linkage.Kind.TheVariants.{Object, Function}
 use Rattle.environment.specs.Scopes.{found}
-use Rattle.environment.specs.Environment.{name_found, name_bound, name_linked, scope_left}
+use Rattle.environment.specs.Environment.{name_found, name_bound, name_bound_around, name_linked, scope_left}
 
 -- the declaration gives its name linkage
 pub data HasLinkage : Standing → Storage → Kind → Type 0 where
@@ -41,6 +41,10 @@ has_linkage Block Static Object = false
 -- a declaration of a name that has linkage, and of one that has none
 abbrev pub linked_declared : List ℕ → Linked → Environment → Environment
 linked_declared name meaning env = name_bound name WithLinkage (name_linked name meaning env)
+
+-- one whose declaration stands in the scope around the innermost one
+abbrev pub linked_declared_around : List ℕ → Linked → Environment → Environment
+linked_declared_around name meaning env = name_bound_around name WithLinkage (name_linked name meaning env)
 
 abbrev pub own_declared : List ℕ → Entity → Environment → Environment
 own_declared name entity env = name_bound name (Own entity) env

@@ -36,6 +36,11 @@ abbrev pub declared : {A : Type 0} → List ℕ → A → Scopes A → Scopes A
 declared name value [] = []
 declared name value (innermost ∷ outer) = with_value name value innermost ∷ outer
 
+-- a name is declared in the scope around the innermost one
+abbrev pub declared_around : {A : Type 0} → List ℕ → A → Scopes A → Scopes A
+declared_around name value [] = []
+declared_around name value (innermost ∷ outer) = innermost ∷ declared name value outer
+
 -- names are declared one after the other
 abbrev pub all_declared : {A : Type 0} → Entries A → Scopes A → Scopes A
 all_declared [] scopes = scopes

@@ -65,13 +65,24 @@ pub struct Signature {
     pub parameters: List<u32>,
 }
 
+/// What the text so far has for what has linkage under a name.
+#[derive(Clone, Copy, PartialEq, Eq)]
+pub enum Definition {
+    /// Declarations alone.
+    NotDefined,
+    /// A tentative definition (C11 6.9.2p2).
+    Tentative,
+    /// A body or an initialiser (C11 6.9p5).
+    Defined,
+}
+
 /// What has linkage under a name: one object or function in the whole text (C11 6.2.2p2).
 #[derive(Clone, Copy)]
 pub struct Linked {
     /// The object or function, with the type that all its declarations so far give.
     pub entity: Entity,
-    /// Whether it has a body or an initialiser by now (C11 6.9p5).
-    pub defined: bool,
+    /// What the text so far has for it.
+    pub definition: Definition,
 }
 
 /// What a scope says of a name that it declares.

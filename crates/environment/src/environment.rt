@@ -1,9 +1,9 @@
 ghost use Rattle.std.specs.Prelude.{◌≡◌, length, option_copied, slice_get, IfOk, OnOk, OnErr};
 ghost use Rattle.environment.specs.Names.{value_in};
 ghost use Rattle.environment.specs.Scopes.{found_here, left};
-ghost use Rattle.environment.specs.Environment.{nothing_declared, resolved, name_found, name_found_here, tag_found, scope_entered, scope_left, name_bound, tag_declared, name_linked, signature_added, loop_set, function_set, name_defined, is_defined};
+ghost use Rattle.environment.specs.Environment.{nothing_declared, resolved, name_found, name_found_here, tag_found, scope_entered, scope_left, name_bound, name_bound_around, tag_declared, name_linked, definition_set, signature_added, loop_set, function_set, name_defined, is_defined, strict_set};
 
-use crate::entity::{Binding, Entity, Linked, Signature, Tag, TagForm};
+use crate::entity::{Binding, Definition, Entity, Linked, Signature, Tag, TagForm};
 use crate::names::Names;
 use crate::scopes::Scopes;
 use cbase::{List, NoMemory};
@@ -11,7 +11,7 @@ use std::alloc::Global;
 
 /// What is declared at a place of a text: names and tags, which are two name spaces (C11 6.2.3), by scope; what has linkage
 /// under a name; and the signatures of functions, by number. And what statements ask of the place: whether it lies in the body of
-/// a loop, what the function around it gives back, and which names the whole text defines.
+/// a loop, what the function around it gives back, which names the whole text defines, and whether `main` may not be called.
 ///
 /// A name that no scope declares any more keeps its place in memory. Where memory is wanting, each call leaves all as it was.
 #[derive(Drop)]
@@ -23,10 +23,11 @@ pub struct Environment {
     in_loop: bool,
     result: Option<u32>,
     definitions: Names<()>,
+    strict: bool,
 }
 
 impl Environment {
-    /// No scope, nothing that has linkage, no loop, no function and no definition. It takes no memory.
+    /// No scope, nothing that has linkage, no loop, no function and no definition, and `main` may be called. It takes no memory.
     pub fn new(alloc: Global) -> Environment
         ensures { result ≡ nothing_declared }
     {
@@ -38,6 +39,7 @@ impl Environment {
             in_loop: false,
             result: None,
             definitions: Names::new(alloc),
+            strict: false,
         }
     }
 
@@ -105,6 +107,22 @@ impl Environment {
         self.names.declare(alloc, name, binding)
     }
 
+    /// Declares a name in the scope around the innermost one, of which it is visible where the innermost does not declare it (C11 6.2.1p4).
+    /// Where there are not two scopes it changes nothing.
+    ///
+    /// A name that the scope declares already stands for this from here on: whether it may be declared again is asked before.
+    pub fn declare_around(
+        &mut self,
+        alloc: Global,
+        name: &[u8],
+        binding: Binding,
+    ) -> Result<(), NoMemory>
+        ensures ok { OnOk result (self.new ≡ name_bound_around name.now binding self.old) }
+        ensures err { OnErr result (self.new ≡ self.old) }
+    {
+        self.names.declare_around(alloc, name, binding)
+    }
+
     /// What has linkage under a name, whether or not the name is in scope (C11 6.2.2p2).
     pub fn linked(&self, name: &[u8]) -> Option<Linked>
         ensures { result ≡ value_in name.now self.now.linked }
@@ -118,6 +136,21 @@ impl Environment {
         ensures err { OnErr result (self.new ≡ self.old) }
     {
         self.linked.put(alloc, name, meaning)
+    }
+
+    /// Says what the text so far has for what has linkage under a name; where nothing has, it changes nothing. It takes no memory.
+    pub fn set_definition(&mut self, name: &[u8], definition: Definition)
+        ensures { self.new ≡ definition_set name.now definition self.old }
+    {
+        if let Some(meaning) = self.linked.get(name) {
+            self.linked.change(
+                name,
+                Linked {
+                    entity: meaning.entity,
+                    definition,
+                },
+            );
+        }
     }
 
     /// What a tag stands for: where it is declared, by a declaration of the innermost scope, and where it is mentioned, by the one
@@ -211,6 +244,20 @@ impl Environment {
         ensures { result ≡ is_defined name.now self.now }
     {
         self.definitions.get(name).is_some()
+    }
+
+    /// Whether `main` may not be called, so that it returns once in a run.
+    pub fn is_strict(&self) -> bool
+        ensures { result ≡ self.now.strict }
+    {
+        self.strict
+    }
+
+    /// Says whether `main` may not be called from here on. It takes no memory.
+    pub fn set_strict(&mut self, strict: bool)
+        ensures { self.new ≡ strict_set strict self.old }
+    {
+        self.strict = strict;
     }
 
     /// What a name that is bound so stands for.

@@ -64,7 +64,7 @@ pub(crate) fn declare_in<A: Copy>(
 }
 
 /// What a name is visible as around the innermost scope, by what that scope keeps of it and what it is visible as.
-fn around<A: Copy>(kept: Option<Kept<A>>, before: Option<A>) -> Option<A>
+pub(crate) fn around<A: Copy>(kept: Option<Kept<A>>, before: Option<A>) -> Option<A>
     ensures { result ≡ around kept before }
 {
     match kept {

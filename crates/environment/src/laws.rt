@@ -2,6 +2,7 @@
 ghost use Rattle.std.specs.Prelude.{◌≡◌, ◌↔◌, ◌≢◌, ◌≤◌, ◌<◌, ℕ, Bool, true, false, List, [], Option, Some, IsTrue, IfSome, slice_get};
 ghost use Rattle.cbase.specs.declared.tree.decl.Storage.{Storage};
 ghost use Rattle.environment.specs.declared.entity.Binding.{Binding};
+ghost use Rattle.environment.specs.declared.entity.Definition.{Definition};
 ghost use Rattle.environment.specs.declared.entity.Entity.{Entity};
 ghost use Rattle.environment.specs.declared.entity.Linked.{Linked};
 ghost use Rattle.environment.specs.declared.entity.Signature.{Signature};
@@ -11,8 +12,8 @@ ghost use Rattle.environment.specs.declared.environment.Environment.{Environment
 ghost use Rattle.environment.specs.declared.linkage.Kind.{Kind};
 ghost use Rattle.environment.specs.declared.linkage.Standing.{Standing};
 ghost use Rattle.environment.specs.Names.{Entries, value_in};
-ghost use Rattle.environment.specs.Scopes.{Scopes, IsVisible, found, declared, all_declared, entered, left};
-ghost use Rattle.environment.specs.Environment.{nothing_declared, name_found, name_found_here, tag_found, scope_entered, scope_left, name_bound, tag_declared, name_linked, signature_added, loop_set, function_set, name_defined, is_defined};
+ghost use Rattle.environment.specs.Scopes.{Scopes, IsVisible, found, found_here, declared, declared_around, all_declared, entered, left};
+ghost use Rattle.environment.specs.Environment.{nothing_declared, name_found, name_found_here, tag_found, scope_entered, scope_left, name_bound, name_bound_around, tag_declared, name_linked, definition_set, signature_added, loop_set, function_set, name_defined, is_defined, strict_set};
 ghost use Rattle.environment.specs.Linkage.{HasLinkage, has_linkage, LastIsFound, IsOneThing, OutlivesScopes};
 ghost use Rattle.environment.specs.BuiltInRows.{AreBuiltIn};
 ghost use Rattle.environment.specs.Bounds.{SignatureBelow, EntityBelow, BindingBelow, AreBelow};
@@ -38,11 +39,21 @@ pub fn left_is_as_before<A>()
     ensures { (names : Entries A) (scopes : Scopes A) → left (all_declared names (entered scopes)) ≡ scopes }
 {}
 
+/// What is declared in the scope around the innermost one is declared there once that one is left, and says nothing of the innermost itself.
+#[tactic(auto, using(crate::proofs::Around::left_around, crate::proofs::Around::here_around))]
+pub fn declared_around_is_declared_once_left<A>()
+    ensures left { (name : List ℕ) (value : A) (scopes : Scopes A) →
+        left (declared_around name value scopes) ≡ declared name value (left scopes) }
+    ensures here { (other name : List ℕ) (value : A) (scopes : Scopes A) →
+        found_here other (declared_around name value scopes) ≡ found_here other scopes }
+{}
+
 /// A scope that is left changes nothing of what was said of loops, of functions and of definitions.
 pub fn scopes_say_nothing_of_functions()
     ensures in_loop { (env : Environment) → (scope_left env).in_loop ≡ env.in_loop }
     ensures result { (env : Environment) → (scope_left env).result ≡ env.result }
     ensures definitions { (env : Environment) → (scope_left env).definitions ≡ env.definitions }
+    ensures strict { (env : Environment) → (scope_left env).strict ≡ env.strict }
 {}
 
 /// A name that was said to be defined is defined, other names are as before, and none is where nothing was said.
@@ -110,10 +121,12 @@ pub fn scopes_keep_bounds()
 {}
 
 /// All numbers stay in range where one more thing is declared whose numbers are.
-#[tactic(auto, using(crate::proofs::Bounds::added_below))]
+#[tactic(auto, using(crate::proofs::Bounds::added_below, crate::proofs::Bounds::bound_around_below))]
 pub fn declarations_keep_bounds()
     ensures bound { (count : ℕ) (name : List ℕ) (binding : Binding) (env : Environment) → AreBelow count env →
         BindingBelow count env.signatures binding → AreBelow count (name_bound name binding env) }
+    ensures around { (count : ℕ) (name : List ℕ) (binding : Binding) (env : Environment) → AreBelow count env →
+        BindingBelow count env.signatures binding → AreBelow count (name_bound_around name binding env) }
     ensures linked { (count : ℕ) (name : List ℕ) (meaning : Linked) (env : Environment) → AreBelow count env →
         EntityBelow count env.signatures meaning.entity → AreBelow count (name_linked name meaning env) }
     ensures signature { (count : ℕ) (signature : Signature) (env : Environment) → AreBelow count env →
@@ -121,11 +134,14 @@ pub fn declarations_keep_bounds()
 {}
 
 /// All numbers stay in range where a function is entered whose result has one that is, or functions are left, and by what is said of
-/// loops and of definitions.
-#[tactic(auto, using(crate::proofs::Bounds::function_below, crate::proofs::Bounds::loop_below, crate::proofs::Bounds::defined_below))]
+/// loops, of definitions and of `main`.
+#[tactic(auto, using(crate::proofs::Bounds::function_below, crate::proofs::Bounds::loop_below, crate::proofs::Bounds::defined_below, crate::proofs::Bounds::definition_below, crate::proofs::Bounds::strict_below))]
 pub fn functions_keep_bounds()
     ensures function { (count : ℕ) (result : Option ℕ) (env : Environment) → AreBelow count env →
         IfSome result (λ number. number < count) → AreBelow count (function_set result env) }
     ensures in_loop { (count : ℕ) (in_loop : Bool) (env : Environment) → AreBelow count env → AreBelow count (loop_set in_loop env) }
     ensures defined { (count : ℕ) (name : List ℕ) (env : Environment) → AreBelow count env → AreBelow count (name_defined name env) }
+    ensures definition { (count : ℕ) (name : List ℕ) (definition : Definition) (env : Environment) → AreBelow count env →
+        AreBelow count (definition_set name definition env) }
+    ensures strict { (count : ℕ) (strict : Bool) (env : Environment) → AreBelow count env → AreBelow count (strict_set strict env) }
 {}

@@ -4,6 +4,7 @@
 //! the grammar or of texts.
 #![tactic(auto)]
 
+mod around;
 mod entity;
 mod environment;
 mod keeping;
@@ -13,7 +14,9 @@ mod linkage;
 mod names;
 mod scopes;
 
-pub use entity::{Binding, DeclaredType, Entity, Lifetime, Linked, Signature, Tag, TagForm};
+pub use entity::{
+    Binding, DeclaredType, Definition, Entity, Lifetime, Linked, Signature, Tag, TagForm,
+};
 pub use environment::Environment;
 pub use linkage::{Kind, Standing, has_linkage};
 pub use names::Names;

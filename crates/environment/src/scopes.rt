@@ -1,6 +1,7 @@
 ghost use Rattle.std.specs.Prelude.{◌≡◌, [], OnOk, OnErr};
-ghost use Rattle.environment.specs.Scopes.{found, found_here, declared, entered, left};
+ghost use Rattle.environment.specs.Scopes.{found, found_here, declared, declared_around, entered, left};
 
+use crate::around::declare_around_in;
 use crate::keeping::{declare_in, kept_around, kept_here, leave_in, seen};
 use crate::kept::Kept;
 use crate::names::Names;
@@ -99,5 +100,20 @@ impl<A: Copy> Scopes<A> {
         ensures err { OnErr result (self.new ≡ self.old) }
     {
         declare_in(alloc, &mut self.visible, &mut self.levels, name, meaning)
+    }
+
+    /// Declares a name in the scope around the innermost one; where that declares the name already, the name stands for this from here on.
+    ///
+    /// Where there are not two scopes it changes nothing, and where memory is wanting all stays as it was.
+    pub fn declare_around(
+        &mut self,
+        alloc: Global,
+        name: &[u8],
+        meaning: A,
+    ) -> Result<(), NoMemory>
+        ensures ok { OnOk result (self.new ≡ declared_around name.now meaning self.old) }
+        ensures err { OnErr result (self.new ≡ self.old) }
+    {
+        declare_around_in(alloc, &mut self.visible, &mut self.levels, name, meaning)
     }
 }

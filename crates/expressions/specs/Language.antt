@@ -7,12 +7,15 @@ use Rattle.cbase.specs.Completing.{fieldless, may_complete, completed}
 use Rattle.environment.specs.declared.entity.Binding.TheVariants.{Own}
 use Rattle.environment.specs.declared.entity.DeclaredType.{DeclaredType as DeclaredByNumber}
 use Rattle.environment.specs.declared.entity.DeclaredType.TheVariants.{Whole, UnsizedArray}
+use Rattle.environment.specs.declared.entity.Definition.{Definition as DefinitionByNow}
+use Rattle.environment.specs.declared.entity.Definition.TheVariants.{NotDefined}
 use Rattle.environment.specs.declared.entity.Entity.{Entity as EntityByNumber}
 use Rattle.environment.specs.declared.entity.Entity.TheVariants.{Object, Typedef, Enumerator, Function}
 use Rattle.environment.specs.declared.entity.Lifetime.{Lifetime}
 use Rattle.environment.specs.declared.entity.Lifetime.TheVariants.{Automatic, Static}
 use Rattle.environment.specs.declared.entity.Linked.{Linked as LinkedByNumber}
 use Rattle.environment.specs.declared.entity.Signature.{Signature}
+use Rattle.environment.specs.declared.environment.Environment.{Environment}
 use Rattle.environment.specs.declared.entity.Tag.TheVariants.{Struct, Enum}
 use Rattle.environment.specs.declared.entity.TagForm.TheVariants.{Declared as DeclaredHere, Mentioned}
 use Rattle.environment.specs.Environment.{name_found, tag_found, scope_entered, scope_left, name_bound, tag_declared, signature_added, loop_set}
@@ -82,10 +85,10 @@ object_declared n name token fixed t before =
 abbrev pub typedef_declared : Numbering → List ℕ → DeclaredType → Declared → Declared
 typedef_declared n name t before = record before { environment = own_declared name (Typedef (declared_number n t)) before.environment }
 
--- whether what has linkage under a name has a body or an initialiser by now, and whether it is built in
-abbrev pub defined_by_now : Option LinkedByNumber → Bool
-defined_by_now None = false
-defined_by_now (Some meaning) = meaning.defined
+-- what the text so far has for what has linkage under a name, and whether it is built in
+abbrev pub definition_by_now : Option LinkedByNumber → DefinitionByNow
+definition_by_now None = NotDefined
+definition_by_now (Some meaning) = meaning.definition
 
 abbrev pub is_built_in_entity : EntityByNumber → Bool
 is_built_in_entity (Function signature defined built_in) = built_in
@@ -109,24 +112,28 @@ token_by_now None token = token
 token_by_now (Some meaning) token = token_in meaning.entity token
 
 -- an object with linkage lives as long as the program runs (C11 6.2.4p3). Whether the whole text defines it, or has a body of a function, is known before
-abbrev pub linked_object : DeclaredByNumber → ℕ → Bool → Bool → LinkedByNumber
-linked_object t token defined by_now = record { entity = Object t token Static defined; defined = by_now }
+abbrev pub linked_object : DeclaredByNumber → ℕ → Bool → DefinitionByNow → LinkedByNumber
+linked_object t token defined by_now = record { entity = Object t token Static defined; definition = by_now }
 
-abbrev pub linked_function : ℕ → Bool → Bool → Bool → LinkedByNumber
-linked_function signature defined built_in by_now = record { entity = Function signature defined built_in; defined = by_now }
+abbrev pub linked_function : ℕ → Bool → Bool → DefinitionByNow → LinkedByNumber
+linked_function signature defined built_in by_now = record { entity = Function signature defined built_in; definition = by_now }
 
-abbrev pub name_linked_as : Numbering → List ℕ → ℕ → Linked → Declared → Declared
-name_linked_as n name token (ObjectLinked t) before = record before {
-  environment = linked_declared name
-      (linked_object (declared_number n t) (token_by_now (value_in name before.environment.linked) token) (is_some (value_in name before.environment.definitions)) (defined_by_now (value_in name before.environment.linked)))
+-- what has linkage under a name is declared with it, in the innermost scope or in the one around that
+abbrev pub name_linked_by : (List ℕ → LinkedByNumber → Environment → Environment) → Numbering → List ℕ → ℕ → Linked → Declared → Declared
+name_linked_by declares n name token (ObjectLinked t) before = record before {
+  environment = declares name
+      (linked_object (declared_number n t) (token_by_now (value_in name before.environment.linked) token) (is_some (value_in name before.environment.definitions)) (definition_by_now (value_in name before.environment.linked)))
       before.environment;
 }
-name_linked_as n name token (FunctionLinked result params) before = record before {
-  environment = linked_declared name
+name_linked_by declares n name token (FunctionLinked result params) before = record before {
+  environment = declares name
       (linked_function (length before.environment.signatures) (is_some (value_in name before.environment.definitions))
-      (built_in_by_now (value_in name before.environment.linked)) (defined_by_now (value_in name before.environment.linked)))
+      (built_in_by_now (value_in name before.environment.linked)) (definition_by_now (value_in name before.environment.linked)))
       (signature_added (record { result = n.number result; parameters = map n.number params }) before.environment);
 }
+
+abbrev pub name_linked_as : Numbering → List ℕ → ℕ → Linked → Declared → Declared
+name_linked_as n name token linked before = name_linked_by linked_declared n name token linked before
 
 abbrev pub language : Abi → Numbering → Language
 language abi n = record {
@@ -153,4 +160,5 @@ language abi n = record {
   object_declared = object_declared n;
   typedef_declared = typedef_declared n;
   linked_declared = name_linked_as n;
+  strict = λ before. before.environment.strict;
 }

@@ -6,6 +6,7 @@ pub mod Counted
 pub mod Declaring
 pub mod Enumerated
 pub mod Exact
+pub mod FileScope
 pub mod Found
 pub mod Language
 pub mod Members

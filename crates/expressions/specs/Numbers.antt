@@ -28,10 +28,10 @@ use Rattle.operators.specs.Operands.{Operand}
 use Rattle.typing.specs.Entities.{Entity, ObjectIs, FunctionIs, EnumeratorIs, TypedefIs, FunctionEntity, Tag, StructTag, EnumTag, TagHere, StructHere, EnumHere, DeclaredType as TypeDeclared, WholeType, ItemsOf, Linked, ObjectLinked, FunctionLinked, NameHere, OwnHere, TypedefHere, LinkedHere}
 use Rattle.typing.specs.Known.{Known}
 use Rattle.typing.specs.NamedTypes.{NamedType}
-use Rattle.typing.specs.Outcomes.{Handed, ExpressionHanded, StoreHanded, ObjectHanded}
+use Rattle.typing.specs.Outcomes.{Handed, ExpressionHanded, StoreHanded, ObjectHanded, LinkHanded, FunctionHanded, ParameterHanded}
 use Rattle.expressions.specs.declared.known.Known.{Known as KnownByNumber}
 use Rattle.expressions.specs.declared.handed_row.HandedRow.{HandedRow}
-use Rattle.expressions.specs.declared.handed_row.HandedRow.TheVariants.{Expression as ExpressionRow, Store as StoreRow, Object as ObjectRow}
+use Rattle.expressions.specs.declared.handed_row.HandedRow.TheVariants.{Expression as ExpressionRow, Store as StoreRow, Object as ObjectRow, Link as LinkRow, Function as FunctionRow, Parameter as ParameterRow}
 use Rattle.expressions.specs.declared.named_type.NamedType.{NamedType as NamedByNumber}
 
 pub record Numbering : Type 0 where
@@ -124,6 +124,9 @@ handed_at n (ExpressionRow number ctype stands value) =
     ExpressionHanded (record { number = number; ctype = n.ctype ctype; stands = option_map (entity_at n) stands; value = value })
 handed_at n (StoreRow object offset ctype number) = StoreHanded (record { object = object; offset = offset; ctype = n.ctype ctype; number = number })
 handed_at n (ObjectRow token ctype fixed zeroed) = ObjectHanded (record { token = token; ctype = n.ctype ctype; fixed = fixed; zeroed = zeroed })
+handed_at n (LinkRow token first) = LinkHanded (record { token = token; first = first })
+handed_at n (FunctionRow token result) = FunctionHanded (record { token = token; result = n.ctype result })
+handed_at n (ParameterRow token ctype) = ParameterHanded (record { token = token; ctype = n.ctype ctype })
 
 abbrev pub row_of : ℕ → KnownByNumber → HandedRow
 row_of number known = ExpressionRow number known.ctype known.stands known.value

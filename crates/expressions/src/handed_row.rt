@@ -36,4 +36,25 @@ pub enum HandedRow {
         /// Whether its initialiser stands in braces, which set to zero what they do not name (C11 6.7.9p19, p21).
         zeroed: bool,
     },
+    /// A declaration outside of functions that gives an object linkage (C11 6.2.2), behind the object that it makes, if any.
+    Link {
+        /// How many tokens stand before its name there.
+        token: u32,
+        /// How many stand before the name that declared it first.
+        first: u32,
+    },
+    /// A definition of a function (C11 6.9.1), in front of its parameters and of what is handed on of its body.
+    Function {
+        /// How many tokens stand before its name.
+        token: u32,
+        /// The number of the type of its result.
+        result: u32,
+    },
+    /// A parameter of a function that is defined.
+    Parameter {
+        /// How many tokens stand before its name, where it has one.
+        token: Option<u32>,
+        /// The number of its type.
+        ctype: u32,
+    },
 }

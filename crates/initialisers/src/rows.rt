@@ -58,6 +58,9 @@ fn row_here(row: HandedRow, number: u32) -> Option<Row>
         }
         HandedRow::Store { .. } => None,
         HandedRow::Object { .. } => None,
+        HandedRow::Link { .. } => None,
+        HandedRow::Function { .. } => None,
+        HandedRow::Parameter { .. } => None,
     }
 }
 

@@ -22,7 +22,7 @@ use Rattle.typing.specs.NamedTypes.{with_stars}
 use Rattle.typing.specs.Paths.{item_in}
 use Rattle.expressions.specs.declared.named_type.NamedType.{NamedType as NamedByNumber}
 use Rattle.expressions.specs.Context.{Context, Declared, declared, Agrees, Grows, OnlyTypes}
-use Rattle.expressions.specs.Language.{linked_function, built_in_by_now, defined_by_now, name_linked_as}
+use Rattle.expressions.specs.Language.{linked_function, built_in_by_now, definition_by_now, name_linked_as}
 use Rattle.expressions.specs.Numbers.{Numbering, name_here_at, linked_at, named_at}
 use Rattle.expressions.specs.Operated.{Numbers}
 use Rattle.expressions.specs.Settled.{IsFirstOf}
@@ -57,7 +57,7 @@ abbrev linked_in : List ℕ → ℕ → List ℕ → Declared → Declared
 linked_in name result params before = record before {
   environment = linked_declared name
       (linked_function (length before.environment.signatures) (is_defined name before.environment) (built_in_by_now (value_in name before.environment.linked))
-      (defined_by_now (value_in name before.environment.linked)))
+      (definition_by_now (value_in name before.environment.linked)))
       (signature_added (record { result = result; parameters = params }) before.environment);
 }
 

@@ -14,7 +14,7 @@ use Rattle.expressions.specs.declared.found.Found.{Found}
 use Rattle.expressions.specs.declared.found.Found.TheVariants.{Passes as FoundToPass, Refused as FoundRefused}
 use Rattle.expressions.specs.declared.named_type.NamedType.{NamedType as NamedByNumber}
 use Rattle.expressions.specs.Context.{Context, Declared, declared, Agrees, Grows}
-use Rattle.expressions.specs.Language.{language, linked_function, built_in_by_now, defined_by_now}
+use Rattle.expressions.specs.Language.{language, linked_function, built_in_by_now, definition_by_now}
 use Rattle.expressions.specs.Numbers.{Numbering, named_at}
 use Rattle.parameters.specs.declared.parameter.Parameter.{Parameter as ParameterByNumber}
 use Rattle.parameters.specs.Parameters.{parameter_at}
@@ -24,7 +24,7 @@ abbrev pub function_declared : List ℕ → ℕ → List ℕ → Context → Con
 function_declared name result params before = record before {
   environment = linked_declared name
       (linked_function (length before.environment.signatures) (is_defined name before.environment) (built_in_by_now (value_in name before.environment.linked))
-      (defined_by_now (value_in name before.environment.linked)))
+      (definition_by_now (value_in name before.environment.linked)))
       (signature_added (record { result = result; parameters = params }) before.environment);
 }
 

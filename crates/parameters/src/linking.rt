@@ -5,12 +5,12 @@ ghost use Rattle.environment.specs.Scopes.{found_here};
 ghost use Rattle.typing.specs.Declarations.{LinkedGiven, IsAgain, IsOther};
 ghost use Rattle.typing.specs.Entities.{FunctionLinked};
 ghost use Rattle.expressions.specs.Context.{Agrees};
-ghost use Rattle.expressions.specs.Language.{built_in_by_now, defined_by_now, is_built_in_entity};
+ghost use Rattle.expressions.specs.Language.{built_in_by_now, definition_by_now, is_built_in_entity};
 ghost use Rattle.expressions.specs.Numbers.{Numbering, name_here_at, linked_at};
 ghost use Rattle.parameters.specs.Named.{function_declared};
 
 use cbase::{List, NoMemory};
-use environment::{Binding, Entity, Linked, Signature};
+use environment::{Binding, Definition, Entity, Linked, Signature};
 use expressions::Context;
 use std::alloc::Global;
 
@@ -81,7 +81,7 @@ pub(crate) fn declare_function(
             defined: context.is_defined(name),
             built_in: is_built_in(linked),
         },
-        defined: is_defined_by_now(linked),
+        definition: definition_by_now(linked),
     };
     context.declare_linked(alloc, name, meaning)
 }
@@ -106,12 +106,12 @@ fn is_built_in_entity(entity: Entity) -> bool
     }
 }
 
-/// Whether what has linkage has a body or an initialiser by now.
-fn is_defined_by_now(linked: Option<Linked>) -> bool
-    ensures { result ≡ defined_by_now linked }
+/// What the text so far has for what has linkage.
+fn definition_by_now(linked: Option<Linked>) -> Definition
+    ensures { result ≡ definition_by_now linked }
 {
     match linked {
-        None => false,
-        Some(linked) => linked.defined,
+        None => Definition::NotDefined,
+        Some(linked) => linked.definition,
     }
 }

@@ -1,5 +1,5 @@
 use cbase::{List, NoMemory};
-use environment::{Binding, DeclaredType, Entity, Environment, Linked, Signature, Tag, TagForm};
+use environment::{Binding, DeclaredType, Definition, Entity, Environment, Linked, Signature, Tag, TagForm};
 use std::alloc::Global;
 use std::test::Fail;
 
@@ -47,7 +47,7 @@ fn linkage_is_of_the_text(alloc: Global, env: &mut Environment) -> Result<bool, 
         b"f",
         Linked {
             entity,
-            defined: true,
+            definition: Definition::NotDefined,
         },
     )?;
     let found = env.look_up(b"f") == Some(entity);

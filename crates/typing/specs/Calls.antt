@@ -1,5 +1,5 @@
 -- What is asked at a call (C11 6.5.2.2), behind its arguments.
-use Rattle.std.specs.Prelude.{ℕ, suc, ◌++◌, ◌*◌, ◌||◌, not, Bool, true, false, List, [], ◌∷◌, Option, None, Some, codes, length, nat_eq, nat_le, if◌then◌else◌}
+use Rattle.std.specs.Prelude.{ℕ, suc, ◌++◌, ◌*◌, ◌||◌, ◌&&◌, not, Bool, true, false, List, [], ◌∷◌, Option, None, Some, codes, length, nat_eq, nat_le, if◌then◌else◌}
 use Rattle.std.specs.List.{list_any}
 use Rattle.std.specs.Str.{bytes_eq}
 use Rattle.cbase.specs.declared.place.Place.{Place}
@@ -97,10 +97,15 @@ length_faults true name place params args =
     inconstant_lengths (lengths_of name) 0 params args
     ++ (large_lengths (lengths_of name) 0 params args ++ large_product name place params args)
 
--- all that is broken at a call of a function of that name, whose own place is `callee`. With a wrong number of arguments (rule 7, at
--- what is called) those that stand at a parameter are looked at all the same
-abbrev pub call_faults : Place → Place → List ℕ → Bool → Kind → List Kind → List Argument → List Fault
-call_faults place callee name built_in result params args =
+-- where `main` may not be called, a call of it is rule 13, at what is called
+abbrev pub calls_main : Bool → List ℕ → Bool
+calls_main strict name = strict && bytes_eq name (codes "main")
+
+-- all that is broken at a call of a function of that name, whose own place is `callee`, where `main` may not be called or may. With a wrong number
+-- of arguments (rule 7, at what is called) those that stand at a parameter are looked at all the same
+abbrev pub call_faults : Bool → Place → Place → List ℕ → Bool → Kind → List Kind → List Argument → List Fault
+call_faults strict place callee name built_in result params args =
     unless (not (has_struct result params args)) place (Construct 13)
     ++ (length_faults built_in name place params args
-    ++ (unconverted params args ++ unless (nat_eq (length params) (length args)) callee (Rule 7)))
+    ++ (unconverted params args
+    ++ (unless (nat_eq (length params) (length args)) callee (Rule 7) ++ unless (not (calls_main strict name)) callee (Rule 13))))

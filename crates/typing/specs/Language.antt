@@ -1,7 +1,7 @@
 -- What typing asks of the place where a part of a text stands.
 --
 -- An environment says what is declared at a place: names and tags by scope, and structs by their numbers; and where the place lies: in the
--- body of a loop or in none, and in a function of some result or in none.
+-- body of a loop or in none, in a function of some result or in none, and where `main` may be called or may not.
 use Rattle.std.specs.Prelude.{ℕ, Bool, List, Option}
 use Rattle.cbase.specs.declared.abi.Abi.{Abi}
 use Rattle.cbase.specs.declared.ctype.CType.{CType}
@@ -48,3 +48,5 @@ pub record Language : Type 1 where
   pub object_declared : List ℕ → ℕ → Bool → DeclaredType → Environment → Environment
   pub typedef_declared : List ℕ → DeclaredType → Environment → Environment
   pub linked_declared : List ℕ → ℕ → Linked → Environment → Environment
+  -- whether `main` may not be called there, so that it returns once in a run
+  pub strict : Environment → Bool

@@ -108,7 +108,7 @@ pub data AtNode (l : Language) (env : l.Environment) (number : ℕ) (place : Pla
       → AreArguments (l.structs env) args told arguments
       → kind_of (l.structs env) function.result ≡ result
       → map (kind_of (l.structs env)) function.params ≡ params
-      → IsSettled (call_faults place callee.place name function.built_in result params arguments) (plain function.result) (behind handed number (plain function.result)) outcome
+      → IsSettled (call_faults (l.strict env) place callee.place name function.built_in result params arguments) (plain function.result) (behind handed number (plain function.result)) outcome
       → AtNode l env number place handed (Call callee args) (FunctionNamed name function ∷ told) outcome
   -- a call of what is no function name is construct 11
   CallOfOther : {callee : Expr} {told : List Told} {args : List Expr}

@@ -275,6 +275,7 @@ sample = record {
   object_declared = λ name token fixed t env. bound name (OwnName (ObjectIs (own_object token fixed t))) env;
   typedef_declared = λ name t env. bound name (TypedefName t) env;
   linked_declared = λ name token linked env. bound name LinkedName (now_linked name token linked env);
+  strict = λ env. false;
 }
 
 -- where the token of that number stands

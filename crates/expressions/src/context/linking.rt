@@ -1,13 +1,13 @@
 ghost use Rattle.std.specs.Prelude.{◌≡◌, length, IfSome, OnOk, OnErr};
 ghost use Rattle.environment.specs.Bounds.{BindingBelow, EntityBelow, LinkedBelow};
-ghost use Rattle.environment.specs.Environment.{name_linked};
-ghost use Rattle.environment.specs.Linkage.{linked_declared};
+ghost use Rattle.environment.specs.Environment.{name_linked, definition_set};
+ghost use Rattle.environment.specs.Linkage.{linked_declared, linked_declared_around};
 ghost use Rattle.environment.specs.Names.{value_in};
 ghost use Rattle.environment.specs.Scopes.{found_here};
 
 use crate::context::Context;
 use cbase::NoMemory;
-use environment::{Binding, Linked};
+use environment::{Binding, Definition, Linked};
 use std::alloc::Global;
 
 impl Context {
@@ -41,5 +41,29 @@ impl Context {
     {
         self.environment.link(alloc, name, meaning)?;
         self.environment.declare(alloc, name, Binding::WithLinkage)
+    }
+
+    /// Declares a name with linkage in the scope around the innermost one, and says what has linkage under it, in the whole text (C11 6.2.2).
+    ///
+    /// Want of memory is the only error, and nothing is said of the context then.
+    pub fn declare_linked_around(
+        &mut self,
+        alloc: Global,
+        name: &[u8],
+        meaning: Linked,
+    ) -> Result<(), NoMemory>
+        requires { EntityBelow (length self.old.types) self.old.environment.signatures meaning.entity }
+        ensures { OnOk result (self.new ≡ record self.old { environment = linked_declared_around name.now meaning self.old.environment }) }
+    {
+        self.environment.link(alloc, name, meaning)?;
+        self.environment
+            .declare_around(alloc, name, Binding::WithLinkage)
+    }
+
+    /// Says what the text so far has for what has linkage under a name; where nothing has, it changes nothing. It takes no memory.
+    pub fn set_definition(&mut self, name: &[u8], definition: Definition)
+        ensures { self.new ≡ record self.old { environment = definition_set name.now definition self.old.environment } }
+    {
+        self.environment.set_definition(name, definition);
     }
 }

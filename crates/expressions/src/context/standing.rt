@@ -1,5 +1,5 @@
 ghost use Rattle.std.specs.Prelude.{◌≡◌, ◌<◌, length, IfSome, OnOk, OnErr};
-ghost use Rattle.environment.specs.Environment.{loop_set, function_set, name_defined, is_defined};
+ghost use Rattle.environment.specs.Environment.{loop_set, function_set, name_defined, is_defined, strict_set};
 ghost use Rattle.expressions.specs.Context.{Agrees};
 ghost use Rattle.expressions.specs.Numbers.{Numbering};
 
@@ -51,6 +51,20 @@ impl Context {
         ensures { result ≡ is_defined name.now self.now.environment }
     {
         self.environment.is_defined(name)
+    }
+
+    /// Whether `main` may not be called, so that it returns once in a run.
+    pub fn is_strict(&self) -> bool
+        ensures { result ≡ self.now.environment.strict }
+    {
+        self.environment.is_strict()
+    }
+
+    /// From here on `main` may not be called, or may. It takes no memory.
+    pub fn set_strict(&mut self, strict: bool)
+        ensures { self.new ≡ record self.old { environment = strict_set strict self.old.environment } }
+    {
+        self.environment.set_strict(strict);
     }
 
     /// Each context has a numbering: equal types have one number, and more types and signatures are only put behind the others. Nothing is done.

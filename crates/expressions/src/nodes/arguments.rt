@@ -3,7 +3,7 @@ ghost use Rattle.std.specs.List.{list_any};
 ghost use Rattle.cbase.specs.declared.structs.StructDef.{StructDef};
 ghost use Rattle.cbase.specs.declared.tree.expr.Expr.{Expr as ExprTree};
 ghost use Rattle.operators.specs.Kinds.{kind_of};
-ghost use Rattle.typing.specs.Calls.{call_faults, is_struct, is_length, lengths_of, length_faults, inconstant_lengths, large_lengths, large_product, product, unconverted, is_small, is_constant, times};
+ghost use Rattle.typing.specs.Calls.{call_faults, calls_main, is_struct, is_length, lengths_of, length_faults, inconstant_lengths, large_lengths, large_product, product, unconverted, is_small, is_constant, times};
 ghost use Rattle.values.specs.Values.{cast_value};
 ghost use Rattle.expressions.specs.Arguments.{arguments_at};
 ghost use Rattle.expressions.specs.Context.{Agrees};
@@ -25,7 +25,7 @@ use values::cast_value;
 const MOST_BYTES: u64 = 65_536;
 
 /// The first of what is broken at a call of a function, behind its arguments (C11 6.5.2.2p1-2): a struct by value, a size that is no constant or too
-/// large, an argument that does not convert, a wrong number of arguments.
+/// large, an argument that does not convert, a wrong number of arguments, `main` where it may not be called.
 pub(crate) fn call_fault(
     context: &Context,
     node: Node,
@@ -36,7 +36,7 @@ pub(crate) fn call_fault(
     requires signature { callee.signature < length context.now.environment.signatures }
     requires known { All (λ one. one.ctype < length context.now.types) known.now }
     requires count { length known.now ≡ length args.now }
-    ensures { (n : Numbering) → Agrees n context.now → IsFirstOf (call_faults node.place callee.entry.place callee.entry.name.now callee.entry.built_in (kind_of context.now.structs (n.ctype (n.signature callee.entry.signature).result)) (map (kind_of context.now.structs) (map n.ctype (n.signature callee.entry.signature).parameters)) (arguments_at n context.now.structs args.now known.now)) result }
+    ensures { (n : Numbering) → Agrees n context.now → IsFirstOf (call_faults context.now.environment.strict node.place callee.entry.place callee.entry.name.now callee.entry.built_in (kind_of context.now.structs (n.ctype (n.signature callee.entry.signature).result)) (map (kind_of context.now.structs) (map n.ctype (n.signature callee.entry.signature).parameters)) (arguments_at n context.now.structs args.now known.now)) result }
 {
     let signature = context.signature(callee.signature);
     let params = signature.parameters.as_slice();
@@ -48,7 +48,22 @@ pub(crate) fn call_fault(
     let lengths = length_fault(context, node.place, callee, params, args, known);
     let converted = unconverted(context, params, args, known);
     let counted = unless(params.len() == args.len(), callee.place, Broken::Rule(7));
-    first_of(by_value, first_of(lengths, first_of(converted, counted)))
+    let allowed = unless(
+        !calls_main(context.is_strict(), callee.name),
+        callee.place,
+        Broken::Rule(13),
+    );
+    first_of(
+        by_value,
+        first_of(lengths, first_of(converted, first_of(counted, allowed))),
+    )
+}
+
+/// Whether it is `main` that is called where it may not be.
+fn calls_main(strict: bool, name: &[u8]) -> bool
+    ensures { result ≡ calls_main strict name.now }
+{
+    strict && name == b"main"
 }
 
 /// Whether a struct is the result, a parameter or an argument.

@@ -38,7 +38,7 @@ pub(crate) fn call_node(
     requires signature { callee.signature < length context.old.environment.signatures }
     requires known { All (λ one. one.ctype < length context.old.types) known.now }
     requires count { length known.now ≡ length args.now }
-    ensures { IfOk result (λ found. Settled (λ n. call_faults node.place callee.entry.place callee.entry.name.now callee.entry.built_in (kind_of context.old.structs (n.ctype (n.signature callee.entry.signature).result)) (map (kind_of context.old.structs) (map n.ctype (n.signature callee.entry.signature).parameters)) (arguments_at n context.old.structs args.now known.now)) (λ n. plain (n.ctype (n.signature callee.entry.signature).result)) node.number context.old context.new found) }
+    ensures { IfOk result (λ found. Settled (λ n. call_faults context.old.environment.strict node.place callee.entry.place callee.entry.name.now callee.entry.built_in (kind_of context.old.structs (n.ctype (n.signature callee.entry.signature).result)) (map (kind_of context.old.structs) (map n.ctype (n.signature callee.entry.signature).parameters)) (arguments_at n context.old.structs args.now known.now)) (λ n. plain (n.ctype (n.signature callee.entry.signature).result)) node.number context.old context.new found) }
 {
     let broken = call_fault(context, node, callee, args, known);
     let result = context.result_of(callee.signature);
