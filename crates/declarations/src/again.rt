@@ -12,7 +12,7 @@ use expressions::Context;
 
 /// Whether a name that a declaration gives that type is declared twice: one without linkage is declared once in a scope, but for a typedef of the
 /// same type (C11 6.7p3); what has linkage is one thing wherever it is declared (6.7p4), and no name of its scope has none.
-pub(crate) fn is_again(
+pub fn is_again(
     context: &Context,
     name: &[u8],
     storage: Storage,
@@ -67,7 +67,7 @@ fn are_two(first: DeclaredType, second: DeclaredType) -> bool
 }
 
 /// Whether what has linkage under a name is another thing than an object of that type (C11 6.2.7p2).
-fn is_other(context: &Context, linked: Option<Linked>, ctype: DeclaredType) -> bool
+pub fn is_other(context: &Context, linked: Option<Linked>, ctype: DeclaredType) -> bool
     requires linked { IfSome linked (LinkedBelow (length context.now.types) context.now.environment.signatures) }
     requires ctype { DeclaredBelow (length context.now.types) ctype }
     ensures { (n : Numbering) → Agrees n context.now → IsOtherLinked n linked ctype result }

@@ -14,7 +14,7 @@ use expressions::Context;
 
 /// Whether what a declaration gives that type is complete, once its initialiser stands (C11 6.7p7, 6.7.9p22). What has linkage may have an incomplete
 /// type, but not `void`.
-pub(crate) fn is_complete(
+pub fn is_complete(
     context: &Context,
     initialised: bool,
     storage: Storage,

@@ -20,7 +20,7 @@ use std::alloc::Global;
 /// `token` is how many tokens stand before it.
 ///
 /// Want of memory is the only error, and nothing is said of the context then.
-pub(crate) fn declare_name(
+pub fn declare_name(
     alloc: Global,
     context: &mut Context,
     name: &[u8],
@@ -101,7 +101,7 @@ fn declare_linked(
 }
 
 /// The type that the declarations of an object give together (C11 6.2.7p3).
-fn composite_by_now(before: Option<Linked>, ctype: DeclaredType) -> DeclaredType
+pub fn composite_by_now(before: Option<Linked>, ctype: DeclaredType) -> DeclaredType
     ensures { result ≡ composite_by_now before ctype }
 {
     let Some(meaning) = before else {
@@ -119,7 +119,7 @@ fn composite_by_now(before: Option<Linked>, ctype: DeclaredType) -> DeclaredType
 }
 
 /// How many tokens stand before the name that declared an object first.
-fn token_by_now(before: Option<Linked>, token: u32) -> u32
+pub fn token_by_now(before: Option<Linked>, token: u32) -> u32
     ensures { result ≡ token_by_now before token }
 {
     let Some(meaning) = before else {

@@ -28,7 +28,7 @@ pub(crate) fn hand_declared(
 }
 
 /// Hands on an object of the type of a number, and whether its initialiser stands in braces.
-pub(crate) fn hand_object(
+pub fn hand_object(
     context: &mut Context,
     place: Place,
     fixed: bool,

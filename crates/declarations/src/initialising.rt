@@ -87,7 +87,7 @@ pub(crate) fn array_initialised<
 }
 
 /// Whether an initialiser stands in braces.
-fn in_braces(init: &Init) -> bool
+pub fn in_braces(init: &Init) -> bool
     ensures { result ≡ in_braces (out-Init init.now) }
 {
     match init {

@@ -16,4 +16,12 @@ mod telling;
 mod types;
 mod walk;
 
+pub use again::{is_again, is_other};
+pub use complete::is_complete;
+pub use declaring::{composite_by_now, declare_name, token_by_now};
+pub use handing::hand_object;
+pub use initialising::in_braces;
+pub use objects::object_name;
+pub use telling::told_fault;
+pub use types::{found_of_name, given_type};
 pub use walk::declaration;

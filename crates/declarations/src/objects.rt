@@ -22,7 +22,7 @@ use typing::Size;
 /// The name of an object or of a typedef (C11 6.7): its sizes, then what is found at it, then its initialiser, in which it is in scope (6.2.1p7).
 ///
 /// Want of memory is the only error, and nothing is said of the context then.
-pub(crate) fn object_name<F: Fn(&mut Context, Within, Part<'_>) -> Result<Found<Told>, NoMemory>>(
+pub fn object_name<F: Fn(&mut Context, Within, Part<'_>) -> Result<Found<Told>, NoMemory>>(
     checker: &Checker<F>,
     alloc: Global,
     context: &mut Context,

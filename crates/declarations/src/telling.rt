@@ -43,7 +43,7 @@ pub(crate) fn tell_size(
 }
 
 /// What is broken at the name of such an array: one of no items is rule 9, and one of more than 65,536 bytes construct 19.
-fn told_fault(context: &Context, place: Place, ctype: u32, count: u64) -> Option<Fault>
+pub fn told_fault(context: &Context, place: Place, ctype: u32, count: u64) -> Option<Fault>
     requires { ctype < length context.now.types }
     ensures { (n : Numbering) (abi : Abi) (item : TypeTree) → Agrees n context.now → n.ctype ctype ≡ Array item count → IsFirstOf (told_faults abi context.now.structs place item count) result }
 {

@@ -12,7 +12,7 @@ use typing::Size;
 /// The type that a name has by words, stars and sizes, of which the outermost may be left out (C11 6.7.6). Only types get numbers.
 ///
 /// Want of memory is the only error, and nothing is said of the context then.
-pub(crate) fn given_type(
+pub fn given_type(
     context: &mut Context,
     base: NamedType,
     stars: u32,
@@ -34,7 +34,7 @@ pub(crate) fn given_type(
 /// size is left out is taken as one of one item. Only types get numbers.
 ///
 /// Want of memory is the only error, and nothing is said of the context then.
-pub(crate) fn found_of_name(
+pub fn found_of_name(
     context: &mut Context,
     base: NamedType,
     stars: u32,

@@ -1,0 +1,2 @@
+pub mod InFile
+pub mod Objects
