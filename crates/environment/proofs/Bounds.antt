@@ -11,13 +11,14 @@ use Rattle.environment.specs.declared.entity.Entity.{Entity}
 use Rattle.environment.specs.declared.entity.Entity.TheVariants.{Object, Typedef, Enumerator, Function}
 use Rattle.environment.specs.declared.entity.Binding.{Binding}
 use Rattle.environment.specs.declared.entity.Binding.TheVariants.{Own, WithLinkage}
+use Rattle.environment.specs.declared.entity.Definition.{Definition}
 use Rattle.environment.specs.declared.entity.Linked.{Linked}
 use Rattle.environment.specs.declared.entity.Signature.{Signature}
 use Rattle.environment.specs.declared.entity.Tag.{Tag}
 use Rattle.environment.specs.declared.environment.Environment.{Environment}
 use Rattle.environment.specs.Names.{Entries, value_in, with_value}
-use Rattle.environment.specs.Scopes.{Scopes, first_answer, found, found_here, declared, entered, left}
-use Rattle.environment.specs.Environment.{nothing_declared, resolved, name_found, name_found_here, scope_entered, scope_left, name_bound, tag_declared, name_linked, signature_added, loop_set, function_set, name_defined}
+use Rattle.environment.specs.Scopes.{Scopes, first_answer, found, found_here, declared, declared_around, entered, left}
+use Rattle.environment.specs.Environment.{nothing_declared, resolved, name_found, name_found_here, scope_entered, scope_left, name_bound, name_bound_around, tag_declared, name_linked, definition_of_linked, definition_set, signature_added, loop_set, function_set, name_defined, strict_set}
 use Rattle.environment.specs.Bounds.{DeclaredBelow, SignatureBelow, EntityBelow, BindingBelow, LinkedBelow, EachValue, EachMeaning, AreBelow}
 
 -- what holds of all values of some names
@@ -64,6 +65,11 @@ module _ {A : Type 0} (P : A → Type 0) where
   each_declared name value [] all here = all
   each_declared name value (scope ∷ outer) all here =
       All-cons (EachValue P) (with_value name value scope) outer (each_with name value scope (All-head (EachValue P) scope outer all) here) (All-tail (EachValue P) scope outer all)
+
+  each_around : (name : List ℕ) (value : A) (scopes : Scopes A) → EachMeaning P scopes → P value → EachMeaning P (declared_around name value scopes)
+  each_around name value [] all here = all
+  each_around name value (scope ∷ outer) all here =
+      All-cons (EachValue P) scope (declared name value outer) (All-head (EachValue P) scope outer all) (each_declared name value outer (All-tail (EachValue P) scope outer all) here)
 
   each_entered : (scopes : Scopes A) → EachMeaning P scopes → EachMeaning P (entered scopes)
   each_entered scopes all = All-cons (EachValue P) [] scopes (All-nil (λ (e : List ℕ × A). P e.1)) all
@@ -207,6 +213,14 @@ bound_below count name binding env below here = record {
   result = below.result;
 }
 
+pub bound_around_below : (count : ℕ) (name : List ℕ) (binding : Binding) (env : Environment) → AreBelow count env → BindingBelow count env.signatures binding → AreBelow count (name_bound_around name binding env)
+bound_around_below count name binding env below here = record {
+  signatures = below.signatures;
+  names = each_around (BindingBelow count env.signatures) name binding env.names below.names here;
+  linked = below.linked;
+  result = below.result;
+}
+
 pub linked_below : (count : ℕ) (name : List ℕ) (meaning : Linked) (env : Environment) → AreBelow count env → EntityBelow count env.signatures meaning.entity → AreBelow count (name_linked name meaning env)
 linked_below count name meaning env below here = record {
   signatures = below.signatures;
@@ -250,6 +264,21 @@ loop_below count in_loop env below = record {
 
 pub defined_below : (count : ℕ) (name : List ℕ) (env : Environment) → AreBelow count env → AreBelow count (name_defined name env)
 defined_below count name env below = record {
+  signatures = below.signatures;
+  names = below.names;
+  linked = below.linked;
+  result = below.result;
+}
+
+pub definition_below : (count : ℕ) (name : List ℕ) (definition : Definition) (env : Environment) → AreBelow count env → AreBelow count (definition_set name definition env)
+definition_below count name definition env below = step (value_in name env.linked) refl
+  where
+    step : (linked : Option Linked) → value_in name env.linked ≡ linked → AreBelow count (definition_of_linked name definition linked env)
+    step None is = below
+    step (Some meaning) is = linked_below count name (record meaning { definition = definition }) env below (linked_is_below count name env meaning below is)
+
+pub strict_below : (count : ℕ) (strict : Bool) (env : Environment) → AreBelow count env → AreBelow count (strict_set strict env)
+strict_below count strict env below = record {
   signatures = below.signatures;
   names = below.names;
   linked = below.linked;

@@ -11,13 +11,12 @@ use Rattle.environment.specs.Kept.{scopes_of, seen, around, kept_here, kept_in, 
 use Rattle.environment.proofs.Tables.{value-put, value-put_changed, value-uncovered, restored, value-scope, scope-put}
 use Rattle.environment.proofs.Stacks.{popped, set_last, read_last, none}
 
-meaning_of : {A : Type 0} → Option (Kept A) → Option A
+abbrev pub meaning_of : {A : Type 0} → Option (Kept A) → Option A
 meaning_of kept = option_map (λ k. k.meaning) kept
 
 -- what is found is what is kept of the innermost scope, or else what is found around it
-found-level : {A : Type 0} (name : List ℕ) (level : Entries (Kept A)) (levels : List (Entries (Kept A)))
+pub found-level : {A : Type 0} (name : List ℕ) (level : Entries (Kept A)) (levels : List (Entries (Kept A)))
     → found name (scopes_of (level ∷ levels)) ≡ first_answer (meaning_of (value_in name level)) (found name (scopes_of levels))
-unfolding meaning_of
 found-level {A} name level levels = ap (λ (o : Option A). first_answer o (found name (scopes_of levels))) (value-scope name level)
 
 pub visible_entered : {A : Type 0} (visible : Entries (Option A)) (levels : List (Entries (Kept A))) → AreVisible visible levels → AreVisible visible ([] ∷ levels)
@@ -28,7 +27,6 @@ visible_entered visible levels is = record {
 
 pub visible_left : {A : Type 0} (visible : Entries (Option A)) (level : Entries (Kept A)) (levels : List (Entries (Kept A)))
     → AreVisible visible (level ∷ levels) → AreVisible (uncovered level visible) levels
-unfolding meaning_of
 visible_left {A} visible level levels is = record {
   sees = λ name. ap seen (value-uncovered name level visible) ∙ step name (value_in name level) refl (value_in name visible) refl;
   hides = is.hides.1;
@@ -45,9 +43,8 @@ visible_left {A} visible level levels is = record {
     step name (Some kept) at (Some own) has = is.hides.0 name kept at
 
 -- what a name is visible as around the innermost scope
-around-found : {A : Type 0} (name : List ℕ) (visible : Entries (Option A)) (level : Entries (Kept A)) (levels : List (Entries (Kept A)))
+pub around-found : {A : Type 0} (name : List ℕ) (visible : Entries (Option A)) (level : Entries (Kept A)) (levels : List (Entries (Kept A)))
     → AreVisible visible (level ∷ levels) → around (value_in name level) (seen (value_in name visible)) ≡ found name (scopes_of levels)
-unfolding meaning_of
 around-found {A} name visible level levels is = step (value_in name level) refl
   where
     step : (kept : Option (Kept A)) → value_in name level ≡ kept → around kept (seen (value_in name visible)) ≡ found name (scopes_of levels)
@@ -58,7 +55,6 @@ visible-put : {A : Type 0} (name : List ℕ) (kept : Kept A) (visible now : Entr
     → AreVisible visible (level ∷ levels) → kept.hidden ≡ around (value_in name level) (seen (value_in name visible))
     → ((other : List ℕ) → value_in other now ≡ (if bytes_eq other name then Some (Some kept.meaning) else value_in other visible))
     → AreVisible now (with_value name kept level ∷ levels)
-unfolding meaning_of
 visible-put {A} name kept visible now level levels is hidden changes = record {
   sees = λ other. ap seen (changes other) ∙ sees other (bytes_eq other name) refl;
   hides = ((λ other held has. hides other held (bytes_eq other name) refl (sym (value-put other name kept level) ∙ has)), is.hides.1);

@@ -50,6 +50,16 @@ change_none {A} name value (entry ∷ others) none = step (bytes_eq name entry.0
     step true further is = cc is
     step false further is = ap (λ (table : Entries A). entry ∷ table) (further is)
 
+-- a name that has a value gets another by being changed and by being put alike
+pub change_put : {A : Type 0} (name : List ℕ) (old value : A) (table : Entries A) → Some old ≡ value_in name table → changed name value table ≡ with_value name value table
+change_put name old value [] has = cc has
+change_put {A} name old value (entry ∷ others) has = step (bytes_eq name entry.0) (change_put name old value others) has
+  where
+    step : (test : Bool) → (Some old ≡ value_in name others → changed name value others ≡ with_value name value others) → Some old ≡ (if test then Some entry.1 else value_in name others)
+        → (if test then (entry.0, value) ∷ others else entry ∷ changed name value others) ≡ (if test then (entry.0, value) ∷ others else entry ∷ with_value name value others)
+    step true further is = refl
+    step false further is = ap (λ (table : Entries A). entry ∷ table) (further is)
+
 -- what is put is the value of its name, and other names keep theirs
 pub value-put : {A : Type 0} (other name : List ℕ) (value : A) (table : Entries A)
     → value_in other (with_value name value table) ≡ (if bytes_eq other name then Some value else value_in other table)

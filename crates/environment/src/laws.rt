@@ -40,7 +40,7 @@ pub fn left_is_as_before<A>()
 {}
 
 /// What is declared in the scope around the innermost one is declared there once that one is left, and says nothing of the innermost itself.
-#[tactic(auto, using(crate::proofs::Around::left_around, crate::proofs::Around::here_around))]
+#[tactic(auto, using(crate::proofs::NearScopes::left_around, crate::proofs::NearScopes::here_around))]
 pub fn declared_around_is_declared_once_left<A>()
     ensures left { (name : List ℕ) (value : A) (scopes : Scopes A) →
         left (declared_around name value scopes) ≡ declared name value (left scopes) }
@@ -121,7 +121,7 @@ pub fn scopes_keep_bounds()
 {}
 
 /// All numbers stay in range where one more thing is declared whose numbers are.
-#[tactic(auto, using(crate::proofs::Bounds::added_below, crate::proofs::Bounds::bound_around_below))]
+#[tactic(auto, using(crate::proofs::Bounds::added_below))]
 pub fn declarations_keep_bounds()
     ensures bound { (count : ℕ) (name : List ℕ) (binding : Binding) (env : Environment) → AreBelow count env →
         BindingBelow count env.signatures binding → AreBelow count (name_bound name binding env) }
@@ -135,7 +135,7 @@ pub fn declarations_keep_bounds()
 
 /// All numbers stay in range where a function is entered whose result has one that is, or functions are left, and by what is said of
 /// loops, of definitions and of `main`.
-#[tactic(auto, using(crate::proofs::Bounds::function_below, crate::proofs::Bounds::loop_below, crate::proofs::Bounds::defined_below, crate::proofs::Bounds::definition_below, crate::proofs::Bounds::strict_below))]
+#[tactic(auto, using(crate::proofs::Bounds::function_below, crate::proofs::Bounds::loop_below, crate::proofs::Bounds::defined_below, crate::proofs::Bounds::strict_below))]
 pub fn functions_keep_bounds()
     ensures function { (count : ℕ) (result : Option ℕ) (env : Environment) → AreBelow count env →
         IfSome result (λ number. number < count) → AreBelow count (function_set result env) }

@@ -105,12 +105,7 @@ impl<A: Copy> Scopes<A> {
     /// Declares a name in the scope around the innermost one; where that declares the name already, the name stands for this from here on.
     ///
     /// Where there are not two scopes it changes nothing, and where memory is wanting all stays as it was.
-    pub fn declare_around(
-        &mut self,
-        alloc: Global,
-        name: &[u8],
-        meaning: A,
-    ) -> Result<(), NoMemory>
+    pub fn declare_around(&mut self, alloc: Global, name: &[u8], meaning: A) -> Result<(), NoMemory>
         ensures ok { OnOk result (self.new ≡ declared_around name.now meaning self.old) }
         ensures err { OnErr result (self.new ≡ self.old) }
     {

@@ -54,20 +54,49 @@ fn linkage_is_of_the_text(alloc: Global, env: &mut Environment) -> Result<bool, 
     Ok(found && env.signature(signature).is_some())
 }
 
-/// What the three say in the scope of a file.
-fn all_three(alloc: Global, env: &mut Environment) -> Result<(bool, bool, bool), NoMemory> {
+/// Whether what is declared around a block is hidden by it where the block declares the name, and stands there once it is left.
+fn outer_names_come_later(alloc: Global, env: &mut Environment) -> Result<bool, NoMemory> {
+    let outer = Entity::Enumerator { bits: 1 };
+    let inner = Entity::Enumerator { bits: 2 };
+    env.open(alloc)?;
+    env.declare(alloc, b"both", Binding::Own(inner))?;
+    env.declare_around(alloc, b"both", Binding::Own(outer))?;
+    env.declare_around(alloc, b"outer", Binding::Own(outer))?;
+    let inside = env.look_up(b"both") == Some(inner) && env.look_up(b"outer") == Some(outer);
+    env.close();
+    Ok(inside && env.look_up_here(b"both") == Some(outer))
+}
+
+/// Whether a definition is kept of a name that has linkage, and of no other, and whether `main` may not be called where that is said.
+fn more_is_said(env: &mut Environment) -> bool {
+    env.set_definition(b"f", Definition::Defined);
+    env.set_definition(b"g", Definition::Defined);
+    env.set_strict(true);
+    let defined = match env.linked(b"f") {
+        Some(linked) => linked.definition == Definition::Defined,
+        None => false,
+    };
+    defined && env.linked(b"g").is_none() && env.is_strict()
+}
+
+/// What all of them say in the scope of a file.
+fn all_of_them(
+    alloc: Global,
+    env: &mut Environment,
+) -> Result<(bool, bool, bool, bool, bool), NoMemory> {
     env.open(alloc)?;
     let names = inner_names_hide(alloc, env)?;
     let tags = tags_are_found_by_form(alloc, env)?;
+    let around = outer_names_come_later(alloc, env)?;
     let linkage = linkage_is_of_the_text(alloc, env)?;
-    Ok((names, tags, linkage))
+    Ok((names, tags, around, linkage, more_is_said(env)))
 }
 
 #[test]
 fn names_and_tags_are_found_by_scope(rt: HostRuntime) -> Result<(), Fail> {
     let mut env = Environment::new(rt.alloc());
-    let found = all_three(rt.alloc(), &mut env);
+    let found = all_of_them(rt.alloc(), &mut env);
     drop(env);
-    assert_eq!(rt; found?, (true, true, true));
+    assert_eq!(rt; found?, (true, true, true, true, true));
     Ok(())
 }

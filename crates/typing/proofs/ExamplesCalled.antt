@@ -8,7 +8,7 @@ use Rattle.typing.specs.Nodes.{is_function}
 use Rattle.cbase.specs.declared.tree.expr.ExprForm.TheViews.{outs-Name, outs-Call, out-ExprForm}
 use Rattle.typing.specs.Faults.{fault}
 use Rattle.operators.specs.declared.found.Broken.TheVariants.{Construct, Rule}
-use Rattle.typing.specs.Examples.{AreCalled}
+use Rattle.typing.specs.Examples.{AreCalled, AreCallsOfMain}
 use Rattle.typing.specs.Sample.{start, token, names, named_in, name}
 use Rattle.typing.specs.Rules.{NoArguments, MoreArguments, CallOfFunction, CallOfOther}
 use Rattle.typing.specs.Typing.{RefusedInside, Walked, NoPieces, MorePieces, RefusedHere, RefusedBehind, LoadedRefused, CalledFunction, CalledOther}
@@ -33,4 +33,11 @@ are_called = record {
   product = (start, Walked (outs-Call _ _) (MorePieces (CalledFunction (ap name_in (outs-Name (codes "calloc"))) refl (refl, refl, refl)) (MorePieces (vread (codes "256") (int_of 256) 1 2 m_256) (MorePieces (vread (codes "257") (int_of 257) 2 4 m_257) NoPieces))) (CallOfFunction (MoreArguments (seen k_int) (MoreArguments (seen k_int) NoArguments)) k_p (both (λ (a b : Kind). a ∷ b ∷ []) _ _ _ _ k_size k_size) (alone _)));
   factor = (start, Walked (outs-Call _ _) (MorePieces (CalledFunction (ap name_in (outs-Name (codes "calloc"))) refl (refl, refl, refl)) (MorePieces (vread (codes "70000") (int_of 70000) 1 2 m_70000) (MorePieces (vn 2 4) NoPieces))) (CallOfFunction (MoreArguments (seen k_int) (MoreArguments (seen k_int) NoArguments)) k_p (both (λ (a b : Kind). a ∷ b ∷ []) _ _ _ _ k_size k_size) (record { front = []; back = fault (token 2) (Construct 19) ∷ []; whole = refl; later = tt; behind = (omega arith, tt) })));
   argument_before_count = (start, Walked (outs-Call _ _) (MorePieces (CalledFunction (ap name_in (outs-Name (codes "free"))) refl (refl, refl, refl)) (MorePieces (vn 1 2) (MorePieces (v1 2 4) NoPieces))) (CallOfFunction (MoreArguments (seen k_int) (MoreArguments (seen k_int) NoArguments)) k_void (ap (λ (a : Kind). a ∷ []) k_p) (record { front = []; back = fault (token 0) (Rule 7) ∷ []; whole = refl; later = tt; behind = (omega arith, tt) })));
+}
+
+pub are_calls_of_main : AreCallsOfMain
+are_calls_of_main = record {
+  allowed = (_, _, _, Walked (outs-Call _ _) (MorePieces (CalledFunction (ap name_in (outs-Name (codes "main"))) refl (refl, refl, refl)) NoPieces) (CallOfFunction NoArguments k_int refl (refl, refl, refl)), refl);
+  refused = (start, Walked (outs-Call _ _) (MorePieces (CalledFunction (ap name_in (outs-Name (codes "main"))) refl (refl, refl, refl)) NoPieces) (CallOfFunction NoArguments k_int refl (alone _)));
+  others = (_, _, _, Walked (outs-Call _ _) (MorePieces (CalledFunction (ap name_in (outs-Name (codes "g"))) refl (refl, refl, refl)) NoPieces) (CallOfFunction NoArguments k_void refl (refl, refl, refl)), refl);
 }

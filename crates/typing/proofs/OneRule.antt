@@ -222,7 +222,7 @@ one_rule l env number place handed (Call calls with) told first second (CallOfFu
     let results = sym e ∙ e' in
     let params = sym f ∙ f' in
     let all = one_arguments args others in
-    settled_alike _ _ _ _ _ _ first second (λ i. call_faults place callee.place name function.built_in (results i) (params i) (all i)) refl refl settled also
+    settled_alike _ _ _ _ _ _ first second (λ i. call_faults (l.strict env) place callee.place name function.built_in (results i) (params i) (all i)) refl refl settled also
 one_rule l env number place handed (Call calls with) told first second CallOfOther CallOfOther = refl
 one_rule l env number place handed (ExprForm::Member base member thus) told first second (MemberOfStruct {b = b} {name = name} e f) (MemberOfStruct e' f') =
     let judgements = sym e ∙ e' in

@@ -1,5 +1,6 @@
 -- Expressions with what is found of them, worked out by hand from C11. Tokens are counted from 0.
-use Rattle.std.specs.Prelude.{true, false, [], ◌∷◌, None, Some, codes}
+use Rattle.std.specs.Prelude.{◌≡◌, Bool, true, false, List, [], ◌∷◌, None, Some, codes, if◌then◌else◌}
+use Rattle.std.specs.Str.{bytes_eq}
 use Rattle.cbase.specs.declared.ctype.CType.TheVariants.{Void as VoidType, Bool as BoolType, Pointer as PointerType, Array as ArrayType}
 use Rattle.cbase.specs.declared.tree.expr.ExprForm.TheVariants.{Unary, Binary, Assign, Count, Choose, Cast, SizeOf, SizeOfType, OffsetOf, Index, Member, Call, Inner, AssertFail}
 use Rattle.cbase.specs.declared.tree.expr.Part.TheVariants.{Member as NamedPart, At as IndexedPart}
@@ -12,7 +13,13 @@ use Rattle.cbase.specs.declared.tree.stmt.StmtForm.TheVariants.{Eval}
 use Rattle.operators.specs.declared.found.Broken.TheVariants.{Construct, Rule}
 use Rattle.operators.specs.Binary.{int_type}
 use Rattle.operators.specs.Unary.{size_type}
-use Rattle.typing.specs.Sample.{char_type, unsigned_type, long_type, token, node, name, constant, identifier, statement, type_name, declaration, field, field_of_bits, enumerator, HasType, HasValue, HasNoValue, IsNull, IsRefused}
+use Rattle.typing.specs.Entities.{FunctionIs}
+use Rattle.typing.specs.Faults.{fault}
+use Rattle.typing.specs.Known.{Known}
+use Rattle.typing.specs.Language.{Language}
+use Rattle.typing.specs.Outcomes.{Handed, Passes, Refused}
+use Rattle.typing.specs.Sample.{sample, start, Declarations, entity_in, function, char_type, unsigned_type, long_type, token, node, name, constant, identifier, statement, type_name, declaration, field, field_of_bits, enumerator, HasType, HasValue, HasNoValue, IsNull, IsRefused}
+use Rattle.typing.specs.Typing.{ExpressionIs, Finds}
 
 -- names and constants (C11 6.5.1)
 pub record AreNamed : Type 0 where
@@ -195,6 +202,24 @@ pub record AreCalled : Type 0 where
   pub factor : IsRefused (node 3 0 (Call (name (codes "calloc") 0 0) ((constant (codes "70000") 1 2) ∷ (name (codes "n") 2 4) ∷ []))) 4 (Construct 14)
   -- free(n, 1)
   pub argument_before_count : IsRefused (node 3 0 (Call (name (codes "free") 0 0) ((name (codes "n") 1 2) ∷ (constant (codes "1") 2 4) ∷ []))) 2 (Rule 5)
+
+-- where `int main(void)` is declared too, and may not be called or may
+abbrev pub with_main : Bool → Language
+with_main strict = record sample {
+  entity = λ name env. if bytes_eq name (codes "main") then Some (FunctionIs (function int_type [])) else entity_in env name;
+  strict = λ env. strict;
+}
+
+pub record AreCallsOfMain : Type 0 where
+  -- main()
+  pub allowed : (known : Known) × (handed : List Handed) × (after : Declarations)
+      × Finds (with_main false) start (ExpressionIs (node 1 0 (Call (name (codes "main") 0 0) [])) (Passes known handed)) after
+      × (known.ctype ≡ int_type)
+  pub refused : (after : Declarations) × Finds (with_main true) start (ExpressionIs (node 1 0 (Call (name (codes "main") 0 0) [])) (Refused (fault (token 0) (Rule 13)))) after
+  -- g()
+  pub others : (known : Known) × (handed : List Handed) × (after : Declarations)
+      × Finds (with_main true) start (ExpressionIs (node 1 0 (Call (name (codes "g") 0 0) [])) (Passes known handed)) after
+      × (known.ctype ≡ VoidType)
 
 -- `sizeof`, casts and offsets (C11 6.5.3.4, 6.5.4, 7.19)
 pub record AreSizes : Type 0 where

@@ -1,6 +1,6 @@
 //! Expressions, statements, declarations and items with what is found of them, worked out by hand from the standard. Each table is the
 //! contract of a function that does nothing.
-ghost use Rattle.typing.specs.Examples.{AreNamed, AreUnary, AreBinary, AreAssigned, AreMembers, AreCalled, AreSizes, AreTypeNames, AreInner, AreBraces};
+ghost use Rattle.typing.specs.Examples.{AreNamed, AreUnary, AreBinary, AreAssigned, AreMembers, AreCalled, AreCallsOfMain, AreSizes, AreTypeNames, AreInner, AreBraces};
 ghost use Rattle.typing.specs.ExamplesOfDeclarations.{AreDeclarations};
 ghost use Rattle.typing.specs.ExamplesOfInitialisers.{AreInitialisers};
 ghost use Rattle.typing.specs.ExamplesOfItems.{AreItems, AreFunctions};
@@ -20,11 +20,12 @@ pub fn rows_of_operators()
     ensures assigned { AreAssigned }
 {}
 
-/// Indices, members and calls (C11 6.5.2).
-#[tactic(auto, using(crate::proofs::ExamplesMembers::are_members, crate::proofs::ExamplesCalled::are_called))]
+/// Indices, members and calls (C11 6.5.2), and calls of `main` where it may not be called.
+#[tactic(auto, using(crate::proofs::ExamplesMembers::are_members, crate::proofs::ExamplesCalled::are_called, crate::proofs::ExamplesCalled::are_calls_of_main))]
 pub fn rows_of_postfixes()
     ensures members { AreMembers }
     ensures called { AreCalled }
+    ensures of_main { AreCallsOfMain }
 {}
 
 /// `sizeof`, casts, `__builtin_offsetof` and the offsetof idiom (C11 6.5.3.4, 6.5.4, 7.19), and type names (6.7.7).
