@@ -177,12 +177,12 @@ module _ (abi : Abi) (number : ℕ) (place : Place) (callee : Expr) (args : List
   -- what is asked of a call of a function, behind its parts; code gives its arguments in other words
   pub call_result : (name : List ℕ) (signature : ℕ) (defined built_in : Bool) (known given : List KnownByNumber) (old mid new : Context) (r : Result (Found KnownByNumber) NoMemory)
       → given ≡ known → length known ≡ length args
-      → IfOk r (λ found. Settled (λ n. call_faults place callee.place name built_in (kind_of mid.structs (n.ctype (n.signature signature).result)) (map (kind_of mid.structs) (map n.ctype (n.signature signature).parameters)) (arguments_at n mid.structs args given)) (λ n. plain (n.ctype (n.signature signature).result)) number mid new found)
+      → IfOk r (λ found. Settled (λ n. call_faults mid.environment.strict place callee.place name built_in (kind_of mid.structs (n.ctype (n.signature signature).result)) (map (kind_of mid.structs) (map n.ctype (n.signature signature).parameters)) (arguments_at n mid.structs args given)) (λ n. plain (n.ctype (n.signature signature).result)) number mid new found)
       → PartsPass (a_call name signature defined built_in known) old mid
       → IfOk r (λ found. Walked (SaysForm abi number place (Call callee args)) an_expression old new found)
   call_result name signature defined built_in known given old mid new r same count settled passed =
       settled_result abi number place (Call callee args) (a_call name signature defined built_in known) old mid new tt
-      (λ n. call_faults place callee.place name built_in (kind_of mid.structs (n.ctype (n.signature signature).result)) (map (kind_of mid.structs) (map n.ctype (n.signature signature).parameters)) (arguments_at n mid.structs args given))
+      (λ n. call_faults mid.environment.strict place callee.place name built_in (kind_of mid.structs (n.ctype (n.signature signature).result)) (map (kind_of mid.structs) (map n.ctype (n.signature signature).parameters)) (arguments_at n mid.structs args given))
       (λ n. plain (n.ctype (n.signature signature).result)) r settled passed
       (λ n handed outcome agrees is. CallOfFunction
       (subst (λ (all : List KnownByNumber). AreArguments mid.structs args (operands_at n all) (arguments_at n mid.structs args given)) same (are_arguments n mid.structs args given (ap length same ∙ count)))

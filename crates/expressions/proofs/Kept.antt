@@ -8,10 +8,10 @@ use Rattle.environment.specs.declared.entity.Entity.{Entity}
 use Rattle.environment.specs.declared.environment.Environment.{Environment}
 use Rattle.environment.specs.declared.entity.Signature.{Signature}
 use Rattle.environment.specs.Bounds.{AreBelow, EntityBelow, BindingBelow, LinkedBelow, SignatureBelow}
-use Rattle.environment.specs.Environment.{name_found, name_bound, name_defined, resolved, signature_added}
+use Rattle.environment.specs.Environment.{name_found, name_bound, name_bound_around, name_defined, resolved, signature_added}
 use Rattle.environment.specs.Names.{value_in}
 use Rattle.environment.specs.Scopes.{found_here}
-use Rattle.environment.proofs.Bounds.{bound_below, defined_below, found_is_below, found_here_is_below, linked_is_below, result_is_below, added_below}
+use Rattle.environment.proofs.Bounds.{bound_below, bound_around_below, defined_below, found_is_below, found_here_is_below, linked_is_below, result_is_below, added_below}
 use Rattle.expressions.specs.Context.{Context}
 
 pub found_below : (count : ℕ) (name : List ℕ) (env : Environment) → AreBelow count env → (found : Option Entity) → found ≡ name_found name env
@@ -44,6 +44,15 @@ bound_below_behind count name binding old new (Ok done) binds stays below here =
     let same : new ≡ name_bound name binding old = binds in
     rw same (bound_below count name binding old below here)
 bound_below_behind count name binding old new (Err error) binds stays below here =
+    let same : new ≡ old = stays in
+    rw same below
+
+pub around_below_behind : {T E : Type 0} (count : ℕ) (name : List ℕ) (binding : Binding) (old new : Environment) (result : Result T E)
+    → OnOk result (new ≡ name_bound_around name binding old) → OnErr result (new ≡ old) → AreBelow count old → BindingBelow count old.signatures binding → AreBelow count new
+around_below_behind count name binding old new (Ok done) binds stays below here =
+    let same : new ≡ name_bound_around name binding old = binds in
+    rw same (bound_around_below count name binding old below here)
+around_below_behind count name binding old new (Err error) binds stays below here =
     let same : new ≡ old = stays in
     rw same below
 

@@ -63,7 +63,7 @@ pub(crate) fn call_fault(
 fn calls_main(strict: bool, name: &[u8]) -> bool
     ensures { result ≡ calls_main strict name.now }
 {
-    strict && name == b"main"
+    strict && name == b"main".as_slice()
 }
 
 /// Whether a struct is the result, a parameter or an argument.

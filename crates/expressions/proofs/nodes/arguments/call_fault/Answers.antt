@@ -1,9 +1,9 @@
-use Rattle.std.proofs.Common.{List, ℕ, Bool, subst, sym, ◌∙◌, length}
+use Rattle.std.proofs.Common.{List, ℕ, Bool, ap, subst, sym, ◌∙◌, length}
 use Rattle.std.specs.Prelude.{not, nat_eq}
 use Rattle.environment.specs.declared.entity.Signature.{Signature}
 use Rattle.operators.specs.declared.found.Broken.TheVariants.{Construct, Rule}
 use Rattle.operators.specs.Kinds.{kind_of}
-use Rattle.typing.specs.Calls.{Argument, call_faults, length_faults, unconverted}
+use Rattle.typing.specs.Calls.{Argument, call_faults, calls_main, length_faults, unconverted}
 use Rattle.typing.specs.Faults.{unless}
 use Rattle.expressions.specs.Arguments.{arguments_at}
 use Rattle.expressions.specs.Settled.{IsFirstOf}
@@ -21,15 +21,18 @@ returns c n agrees =
     (λ i. nat_eq (length (listed i)) (length c.args.args.now))
     ∙ same_counts n structs signature.parameters c.args.args.now c.args.known.now c.requires.count
     in
-    subst (λ (s : Signature). IsFirstOf (call_faults c.args.node.place c.args.callee.place c.args.callee.name.now c.args.callee.built_in (kind_of structs (n.ctype s.result)) (kinds_at n structs s.parameters) args) c.first_of-3.result)
+    subst (λ (s : Signature). IsFirstOf (call_faults c.args.context.now.environment.strict c.args.node.place c.args.callee.place c.args.callee.name.now c.args.callee.built_in (kind_of structs (n.ctype s.result)) (kinds_at n structs s.parameters) args) c.first_of-4.result)
     (sym (agrees.signatures c.args.callee.signature signature c.signature-signature.ensures.is))
-    (c.first_of-3.ensures _ _
+    (c.first_of-4.ensures _ _
     (subst (λ (has : Bool). IsFirstOf (unless (not has) c.args.node.place (Construct 13)) c.unless-by_value.result)
     (c.has_struct.ensures n agrees ∙ same_structs n structs signature.result signature.parameters c.args.args.now c.args.known.now c.requires.count) c.unless-by_value.ensures)
-    (c.first_of-2.ensures _ _
+    (c.first_of-3.ensures _ _
     (subst (λ (params : List ℕ). IsFirstOf (length_faults c.args.callee.built_in c.args.callee.name.now c.args.node.place (kinds_at n structs params) args) c.length_fault-lengths.result)
     listed (c.length_fault-lengths.ensures n agrees))
-    (c.first_of.ensures _ _
+    (c.first_of-2.ensures _ _
     (subst (λ (params : List ℕ). IsFirstOf (unconverted (kinds_at n structs params) args) c.unconverted-converted.result)
     listed (c.unconverted-converted.ensures n agrees))
-    (subst (λ (same : Bool). IsFirstOf (unless same c.args.callee.place (Rule 7)) c.unless-counted.result) counts c.unless-counted.ensures))))
+    (c.first_of.ensures _ _
+    (subst (λ (same : Bool). IsFirstOf (unless same c.args.callee.place (Rule 7)) c.unless-counted.result) counts c.unless-counted.ensures)
+    (subst (λ (calls : Bool). IsFirstOf (unless (not calls) c.args.callee.place (Rule 13)) c.unless-allowed.result)
+    (c.calls_main.ensures ∙ ap (λ (strict : Bool). calls_main strict c.args.callee.name.now) c.is_strict.ensures) c.unless-allowed.ensures)))))
