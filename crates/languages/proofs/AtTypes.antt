@@ -104,7 +104,7 @@ module _ (n : Numbering) (back : LeadsBack n) where
   type_back (WholeType t) = ap WholeType (back t)
   type_back (ItemsOf item) = ap ItemsOf (back item)
 
-  types_back : (types : List CType) → map n.ctype (map n.number types) ≡ types
+  pub types_back : (types : List CType) → map n.ctype (map n.number types) ≡ types
   types_back [] = refl
   types_back (t ∷ types) = (λ i. back t i ∷ types_back types i)
 

@@ -35,7 +35,7 @@ use Rattle.languages.proofs.AtTypes.{tag_at_types, here_at_types, linked_at_type
 use Rattle.languages.proofs.Mapped.{is_some_mapped, mapped_twice, value_mapped, with_mapped, found_mapped, here_mapped, declared_mapped, around_mapped, left_mapped}
 
 -- the last of a row is at the number of those before it
-at_the_end : {A : Type 0} (items : List A) (last : A) → slice_get (items ++ last ∷ []) (length items) ≡ Some last
+pub at_the_end : {A : Type 0} (items : List A) (last : A) → slice_get (items ++ last ∷ []) (length items) ≡ Some last
 at_the_end [] last = refl
 at_the_end (item ∷ items) last = at_the_end items last
 
@@ -78,7 +78,7 @@ module _ (n : Numbering) where
   definition_valid name definition None before valid = valid
   definition_valid name definition (Some linked) before valid = valid
 
-  signature_valid : (signature : Signature) (before : Declared)
+  pub signature_valid : (signature : Signature) (before : Declared)
       → HasSignatures n (record before { environment = signature_added signature before.environment }) → HasSignatures n before
   signature_valid signature before valid = λ number s at. valid number s (keeps_behind before.environment.signatures signature number s at)
 

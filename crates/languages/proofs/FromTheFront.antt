@@ -14,6 +14,6 @@ use Rattle.languages.specs.CLaws.{FindsFromTheFront}
 pub finds_from_the_front : FindsFromTheFront
 finds_from_the_front abi strict bodied defined first last said begins grows found n agrees back =
     subst (λ (before : Declarations). FindsInFile (c_language abi) (c_file abi) before (said n) (declarations_at n (declared last)))
-    (begins.declares n (agrees_before first last n grows agrees))
+    (begins.declares n (agrees_before first last n grows agrees) back)
     ((carried (language abi n) (c_language abi) (file_scope abi n) (c_file abi) (declarations_at n) (HasSignatures n) (carries abi n back)).items
     (declared first) (said n) (declared last) (found n agrees) agrees.signatures).0

@@ -6,11 +6,11 @@ use Rattle.std.proofs.lemmas.Slice.Eq.{bytes_eq-Decides}
 use Rattle.environment.specs.BuiltIns.{FunctionType, built_ins}
 use Rattle.environment.specs.Names.{Entries, value_in}
 use Rattle.environment.specs.Scopes.{first_answer}
-use Rattle.languages.specs.CBegin.{is_among, without_body, built_in_link, linkage_alone}
+use Rattle.languages.specs.CBegin.{is_among, without_body, built_in_link, with_linkage}
 use Rattle.languages.specs.CLaws.{built_in, BuiltInsStand, BuiltInsAreHere}
-use Rattle.languages.specs.Mapped.{entries_mapped}
+use Rattle.languages.specs.Mapped.{entries_named}
 use Rattle.languages.specs.Meanings.{Binding, Link, meaning_of, entity_of}
-use Rattle.languages.proofs.Mapped.{value_mapped}
+use Rattle.languages.proofs.Mapped.{value_named}
 
 -- a name that is left out has no value, and any other one has what it had
 kept_value : (bodied : List (List ℕ)) (name : List ℕ) (table : Entries FunctionType)
@@ -38,30 +38,31 @@ kept_value bodied name (entry ∷ table) = step (bytes_eq name entry.0) refl (is
     step false other false there here among rest = ap (λ b. if b then Some entry.1 else value_in name kept) other ∙ rest
 
 -- what has linkage under a name, and nothing else, is declared in the file scope
-module _ (name : List ℕ) (table : Entries FunctionType) where
-  stands : (o : Option FunctionType) (links : Entries Link) → value_in name links ≡ option_map built_in_link o
-      → option_map entity_of (meaning_of name links (first_answer (option_map linkage_alone o) None)) ≡ option_map built_in o
+module _ (defined : List (List ℕ)) (name : List ℕ) (table : Entries FunctionType) where
+  stands : (o : Option FunctionType) (links : Entries Link) → value_in name links ≡ option_map (built_in_link defined name) o
+      → option_map entity_of (meaning_of name links (first_answer (option_map (with_linkage name) o) None)) ≡ option_map (built_in (is_among name defined)) o
   stands None links same = refl
   stands (Some function) links same = ap (λ (link : Option Link). option_map entity_of (option_map (λ (l : Link). l.meaning) link)) same
 
-  stands_so : option_map entity_of (meaning_of name (entries_mapped built_in_link table) (first_answer (value_in name (entries_mapped linkage_alone table)) None))
-      ≡ option_map built_in (value_in name table)
+  stands_so : option_map entity_of (meaning_of name (entries_named (built_in_link defined) table) (first_answer (value_in name (entries_named with_linkage table)) None))
+      ≡ option_map (built_in (is_among name defined)) (value_in name table)
   stands_so =
-      ap (λ (b : Option Binding). option_map entity_of (meaning_of name (entries_mapped built_in_link table) (first_answer b None))) (value_mapped linkage_alone name table)
-      ∙ stands (value_in name table) (entries_mapped built_in_link table) (value_mapped built_in_link name table)
+      ap (λ (b : Option Binding). option_map entity_of (meaning_of name (entries_named (built_in_link defined) table) (first_answer b None))) (value_named with_linkage name table)
+      ∙ stands (value_in name table) (entries_named (built_in_link defined) table) (value_named (built_in_link defined) name table)
 
-option_if : (test : Bool) (o : Option FunctionType) → option_map built_in (if test then None else o) ≡ (if test then None else option_map built_in o)
-option_if true o = refl
-option_if false o = refl
+option_if : {B : Type 0} (f : FunctionType → B) (test : Bool) (o : Option FunctionType) → option_map f (if test then None else o) ≡ (if test then None else option_map f o)
+option_if f true o = refl
+option_if f false o = refl
 
 pub built_ins_stand : BuiltInsStand
 built_ins_stand abi strict bodied defined name =
-    stands_so name (without_body bodied (built_ins abi))
-    ∙ (ap (option_map built_in) (kept_value bodied name (built_ins abi)) ∙ option_if (is_among name bodied) (value_in name (built_ins abi)))
+    stands_so defined name (without_body bodied (built_ins abi))
+    ∙ (ap (option_map (built_in (is_among name defined))) (kept_value bodied name (built_ins abi))
+    ∙ option_if (built_in (is_among name defined)) (is_among name bodied) (value_in name (built_ins abi)))
 
-some_mapped : (o : Option FunctionType) → is_some (option_map linkage_alone o) ≡ is_some o
-some_mapped None = refl
-some_mapped (Some function) = refl
+some_mapped : (name : List ℕ) (o : Option FunctionType) → is_some (option_map (with_linkage name) o) ≡ is_some o
+some_mapped name None = refl
+some_mapped name (Some function) = refl
 
 some_if : (test : Bool) (o : Option FunctionType) → is_some (if test then None else o) ≡ (if test then false else is_some o)
 some_if true o = refl
@@ -69,6 +70,6 @@ some_if false o = refl
 
 pub built_ins_are_here : BuiltInsAreHere
 built_ins_are_here abi strict bodied defined name =
-    ap is_some (value_mapped linkage_alone name (without_body bodied (built_ins abi)))
-    ∙ (some_mapped (value_in name (without_body bodied (built_ins abi)))
+    ap is_some (value_named with_linkage name (without_body bodied (built_ins abi)))
+    ∙ (some_mapped name (value_in name (without_body bodied (built_ins abi)))
     ∙ (ap is_some (kept_value bodied name (built_ins abi)) ∙ some_if (is_among name bodied) (value_in name (built_ins abi))))

@@ -1,10 +1,11 @@
 -- Names with other values: what is found of a name is what was found of it before, with its value changed.
-use Rattle.std.proofs.Common.{◌≡◌, ℕ, List, [], ◌∷◌, Option, Some, None, refl, ap, ◌∙◌}
+use Rattle.std.proofs.Common.{◌≡◌, ℕ, List, [], ◌∷◌, Option, Some, None, refl, sym, ap, ◌∙◌}
 use Rattle.std.specs.Prelude.{Bool, true, false, is_some, option_map, if◌then◌else◌}
 use Rattle.std.specs.Str.{bytes_eq}
+use Rattle.std.proofs.lemmas.Slice.Eq.{bytes_eq-Decides}
 use Rattle.environment.specs.Names.{Entries, value_in, with_value}
 use Rattle.environment.specs.Scopes.{Scopes, first_answer, found, found_here, declared, declared_around, left}
-use Rattle.languages.specs.Mapped.{entries_mapped, scopes_mapped}
+use Rattle.languages.specs.Mapped.{entries_mapped, scopes_mapped, entries_named}
 
 pub is_some_mapped : {A B : Type 0} (f : A → B) (o : Option A) → is_some (option_map f o) ≡ is_some o
 is_some_mapped f None = refl
@@ -64,3 +65,15 @@ module _ {A B : Type 0} (f : A → B) where
   pub left_mapped : (scopes : Scopes A) → scopes_mapped f (left scopes) ≡ left (scopes_mapped f scopes)
   left_mapped [] = refl
   left_mapped (innermost ∷ outer) = refl
+
+-- values that depend on names too
+module _ {A B : Type 0} (f : List ℕ → A → B) (name : List ℕ) where
+  named_if : (test : Bool) (other : List ℕ) (value : A) (others : Option A) (mapped : Option B) → (test ≡ true → name ≡ other) → mapped ≡ option_map (f name) others
+      → (if test then Some (f other value) else mapped) ≡ option_map (f name) (if test then Some value else others)
+  named_if true other value others mapped same rest = ap (λ (n : List ℕ). Some (f n value)) (sym (same refl))
+  named_if false other value others mapped same rest = rest
+
+  pub value_named : (entries : Entries A) → value_in name (entries_named f entries) ≡ option_map (f name) (value_in name entries)
+  value_named [] = refl
+  value_named (entry ∷ entries) =
+      named_if (bytes_eq name entry.0) entry.0 entry.1 (value_in name entries) (value_in name (entries_named f entries)) ((bytes_eq-Decides name entry.0).0) (value_named entries)

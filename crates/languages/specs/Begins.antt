@@ -5,8 +5,9 @@ use Rattle.expressions.specs.Context.{Context, Agrees, declared}
 use Rattle.expressions.specs.Numbers.{Numbering}
 use Rattle.languages.specs.AtTypes.{declarations_at}
 use Rattle.languages.specs.CBegin.{c_begin}
+use Rattle.languages.specs.LeadsBack.{LeadsBack}
 
--- it declares what C declares there, whatever its numbers are read by, and hands nothing on
+-- it declares what C declares there, whatever numbering reads it that leads back, and hands nothing on
 pub record Begins (abi : Abi) (strict : Bool) (bodied defined : List (List ℕ)) (context : Context) : Type 0 where
-  pub declares : (n : Numbering) → Agrees n context → declarations_at n (declared context) ≡ c_begin abi strict bodied defined
+  pub declares : (n : Numbering) → Agrees n context → LeadsBack n → declarations_at n (declared context) ≡ c_begin abi strict bodied defined
   pub handed : context.handed ≡ []

@@ -7,32 +7,33 @@ use Rattle.environment.specs.BuiltIns.{FunctionType, built_ins}
 use Rattle.environment.specs.Names.{Entries}
 use Rattle.typing.specs.Entities.{NotDefined}
 use Rattle.languages.specs.CLanguage.{Declarations}
-use Rattle.languages.specs.Mapped.{entries_mapped}
+use Rattle.languages.specs.Mapped.{entries_named}
 use Rattle.languages.specs.Meanings.{AFunction, Binding, WithLinkage, Link}
 
 abbrev pub is_among : List ℕ → List (List ℕ) → Bool
 is_among name names = list_any (bytes_eq name) names
 
--- a name of the table is built in exactly where the text has no definition of it with a body: these are the names that have one
+-- a function of the table is built in exactly where the text has no definition of it with a body
 abbrev pub without_body : List (List ℕ) → Entries FunctionType → Entries FunctionType
 without_body bodied table = filter (λ entry. not (is_among entry.0 bodied)) table
 
-abbrev pub built_in_link : FunctionType → Link
-built_in_link function = record {
-  meaning = AFunction (record { result = function.result; params = function.parameters; defined = false; built_in = true });
+-- what has linkage under its name. As any other function it is defined where the text defines its name
+abbrev pub built_in_link : List (List ℕ) → List ℕ → FunctionType → Link
+built_in_link defined name function = record {
+  meaning = AFunction (record { result = function.result; params = function.parameters; defined = is_among name defined; built_in = true });
   definition = NotDefined;
 }
 
-abbrev pub linkage_alone : FunctionType → Binding
-linkage_alone function = WithLinkage
+abbrev pub with_linkage : List ℕ → FunctionType → Binding
+with_linkage name function = WithLinkage
 
 -- the file scope has the names of these functions, with linkage, before its first item (6.2.1p4, 7.1.3p1), and nothing else is declared: so a block may hide such a
 -- name, and outside of functions it is no typedef and no constant
 abbrev pub with_functions : Bool → List (List ℕ) → Entries FunctionType → Declarations
 with_functions strict defined table = record {
-  names = entries_mapped linkage_alone table ∷ [];
+  names = entries_named with_linkage table ∷ [];
   tags = [] ∷ [];
-  links = entries_mapped built_in_link table;
+  links = entries_named (built_in_link defined) table;
   structs = [];
   in_loop = false;
   result = None;

@@ -1,5 +1,5 @@
 -- What holds of the language of C.
-use Rattle.std.specs.Prelude.{◌≡◌, ℕ, Bool, true, false, List, None, option_map, if◌then◌else◌}
+use Rattle.std.specs.Prelude.{◌≡◌, ℕ, Bool, true, false, List, None, is_some, option_map, if◌then◌else◌}
 use Rattle.cbase.specs.declared.abi.Abi.{Abi}
 use Rattle.environment.specs.BuiltIns.{FunctionType, built_ins}
 use Rattle.environment.specs.Names.{value_in}
@@ -36,13 +36,13 @@ FindsFromTheFront =
     → FindsInFile (c_language abi) (c_file abi) (c_begin abi strict bodied defined) (said n) (declarations_at n (declared last))
 
 -- what a name stands for in front of a text: one of the table stands for its function where the text has no body for it, and no other name stands for anything
-abbrev pub built_in : FunctionType → Entity
-built_in function = FunctionIs (record { result = function.result; params = function.parameters; defined = false; built_in = true })
+abbrev pub built_in : Bool → FunctionType → Entity
+built_in defined function = FunctionIs (record { result = function.result; params = function.parameters; defined = defined; built_in = true })
 
 abbrev pub BuiltInsStand : Type 0
 BuiltInsStand =
     (abi : Abi) (strict : Bool) (bodied defined : List (List ℕ)) (name : List ℕ)
-    → (c_language abi).entity name (c_begin abi strict bodied defined) ≡ (if is_among name bodied then None else option_map built_in (value_in name (built_ins abi)))
+    → (c_language abi).entity name (c_begin abi strict bodied defined) ≡ (if is_among name bodied then None else option_map (built_in (is_among name defined)) (value_in name (built_ins abi)))
 
 -- and the file scope declares these alone
 abbrev pub BuiltInsAreHere : Type 0
