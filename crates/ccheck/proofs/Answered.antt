@@ -56,6 +56,7 @@ module _ (t : Tokens) (items : List ItemSpan) (numbers : List ℕ) (abi : Abi) (
       → IsRefused t items numbers abi strict refusal
   is_refused refusal (n, agrees, back) refused =
       let (first, before) = refused_carried t (language abi n) (c_language abi) (file_scope abi n) (c_file abi) (declarations_at n) (HasSignatures n) (carried abi n back) (refused.first n agrees) (valid n agrees) in
-      let begun : declarations_at n (declared old) ≡ at_beginning t items abi strict = begins.declares n (agrees_before old new n refused.grows agrees) back in
-      (declarations_at n (declared new),
-      subst (λ (env : Declarations). IsFirstRefused t (c_language abi) (c_file abi) (spans_of items numbers) at_file env refusal (declarations_at n (declared new))) begun first)
+      let begun : declarations_at n (declared old) ≡ at_beginning t items abi strict = begins.declares n (agrees_before old new n refused.grows agrees) back in (
+        declarations_at n (declared new),
+        subst (λ (env : Declarations). IsFirstRefused t (c_language abi) (c_file abi) (spans_of items numbers) at_file env refusal (declarations_at n (declared new))) begun first,
+      )

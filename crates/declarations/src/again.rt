@@ -12,12 +12,7 @@ use expressions::Context;
 
 /// Whether a name that a declaration gives that type is declared twice: one without linkage is declared once in a scope, but for a typedef of the
 /// same type (C11 6.7p3); what has linkage is one thing wherever it is declared (6.7p4), and no name of its scope has none.
-pub fn is_again(
-    context: &Context,
-    name: &[u8],
-    storage: Storage,
-    ctype: DeclaredType,
-) -> bool
+pub fn is_again(context: &Context, name: &[u8], storage: Storage, ctype: DeclaredType) -> bool
     requires { DeclaredBelow (length context.now.types) ctype }
     ensures { (n : Numbering) → Agrees n context.now → IsAgain (here_at n context.now name.now) (linked_now n context.now name.now) (given storage (declared_type_at n ctype)) result }
 {
