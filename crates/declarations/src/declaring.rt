@@ -134,7 +134,7 @@ pub fn token_by_now(before: Option<Linked>, token: u32) -> u32
 }
 
 /// What the text so far has for it.
-fn definition_by_now(before: Option<Linked>) -> Definition
+pub fn definition_by_now(before: Option<Linked>) -> Definition
     ensures { result ≡ definition_by_now before }
 {
     match before {

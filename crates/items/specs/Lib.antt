@@ -1,2 +1,4 @@
+pub mod Begun
 pub mod InFile
+pub mod Names
 pub mod Objects

@@ -26,8 +26,8 @@ use Rattle.expressions.specs.declared.handed_row.HandedRow.{HandedRow}
 use Rattle.expressions.specs.declared.handed_row.HandedRow.TheVariants.{Object as ObjectRow, Link as LinkRow}
 use Rattle.expressions.specs.declared.named_type.NamedType.{NamedType as NamedByNumber}
 use Rattle.expressions.specs.Context.{Context, declared, Agrees, Grows, OnlyTypes}
-use Rattle.expressions.specs.FileScope.{definition_at, definition_by_now, file_scope}
-use Rattle.expressions.specs.Language.{language, token_by_now}
+use Rattle.expressions.specs.FileScope.{definition_at, file_scope}
+use Rattle.expressions.specs.Language.{definition_by_now, language, token_by_now}
 use Rattle.expressions.specs.Numbers.{Numbering, declared_type_at, named_at}
 use Rattle.expressions.specs.Settled.{IsFirstOf}
 use Rattle.declarations.specs.Given.{composite_by_now, here_at, linked_now}
@@ -52,7 +52,7 @@ abbrev pub IsObjectJudged : Numbering → Context → Declared → Object → Op
 IsObjectJudged n context name object found first = (other : Bool)
     × IsAgain (here_at n context (out-Declared name).name) (linked_now n context (out-Declared name).name) (given Extern (declared_type_at n object.given)) other
     × IsFirstOf (name_faults (out-Declared name).place found (other || is_twice (definition_at object.before) (definition_at object.adds))
-        (is_complete_by context.structs (definition_at object.adds) (declared_type_at n object.ctype))) first
+    (is_complete_by context.structs (definition_at object.adds) (declared_type_at n object.ctype))) first
 
 -- what is asked of it in the language of a context
 abbrev pub IsObjectAsked : Abi → Storage → NamedByNumber → Declared → List Size → Context → Option Fault → Numbering → Type 0

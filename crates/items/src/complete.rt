@@ -7,7 +7,7 @@ ghost use Rattle.typing.specs.FileNames.{is_complete_by};
 
 use cbase::Storage;
 use declarations::is_complete;
-use environment::{Definition, DeclaredType};
+use environment::{DeclaredType, Definition};
 use expressions::Context;
 
 /// Whether an object outside of functions is complete: one that its declaration defines, once its initialiser stands (C11 6.9.2p3, 6.7.9p22); one that it

@@ -35,5 +35,6 @@ pub(crate) fn declare(
     let text = name.name.as_slice();
     let token = name.place.at;
     declare_name(alloc, context, text, token, Storage::Extern, object.ctype)?;
-    context.set_definition(alloc, text, with_definition(object.before, object.adds))
+    context.set_definition(text, with_definition(object.before, object.adds));
+    Ok(())
 }

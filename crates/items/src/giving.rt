@@ -7,11 +7,11 @@ ghost use Rattle.items.specs.Objects.{IsObjectGiven, IsObjectJudged, IsObjectOf}
 
 use crate::complete::is_complete_by;
 use crate::declaring::declare;
-use crate::definitions::{definition_by, definition_by_now, is_twice};
+use crate::definitions::{definition_by, is_twice};
 use crate::handing::hand_link;
 use crate::object::Object;
 use cbase::{Declared, NoMemory, Storage};
-use declarations::{composite_by_now, found_of_name, given_type, is_again};
+use declarations::{composite_by_now, definition_by_now, found_of_name, given_type, is_again};
 use environment::DeclaredType;
 use expressions::{Context, Found, NamedType, all_at, first_of, unless};
 use operators::Broken;

@@ -4,6 +4,9 @@
 //! by the crates below. It knows nothing of tokens or of the text.
 #![tactic(auto)]
 
+mod beginning;
+mod built_in_types;
+mod built_ins;
 mod complete;
 mod declaring;
 mod definitions;
@@ -11,10 +14,11 @@ mod giving;
 mod handing;
 mod heads;
 mod initialising;
-mod item;
 mod names;
 mod object;
 mod objects;
 mod telling;
+mod walk;
 
-pub use item::item;
+pub use beginning::begin;
+pub use walk::item;

@@ -1,4 +1,4 @@
-ghost use Rattle.std.specs.Prelude.{◌≤◌, ◌<◌, length, All, IfOk};
+ghost use Rattle.std.specs.Prelude.{◌≡◌, ◌≤◌, ◌<◌, length, All, IfOk};
 ghost use Rattle.ctrees.specs.Levels.{declared_levels};
 ghost use Rattle.expressions.specs.Found.{nothing};
 ghost use Rattle.expressions.specs.Nests.{Nests};
@@ -6,6 +6,7 @@ ghost use Rattle.expressions.specs.Numbers.{named_at};
 ghost use Rattle.expressions.specs.Walked.{Walked};
 ghost use Rattle.typing.specs.Items.{FileNameIs, FileNamesAre};
 ghost use Rattle.items.specs.InFile.{SaysInFileBy};
+ghost use Rattle.items.specs.Names.{found_alone};
 
 use crate::heads::head;
 use crate::objects::object;
@@ -67,8 +68,7 @@ fn one_name<F: Fn(&mut Context, Within, Part<'_>) -> Result<Found<Told>, NoMemor
 
 /// What is found, without what is told of it.
 fn without_value(found: Found<u32>) -> Found<()>
-    ensures passes { (told : ℕ) → found ≡ Passes told → result ≡ Passes tt }
-    ensures refused { (first : FaultHere) → found ≡ Refused first → result ≡ Refused first }
+    ensures { result ≡ found_alone found }
 {
     match found {
         Found::Passes(_) => Found::Passes(()),

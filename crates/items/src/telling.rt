@@ -35,7 +35,14 @@ pub(crate) fn tell_size(
     }
     let whole = DeclaredType::Whole(ctype);
     let token = name.place.at;
-    declare_name(alloc, context, name.name.as_slice(), token, Storage::Extern, whole)?;
+    declare_name(
+        alloc,
+        context,
+        name.name.as_slice(),
+        token,
+        Storage::Extern,
+        whole,
+    )?;
     hand_static(context, listed, name.place, whole, true)?;
     Ok(Found::Passes(()))
 }

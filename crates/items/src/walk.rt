@@ -61,7 +61,14 @@ fn declared<F: Fn(&mut Context, Within, Part<'_>) -> Result<Found<Told>, NoMemor
     match checker.words(alloc, context, &decl.spec)? {
         Found::Passes(base) => {
             let storage = decl.storage;
-            names(checker, alloc, context, storage, base, decl.names.as_slice())
+            names(
+                checker,
+                alloc,
+                context,
+                storage,
+                base,
+                decl.names.as_slice(),
+            )
         }
         Found::Refused(fault) => Ok(Found::Refused(fault)),
     }
@@ -90,6 +97,6 @@ fn function<F: Fn(&mut Context, Within, Part<'_>) -> Result<Found<Told>, NoMemor
     };
     let found = definition(checker, alloc, context, storage, base, head, body)?;
     context.leave();
-    context.set_result(None);
+    context.set_function(None);
     Ok(found)
 }
