@@ -29,11 +29,11 @@ module _ {t : Tokens} {l : Language} {file : FileScope l} where
       OneItem first told (passes_more rest read found) (sym (append_assoc here further more) ∙ ap (λ (rows : List Handed). rows ++ more) all)
 
   -- it is not read
-  pub unread_behind : {spans : List ItemSpan} {before middle : Context} {env inside : l.Environment} {items : List Item} {handed : List Handed} {unread : Unread} (span : ItemSpan) (others : List ItemSpan)
+  pub unread_behind : {spans : List ItemSpan} {before middle : Context} {env inside : l.Environment} {items : List Item} {handed : List Handed} (unread : Unread) (span : ItemSpan) (others : List ItemSpan)
       → ArePassing t l file spans before env items handed middle inside → IsUnread t span.first span.after middle unread
       → IsFirstRefused t l file (spans ++ span ∷ others) before env (of_unread unread) inside
-  unread_behind span others NoItem is = NotRead is refl
-  unread_behind span others (OneItem first told rest all) is = Later first told (unread_behind span others rest is)
+  unread_behind unread span others NoItem is = NotRead unread is refl
+  unread_behind unread span others (OneItem first told rest all) is = Later first told (unread_behind unread span others rest is)
 
   -- it is read, and something is refused in it
   pub broken_behind : {spans : List ItemSpan} {before middle after : Context} {env inside behind : l.Environment} {items : List Item} {item : Item} {handed : List Handed} {fault : Fault} (span : ItemSpan) (others : List ItemSpan)

@@ -26,7 +26,7 @@ module _ (t : Tokens) (l m : Language) (file : FileScope l) (other : FileScope m
 
   pub refused_carried : {spans : List ItemSpan} {before : Standing} {env behind : l.Environment} {refusal : Refusal}
       → IsFirstRefused t l file spans before env refusal behind → Valid behind → IsFirstRefused t m other spans before (to env) refusal (to behind) × Valid env
-  refused_carried (NotRead stops is) valid = (NotRead stops is, valid)
+  refused_carried (NotRead unread stops is) valid = (NotRead unread stops is, valid)
   refused_carried (Broken {env} {behind} {span} {item} {fault} read found is) valid =
       let (told, before) = carried.items env (ItemIs (place_at t span.first) item (Refused fault)) behind found valid in
       (Broken read told is, before)

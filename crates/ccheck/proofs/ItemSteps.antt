@@ -47,7 +47,7 @@ module _ (t : Tokens) (abi : Abi) where
       grows = passed.grows;
       first = λ n agrees.
           subst (λ (all : List ItemSpan). IsFirstRefused t (language abi n) (file_scope abi n) all at_file (declared old) (of_unread unread) (declared mid)) (split_at spans at d within)
-          (unread_behind (get_or spans at d) (drop (at + 1) spans) (passed.passing n agrees) is);
+          (unread_behind unread (get_or spans at d) (drop (at + 1) spans) (passed.passing n agrees) is);
     }
 
     module _ (item : Item) (after : Standing) (read : IsItemRead t (get_or spans at d).first (get_or spans at d).after middle item after) where
@@ -59,7 +59,7 @@ module _ (t : Tokens) (abi : Abi) where
         grows = grows_trans old mid new passed.grows through.grows;
         passing = λ n agrees.
             let front = passed.passing n (agrees_before mid new n through.grows agrees) in
-            let all = passes_more {t} {language abi n} {file_scope abi n} front read (through.found n agrees) in
+            let all = passes_more {t = t} {l = language abi n} {file = file_scope abi n} front read (through.found n agrees) in
             subst (λ (front : List ItemSpan). ArePassing t (language abi n) (file_scope abi n) front at_file (declared old) (program ++ item ∷ []) (map (handed_at n) (passed.rows ++ through.rows)) after (declared new))
             (sym (take_more spans at d within))
             (subst (λ (rows : List Handed). ArePassing t (language abi n) (file_scope abi n) (take at spans ++ get_or spans at d ∷ []) at_file (declared old) (program ++ item ∷ []) rows after (declared new))
@@ -73,5 +73,5 @@ module _ (t : Tokens) (abi : Abi) where
         first = λ n agrees.
             subst (λ (r : Refusal). IsFirstRefused t (language abi n) (file_scope abi n) spans at_file (declared old) r (declared new)) is
             (subst (λ (all : List ItemSpan). IsFirstRefused t (language abi n) (file_scope abi n) all at_file (declared old) (of_fault t fault) (declared new)) (split_at spans at d within)
-            (broken_behind {t} {language abi n} {file_scope abi n} (get_or spans at d) (drop (at + 1) spans) (passed.passing n (agrees_before mid new n stopped.grows agrees)) read (stopped.found n agrees)));
+            (broken_behind {t = t} {l = language abi n} {file = file_scope abi n} (get_or spans at d) (drop (at + 1) spans) (passed.passing n (agrees_before mid new n stopped.grows agrees)) read (stopped.found n agrees)));
       }

@@ -56,7 +56,7 @@ module _ (t : Tokens) (named : HasNamedFiles t) where
 
   pub refusal_named : {l : Language} {file : FileScope l} {spans : List ItemSpan} {before : Standing} {env behind : l.Environment} {refusal : Refusal}
       → IsFirstRefused t l file spans before env refusal behind → IsNamed t.names refusal
-  refusal_named {before} (NotRead {span} {unread = reason} stops is) =
+  refusal_named {before} (NotRead {span} reason stops is) =
       subst (IsNamed t.names) is (unread_is_named reason (unread_named t span.first span.after before reason named stops))
   refusal_named (BrokenItem {fault} read found is) = subst (IsNamed t.names) is (broken_named (place_at t fault.place.at) fault.broken (place_named fault.place.at))
   refusal_named (Later read found rest) = refusal_named rest

@@ -27,13 +27,13 @@ module _ (t : Tokens) (l : Language) (file : FileScope l) where
       (subst (λ (one : Item). FindsItem t l file span env one first inside) same found) too in
       (same, behind, outcome, after)
 
-  one_handed : (first next : List Handed) → Passes {A = Unit {0}} tt first ≡ Passes tt next → first ≡ next
+  one_handed : (first next : List Handed) → ◌≡◌ {A = Outcome (Unit {0})} (Passes tt first) (Passes tt next) → first ≡ next
   one_handed first next same = cc
 
-  one_fault : (first next : Fault) → Refused {A = Unit {0}} first ≡ Refused next → first ≡ next
+  one_fault : (first next : Fault) → ◌≡◌ {A = Outcome (Unit {0})} (Refused first) (Refused next) → first ≡ next
   one_fault first next same = cc
 
-  passes_or_not : (handed : List Handed) (fault : Fault) → Passes {A = Unit {0}} tt handed ≡ Refused fault → ⊥
+  passes_or_not : (handed : List Handed) (fault : Fault) → ◌≡◌ {A = Outcome (Unit {0})} (Passes tt handed) (Refused fault) → ⊥
   passes_or_not handed fault same = cc
 
   one_program : (spans : List ItemSpan) (before after behind : Context) (env inside outside : l.Environment) (items others : List Item) (handed told : List Handed)
@@ -51,7 +51,7 @@ module _ (t : Tokens) (l : Language) (file : FileScope l) where
   never_both : (spans : List ItemSpan) (before after : Context) (env inside outside : l.Environment) (items : List Item) (handed : List Handed) (refusal : Refusal)
       → ArePassing t l file spans before env items handed after inside → IsFirstRefused t l file spans before env refusal outside → ⊥
   never_both _ _ _ _ _ _ _ _ _ NoItem refused = elim refused [ ]
-  never_both _ before _ env _ _ _ _ refusal (OneItem {middle} {span} {item} read found rest all) (NotRead {unread} stops is) =
+  never_both _ before _ env _ _ _ _ refusal (OneItem {middle} {span} {item} read found rest all) (NotRead unread stops is) =
       read_or_unread t span.first span.after before middle item unread read stops
   never_both _ before _ env _ outside _ _ refusal (OneItem {middle} {inside = within} {span} {item} {handed} read found rest all) (Broken {middle = second} {item = other} {fault} also too is) =
       let (same, next, outcome, env_same) = one_found span before middle second env within outside item other (Passes tt handed) (Refused fault) read also found too in
@@ -65,13 +65,13 @@ module _ (t : Tokens) (l : Language) (file : FileScope l) where
 
   one_refusal : (spans : List ItemSpan) (before : Context) (env inside outside : l.Environment) (refusal other : Refusal)
       → IsFirstRefused t l file spans before env refusal inside → IsFirstRefused t l file spans before env other outside → refusal ≡ other
-  one_refusal _ before env _ _ refusal other (NotRead {span} {unread} stops is) (NotRead {unread = second} also is2) =
+  one_refusal _ before env _ _ refusal other (NotRead {span} unread stops is) (NotRead second also is2) =
       sym is ∙ (ap of_unread (one_unread t span.first span.after before unread second stops also) ∙ is2)
-  one_refusal _ before env _ _ refusal other (NotRead {span} {unread} stops is) (Broken {middle} {item} read found is2) =
+  one_refusal _ before env _ _ refusal other (NotRead {span} unread stops is) (Broken {middle} {item} read found is2) =
       absurd (read_or_unread t span.first span.after before middle item unread read stops)
-  one_refusal _ before env _ _ refusal other (NotRead {span} {unread} stops is) (Later {middle} {item} read found rest) =
+  one_refusal _ before env _ _ refusal other (NotRead {span} unread stops is) (Later {middle} {item} read found rest) =
       absurd (read_or_unread t span.first span.after before middle item unread read stops)
-  one_refusal _ before env _ _ refusal other (Broken {middle} {span} {item} read found is) (NotRead {unread} stops is2) =
+  one_refusal _ before env _ _ refusal other (Broken {middle} {span} {item} read found is) (NotRead unread stops is2) =
       absurd (read_or_unread t span.first span.after before middle item unread read stops)
   one_refusal _ before env inside outside refusal other (Broken {middle} {span} {item} {fault} read found is) (Broken {middle = second} {item = another} {fault = next} also too is2) =
       let (same, middles, outcome, env_same) = one_found span before middle second env inside outside item another (Refused fault) (Refused next) read also found too in
@@ -79,7 +79,7 @@ module _ (t : Tokens) (l : Language) (file : FileScope l) where
   one_refusal _ before env inside outside refusal other (Broken {middle} {span} {item} {fault} read found is) (Later {middle = second} {inside = around} {item = another} {handed} also too rest) =
       let (same, middles, outcome, env_same) = one_found span before second middle env around inside another item (Passes tt handed) (Refused fault) also read too found in
       absurd (passes_or_not handed fault outcome)
-  one_refusal _ before env _ _ refusal other (Later {middle} {span} {item} read found rest) (NotRead {unread} stops is2) =
+  one_refusal _ before env _ _ refusal other (Later {middle} {span} {item} read found rest) (NotRead unread stops is2) =
       absurd (read_or_unread t span.first span.after before middle item unread read stops)
   one_refusal _ before env inside outside refusal other (Later {middle} {inside = within} {span} {item} {handed} read found rest) (Broken {middle = second} {item = another} {fault} also too is2) =
       let (same, middles, outcome, env_same) = one_found span before middle second env within outside item another (Passes tt handed) (Refused fault) read also found too in

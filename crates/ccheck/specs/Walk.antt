@@ -35,7 +35,7 @@ pub data ArePassing (t : Tokens) (l : Language) (file : FileScope l) : List Item
 -- the first that is refused, with what is answered of it, and what is declared behind that
 pub data IsFirstRefused (t : Tokens) (l : Language) (file : FileScope l) : List ItemSpan → Context → l.Environment → Refusal → l.Environment → Type 0 where
   -- it is not read
-  NotRead : {before : Context} {env : l.Environment} {span : ItemSpan} {spans : List ItemSpan} {unread : Unread} {refusal : Refusal}
+  NotRead : {before : Context} {env : l.Environment} {span : ItemSpan} {spans : List ItemSpan} {refusal : Refusal} (unread : Unread)
       → IsUnread t span.first span.after before unread
       → of_unread unread ≡ refusal
       → IsFirstRefused t l file (span ∷ spans) before env refusal env
