@@ -1,5 +1,6 @@
 -- What is found of an item of a file: of a declaration with its names, of a name of a function, and of a function with its body.
-use Rattle.std.proofs.Common.{◌≡◌, ◌∙◌, ℕ, List, [], ◌∷◌, ◌++◌, map, append-nil, refl, sym, ap, subst, Bool, false, true, Option, None, Some, Result, Ok, Err, IfOk}
+use Rattle.std.proofs.Common.{◌≡◌, ◌∙◌, ◌<◌, ℕ, length, List, [], ◌∷◌, ◌++◌, map, append-nil, refl, sym, ap, subst, Bool, false, true, Option, None, Some, Result, Ok, Err, IfOk}
+use Rattle.std.specs.Prelude.{is_some}
 use Rattle.cbase.specs.declared.abi.Abi.{Abi}
 use Rattle.cbase.specs.declared.ctype.CType.{CType}
 use Rattle.cbase.specs.declared.no_memory.NoMemory.{NoMemory}
@@ -17,6 +18,7 @@ use Rattle.environment.specs.Environment.{function_set}
 use Rattle.typing.specs.declared.fault.Fault.{Fault}
 use Rattle.typing.specs.Declarations.{is_typedef}
 use Rattle.typing.specs.Items.{ItemIs, FileNameIs, FileNamesAre, HeadIs, DefinitionIs, FindsInFile, EmptyItem, NamelessItem, ItemWithNames, ItemWordsRefused, FunctionItem, FunctionWordsRefused, FileTypedef, FileFunction}
+use Rattle.typing.specs.NamedTypes.{NamedType}
 use Rattle.typing.specs.Outcomes.{Outcome, Handed, Passes, Refused, with_front}
 use Rattle.typing.specs.Statements.{without_value}
 use Rattle.typing.specs.Typing.{DeclaredIs, DeclaredNameIs, WordsAre}
@@ -46,12 +48,17 @@ leaves late new closed = grows_to late new (ap (λ (c : Context). c.types) close
 abbrev pub in_none : Context → Context
 in_none context = record context { environment = function_set None context.environment }
 
+-- the number of the type that words hold
+pub words_below : (abi : Abi) (spec : TypeSpec) (old mid : Context) (words : Found NamedByNumber) (base : NamedByNumber) → words ≡ FoundToPass base
+    → Walked (Says abi (λ o. WordsAre (out-TypeSpec spec) o)) a_type old mid words → base.ctype < length mid.types
+words_below abi spec old mid words base is walked = (passed_of (Says abi (λ o. WordsAre (out-TypeSpec spec) o)) a_type old mid base words is walked).below
+
 module _ (abi : Abi) (place : Place) where
   abbrev pub SaysItem : Item → Tells (Unit {0})
   SaysItem item = SaysInFile abi (λ o. ItemIs place item o)
 
   -- a `;` alone
-  pub empty_item : (context : Context) → Passed (SaysItem Empty) nothing context context tt
+  empty_item : (context : Context) → Passed (SaysItem Empty) nothing context context tt
   empty_item context = record {
     rows = [];
     handed = sym (append-nil context.handed);
@@ -59,6 +66,9 @@ module _ (abi : Abi) (place : Place) where
     below = tt;
     found = λ n agrees. EmptyItem;
   }
+
+  pub empty_as : (item : Item) (context : Context) → item ≡ Empty → Passed (SaysItem item) nothing context context tt
+  empty_as item context is = subst (λ (one : Item). Passed (SaysItem one) nothing context context tt) (sym is) (empty_item context)
 
   -- an item, as code reads it
   pub item_as : (item known : Item) (old new : Context) (r : Result (Found (Unit {0})) NoMemory) → item ≡ known
@@ -71,7 +81,7 @@ module _ (abi : Abi) (place : Place) where
         → IfOk r (λ found. Walked (Says abi (λ o. DeclaredIs place decl o)) nothing old new found) → IfOk r (λ found. Walked (SaysItem (Declare decl)) nothing old new found)
     nameless old new r none = walked_by (Says abi (λ o. DeclaredIs place decl o)) (SaysItem (Declare decl)) nothing old new r (λ n outcome found. NamelessItem refl none found)
 
-    abbrev SaysWords : Tells _
+    abbrev SaysWords : Tells NamedType
     SaysWords = Says abi (λ o. WordsAre (out-TypeSpec (out-Decl decl).spec) o)
 
     module _ (old mid : Context) (words : Found NamedByNumber) (some : (out-Decl decl).names ≡ [] → ⊥)
@@ -88,7 +98,7 @@ module _ (abi : Abi) (place : Place) where
           record { grows = stopped.grows; found = λ n agrees. refused_words (out-Decl decl).names n first refl some (stopped.found n agrees) }
 
       module _ (base : NamedByNumber) (is : words ≡ FoundToPass base) where
-        pub words_pass : Passed SaysWords a_type old mid base
+        words_pass : Passed SaysWords a_type old mid base
         words_pass = passed_of SaysWords a_type old mid base words is walked
 
         -- names behind its words
@@ -118,7 +128,7 @@ module _ (abi : Abi) (place : Place) where
         record { grows = stopped.grows; found = λ n agrees. FunctionWordsRefused refl (stopped.found n agrees) }
 
     module _ (base : NamedByNumber) (is : words ≡ FoundToPass base) where
-      pub result_passes : Passed (Says abi (λ o. WordsAre (out-TypeSpec spec) o)) a_type old mid base
+      result_passes : Passed (Says abi (λ o. WordsAre (out-TypeSpec spec) o)) a_type old mid base
       result_passes = passed_of (Says abi (λ o. WordsAre (out-TypeSpec spec) o)) a_type old mid base words is walked
 
       abbrev SaysDefinition : Tells (Unit {0})
@@ -156,18 +166,31 @@ module _ (abi : Abi) (storage : Storage) (base : NamedByNumber) (name : Declared
   abbrev SaysHead : Tells CType
   SaysHead = SaysInFileBy abi (λ n o. HeadIs false storage (named_at n base) name o)
 
-  pub head_left : (params : List Param) (old late new : Context) (found : Found ℕ) → (out-Declared name).params ≡ Some params → new ≡ outside late
+  function_rule : (params : Option (List Param)) (n : Numbering) (found : Outcome CType) (before inside : Declared) → (out-Declared name).params ≡ params → is_some params ≡ true
+      → SaysHead n before found inside → SaysName n before (without_value found) (left inside)
+  function_rule None n found before inside are some head = cc some
+  function_rule (Some params) n found before inside are some head = FileFunction refl are head
+
+  head_found : (old late new : Context) (found : Found ℕ) → is_some (out-Declared name).params ≡ true → new ≡ outside late
       → Walked SaysHead a_value_type old late found → Walked SaysName nothing old new (found_alone found)
-  head_left params old late new (FoundToPass told) some closed passed = record {
+  head_found old late new (FoundToPass told) some closed passed = record {
     rows = passed.rows;
     handed = ap (λ (c : Context). c.handed) closed ∙ passed.handed;
     grows = grows_trans old late new passed.grows (leaves late new closed);
     below = tt;
     found = λ n agrees. subst (λ (after : Declared). SaysName n (declared old) (Passes tt (map (handed_at n) passed.rows)) after) (sym (ap declared closed))
-        (FileFunction refl some (passed.found n (agrees_before late new n (leaves late new closed) agrees)));
+        (function_rule (out-Declared name).params n (Passes (n.ctype told) (map (handed_at n) passed.rows)) (declared old) (declared late) refl some (passed.found n (agrees_before late new n (leaves late new closed) agrees)));
   }
-  head_left params old late new (FoundRefused first) some closed stopped = record {
+  head_found old late new (FoundRefused first) some closed stopped = record {
     grows = grows_trans old late new stopped.grows (leaves late new closed);
     found = λ n agrees. subst (λ (after : Declared). SaysName n (declared old) (Refused first) after) (sym (ap declared closed))
-        (FileFunction refl some (stopped.found n (agrees_before late new n (leaves late new closed) agrees)));
+        (function_rule (out-Declared name).params n (Refused first) (declared old) (declared late) refl some (stopped.found n (agrees_before late new n (leaves late new closed) agrees)));
   }
+
+  pub head_left : (old late new : Context) (found : Found ℕ) (result : Found (Unit {0})) → is_some (out-Declared name).params ≡ true → new ≡ outside late → result ≡ found_alone found
+      → Walked SaysHead a_value_type old late found → Walked SaysName nothing old new result
+  head_left old late new found result some closed is walked = subst (λ (f : Found (Unit {0})). Walked SaysName nothing old new f) (sym is) (head_found old late new found some closed walked)
+
+pub no_params : (params : Option (List Param)) → is_some params ≡ false → params ≡ None
+no_params None none = refl
+no_params (Some params) none = cc none

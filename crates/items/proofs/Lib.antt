@@ -1,8 +1,11 @@
 mod Behind
 mod BuiltIns
 mod DeclaringObjects
+mod FileBegun
 mod FileInitialisers
 mod FileNames
 mod GivingObjects
+mod ItemLevels
 mod Items
 mod ObjectNames
+mod TellingSizes

@@ -75,7 +75,7 @@ fn object_fault(
     let other = is_again(context, name.name.as_slice(), Storage::Extern, object.given);
     let twice = is_twice(object.before, object.adds);
     let complete = is_complete_by(context, object.adds, object.ctype);
-    let once = unless(!(other || twice), place, Broken::Rule(2));
+    let once = unless(!(other | twice), place, Broken::Rule(2));
     let sized = unless(complete, place, Broken::Rule(3));
     first_of(all_at(place, found), first_of(once, sized))
 }

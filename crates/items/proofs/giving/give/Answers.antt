@@ -9,8 +9,8 @@ use Rattle.items.proofs.giving.give.Goals as goal
 pub given_type-requires : goal.given_type-requires
 given_type-requires c = below_only_types c.args.context.now c.found_of_name.new.context (c.in_ok-found.ensures Lp64).only_types c.args.base.ctype c.requires
 
-pub object_of-requires : goal.object_of-requires
-object_of-requires c = c.in_ok-given.ensures.below
+pub object_of-object-requires : goal.object_of-object-requires
+object_of-object-requires c = c.in_ok-given.ensures.below
 
 pub object_fault-requires-clause-given : goal.object_fault-requires-clause-given
 object_fault-requires-clause-given c = subst (DeclaredBelow (length c.given_type.new.context.types)) (sym c.object_of-object.ensures.is.given) c.in_ok-given.ensures.below

@@ -15,8 +15,7 @@ use Rattle.items.proofs.giving.object_fault.Goals as goal
 pub returns : goal.returns
 returns c = λ n agrees.
     let parts : DeclaratorParts = out-Declared c.args.name.now in
-    let now = c.args.context.now in
-    (
+    let now = c.args.context.now in (
       c.is_again-other.result,
       subst (λ (text : List ℕ). IsAgain (here_at n now text) (linked_now n now text) (given Extern (declared_type_at n c.args.object.given)) c.is_again-other.result) c.as_slice.ensures (c.is_again-other.ensures n agrees),
       c.first_of-2.ensures (all_at parts.place c.args.found) _ c.all_at.ensures

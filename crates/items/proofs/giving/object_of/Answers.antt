@@ -12,8 +12,8 @@ use Rattle.items.proofs.giving.object_of.Goals as goal
 
 pub returns-clause-is : goal.returns-clause-is
 returns-clause-is c =
-    let linked : c.linked.result ≡ value_in (out-Declared c.args.name.now).name c.args.context.now.environment.linked =
-    c.linked.ensures.is ∙ ap (λ (text : List ℕ). value_in text c.args.context.now.environment.linked) c.as_slice.ensures in
+    let linked : c.linked-linked.result ≡ value_in (out-Declared c.args.name.now).name c.args.context.now.environment.linked =
+    c.linked-linked.ensures.is ∙ ap (λ (text : List ℕ). value_in text c.args.context.now.environment.linked) c.as_slice.ensures in
     record {
       given = refl;
       ctype = c.composite_by_now.ensures ∙ ap (λ (l : Option Linked). composite_by_now l c.args.given) linked;
@@ -23,4 +23,4 @@ returns-clause-is c =
 
 pub returns-clause-below : goal.returns-clause-below
 returns-clause-below c = subst (DeclaredBelow (length c.args.context.now.types)) (sym c.composite_by_now.ensures)
-    (composite_below (length c.args.context.now.types) c.args.context.now.environment.signatures c.linked.result c.args.given c.linked.ensures.below c.requires)
+    (composite_below (length c.args.context.now.types) c.args.context.now.environment.signatures c.linked-linked.result c.args.given c.linked-linked.ensures.below c.requires)

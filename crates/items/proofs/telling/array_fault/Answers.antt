@@ -13,8 +13,7 @@ use Rattle.items.proofs.telling.array_fault.Goals as goal
 pub returns : goal.returns
 returns c = λ abi n item agrees meant.
     let linked : c.linked.result ≡ value_in (out-Declared c.args.name.now).name c.args.context.now.environment.linked =
-    c.linked.ensures.is ∙ ap (λ (text : List ℕ). value_in text c.args.context.now.environment.linked) c.as_slice.ensures in
-    (
+    c.linked.ensures.is ∙ ap (λ (text : List ℕ). value_in text c.args.context.now.environment.linked) c.as_slice.ensures in (
       c.is_other-other.result,
       subst (λ (t : CType). IsOther (option_and_then (linked_at n) (value_in (out-Declared c.args.name.now).name c.args.context.now.environment.linked)) (ObjectLinked (WholeType t)) c.is_other-other.result) meant
           (subst (λ (l : Option LinkedByNumber). IsOther (option_and_then (linked_at n) l) (ObjectLinked (WholeType (n.ctype c.args.ctype))) c.is_other-other.result) linked (c.is_other-other.ensures n agrees)),
