@@ -1,7 +1,7 @@
 -- What is kept beside names in scopes is right after each step.
-use Rattle.std.proofs.Common.{◌≡◌, ◌≢◌, ℕ, suc, ◌<◌, Bool, true, false, refl, ap, sym, subst, ◌∙◌, arith, List, [], ◌∷◌, ◌++◌, length, set, get_or, Option, None, Some}
+use Rattle.std.proofs.Common.{◌≡◌, ◌≢◌, ℕ, suc, ◌<◌, Bool, true, false, refl, ap, sym, subst, ◌∙◌, arith, List, [], ◌∷◌, ◌++◌, length, set, take, get_or, Option, None, Some}
 use Rattle.std.specs.Prelude.{if◌then◌else◌, option_map, reverse}
-use Rattle.std.proofs.lemmas.List.{length-reverse}
+use Rattle.std.proofs.lemmas.List.{get_or_default, length-reverse}
 use Rattle.std.specs.Str.{bytes_eq}
 use Rattle.std.proofs.lemmas.Slice.Eq.{bytes_eq-Decides}
 use Rattle.environment.specs.declared.kept.Kept.{Kept}
@@ -112,6 +112,11 @@ pub scopes-kept : {A : Type 0} (name : List ℕ) (kept : Kept A) (levels : List 
 scopes-kept name kept [] = refl
 scopes-kept {A} name kept (level ∷ levels) = ap (λ (scope : Entries A). scope ∷ scopes_of levels) (scope-put name kept level)
 
+pub around-kept : {A : Type 0} (name : List ℕ) (levels : List (Entries (Kept A)))
+    → option_map (λ kept. kept.meaning) (kept_here name (left levels)) ≡ found_here name (left (scopes_of levels))
+around-kept name [] = refl
+around-kept name (level ∷ levels) = here-kept name levels
+
 -- with no scope
 pub nothing_declared : {A : Type 0} (name : List ℕ) (meaning : A) (levels : List (Entries (Kept A))) → length levels ≡ 0
     → scopes_of (reverse levels) ≡ declared name meaning (scopes_of (reverse levels))
@@ -126,6 +131,18 @@ nothing_kept {A} name levels empty = ap (λ (ls : List (Entries (Kept A))). kept
 pub kept_last : {A : Type 0} (name : List ℕ) (levels : List (Entries (Kept A))) (last : ℕ) (level : Entries (Kept A)) → suc last ≡ length levels → level ≡ get_or levels last level
     → value_in name level ≡ kept_here name (reverse levels)
 kept_last {A} name levels last level count here = ap (λ (ls : List (Entries (Kept A))). kept_here name ls) (sym (read_last levels last level count here))
+
+-- those in front of it are the scopes around the innermost one
+pub kept_front : {A : Type 0} (name : List ℕ) (levels : List (Entries (Kept A))) (last : ℕ) → suc last ≡ length levels
+    → kept_here name (reverse (take last levels)) ≡ kept_here name (left (reverse levels))
+kept_front name [] last count = absurd (omega (arith, count))
+kept_front {A} name (first ∷ levels) last count =
+    let item : Entries (Kept A) = get_or (first ∷ levels) last first in
+    let there : item ≡ get_or (first ∷ levels) last item = get_or_default (first ∷ levels) last first item (omega (arith, count)) in
+    ap (λ (all : List (Entries (Kept A))). kept_here name (left all)) (sym (read_last (first ∷ levels) last item count there))
+
+pub nothing_around : {A : Type 0} (name : List ℕ) (levels : List (Entries (Kept A))) → length levels ≡ 0 → None ≡ kept_here name (left (reverse levels))
+nothing_around {A} name levels empty = ap (λ (ls : List (Entries (Kept A))). kept_here name (left ls)) (sym (none levels empty))
 
 pub put_last : {A : Type 0} (name : List ℕ) (kept : Kept A) (levels : List (Entries (Kept A))) (last : ℕ) (level : Entries (Kept A)) → suc last ≡ length levels → level ≡ get_or levels last level
     → reverse (set levels last (with_value name kept level)) ≡ kept_in name kept (reverse levels)

@@ -1,6 +1,6 @@
 ghost use Rattle.std.specs.Prelude.{◌≡◌, length, option_copied, slice_get, IfOk, OnOk, OnErr};
 ghost use Rattle.environment.specs.Names.{value_in};
-ghost use Rattle.environment.specs.Scopes.{found_here};
+ghost use Rattle.environment.specs.Scopes.{found_here, left};
 ghost use Rattle.environment.specs.Environment.{nothing_declared, resolved, name_found, name_found_here, tag_found, scope_entered, scope_left, name_bound, name_bound_around, tag_declared, name_linked, definition_set, signature_added, loop_set, function_set, name_defined, is_defined, strict_set};
 
 use crate::entity::{Binding, Definition, Entity, Linked, Signature, Tag, TagForm};
@@ -88,6 +88,13 @@ impl Environment {
         ensures { result ≡ found_here name.now self.now.names }
     {
         self.names.look_up_here(name)
+    }
+
+    /// How the scope around the innermost one binds a name.
+    pub fn binding_around(&self, name: &[u8]) -> Option<Binding>
+        ensures { result ≡ found_here name.now (left self.now.names) }
+    {
+        self.names.look_up_around(name)
     }
 
     /// Declares a name in the innermost scope. Where there is no scope it changes nothing.

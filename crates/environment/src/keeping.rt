@@ -28,6 +28,17 @@ pub(crate) fn kept_here<A: Copy>(levels: &[Names<Kept<A>>], name: &[u8]) -> Opti
     levels[count - 1].get(name)
 }
 
+/// What the scope around the innermost one keeps of a name.
+pub(crate) fn kept_around<A: Copy>(levels: &[Names<Kept<A>>], name: &[u8]) -> Option<Kept<A>>
+    ensures { result ≡ kept_here name.now (left (reverse levels.now)) }
+{
+    let count = levels.len();
+    if count == 0 {
+        return None;
+    }
+    kept_here(&levels[..count - 1], name)
+}
+
 /// Declares a name in the innermost scope, where there is one.
 pub(crate) fn declare_in<A: Copy>(
     alloc: Global,

@@ -2,7 +2,7 @@ ghost use Rattle.std.specs.Prelude.{◌≡◌, [], OnOk, OnErr};
 ghost use Rattle.environment.specs.Scopes.{found, found_here, declared, declared_around, entered, left};
 
 use crate::around::declare_around_in;
-use crate::keeping::{declare_in, kept_here, leave_in, seen};
+use crate::keeping::{declare_in, kept_around, kept_here, leave_in, seen};
 use crate::kept::Kept;
 use crate::names::Names;
 use cbase::NoMemory;
@@ -81,6 +81,14 @@ impl<A: Copy> Scopes<A> {
         ensures { result ≡ found_here name.now self.now }
     {
         let kept = kept_here(&self.levels, name)?;
+        Some(kept.meaning)
+    }
+
+    /// What the scope around the innermost one alone says of a name. It takes no memory, and one look-up by hash.
+    pub fn look_up_around(&self, name: &[u8]) -> Option<A>
+        ensures { result ≡ found_here name.now (left self.now) }
+    {
+        let kept = kept_around(&self.levels, name)?;
         Some(kept.meaning)
     }
 

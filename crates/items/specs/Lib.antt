@@ -1,4 +1,5 @@
 pub mod Begun
+pub mod Heads
 pub mod InFile
 pub mod Names
 pub mod Objects

@@ -40,7 +40,7 @@ parameters_within name params items bound has same deep =
     let alike : joined depth (map param_levels items) ≡ joined depth (map param_levels params) = ap (λ (these : List Param). joined depth (map param_levels these)) same in
     each_within param_levels bound items (omega arith)
 
-inside_grows : (context : Context) → Grows context (inside context)
+pub inside_grows : (context : Context) → Grows context (inside context)
 inside_grows context = record { types = λ number t is. is; structs = λ number s is complete. is; longer = omega arith; signatures = λ number s is. is }
 
 outside_grows : (context : Context) → Grows context (outside context)

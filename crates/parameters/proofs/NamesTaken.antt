@@ -35,17 +35,17 @@ use Rattle.parameters.proofs.ParametersTaken.{there_alike}
 use Rattle.parameters.proofs.TypesAlike.{numbers_back}
 
 -- the types of parameters
-types_meant : (n : Numbering) (params : List ParameterByNumber) → map n.ctype (numbers_of params) ≡ map (λ (param : Parameter). param.ctype) (map (parameter_at n) params)
+pub types_meant : (n : Numbering) (params : List ParameterByNumber) → map n.ctype (numbers_of params) ≡ map (λ (param : Parameter). param.ctype) (map (parameter_at n) params)
 types_meant n [] = refl
 types_meant n (param ∷ params) = ap (λ (types : List CType). n.ctype param.ctype ∷ types) (types_meant n params)
 
 -- the type that all declarations of a function give is that of the last
-composite_is : (before : Option Linked) (result : CType) (params : List CType) → composite before (FunctionLinked result params) ≡ FunctionLinked result params
+pub composite_is : (before : Option Linked) (result : CType) (params : List CType) → composite before (FunctionLinked result params) ≡ FunctionLinked result params
 composite_is None result params = refl
 composite_is (Some (ObjectLinked t)) result params = refl
 composite_is (Some (FunctionLinked of others)) result params = refl
 
-array_is : (kind : Kind) → is_some (item_in kind) ≡ is_array kind
+pub array_is : (kind : Kind) → is_some (item_in kind) ≡ is_array kind
 array_is (Integer t) = refl
 array_is (Pointer item target) = refl
 array_is (Array item target) = refl

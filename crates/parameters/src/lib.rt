@@ -12,6 +12,8 @@ mod taking;
 mod walking;
 
 pub use joining::{first_of_parameters, found_of_parameters, types_of};
+pub use linking::{function_linked, is_other};
+pub use naming::function_fault;
 pub use parameter::Parameter;
 pub use taking::found_of_name;
 pub use walking::{function_name, parameters};

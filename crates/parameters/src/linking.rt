@@ -5,7 +5,8 @@ ghost use Rattle.environment.specs.Scopes.{found_here};
 ghost use Rattle.typing.specs.Declarations.{LinkedGiven, IsAgain, IsOther};
 ghost use Rattle.typing.specs.Entities.{FunctionLinked};
 ghost use Rattle.expressions.specs.Context.{Agrees};
-ghost use Rattle.expressions.specs.Language.{built_in_by_now, definition_by_now, is_built_in_entity};
+ghost use Rattle.environment.specs.Environment.{is_defined};
+ghost use Rattle.expressions.specs.Language.{built_in_by_now, definition_by_now, is_built_in_entity, linked_function};
 ghost use Rattle.expressions.specs.Numbers.{Numbering, name_here_at, linked_at};
 ghost use Rattle.parameters.specs.Named.{function_declared};
 
@@ -29,7 +30,7 @@ pub(crate) fn is_again(context: &Context, name: &[u8], result_type: u32, params:
 }
 
 /// Whether what has linkage is another thing than a function of those types (C11 6.2.7p2).
-fn is_other(context: &Context, linked: Option<Linked>, result_type: u32, params: &[u32]) -> bool
+pub fn is_other(context: &Context, linked: Option<Linked>, result_type: u32, params: &[u32]) -> bool
     requires below { IfSome linked (LinkedBelow (length context.now.types) context.now.environment.signatures) }
     requires of { result_type < length context.now.types }
     requires params { All (λ number. number < length context.now.types) params.now }
@@ -70,20 +71,28 @@ pub(crate) fn declare_function(
     requires params { All (λ number. number < length context.old.types) params }
     ensures { OnOk result (context.new ≡ function_declared name.now result_type params context.old) }
 {
-    let linked = context.linked(name);
     let signature = context.add_signature(Signature {
         result: result_type,
         parameters: params,
     })?;
-    let meaning = Linked {
+    let meaning = function_linked(context, name, signature);
+    context.declare_linked(alloc, name, meaning)
+}
+
+/// What a function with the signature of that number is under a name (C11 6.2.2p2): it has a body and is built in where it was before, and the text so far
+/// has for it what it had.
+pub fn function_linked(context: &Context, name: &[u8], signature: u32) -> Linked
+    ensures { result ≡ linked_function signature (is_defined name.now context.now.environment) (built_in_by_now (value_in name.now context.now.environment.linked)) (definition_by_now (value_in name.now context.now.environment.linked)) }
+{
+    let linked = context.linked(name);
+    Linked {
         entity: Entity::Function {
             signature,
             defined: context.is_defined(name),
             built_in: is_built_in(linked),
         },
         definition: definition_by_now(linked),
-    };
-    context.declare_linked(alloc, name, meaning)
+    }
 }
 
 /// Whether what has linkage is built in.

@@ -50,7 +50,7 @@ pub(crate) fn take_function(
 
 /// The first of what is broken at the name of a function, if anything is: what is found of its words and of its parameters; a typedef of a function is
 /// construct 20, a name that is declared as another thing rule 2, a result that is an array rule 4 (C11 6.7.6.3p1).
-fn function_fault(
+pub fn function_fault(
     place: Place,
     found: Option<Broken>,
     storage: Storage,

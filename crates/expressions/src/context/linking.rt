@@ -3,7 +3,7 @@ ghost use Rattle.environment.specs.Bounds.{BindingBelow, EntityBelow, LinkedBelo
 ghost use Rattle.environment.specs.Environment.{name_linked, definition_set};
 ghost use Rattle.environment.specs.Linkage.{linked_declared, linked_declared_around};
 ghost use Rattle.environment.specs.Names.{value_in};
-ghost use Rattle.environment.specs.Scopes.{found_here};
+ghost use Rattle.environment.specs.Scopes.{found_here, left};
 
 use crate::context::Context;
 use cbase::NoMemory;
@@ -17,6 +17,13 @@ impl Context {
         ensures below { IfSome result (BindingBelow (length self.now.types) self.now.environment.signatures) }
     {
         self.environment.binding_here(name)
+    }
+
+    /// How the scope around the innermost one binds a name (C11 6.2.1p4).
+    pub fn binding_around(&self, name: &[u8]) -> Option<Binding>
+        ensures { result ≡ found_here name.now (left self.now.environment.names) }
+    {
+        self.environment.binding_around(name)
     }
 
     /// What has linkage under a name, whether or not the name is in scope (C11 6.2.2p2).
