@@ -1,6 +1,6 @@
 -- What is found of an enum with its constants: the value of each, each behind those before it, and the enum by its tag.
 use Rattle.std.proofs.Common.{◌≡◌, ◌<◌, ◌≤◌, ◌+◌, ◌∙◌, ℕ, Bool, true, false, List, [], ◌++◌, map, drop, length, get_or, refl, sym, ap, subst, Option, None, Some, append-nil, Result, Ok, Err, IfOk}
-use Rattle.std.specs.Prelude.{is_some, option_map}
+use Rattle.std.specs.Prelude.{is_some}
 use Rattle.std.proofs.lemmas.List.{append_assoc, map-append, drop_all}
 use Rattle.cbase.specs.declared.abi.Abi.{Abi}
 use Rattle.cbase.specs.declared.no_memory.NoMemory.{NoMemory}
@@ -12,15 +12,12 @@ use Rattle.cbase.specs.declared.tree.identifier.Identifier.{Identifier}
 use Rattle.cbase.specs.declared.tree.spec.Enumerator.{Enumerator}
 use Rattle.environment.specs.declared.entity.Binding.TheVariants.{Own}
 use Rattle.environment.specs.declared.entity.Entity.TheVariants.{Enumerator as EnumeratorEntity}
-use Rattle.environment.specs.declared.entity.TagForm.TheVariants.{Declared as DeclaredHere}
-use Rattle.environment.specs.Environment.{tag_found, name_bound}
+use Rattle.environment.specs.Environment.{name_bound}
 use Rattle.environment.specs.Scopes.{found_here}
 use Rattle.operators.specs.declared.found.Broken.TheVariants.{Rule}
 use Rattle.operators.specs.Binary.{int_type}
 use Rattle.operators.specs.Kinds.{kind_of}
 use Rattle.typing.specs.declared.fault.Fault.{Fault}
-use Rattle.typing.specs.Braces.{tagged_enum, enum_opening}
-use Rattle.typing.specs.Entities.{TagHere, StructHere, EnumHere}
 use Rattle.typing.specs.Faults.{fault}
 use Rattle.typing.specs.NamedTypes.{NamedType, whole}
 use Rattle.typing.specs.Outcomes.{Outcome, Handed, Passes, Refused, with_front}
@@ -35,7 +32,7 @@ use Rattle.expressions.specs.declared.named_type.NamedType.{NamedType as NamedBy
 use Rattle.expressions.specs.Context.{Context, Declared, declared, Agrees, Grows}
 use Rattle.expressions.specs.Enumerated.{int_found, IsIntValue, EnumeratorPasses, EnumeratorStops, IsEnumerated}
 use Rattle.expressions.specs.Found.{an_operand, a_type, some_bits}
-use Rattle.expressions.specs.Numbers.{Numbering, handed_at, tag_here_at}
+use Rattle.expressions.specs.Numbers.{Numbering, handed_at}
 use Rattle.expressions.specs.Opened.{EnumOpens, IsEnumOpened}
 use Rattle.expressions.specs.Operated.{Numbers}
 use Rattle.expressions.specs.Language.{language}

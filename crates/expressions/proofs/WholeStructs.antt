@@ -17,8 +17,7 @@ use Rattle.cbase.proofs.KeptStructs.{set_other}
 use Rattle.ctypes.specs.declared.structs.Member.{Member}
 use Rattle.ctypes.specs.Structs.{fields_of}
 use Rattle.typing.specs.declared.fault.Fault.{Fault}
-use Rattle.typing.specs.Braces.{Opens, tagged_struct, struct_opening}
-use Rattle.typing.specs.Entities.{TagHere, StructHere, EnumHere}
+use Rattle.typing.specs.Braces.{Opens, struct_opening}
 use Rattle.typing.specs.NamedTypes.{NamedType, whole}
 use Rattle.typing.specs.Outcomes.{Outcome, Passes, Refused}
 use Rattle.typing.specs.Typing.{WordsAre, MembersAre, Finds, StructWithMembers, StructCompletedInside, MembersRefused, StructTwice}

@@ -1,5 +1,5 @@
 -- What is found of members of a struct: their sizes, each of them at its name, and the struct behind them (C11 6.7.2.1).
-use Rattle.std.specs.Prelude.{◌≡◌, ◌<◌, ℕ, List, [], ◌∷◌, ◌++◌, Option, None, Some, slice_get, length}
+use Rattle.std.specs.Prelude.{◌≡◌, ℕ, List, [], ◌∷◌, ◌++◌, Option, None, Some, slice_get}
 use Rattle.cbase.specs.declared.abi.Abi.{Abi}
 use Rattle.cbase.specs.declared.ctype.CType.TheVariants.{Struct}
 use Rattle.cbase.specs.declared.place.Place.{Place}
@@ -9,7 +9,6 @@ use Rattle.cbase.specs.declared.tree.spec.FieldName.{FieldName}
 use Rattle.cbase.specs.Completing.{is_open}
 use Rattle.ctypes.specs.declared.structs.Member.{Member}
 use Rattle.ctypes.specs.Structs.{fields_of}
-use Rattle.typing.specs.declared.fault.Fault.{Fault}
 use Rattle.typing.specs.declared.size.Size.{Size}
 use Rattle.typing.specs.Braces.{closing, faults_of_member, fixed_size, name_or_none}
 use Rattle.typing.specs.Faults.{IsFirst}
@@ -17,7 +16,7 @@ use Rattle.typing.specs.Outcomes.{Passes, Refused}
 use Rattle.expressions.specs.declared.found.Found.{Found}
 use Rattle.expressions.specs.declared.found.Found.TheVariants.{Passes as FoundToPass, Refused as FoundRefused}
 use Rattle.expressions.specs.declared.named_type.NamedType.{NamedType as NamedByNumber}
-use Rattle.expressions.specs.Context.{Context, Declared, declared, Agrees}
+use Rattle.expressions.specs.Context.{Context, declared, Agrees}
 use Rattle.expressions.specs.Numbers.{Numbering, named_at, fields_at}
 use Rattle.expressions.specs.Operated.{Numbers}
 use Rattle.expressions.specs.Language.{struct_completed}

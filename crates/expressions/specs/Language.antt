@@ -1,6 +1,5 @@
 -- The language of a context: what it declares, by numbers that are read by a numbering.
 use Rattle.std.specs.Prelude.{ℕ, ◌++◌, Bool, true, false, List, [], ◌∷◌, map, Option, None, Some, is_some, length, option_map, option_and_then, if◌then◌else◌}
-use Rattle.cbase.specs.declared.ctype.CType.{CType}
 use Rattle.cbase.specs.declared.abi.Abi.{Abi}
 use Rattle.cbase.specs.declared.structs.Field.{Field}
 use Rattle.cbase.specs.Completing.{fieldless, may_complete, completed}
@@ -14,7 +13,6 @@ use Rattle.environment.specs.declared.entity.Entity.TheVariants.{Object, Typedef
 use Rattle.environment.specs.declared.entity.Lifetime.{Lifetime}
 use Rattle.environment.specs.declared.entity.Lifetime.TheVariants.{Automatic, Static}
 use Rattle.environment.specs.declared.entity.Linked.{Linked as LinkedByNumber}
-use Rattle.environment.specs.declared.entity.Signature.{Signature}
 use Rattle.environment.specs.declared.environment.Environment.{Environment}
 use Rattle.environment.specs.declared.entity.Tag.TheVariants.{Struct, Enum}
 use Rattle.environment.specs.declared.entity.TagForm.TheVariants.{Declared as DeclaredHere, Mentioned}

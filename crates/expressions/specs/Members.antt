@@ -1,5 +1,5 @@
 -- The members that a struct has so far, and what is kept beside them: their names, and how they are laid (C11 6.2.3, 6.7.2.1p15).
-use Rattle.std.specs.Prelude.{◌≡◌, ◌<◌, ◌++◌, ℕ, Bool, true, List, Option, Some, map, is_some, length, option_map, All}
+use Rattle.std.specs.Prelude.{◌≡◌, ◌<◌, ◌++◌, ℕ, true, List, Option, Some, map, is_some, length, option_map, All}
 use Rattle.cbase.specs.declared.abi.Abi.TheVariants.{Lp64}
 use Rattle.cbase.specs.declared.layout.Layout.{Layout}
 use Rattle.cbase.specs.declared.structs.Field.{Field}

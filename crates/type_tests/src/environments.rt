@@ -1,5 +1,7 @@
 use cbase::{List, NoMemory};
-use environment::{Binding, DeclaredType, Definition, Entity, Environment, Linked, Signature, Tag, TagForm};
+use environment::{
+    Binding, DeclaredType, Definition, Entity, Environment, Linked, Signature, Tag, TagForm,
+};
 use std::alloc::Global;
 use std::test::Fail;
 
