@@ -1,9 +1,8 @@
 -- The functions that are built in are declared one behind the other.
 use Rattle.std.proofs.Common.{◌≡◌, ◌∙◌, ◌<◌, ◌≤◌, ◌+◌, ◌||◌, ℕ, suc, Bool, true, false, List, [], ◌∷◌, ◌++◌, map, drop, length, get_or, refl, sym, ap, subst, arith, All, Result, Ok, Err, OnOk}
-use Rattle.std.proofs.lemmas.List.{drop_all, map-append}
+use Rattle.std.proofs.lemmas.List.{drop_all, get_or_default, map-append}
 use Rattle.std.proofs.lemmas.List.Elements.{All-nil, All-push}
 use Rattle.std.specs.Str.{bytes_eq}
-use denote.Ref.{Bor}
 use Rattle.cbase.specs.declared.abi.Abi.{Abi}
 use Rattle.cbase.specs.declared.abi.Abi.TheVariants.{Lp64, Llp64}
 use Rattle.cbase.specs.declared.ctype.CType.{CType}
@@ -25,8 +24,7 @@ use Rattle.expressions.specs.Operated.{Numbers}
 use Rattle.expressions.proofs.Growth.{agrees_as, agrees_before, agrees_before_types, below_only_types, grows_same, grows_trans, keeps_behind, number_back, only_types_grows, only_types_same, only_types_trans}
 use Rattle.expressions.proofs.Loops.{next_item}
 use Rattle.parameters.proofs.TypesAlike.{numbers_back}
-use Rattle.items.specs.declared.built_in_types.BuiltInType.{BuiltInType}
-use Rattle.items.specs.declared.built_in_types.Parameters.{Parameters}
+use Rattle.items.specs.declared.built_ins.BuiltIn.{BuiltIn}
 use Rattle.items.specs.Begun.{AreNumbers, HasMore, IsBuiltIn, IsNumberBehind, built_in_declared, built_ins_declared, declared_unless, function_in, is_among}
 
 -- `size_t` has 8 bytes
@@ -44,7 +42,7 @@ pointer_number t old mid new item number first second = record {
 }
 
 -- numbers of types, one behind the other
-pub no_numbers : (context : Context) (numbers : List ℕ) → numbers ≡ [] → AreNumbers [] context context numbers
+no_numbers : (context : Context) (numbers : List ℕ) → numbers ≡ [] → AreNumbers [] context context numbers
 no_numbers context numbers none = subst (λ (these : List ℕ). AreNumbers [] context context these) (sym none)
     (record { only_types = only_types_same context; below = All-nil (λ (one : ℕ). one < length context.types); meant = λ n agrees. refl })
 
@@ -62,6 +60,14 @@ one_more_number types t old mid new before after first second =
           ∙ λ i. first.meant n (agrees_before_types mid new n second.2.only_types agrees) i ++ second.2.meant n agrees i ∷ [];
     })
 
+pub last_number : (types : List CType) (t : CType) (old mid new : Context) (before after : List ℕ) (r : Result (Unit {0}) NoMemory) → AreNumbers types old mid before → OnOk r (IsNumberBehind t mid new before after)
+    → OnOk r (AreNumbers (types ++ t ∷ []) old new after)
+last_number types t old mid new before after (Ok told) first second = one_more_number types t old mid new before after first second
+last_number types t old mid new before after (Err error) first second = tt
+
+pub first_number : (t : CType) (old new : Context) (none after : List ℕ) → none ≡ [] → IsNumberBehind t old new none after → AreNumbers (t ∷ []) old new after
+first_number t old new none after empty number = one_more_number [] t old old new none after (no_numbers old none empty) number
+
 -- a function is declared behind the numbers of its types
 module _ (name : List ℕ) (t : FunctionType) (old mid late more new : Context) (number signature : ℕ) (numbers : List ℕ)
     (of : Numbers (λ n. t.result) old mid number) (params : AreNumbers t.parameters mid late numbers) (last : signature ≡ length late.environment.signatures)
@@ -72,11 +78,13 @@ module _ (name : List ℕ) (t : FunctionType) (old mid late more new : Context) 
   abbrev the_function : Bool → Linked
   the_function defined = record { entity = Function signature defined true; definition = NotDefined }
 
-  module _ (is : new ≡ record more { environment = linked_declared name (the_function (is_defined name more.environment)) more.environment }) where
+  module _ (defined : Bool) (said : defined ≡ is_defined name more.environment) (is : new ≡ record more { environment = linked_declared name (the_function defined) more.environment }) where
     whole : new ≡ record late {
       environment = linked_declared name (the_function (is_defined name late.environment)) (signature_added (record { result = number; parameters = numbers }) late.environment);
     }
-    whole = is ∙ ap (λ (c : Context). record c { environment = linked_declared name (the_function (is_defined name c.environment)) c.environment }) added
+    whole = is
+        ∙ (ap (λ (there : Bool). record more { environment = linked_declared name (the_function there) more.environment }) said
+        ∙ ap (λ (c : Context). record c { environment = linked_declared name (the_function (is_defined name c.environment)) c.environment }) added)
 
     further : Grows late new
     further = record {
@@ -86,7 +94,7 @@ module _ (name : List ℕ) (t : FunctionType) (old mid late more new : Context) 
       signatures = λ at item there. rw (ap (λ (c : Context). c.environment.signatures) whole) (keeps_behind late.environment.signatures (record { result = number; parameters = numbers }) at item there);
     }
 
-    pub function_declared : IsBuiltIn name t old new
+    function_declared : IsBuiltIn name t old new
     function_declared = record {
       grows = grows_trans old late new (only_types_grows old late only) further;
       structs = ap (λ (c : Context). c.structs) whole ∙ only.structs;
@@ -101,6 +109,11 @@ module _ (name : List ℕ) (t : FunctionType) (old mid late more new : Context) 
           ∙ λ i. linked_declared name (linked_function ((last ∙ ap (λ (env : Environment). length env.signatures) only.environment) i) (is_defined name (only.environment i)) true NotDefined)
           (signature_added (record { result = result i; parameters = parameters i }) (only.environment i));
     }
+
+  pub function_result : (defined : Bool) (r : Result (Unit {0}) NoMemory) → defined ≡ is_defined name more.environment
+      → OnOk r (new ≡ record more { environment = linked_declared name (the_function defined) more.environment }) → OnOk r (IsBuiltIn name t old new)
+  function_result defined (Ok told) said is = function_declared defined said is
+  function_result defined (Err error) said is = tt
 
 module _ (bodied : List (List ℕ)) where
   -- none
@@ -140,17 +153,17 @@ module _ (bodied : List (List ℕ)) where
   one_result name t old new (Err error) among one = tt
 
   -- functions of a table of which so many are declared: what comes of the rest comes of all
-  abbrev pub Declaring : Abi → List (Bor (List ℕ) × (BuiltInType × Parameters)) → Context → Context → ℕ → Type 0
+  abbrev pub Declaring : Abi → List BuiltIn → Context → Context → ℕ → Type 0
   Declaring abi functions old mid index = (new : Context) → HasMore bodied (map (function_in abi) (drop index functions)) mid new → HasMore bodied (map (function_in abi) functions) old new
 
-  pub declaring_next : (abi : Abi) (functions : List (Bor (List ℕ) × (BuiltInType × Parameters))) (old mid late : Context) (index : ℕ) (function : Bor (List ℕ) × (BuiltInType × Parameters))
-      → index < length functions → function ≡ get_or functions index function → HasMore bodied (function_in abi function ∷ []) mid late
-      → Declaring abi functions old mid index → Declaring abi functions old late (index + 1)
-  declaring_next abi functions old mid late index function within is one whole = λ new rest.
-      whole new (subst (λ (these : List (Bor (List ℕ) × (BuiltInType × Parameters))). HasMore bodied (map (function_in abi) these) mid new) (sym (next_item functions index function within is))
-      (more_in_front (function_in abi function) (map (function_in abi) (drop (index + 1) functions)) mid late new one rest))
+  pub declaring_next : (abi : Abi) (functions : List BuiltIn) (old mid late : Context) (index : ℕ) (none : BuiltIn) → index < length functions
+      → HasMore bodied (function_in abi (get_or functions index none) ∷ []) mid late → Declaring abi functions old mid index → Declaring abi functions old late (index + 1)
+  declaring_next abi functions old mid late index none within one whole = λ new rest.
+      whole new (subst (λ (these : List BuiltIn). HasMore bodied (map (function_in abi) these) mid new)
+      (sym (next_item functions index (get_or functions index none) within (get_or_default functions index none (get_or functions index none) within)))
+      (more_in_front (function_in abi (get_or functions index none)) (map (function_in abi) (drop (index + 1) functions)) mid late new one rest))
 
-  pub declaring_end : (abi : Abi) (functions : List (Bor (List ℕ) × (BuiltInType × Parameters))) (old new : Context) (index : ℕ) → length functions ≤ index
+  pub declaring_end : (abi : Abi) (functions : List BuiltIn) (old new : Context) (index : ℕ) → length functions ≤ index
       → Declaring abi functions old new index → HasMore bodied (map (function_in abi) functions) old new
   declaring_end abi functions old new index past whole =
       whole new (none_more (map (function_in abi) (drop index functions)) new (ap (map (function_in abi)) (drop_all index functions past)))

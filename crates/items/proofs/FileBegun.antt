@@ -1,7 +1,8 @@
 -- What is declared in front of the first item of a file.
-use Rattle.std.proofs.Common.{◌≡◌, ◌∙◌, ◌<◌, ◌≤◌, ◌+◌, ℕ, Bool, List, [], ◌∷◌, drop, length, get_or, refl, sym, ap}
+use Rattle.std.proofs.Common.{◌≡◌, ◌∙◌, ◌<◌, ◌≤◌, ◌+◌, ℕ, Bool, List, [], ◌∷◌, drop, length, get_or, refl, sym, ap, Result, Ok, Err, OnOk}
 use Rattle.std.proofs.lemmas.List.{drop_all}
 use Rattle.cbase.specs.declared.abi.Abi.{Abi}
+use Rattle.cbase.specs.declared.no_memory.NoMemory.{NoMemory}
 use Rattle.environment.specs.declared.environment.Environment.{Environment}
 use Rattle.environment.specs.BuiltIns.{built_ins}
 use Rattle.environment.specs.Environment.{name_defined, scope_entered, strict_set}
@@ -31,23 +32,32 @@ module _ (abi : Abi) (strict : Bool) (bodied defined : List (List ℕ)) (first s
     (sets : set ≡ record first { environment = strict_set strict first.environment })
     (knows : known ≡ record set { environment = all_defined defined set.environment })
     (opens : around ≡ record known { environment = scope_entered known.environment })
-    (declares : HasMore bodied (built_ins abi) around more)
-    (enters : last ≡ record more { environment = scope_entered more.environment }) where
+    (declares : HasMore bodied (built_ins abi) around more) where
   opened : around ≡ record at_first { environment = scope_entered (all_defined defined (strict_set strict at_first.environment)) }
   opened = opens
       ∙ (ap (λ (c : Context). record c { environment = scope_entered c.environment }) knows
       ∙ (ap (λ (c : Context). record c { environment = scope_entered (all_defined defined c.environment) }) sets
       ∙ ap (λ (c : Context). record c { environment = scope_entered (all_defined defined (strict_set strict c.environment)) }) is))
 
-  pub begun_there : (n : Numbering) → Agrees n last → declared last ≡ begun n abi strict bodied defined
-  begun_there n agrees =
-      let then : Agrees n more = agrees_as n more last (ap (λ (c : Context). c.types) enters) (ap (λ (c : Context). c.environment.signatures) enters) agrees in
-      let structs : more.structs ≡ [] = declares.structs ∙ ap (λ (c : Context). c.structs) opened in
-      ap declared enters
-      ∙ λ i. record {
-        environment = scope_entered ((declares.declares n then ∙ ap (λ (c : Context). built_ins_declared n bodied (built_ins abi) c.environment) opened) i);
-        structs = structs i;
-      }
+  module _ (enters : last ≡ record more { environment = scope_entered more.environment }) where
+    begun_there : (n : Numbering) → Agrees n last → declared last ≡ begun n abi strict bodied defined
+    begun_there n agrees =
+        let then : Agrees n more = agrees_as n more last (ap (λ (c : Context). c.types) enters) (ap (λ (c : Context). c.environment.signatures) enters) agrees in
+        let structs : more.structs ≡ [] = declares.structs ∙ ap (λ (c : Context). c.structs) opened in
+        ap declared enters
+        ∙ λ i. record {
+          environment = scope_entered ((declares.declares n then ∙ ap (λ (c : Context). built_ins_declared n bodied (built_ins abi) c.environment) opened) i);
+          structs = structs i;
+        }
 
-  pub handed_there : last.handed ≡ []
-  handed_there = ap (λ (c : Context). c.handed) enters ∙ (declares.handed ∙ ap (λ (c : Context). c.handed) opened)
+    handed_there : last.handed ≡ []
+    handed_there = ap (λ (c : Context). c.handed) enters ∙ (declares.handed ∙ ap (λ (c : Context). c.handed) opened)
+
+  pub begun_result : (r : Result (Unit {0}) NoMemory) → OnOk r (last ≡ record more { environment = scope_entered more.environment })
+      → (n : Numbering) → OnOk r (Agrees n last → declared last ≡ begun n abi strict bodied defined)
+  begun_result (Ok told) enters n = λ agrees. begun_there enters n agrees
+  begun_result (Err error) enters n = tt
+
+  pub handed_result : (r : Result (Unit {0}) NoMemory) → OnOk r (last ≡ record more { environment = scope_entered more.environment }) → OnOk r (last.handed ≡ [])
+  handed_result (Ok told) enters = handed_there enters
+  handed_result (Err error) enters = tt

@@ -1,5 +1,4 @@
 -- What is declared in front of the first item of a file: the functions that are built in, in a scope around that of the file (C11 7.1.3, 6.2.1p4).
-use denote.Ref.{Bor}
 use Rattle.std.specs.Prelude.{◌≡◌, ◌<◌, ◌||◌, ◌++◌, ℕ, All, Bool, true, false, List, [], ◌∷◌, length, map}
 use Rattle.std.specs.Str.{bytes_eq}
 use Rattle.cbase.specs.declared.abi.Abi.{Abi}
@@ -16,6 +15,7 @@ use Rattle.expressions.specs.Context.{Context, Declared, Agrees, Grows, OnlyType
 use Rattle.expressions.specs.Language.{linked_function}
 use Rattle.expressions.specs.Numbers.{Numbering}
 use Rattle.expressions.specs.Operated.{Numbers}
+use Rattle.items.specs.declared.built_ins.BuiltIn.{BuiltIn}
 use Rattle.items.specs.declared.built_in_types.BuiltInType.{BuiltInType}
 use Rattle.items.specs.declared.built_in_types.BuiltInType.TheVariants.{Void, Bool as Boolean, Any, Size, Integer}
 use Rattle.items.specs.declared.built_in_types.Parameters.{Parameters}
@@ -72,8 +72,11 @@ types_in abi (One first) = type_in abi first ∷ []
 types_in abi (Two first second) = type_in abi first ∷ type_in abi second ∷ []
 types_in abi (Three first second third) = type_in abi first ∷ type_in abi second ∷ type_in abi third ∷ []
 
-abbrev pub function_in : Abi → Bor (List ℕ) × (BuiltInType × Parameters) → List ℕ × FunctionType
-function_in abi row = (row.0.now, record { result = type_in abi row.1.0; parameters = types_in abi row.1.1 })
+abbrev pub type_of_function : Abi → BuiltIn → FunctionType
+type_of_function abi function = record { result = type_in abi function.result_type; parameters = types_in abi function.parameters }
+
+abbrev pub function_in : Abi → BuiltIn → List ℕ × FunctionType
+function_in abi function = (function.name.now, type_of_function abi function)
 
 -- the numbers of types, and one behind others
 pub record AreNumbers (types : List CType) (old new : Context) (numbers : List ℕ) : Type 0 where

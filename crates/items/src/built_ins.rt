@@ -8,115 +8,131 @@ use environment::{Definition, Entity, Linked, Signature};
 use expressions::Context;
 use std::alloc::Global;
 
+/// A function that is built in.
+struct BuiltIn {
+    /// Its name.
+    name: &'static str,
+    /// The type of its result.
+    result_type: BuiltInType,
+    /// Those of its parameters, in order.
+    parameters: Parameters,
+}
+
 /// The functions that are built in where a text gives them no body: those of C11 7.22.3, 7.22.4 and 7.24, one of gcc, and those by which verifiers take
 /// inputs, assume and fail.
-const FUNCTIONS: [(&'static str, (BuiltInType, Parameters)); 21] = [
-    (
-        "malloc",
-        (BuiltInType::Any, Parameters::One(BuiltInType::Size)),
-    ),
-    (
-        "calloc",
-        (
+const FUNCTIONS: [BuiltIn; 21] = [
+    BuiltIn {
+        name: "malloc",
+        result_type: BuiltInType::Any,
+        parameters: Parameters::One(BuiltInType::Size),
+    },
+    BuiltIn {
+        name: "calloc",
+        result_type: BuiltInType::Any,
+        parameters: Parameters::Two(BuiltInType::Size, BuiltInType::Size),
+    },
+    BuiltIn {
+        name: "free",
+        result_type: BuiltInType::Void,
+        parameters: Parameters::One(BuiltInType::Any),
+    },
+    BuiltIn {
+        name: "memset",
+        result_type: BuiltInType::Any,
+        parameters: Parameters::Three(
             BuiltInType::Any,
-            Parameters::Two(BuiltInType::Size, BuiltInType::Size),
+            BuiltInType::Integer(Rank::Int, true),
+            BuiltInType::Size,
         ),
-    ),
-    (
-        "free",
-        (BuiltInType::Void, Parameters::One(BuiltInType::Any)),
-    ),
-    (
-        "memset",
-        (
-            BuiltInType::Any,
-            Parameters::Three(
-                BuiltInType::Any,
-                BuiltInType::Integer(Rank::Int, true),
-                BuiltInType::Size,
-            ),
-        ),
-    ),
-    (
-        "memcpy",
-        (
-            BuiltInType::Any,
-            Parameters::Three(BuiltInType::Any, BuiltInType::Any, BuiltInType::Size),
-        ),
-    ),
-    (
-        "memmove",
-        (
-            BuiltInType::Any,
-            Parameters::Three(BuiltInType::Any, BuiltInType::Any, BuiltInType::Size),
-        ),
-    ),
-    ("abort", (BuiltInType::Void, Parameters::Nothing)),
-    (
-        "exit",
-        (
-            BuiltInType::Void,
-            Parameters::One(BuiltInType::Integer(Rank::Int, true)),
-        ),
-    ),
-    ("__VERIFIER_error", (BuiltInType::Void, Parameters::Nothing)),
-    ("reach_error", (BuiltInType::Void, Parameters::Nothing)),
-    (
-        "__VERIFIER_assume",
-        (
-            BuiltInType::Void,
-            Parameters::One(BuiltInType::Integer(Rank::Int, true)),
-        ),
-    ),
-    (
-        "__builtin_expect",
-        (
+    },
+    BuiltIn {
+        name: "memcpy",
+        result_type: BuiltInType::Any,
+        parameters: Parameters::Three(BuiltInType::Any, BuiltInType::Any, BuiltInType::Size),
+    },
+    BuiltIn {
+        name: "memmove",
+        result_type: BuiltInType::Any,
+        parameters: Parameters::Three(BuiltInType::Any, BuiltInType::Any, BuiltInType::Size),
+    },
+    BuiltIn {
+        name: "abort",
+        result_type: BuiltInType::Void,
+        parameters: Parameters::Nothing,
+    },
+    BuiltIn {
+        name: "exit",
+        result_type: BuiltInType::Void,
+        parameters: Parameters::One(BuiltInType::Integer(Rank::Int, true)),
+    },
+    BuiltIn {
+        name: "__VERIFIER_error",
+        result_type: BuiltInType::Void,
+        parameters: Parameters::Nothing,
+    },
+    BuiltIn {
+        name: "reach_error",
+        result_type: BuiltInType::Void,
+        parameters: Parameters::Nothing,
+    },
+    BuiltIn {
+        name: "__VERIFIER_assume",
+        result_type: BuiltInType::Void,
+        parameters: Parameters::One(BuiltInType::Integer(Rank::Int, true)),
+    },
+    BuiltIn {
+        name: "__builtin_expect",
+        result_type: BuiltInType::Integer(Rank::Long, true),
+        parameters: Parameters::Two(
             BuiltInType::Integer(Rank::Long, true),
-            Parameters::Two(
-                BuiltInType::Integer(Rank::Long, true),
-                BuiltInType::Integer(Rank::Long, true),
-            ),
+            BuiltInType::Integer(Rank::Long, true),
         ),
-    ),
-    (
-        "__VERIFIER_nondet_int",
-        (BuiltInType::Integer(Rank::Int, true), Parameters::Nothing),
-    ),
-    (
-        "__VERIFIER_nondet_uint",
-        (BuiltInType::Integer(Rank::Int, false), Parameters::Nothing),
-    ),
-    (
-        "__VERIFIER_nondet_long",
-        (BuiltInType::Integer(Rank::Long, true), Parameters::Nothing),
-    ),
-    (
-        "__VERIFIER_nondet_ulong",
-        (BuiltInType::Integer(Rank::Long, false), Parameters::Nothing),
-    ),
-    (
-        "__VERIFIER_nondet_char",
-        (BuiltInType::Integer(Rank::Char, true), Parameters::Nothing),
-    ),
-    (
-        "__VERIFIER_nondet_uchar",
-        (BuiltInType::Integer(Rank::Char, false), Parameters::Nothing),
-    ),
-    (
-        "__VERIFIER_nondet_short",
-        (BuiltInType::Integer(Rank::Short, true), Parameters::Nothing),
-    ),
-    (
-        "__VERIFIER_nondet_ushort",
-        (
-            BuiltInType::Integer(Rank::Short, false),
-            Parameters::Nothing,
-        ),
-    ),
-    (
-        "__VERIFIER_nondet_bool",
-        (BuiltInType::Bool, Parameters::Nothing),
-    ),
+    },
+    BuiltIn {
+        name: "__VERIFIER_nondet_int",
+        result_type: BuiltInType::Integer(Rank::Int, true),
+        parameters: Parameters::Nothing,
+    },
+    BuiltIn {
+        name: "__VERIFIER_nondet_uint",
+        result_type: BuiltInType::Integer(Rank::Int, false),
+        parameters: Parameters::Nothing,
+    },
+    BuiltIn {
+        name: "__VERIFIER_nondet_long",
+        result_type: BuiltInType::Integer(Rank::Long, true),
+        parameters: Parameters::Nothing,
+    },
+    BuiltIn {
+        name: "__VERIFIER_nondet_ulong",
+        result_type: BuiltInType::Integer(Rank::Long, false),
+        parameters: Parameters::Nothing,
+    },
+    BuiltIn {
+        name: "__VERIFIER_nondet_char",
+        result_type: BuiltInType::Integer(Rank::Char, true),
+        parameters: Parameters::Nothing,
+    },
+    BuiltIn {
+        name: "__VERIFIER_nondet_uchar",
+        result_type: BuiltInType::Integer(Rank::Char, false),
+        parameters: Parameters::Nothing,
+    },
+    BuiltIn {
+        name: "__VERIFIER_nondet_short",
+        result_type: BuiltInType::Integer(Rank::Short, true),
+        parameters: Parameters::Nothing,
+    },
+    BuiltIn {
+        name: "__VERIFIER_nondet_ushort",
+        result_type: BuiltInType::Integer(Rank::Short, false),
+        parameters: Parameters::Nothing,
+    },
+    BuiltIn {
+        name: "__VERIFIER_nondet_bool",
+        result_type: BuiltInType::Bool,
+        parameters: Parameters::Nothing,
+    },
 ];
 
 /// Declares the functions that are built in, but for those to which the text gives a body.
@@ -139,41 +155,38 @@ fn declare_functions(
     context: &mut Context,
     abi: Abi,
     bodied: &[Text],
-    functions: &[(&str, (BuiltInType, Parameters))],
+    functions: &[BuiltIn],
 ) -> Result<(), NoMemory>
     ensures { OnOk result (HasMore bodied.now (map (function_in abi) functions.now) context.old context.new) }
 {
     for function in functions {
-        let (name, (result_type, parameters)) = *function;
-        declare_unless(
-            alloc,
-            context,
-            abi,
-            bodied,
-            name.as_bytes(),
-            result_type,
-            parameters,
-        )?;
+        declare_unless(alloc, context, abi, bodied, function)?;
     }
     Ok(())
 }
 
-/// Declares a function of that name, result and parameters, unless the text gives it a body.
+/// Declares a function, unless the text gives it a body.
 fn declare_unless(
     alloc: Global,
     context: &mut Context,
     abi: Abi,
     bodied: &[Text],
-    name: &[u8],
-    result_type: BuiltInType,
-    parameters: Parameters,
+    function: &BuiltIn,
 ) -> Result<(), NoMemory>
-    ensures { OnOk result (HasMore bodied.now ((name.now, record { result = type_in abi result_type; parameters = types_in abi parameters }) ∷ []) context.old context.new) }
+    ensures { OnOk result (HasMore bodied.now (function_in abi function.now ∷ []) context.old context.new) }
 {
+    let name = function.name.as_bytes();
     if is_among(name, bodied) {
         return Ok(());
     }
-    declare_built_in(alloc, context, abi, name, result_type, parameters)
+    declare_built_in(
+        alloc,
+        context,
+        abi,
+        name,
+        function.result_type,
+        function.parameters,
+    )
 }
 
 /// Whether a name is one of some.

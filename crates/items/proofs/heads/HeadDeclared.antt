@@ -1,22 +1,19 @@
 -- What declares a function by its head, and what a context keeps behind that.
-use Rattle.std.proofs.Common.{◌≡◌, ◌<◌, ℕ, List, [], ◌∷◌, ◌++◌, map, length, All, refl, sym, ap, subst, ◌∙◌, arith, Option, None, Some}
+use Rattle.std.proofs.Common.{◌≡◌, ◌<◌, ℕ, List, map, length, All, refl, sym, ap, ◌∙◌, arith, Option, None, Some}
 use Rattle.std.specs.Prelude.{option_and_then}
 use Rattle.cbase.specs.declared.abi.Abi.{Abi}
-use Rattle.cbase.specs.declared.structs.StructDef.{StructDef}
 use Rattle.cbase.specs.declared.tree.decl.Declared.{Declared as DeclaredName}
 use Rattle.cbase.specs.declared.tree.expr.ExprForm.TheViews.{out-Declared}
 use Rattle.environment.specs.declared.entity.Definition.{Definition as DefinitionByNow}
 use Rattle.environment.specs.declared.entity.Definition.TheVariants.{NotDefined as NotDefinedByNow, Tentative as TentativeByNow, Defined as DefinedByNow}
 use Rattle.environment.specs.declared.entity.Linked.{Linked as LinkedByNumber}
-use Rattle.environment.specs.declared.entity.Signature.{Signature}
 use Rattle.environment.specs.declared.environment.Environment.{Environment}
 use Rattle.environment.specs.Environment.{definition_of_linked, definition_set, is_defined, signature_added}
 use Rattle.environment.specs.Linkage.{linked_declared_around}
 use Rattle.environment.specs.Names.{value_in}
-use Rattle.typing.specs.Declarations.{Parameter, function_given}
+use Rattle.typing.specs.Declarations.{Parameter}
 use Rattle.typing.specs.Entities.{Definition, Linked}
 use Rattle.typing.specs.FileNames.{with_definition}
-use Rattle.typing.specs.FileScope.{FileScope}
 use Rattle.typing.specs.Heads.{definition_of_head, head_declared, is_main, names_in, marked_if as marked_if_in}
 use Rattle.typing.specs.NamedTypes.{with_stars}
 use Rattle.expressions.specs.declared.named_type.NamedType.{NamedType as NamedByNumber}
@@ -24,7 +21,7 @@ use Rattle.expressions.specs.Context.{Context, Declared, declared, Agrees, Grows
 use Rattle.expressions.specs.FileScope.{definition_at, definition_in_text, file_scope}
 use Rattle.expressions.specs.Language.{built_in_by_now, definition_by_now, language, linked_function}
 use Rattle.expressions.specs.Numbers.{Numbering, linked_at, named_at}
-use Rattle.expressions.proofs.Growth.{Keeps, grows_trans, keeps_behind, number_back}
+use Rattle.expressions.proofs.Growth.{grows_trans, keeps_behind, number_back}
 use Rattle.expressions.proofs.TypeWords.{grows_to}
 use Rattle.parameters.specs.declared.parameter.Parameter.{Parameter as ParameterByNumber}
 use Rattle.parameters.specs.Parameters.{numbers_of, parameter_at}

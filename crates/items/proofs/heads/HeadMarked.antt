@@ -1,8 +1,7 @@
 -- Parameters that are declared anew as those of `main`, one behind the other.
-use Rattle.std.proofs.Common.{◌≡◌, ◌<◌, ◌≤◌, ◌+◌, ◌⊎◌, ℕ, suc, Bool, true, false, List, [], ◌∷◌, map, drop, length, get_or, All, refl, sym, ap, subst, ◌∙◌, arith, inl, inr, Option, None, Some}
+use Rattle.std.proofs.Common.{◌≡◌, ◌<◌, ◌≤◌, ◌+◌, ◌⊎◌, ℕ, suc, Bool, true, false, List, [], ◌∷◌, map, drop, length, get_or, All, refl, sym, ap, ◌∙◌, arith, inl, inr, Option, None, Some}
 use Rattle.std.proofs.lemmas.List.{drop_all}
 use Rattle.cbase.specs.declared.abi.Abi.{Abi}
-use Rattle.cbase.specs.declared.ctype.CType.{CType}
 use Rattle.cbase.specs.declared.tree.decl.Param.{Param}
 use Rattle.cbase.specs.declared.tree.expr.ExprForm.TheViews.{out-Param}
 use Rattle.cbase.specs.declared.tree.identifier.Identifier.{Identifier}

@@ -1,5 +1,5 @@
 -- What is found at the name of a function behind its parameters, outside of functions.
-use Rattle.std.proofs.Common.{◌≡◌, ◌<◌, ◌++◌, ℕ, Bool, List, All, length, get_or, sym, ap, subst, ◌∙◌, arith, Option, None, Some}
+use Rattle.std.proofs.Common.{◌≡◌, ◌<◌, ◌++◌, ℕ, Bool, List, All, length, get_or, sym, ap, subst, ◌∙◌, arith, None, Some}
 use Rattle.cbase.specs.declared.abi.Abi.{Abi}
 use Rattle.cbase.specs.declared.ctype.CType.{CType}
 use Rattle.cbase.specs.declared.tree.decl.Declared.{Declared as DeclaredName}

@@ -1,5 +1,5 @@
 -- What is found of the head of a function with its parameters, whose scope is not left behind it, and of a head with its body.
-use Rattle.std.proofs.Common.{◌≡◌, ◌≤◌, ◌<◌, ◌++◌, ℕ, Bool, true, false, List, [], map, max, All, length, refl, sym, ap, subst, ◌∙◌, arith, Option, None, Some, Result, Ok, Err, IfOk}
+use Rattle.std.proofs.Common.{◌≡◌, ◌≤◌, ◌<◌, ◌++◌, ℕ, Bool, true, false, List, map, All, length, refl, sym, ap, subst, ◌∙◌, arith, Option, None, Some, Result, Ok, Err, IfOk}
 use Rattle.std.specs.Prelude.{option_map}
 use Rattle.std.proofs.lemmas.List.{map-append}
 use Rattle.std.proofs.lemmas.List.Elements.{All-nil}
@@ -11,18 +11,17 @@ use Rattle.cbase.specs.declared.tree.decl.Param.{Param}
 use Rattle.cbase.specs.declared.tree.decl.Storage.{Storage}
 use Rattle.cbase.specs.declared.tree.expr.ExprForm.TheViews.{out-Declared}
 use Rattle.cbase.specs.declared.tree.stmt.Stmt.{Stmt}
-use Rattle.ctrees.specs.Levels.{depth, declared_levels, param_levels, init_levels, maybe_levels}
-use Rattle.ctrees.specs.Weight.{joined, list_or_nothing, or_nothing}
+use Rattle.ctrees.specs.Levels.{depth, declared_levels, param_levels}
+use Rattle.ctrees.specs.Weight.{list_or_nothing}
 use Rattle.ctrees.proofs.Sizes.{declared_levels_parts}
 use Rattle.environment.specs.Environment.{function_set, loop_set}
 use Rattle.typing.specs.declared.fault.Fault.{Fault}
 use Rattle.typing.specs.Heads.{head_declared, head_rows, names_in, params_of, result_of}
-use Rattle.typing.specs.Items.{FindsInFile, HeadIs, DefinitionIs, HeadRefused, HeadBroken, HeadGiven, DefinitionHeadRefused, DefinitionWithBody}
+use Rattle.typing.specs.Items.{HeadIs, DefinitionIs, HeadRefused, HeadBroken, HeadGiven, DefinitionHeadRefused, DefinitionWithBody}
 use Rattle.typing.specs.Outcomes.{Outcome, Handed, Passes, Refused}
 use Rattle.typing.specs.Typing.{ParametersAre, StatementsAre, Finds}
 use Rattle.expressions.specs.declared.found.Found.{Found}
 use Rattle.expressions.specs.declared.found.Found.TheVariants.{Passes as FoundToPass, Refused as FoundRefused}
-use Rattle.expressions.specs.declared.handed_row.HandedRow.{HandedRow}
 use Rattle.expressions.specs.declared.named_type.NamedType.{NamedType as NamedByNumber}
 use Rattle.expressions.specs.Context.{Context, Declared, declared, Agrees, Grows}
 use Rattle.expressions.specs.FileScope.{file_scope}

@@ -1,8 +1,6 @@
 -- A function is declared by its head.
-use Rattle.std.proofs.Common.{◌<◌, ℕ, List, All, length, sym, ap, subst, ◌∙◌}
+use Rattle.std.proofs.Common.{◌<◌, ℕ, List, All, length, sym, subst}
 use Rattle.cbase.specs.declared.ctype.CType.{CType}
-use Rattle.environment.specs.declared.entity.Definition.{Definition as DefinitionByNow}
-use Rattle.expressions.specs.Context.{Context}
 use Rattle.items.proofs.heads.HeadDeclared.{head_declared_so, marked_types}
 use Rattle.items.proofs.heads.declaring.declare_head.Goals as goal
 

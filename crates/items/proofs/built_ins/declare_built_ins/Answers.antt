@@ -1,0 +1,10 @@
+-- The functions of the table are those that are built in.
+use Rattle.std.proofs.Common.{List, ℕ, OnOk, ap, map, subst}
+use Rattle.environment.specs.BuiltIns.{FunctionType}
+use Rattle.environment.specs.Names.{Entries}
+use Rattle.items.specs.Begun.{HasMore, function_in}
+use Rattle.items.proofs.built_ins.declare_built_ins.Goals as goal
+
+pub returns : goal.returns
+returns c = subst (λ (functions : Entries FunctionType). OnOk c.declare_functions.result (HasMore c.args.bodied.now functions c.args.context.now c.declare_functions.new.context))
+    (ap (map (function_in c.args.abi)) c.as_slice.ensures) c.declare_functions.ensures
