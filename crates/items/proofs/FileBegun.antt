@@ -28,36 +28,29 @@ pub defining_end : (names : List (List ℕ)) (old new : Context) (index : ℕ) �
 defining_end names old new index past defines =
     ap (λ (these : List (List ℕ)). record new { environment = all_defined these new.environment }) (sym (drop_all index names past)) ∙ defines
 
-module _ (abi : Abi) (strict : Bool) (bodied defined : List (List ℕ)) (first set known around more last : Context) (is : first ≡ at_first)
+module _ (abi : Abi) (strict : Bool) (bodied defined : List (List ℕ)) (first set known around last : Context) (is : first ≡ at_first)
     (sets : set ≡ record first { environment = strict_set strict first.environment })
     (knows : known ≡ record set { environment = all_defined defined set.environment })
-    (opens : around ≡ record known { environment = scope_entered known.environment })
-    (declares : HasMore bodied (built_ins abi) around more) where
+    (opens : around ≡ record known { environment = scope_entered known.environment }) where
   opened : around ≡ record at_first { environment = scope_entered (all_defined defined (strict_set strict at_first.environment)) }
   opened = opens
       ∙ (ap (λ (c : Context). record c { environment = scope_entered c.environment }) knows
       ∙ (ap (λ (c : Context). record c { environment = scope_entered (all_defined defined c.environment) }) sets
       ∙ ap (λ (c : Context). record c { environment = scope_entered (all_defined defined (strict_set strict c.environment)) }) is))
 
-  module _ (enters : last ≡ record more { environment = scope_entered more.environment }) where
-    begun_there : (n : Numbering) → Agrees n last → declared last ≡ begun n abi strict bodied defined
-    begun_there n agrees =
-        let then : Agrees n more = agrees_as n more last (ap (λ (c : Context). c.types) enters) (ap (λ (c : Context). c.environment.signatures) enters) agrees in
-        let structs : more.structs ≡ [] = declares.structs ∙ ap (λ (c : Context). c.structs) opened in
-        ap declared enters
-        ∙ λ i. record {
-          environment = scope_entered ((declares.declares n then ∙ ap (λ (c : Context). built_ins_declared n bodied (built_ins abi) c.environment) opened) i);
-          structs = structs i;
-        }
+  begun_there : HasMore bodied (built_ins abi) around last → (n : Numbering) → Agrees n last → declared last ≡ begun n abi strict bodied defined
+  begun_there declares n agrees =
+      let structs : last.structs ≡ [] = declares.structs ∙ ap (λ (c : Context). c.structs) opened in
+      λ i. record {
+        environment = (declares.declares n agrees ∙ ap (λ (c : Context). built_ins_declared n bodied (built_ins abi) c.environment) opened) i;
+        structs = structs i;
+      }
 
-    handed_there : last.handed ≡ []
-    handed_there = ap (λ (c : Context). c.handed) enters ∙ (declares.handed ∙ ap (λ (c : Context). c.handed) opened)
-
-  pub begun_result : (r : Result (Unit {0}) NoMemory) → OnOk r (last ≡ record more { environment = scope_entered more.environment })
+  pub begun_result : (r : Result (Unit {0}) NoMemory) → OnOk r (HasMore bodied (built_ins abi) around last)
       → (n : Numbering) → OnOk r (Agrees n last → declared last ≡ begun n abi strict bodied defined)
-  begun_result (Ok told) enters n = λ agrees. begun_there enters n agrees
-  begun_result (Err error) enters n = tt
+  begun_result (Ok told) declares n = λ agrees. begun_there declares n agrees
+  begun_result (Err error) declares n = tt
 
-  pub handed_result : (r : Result (Unit {0}) NoMemory) → OnOk r (last ≡ record more { environment = scope_entered more.environment }) → OnOk r (last.handed ≡ [])
-  handed_result (Ok told) enters = handed_there enters
-  handed_result (Err error) enters = tt
+  pub handed_result : (r : Result (Unit {0}) NoMemory) → OnOk r (HasMore bodied (built_ins abi) around last) → OnOk r (last.handed ≡ [])
+  handed_result (Ok told) declares = declares.handed ∙ ap (λ (c : Context). c.handed) opened
+  handed_result (Err error) declares = tt

@@ -1,3 +1,4 @@
+mod BegunInC
 mod Behind
 mod BuiltIns
 mod DeclaringObjects

@@ -1,4 +1,4 @@
--- What is declared in front of the first item of a file: the functions that are built in, in a scope around that of the file (C11 7.1.3, 6.2.1p4).
+-- What is declared in front of the first item of a file: the functions that are built in, in its scope (C11 7.1.3, 6.2.1p4).
 use Rattle.std.specs.Prelude.{◌≡◌, ◌<◌, ◌||◌, ◌++◌, ℕ, All, Bool, true, false, List, [], ◌∷◌, length, map}
 use Rattle.std.specs.Str.{bytes_eq}
 use Rattle.cbase.specs.declared.abi.Abi.{Abi}
@@ -50,7 +50,7 @@ built_ins_declared n bodied (function ∷ functions) env =
 -- what is declared in the scope of a file before its first item
 abbrev pub begun : Numbering → Abi → Bool → List (List ℕ) → List (List ℕ) → Declared
 begun n abi strict bodied defined = record {
-  environment = scope_entered (built_ins_declared n bodied (built_ins abi) (scope_entered (all_defined defined (strict_set strict nothing_declared))));
+  environment = built_ins_declared n bodied (built_ins abi) (scope_entered (all_defined defined (strict_set strict nothing_declared)));
   structs = [];
 }
 

@@ -2,6 +2,7 @@ ghost use Rattle.std.specs.Prelude.{◌≡◌, [], ℕ, IfOk, OnOk};
 ghost use Rattle.expressions.specs.Context.{Agrees, declared};
 ghost use Rattle.expressions.specs.Numbers.{Numbering};
 ghost use Rattle.items.specs.Begun.{all_defined, at_first, begun};
+ghost use Rattle.languages.specs.Begins.{Begins};
 
 use crate::built_ins::declare_built_ins;
 use cbase::{Abi, NoMemory, Text};
@@ -9,7 +10,7 @@ use expressions::Context;
 use std::alloc::Global;
 
 /// What is known before the first item of a file in a data layout: whether `main` may not be called; the names that the whole text defines; the functions
-/// that are built in, but for those to which it gives a body, `bodied`, in a scope around that of the file. Nothing is handed on.
+/// that are built in, but for those to which it gives a body, `bodied`, in the scope of the file (C11 7.1.3). Nothing is handed on.
 pub fn begin(
     alloc: Global,
     abi: Abi,
@@ -17,8 +18,7 @@ pub fn begin(
     bodied: &[Text],
     defined: &[Text],
 ) -> Result<Context, NoMemory>
-    ensures declares { (n : Numbering) → IfOk result (λ context. Agrees n context → declared context ≡ begun n abi strict bodied.now defined.now) }
-    ensures handed { IfOk result (λ context. context.handed ≡ []) }
+    ensures { IfOk result (Begins abi strict bodied.now defined.now) }
 {
     let mut context = Context::new(alloc);
     match set_up(alloc, &mut context, abi, strict, bodied, defined) {
@@ -46,8 +46,7 @@ fn set_up(
     context.set_strict(strict);
     define_all(alloc, context, defined)?;
     context.enter(alloc)?;
-    declare_built_ins(alloc, context, abi, bodied)?;
-    context.enter(alloc)
+    declare_built_ins(alloc, context, abi, bodied)
 }
 
 /// Says of each name that the whole text defines it.
