@@ -1,6 +1,6 @@
 -- What is found of parts that stand one behind the other, of rows that are handed on behind a part, and of what is closed behind it.
-use Rattle.std.proofs.Common.{◌≡◌, ◌∙◌, List, ◌++◌, map, sym, ap, subst, Result, Ok, Err, IfOk}
-use Rattle.std.proofs.lemmas.List.{append_assoc, map-append}
+use Rattle.std.proofs.Common.{◌≡◌, ◌∙◌, List, ◌++◌, map, sym, subst, Result, Ok, Err, IfOk}
+use Rattle.std.proofs.lemmas.List.{map-append}
 use Rattle.cbase.specs.declared.no_memory.NoMemory.{NoMemory}
 use Rattle.typing.specs.Outcomes.{Outcome, Handed, Passes, Refused, with_front}
 use Rattle.expressions.specs.declared.found.Found.{Found}

@@ -1,8 +1,7 @@
 -- The functions that are built in are declared one behind the other.
-use Rattle.std.proofs.Common.{◌≡◌, ◌∙◌, ◌<◌, ◌≤◌, ◌+◌, ◌||◌, ℕ, suc, Bool, true, false, List, [], ◌∷◌, ◌++◌, map, drop, length, get_or, refl, sym, ap, subst, arith, All, Result, Ok, Err, OnOk}
+use Rattle.std.proofs.Common.{◌≡◌, ◌∙◌, ◌<◌, ◌≤◌, ◌+◌, ℕ, Bool, true, false, List, [], ◌∷◌, ◌++◌, map, drop, length, get_or, refl, sym, ap, subst, arith, All, Result, Ok, Err, OnOk}
 use Rattle.std.proofs.lemmas.List.{drop_all, get_or_default, map-append}
 use Rattle.std.proofs.lemmas.List.Elements.{All-nil, All-push}
-use Rattle.std.specs.Str.{bytes_eq}
 use Rattle.cbase.specs.declared.abi.Abi.{Abi}
 use Rattle.cbase.specs.declared.abi.Abi.TheVariants.{Lp64, Llp64}
 use Rattle.cbase.specs.declared.ctype.CType.{CType}
@@ -11,21 +10,19 @@ use Rattle.cbase.specs.declared.no_memory.NoMemory.{NoMemory}
 use Rattle.environment.specs.declared.entity.Definition.TheVariants.{NotDefined}
 use Rattle.environment.specs.declared.entity.Entity.TheVariants.{Function}
 use Rattle.environment.specs.declared.entity.Linked.{Linked}
-use Rattle.environment.specs.declared.entity.Signature.{Signature}
 use Rattle.environment.specs.declared.environment.Environment.{Environment}
-use Rattle.environment.specs.BuiltIns.{FunctionType, built_ins, size_type}
+use Rattle.environment.specs.BuiltIns.{FunctionType, size_type}
 use Rattle.environment.specs.Environment.{is_defined, signature_added}
 use Rattle.environment.specs.Linkage.{linked_declared}
 use Rattle.environment.specs.Names.{Entries}
 use Rattle.expressions.specs.Context.{Context, Agrees, Grows, OnlyTypes}
 use Rattle.expressions.specs.Language.{linked_function}
-use Rattle.expressions.specs.Numbers.{Numbering}
 use Rattle.expressions.specs.Operated.{Numbers}
-use Rattle.expressions.proofs.Growth.{agrees_as, agrees_before, agrees_before_types, below_only_types, grows_same, grows_trans, keeps_behind, number_back, only_types_grows, only_types_same, only_types_trans}
+use Rattle.expressions.proofs.Growth.{agrees_before, agrees_before_types, below_only_types, grows_same, grows_trans, keeps_behind, number_back, only_types_grows, only_types_same, only_types_trans}
 use Rattle.expressions.proofs.Loops.{next_item}
 use Rattle.parameters.proofs.TypesAlike.{numbers_back}
 use Rattle.items.specs.declared.built_ins.BuiltIn.{BuiltIn}
-use Rattle.items.specs.Begun.{AreNumbers, HasMore, IsBuiltIn, IsNumberBehind, built_in_declared, built_ins_declared, declared_unless, function_in, is_among}
+use Rattle.items.specs.Begun.{AreNumbers, HasMore, IsBuiltIn, IsNumberBehind, built_ins_declared, declared_unless, function_in, is_among}
 
 -- `size_t` has 8 bytes
 pub size_is : (abi : Abi) → size_type abi ≡ IntType 8 false

@@ -1,22 +1,18 @@
 -- An object is declared by its name, with what the text has for it from then on.
-use Rattle.std.proofs.Common.{◌≡◌, ◌∙◌, ℕ, List, refl, sym, ap, subst, Option, None, Some, Result, Ok, Err, OnOk}
+use Rattle.std.proofs.Common.{◌≡◌, ◌∙◌, ℕ, List, refl, sym, ap, Option, None, Some}
 use Rattle.cbase.specs.declared.abi.Abi.{Abi}
-use Rattle.cbase.specs.declared.no_memory.NoMemory.{NoMemory}
 use Rattle.cbase.specs.declared.tree.decl.Declared.{Declared as DeclaredTree}
 use Rattle.cbase.specs.declared.tree.decl.Storage.TheVariants.{Extern}
 use Rattle.cbase.specs.declared.tree.expr.ExprForm.TheViews.{out-Declared}
 use Rattle.environment.specs.declared.entity.Definition.{Definition as DefinitionByNow}
-use Rattle.environment.specs.declared.entity.DeclaredType.{DeclaredType}
 use Rattle.environment.specs.declared.entity.Linked.{Linked as LinkedByNumber}
 use Rattle.environment.specs.declared.environment.Environment.{Environment}
 use Rattle.environment.specs.Environment.{definition_of_linked, definition_set}
 use Rattle.environment.specs.Names.{value_in}
 use Rattle.typing.specs.Declarations.{given, name_declared}
-use Rattle.typing.specs.Entities.{Definition}
 use Rattle.typing.specs.FileNames.{with_definition}
-use Rattle.typing.specs.FileScope.{FileScope}
-use Rattle.expressions.specs.Context.{Context, Declared, declared, Agrees}
-use Rattle.expressions.specs.FileScope.{definition_at, definition_in_text, file_scope}
+use Rattle.expressions.specs.Context.{Context, declared}
+use Rattle.expressions.specs.FileScope.{definition_at, file_scope}
 use Rattle.expressions.specs.Language.{language}
 use Rattle.expressions.specs.Numbers.{Numbering, declared_type_at}
 use Rattle.declarations.specs.Given.{bound}

@@ -1,14 +1,12 @@
 -- What is declared in front of the first item of a file.
-use Rattle.std.proofs.Common.{◌≡◌, ◌∙◌, ◌<◌, ◌≤◌, ◌+◌, ℕ, Bool, List, [], ◌∷◌, drop, length, get_or, refl, sym, ap, Result, Ok, Err, OnOk}
+use Rattle.std.proofs.Common.{◌≡◌, ◌∙◌, ◌<◌, ◌≤◌, ◌+◌, ℕ, Bool, List, [], drop, length, get_or, sym, ap, Result, Ok, Err, OnOk}
 use Rattle.std.proofs.lemmas.List.{drop_all}
 use Rattle.cbase.specs.declared.abi.Abi.{Abi}
 use Rattle.cbase.specs.declared.no_memory.NoMemory.{NoMemory}
-use Rattle.environment.specs.declared.environment.Environment.{Environment}
 use Rattle.environment.specs.BuiltIns.{built_ins}
 use Rattle.environment.specs.Environment.{name_defined, scope_entered, strict_set}
 use Rattle.expressions.specs.Context.{Context, declared, Agrees}
 use Rattle.expressions.specs.Numbers.{Numbering}
-use Rattle.expressions.proofs.Growth.{agrees_as}
 use Rattle.expressions.proofs.Loops.{next_item}
 use Rattle.items.specs.Begun.{HasMore, all_defined, at_first, begun, built_ins_declared}
 

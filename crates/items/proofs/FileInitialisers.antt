@@ -1,5 +1,5 @@
 -- What is found behind the name of an object outside of functions: no initialiser, that of an object, and that of an array whose size it tells.
-use Rattle.std.proofs.Common.{◌≡◌, ◌<◌, ◌∙◌, ℕ, Bool, true, false, List, [], ◌∷◌, ◌++◌, map, length, refl, sym, ap, subst, append-nil, Option, None, Some, Result, IfOk}
+use Rattle.std.proofs.Common.{◌≡◌, ◌<◌, ◌∙◌, ℕ, Bool, true, false, List, ◌++◌, map, length, refl, sym, ap, subst, Option, None, Some, Result, IfOk}
 use Rattle.cbase.specs.declared.abi.Abi.{Abi}
 use Rattle.cbase.specs.declared.ctype.CType.{CType}
 use Rattle.cbase.specs.declared.ctype.CType.TheVariants.{Array as ArrayType}
@@ -15,9 +15,9 @@ use Rattle.environment.specs.declared.entity.DeclaredType.{DeclaredType}
 use Rattle.environment.specs.declared.entity.DeclaredType.TheVariants.{Whole, UnsizedArray}
 use Rattle.typing.specs.declared.fault.Fault.{Fault}
 use Rattle.typing.specs.Declarations.{LinkedGiven, in_braces, name_declared, name_of, told_type}
-use Rattle.typing.specs.Entities.{ObjectLinked, WholeType, ItemsOf}
+use Rattle.typing.specs.Entities.{ObjectLinked, WholeType}
 use Rattle.typing.specs.FileNames.{static_row}
-use Rattle.typing.specs.Items.{FileInitialisedIs, FindsInFile, FileNotInitialised, FileInitialised, FileArrayInitialised, FileArrayOfWrongSize, FileArrayPartsRefused, FileArrayByValue}
+use Rattle.typing.specs.Items.{FileInitialisedIs, FileNotInitialised, FileInitialised, FileArrayInitialised, FileArrayOfWrongSize, FileArrayPartsRefused, FileArrayByValue}
 use Rattle.typing.specs.Outcomes.{Outcome, Handed, Passes, Refused}
 use Rattle.typing.specs.Typing.{InitialiserIs, SurplusIs, Finds}
 use Rattle.expressions.specs.declared.found.Found.{Found}
@@ -26,7 +26,6 @@ use Rattle.expressions.specs.declared.handed_row.HandedRow.{HandedRow}
 use Rattle.expressions.specs.declared.part.Slot.{Slot as SlotByNumber}
 use Rattle.expressions.specs.declared.part.Subject.{Subject as SubjectKept}
 use Rattle.expressions.specs.Context.{Context, Declared, declared, Agrees, Grows}
-use Rattle.expressions.specs.FileScope.{file_scope}
 use Rattle.expressions.specs.Found.{nothing}
 use Rattle.expressions.specs.Language.{language}
 use Rattle.expressions.specs.Nests.{subject_of, slot_at}

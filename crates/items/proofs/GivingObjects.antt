@@ -1,5 +1,5 @@
 -- An object is declared by its name where nothing is broken at it, and is refused where something is.
-use Rattle.std.proofs.Common.{◌≡◌, ◌∙◌, ◌++◌, ◌||◌, ℕ, Bool, List, length, refl, sym, ap, subst, Option, None, Some}
+use Rattle.std.proofs.Common.{◌≡◌, ◌∙◌, ◌++◌, ◌||◌, ℕ, List, length, refl, sym, ap, subst, Option, None, Some}
 use Rattle.std.specs.Prelude.{option_and_then}
 use Rattle.cbase.specs.declared.abi.Abi.{Abi}
 use Rattle.cbase.specs.declared.tree.decl.Declared.{Declared as DeclaredTree}
@@ -19,12 +19,11 @@ use Rattle.operators.specs.declared.found.Broken.{Broken}
 use Rattle.typing.specs.declared.fault.Fault.{Fault}
 use Rattle.typing.specs.declared.size.Size.{Size}
 use Rattle.typing.specs.Declarations.{Given, IsAgain, LinkedGiven, found_of_name, given_type, name_declared, name_faults}
-use Rattle.typing.specs.Entities.{Definition, ObjectLinked}
-use Rattle.typing.specs.FileNames.{definition_in, is_complete_by, is_listed, is_listed_by, is_twice, object_declared, object_faults, object_type, type_so_far, with_definition}
-use Rattle.typing.specs.FileScope.{FileScope}
+use Rattle.typing.specs.Entities.{ObjectLinked}
+use Rattle.typing.specs.FileNames.{is_complete_by, is_listed, is_twice, object_type, type_so_far, with_definition}
 use Rattle.typing.specs.NamedTypes.{declared_type, is_large}
 use Rattle.expressions.specs.declared.named_type.NamedType.{NamedType as NamedByNumber}
-use Rattle.expressions.specs.Context.{Context, Declared, declared, Agrees, Grows, OnlyTypes}
+use Rattle.expressions.specs.Context.{Context, declared, Agrees, OnlyTypes}
 use Rattle.expressions.specs.FileScope.{definition_at, definition_in_text, file_scope}
 use Rattle.expressions.specs.Language.{definition_by_now, language}
 use Rattle.expressions.specs.Numbers.{Numbering, declared_type_at, linked_at, named_at}

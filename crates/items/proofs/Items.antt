@@ -1,5 +1,5 @@
 -- What is found of an item of a file: of a declaration with its names, of a name of a function, and of a function with its body.
-use Rattle.std.proofs.Common.{◌≡◌, ◌∙◌, ◌<◌, ℕ, length, List, [], ◌∷◌, ◌++◌, map, append-nil, refl, sym, ap, subst, Bool, false, true, Option, None, Some, Result, Ok, Err, IfOk}
+use Rattle.std.proofs.Common.{◌≡◌, ◌∙◌, ◌<◌, ℕ, length, List, [], ◌∷◌, map, append-nil, refl, sym, ap, subst, false, true, Option, None, Some, Result, IfOk}
 use Rattle.std.specs.Prelude.{is_some}
 use Rattle.cbase.specs.declared.abi.Abi.{Abi}
 use Rattle.cbase.specs.declared.ctype.CType.{CType}
@@ -25,7 +25,7 @@ use Rattle.typing.specs.Typing.{DeclaredIs, DeclaredNameIs, WordsAre}
 use Rattle.expressions.specs.declared.found.Found.{Found}
 use Rattle.expressions.specs.declared.found.Found.TheVariants.{Passes as FoundToPass, Refused as FoundRefused}
 use Rattle.expressions.specs.declared.named_type.NamedType.{NamedType as NamedByNumber}
-use Rattle.expressions.specs.Context.{Context, Declared, declared, Agrees, Grows}
+use Rattle.expressions.specs.Context.{Context, Declared, declared, Grows}
 use Rattle.expressions.specs.FileScope.{file_scope, result_set}
 use Rattle.expressions.specs.Found.{a_type, a_value_type, nothing}
 use Rattle.expressions.specs.Language.{language, left}

@@ -17,7 +17,6 @@ use Rattle.typing.specs.Outcomes.{Outcome, Handed, Passes, Refused, with_front}
 use Rattle.typing.specs.Typing.{MemberSizesAre}
 use Rattle.expressions.specs.declared.found.Found.{Found}
 use Rattle.expressions.specs.declared.found.Found.TheVariants.{Passes as FoundToPass, Refused as FoundRefused}
-use Rattle.expressions.specs.declared.handed_row.HandedRow.{HandedRow}
 use Rattle.expressions.specs.declared.named_type.NamedType.{NamedType as NamedByNumber}
 use Rattle.expressions.specs.Context.{Context, Declared, declared, Agrees, Grows}
 use Rattle.expressions.specs.FileScope.{definition_at, file_scope}

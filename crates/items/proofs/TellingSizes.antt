@@ -1,5 +1,5 @@
 -- An array whose size its initialiser tells is declared with it.
-use Rattle.std.proofs.Common.{◌≡◌, ◌∙◌, ◌++◌, ℕ, Bool, true, List, sym, ap, subst, Option, None, Some}
+use Rattle.std.proofs.Common.{◌≡◌, ◌∙◌, ◌++◌, ℕ, Bool, true, List, ap, subst, Option, None}
 use Rattle.cbase.specs.declared.abi.Abi.{Abi}
 use Rattle.cbase.specs.declared.ctype.CType.{CType}
 use Rattle.cbase.specs.declared.ctype.CType.TheVariants.{Array as ArrayType}
@@ -10,10 +10,9 @@ use Rattle.environment.specs.declared.entity.DeclaredType.TheVariants.{Whole}
 use Rattle.typing.specs.declared.fault.Fault.{Fault}
 use Rattle.typing.specs.Declarations.{LinkedGiven, given, name_declared}
 use Rattle.typing.specs.Entities.{ObjectLinked, WholeType}
-use Rattle.expressions.specs.declared.handed_row.HandedRow.{HandedRow}
 use Rattle.expressions.specs.Context.{Context, declared, Agrees}
 use Rattle.expressions.specs.Language.{language}
-use Rattle.expressions.specs.Numbers.{Numbering, declared_type_at}
+use Rattle.expressions.specs.Numbers.{Numbering}
 use Rattle.expressions.proofs.TypeWords.{grows_to}
 use Rattle.declarations.specs.Given.{bound}
 use Rattle.declarations.proofs.Bound.{bound_signatures}

@@ -1,5 +1,5 @@
 -- What a declaration outside of functions says of an object, by numbers, and what is found at its name.
-use Rattle.std.specs.Prelude.{◌≡◌, ◌++◌, ◌||◌, ℕ, Bool, true, false, List, [], ◌∷◌, Option, None, Some, is_some, length}
+use Rattle.std.specs.Prelude.{◌≡◌, ◌++◌, ◌||◌, ℕ, Bool, true, false, List, [], ◌∷◌, Option, None, Some, length}
 use Rattle.cbase.specs.declared.abi.Abi.{Abi}
 use Rattle.cbase.specs.declared.ctype.CType.{CType}
 use Rattle.cbase.specs.declared.ctype.CType.TheVariants.{Array as ArrayType}
@@ -17,9 +17,7 @@ use Rattle.typing.specs.declared.fault.Fault.{Fault}
 use Rattle.typing.specs.declared.size.Size.{Size}
 use Rattle.typing.specs.Declarations.{IsAgain, IsOther, LinkedGiven, given, given_type, name_declared, name_faults, told_type}
 use Rattle.typing.specs.Entities.{ObjectLinked}
-use Rattle.typing.specs.Faults.{IsFirst}
 use Rattle.typing.specs.FileNames.{definition_in, is_complete_by, is_listed, is_listed_by, is_twice, object_declared, object_faults, object_type, told_faults_in_file}
-use Rattle.typing.specs.FileScope.{FileScope}
 use Rattle.expressions.specs.declared.found.Found.{Found}
 use Rattle.expressions.specs.declared.found.Found.TheVariants.{Passes, Refused}
 use Rattle.expressions.specs.declared.handed_row.HandedRow.{HandedRow}

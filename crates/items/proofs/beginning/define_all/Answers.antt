@@ -1,5 +1,5 @@
 -- Names are defined one behind the other.
-use Rattle.std.proofs.Common.{arith, refl}
+use Rattle.std.proofs.Common.{arith}
 use Rattle.items.proofs.FileBegun.{defining_next, defining_end}
 use Rattle.items.proofs.beginning.define_all.Goals as goal
 

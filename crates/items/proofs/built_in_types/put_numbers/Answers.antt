@@ -1,5 +1,5 @@
 -- The numbers of the types of parameters, one behind the other.
-use Rattle.std.proofs.Common.{List, [], ◌∷◌, OnOk, sym, subst}
+use Rattle.std.proofs.Common.{[], ◌∷◌, OnOk, sym, subst}
 use Rattle.items.specs.declared.built_in_types.Parameters.{Parameters}
 use Rattle.items.specs.Begun.{AreNumbers, type_in, types_in}
 use Rattle.items.proofs.BuiltIns.{first_number, last_number, one_more_number}

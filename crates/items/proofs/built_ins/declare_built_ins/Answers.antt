@@ -1,5 +1,5 @@
 -- The functions of the table are those that are built in.
-use Rattle.std.proofs.Common.{List, ℕ, OnOk, ap, map, subst}
+use Rattle.std.proofs.Common.{OnOk, ap, map, subst}
 use Rattle.environment.specs.BuiltIns.{FunctionType}
 use Rattle.environment.specs.Names.{Entries}
 use Rattle.items.specs.Begun.{HasMore, function_in}

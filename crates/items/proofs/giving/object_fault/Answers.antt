@@ -1,5 +1,5 @@
 -- What is broken at the name of an object, in the order in which it is asked.
-use Rattle.std.proofs.Common.{Bool, List, ℕ, ◌||◌, ap, subst}
+use Rattle.std.proofs.Common.{Bool, List, ℕ, ◌||◌, subst}
 use Rattle.std.specs.Prelude.{not}
 use Rattle.cbase.specs.declared.tree.decl.Storage.TheVariants.{Extern}
 use Rattle.cbase.specs.declared.tree.expr.ExprForm.TheViews.{out-Declared}

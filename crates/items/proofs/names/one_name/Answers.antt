@@ -1,5 +1,5 @@
 -- A name of a function, of a typedef or of an object.
-use Rattle.std.proofs.Common.{sym, ap, ◌∙◌, refl}
+use Rattle.std.proofs.Common.{sym, ap, ◌∙◌}
 use Rattle.cbase.specs.declared.tree.expr.ExprForm.TheViews.{out-Declared}
 use Rattle.typing.specs.Declarations.{is_typedef}
 use Rattle.items.proofs.Items.{head_left, no_params, typedef_name}

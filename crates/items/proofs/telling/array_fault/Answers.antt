@@ -6,7 +6,7 @@ use Rattle.cbase.specs.declared.tree.expr.ExprForm.TheViews.{out-Declared}
 use Rattle.environment.specs.declared.entity.Linked.{Linked as LinkedByNumber}
 use Rattle.environment.specs.Names.{value_in}
 use Rattle.typing.specs.Declarations.{IsOther}
-use Rattle.typing.specs.Entities.{Linked, ObjectLinked, WholeType}
+use Rattle.typing.specs.Entities.{ObjectLinked, WholeType}
 use Rattle.expressions.specs.Numbers.{linked_at}
 use Rattle.items.proofs.telling.array_fault.Goals as goal
 
