@@ -1,9 +1,10 @@
 ghost use Rattle.std.specs.Prelude.{◌≡◌, [], IfOk};
 ghost use Rattle.cbuild.specs.ItemsMade.{item_in};
+ghost use Rattle.cevents.specs.declared.piece.Piece.TheVariants as Piece;
 ghost use Rattle.cevents.specs.Workshop.{expr_of, expressed, kind_in, left_by, only, pushed, start, stated, statements_of};
 
 use crate::stack::Stack;
-use cbase::{Boxed, Expr, ExprForm, Item, List, NoMemory, Place, Stmt, StmtForm};
+use cbase::{Boxed, Expr, ExprForm, Init, Item, List, NoMemory, Place, Stmt, StmtForm, TypeSpec};
 use cevents::Piece;
 use std::alloc::Global;
 use std::marker::Model;
@@ -114,6 +115,30 @@ impl Builder {
         Ok(true)
     }
 
+    /// Puts a type on top.
+    pub(crate) fn put_type(&mut self, tree: TypeSpec) -> Result<bool, NoMemory>
+        ensures { IfOk result (λ made. left_by made self.new ≡ pushed self.old.count (Piece.Type tree) self.old.pieces) }
+    {
+        let tree = Boxed::new(self.alloc, tree)?;
+        self.put(Piece::Type(tree))
+    }
+
+    /// Puts an initialiser on top.
+    pub(crate) fn put_init(&mut self, tree: Init) -> Result<bool, NoMemory>
+        ensures { IfOk result (λ made. left_by made self.new ≡ pushed self.old.count (Piece.Init tree) self.old.pieces) }
+    {
+        let tree = Boxed::new(self.alloc, tree)?;
+        self.put(Piece::Init(tree))
+    }
+
+    /// Puts an item of a file on top.
+    pub(crate) fn put_item(&mut self, tree: Item) -> Result<bool, NoMemory>
+        ensures { IfOk result (λ made. left_by made self.new ≡ pushed self.old.count (Piece.Item tree) self.old.pieces) }
+    {
+        let tree = Boxed::new(self.alloc, tree)?;
+        self.put(Piece::Item(tree))
+    }
+
     /// Takes the piece on top, and gives it where it is the only one and an expression.
     pub(crate) fn only_expr(&mut self) -> Option<Expr>
         ensures { result ≡ kind_in expr_of (only self.old.pieces) }
@@ -145,7 +170,7 @@ impl Builder {
         ensures { result ≡ item_in (only self.old.pieces) }
     {
         match self.pieces.pop_only() {
-            Some(Piece::Item(tree)) => Some(tree),
+            Some(Piece::Item(tree)) => Some(tree.into_inner()),
             other => {
                 drop(other);
                 None

@@ -4,7 +4,7 @@ ghost use Rattle.cevents.specs.Workshop.{left_by};
 
 use crate::builder::Builder;
 use crate::texts::{appended, count_of, maybe_identifier_at, text_at};
-use cbase::{Decl, Declared, List, NoMemory, Param, Storage};
+use cbase::{Boxed, Decl, Declared, List, NoMemory, Param, Storage};
 use cevents::{Event, Piece, place_at};
 use cgrammar::Terminal;
 
@@ -165,10 +165,14 @@ impl Builder {
         let Some(spec) = self.pop_type() else {
             return Ok(false);
         };
-        self.put(Piece::Declaration(Decl {
-            storage,
-            spec,
-            names,
-        }))
+        let tree = Boxed::new(
+            self.alloc,
+            Decl {
+                storage,
+                spec,
+                names,
+            },
+        )?;
+        self.put(Piece::Declaration(tree))
     }
 }

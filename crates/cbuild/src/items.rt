@@ -4,7 +4,7 @@ ghost use Rattle.cevents.specs.Workshop.{left_by};
 
 use crate::builder::Builder;
 use cbase::{Item, NoMemory, Storage};
-use cevents::{Event, Piece, place_at};
+use cevents::{Event, place_at};
 use cgrammar::Terminal;
 
 impl Builder {
@@ -12,7 +12,7 @@ impl Builder {
     pub(crate) fn empty_item(&mut self, row: &[Terminal<'_>]) -> Result<bool, NoMemory>
         ensures { IfOk result (λ made. left_by made self.new ≡ built row.now Event.EmptyItem self.old.count self.old.pieces) }
     {
-        self.put(Piece::Item(Item::Empty))
+        self.put_item(Item::Empty)
     }
 
     /// A declaration as an item of a file (C11 6.9).
@@ -22,7 +22,7 @@ impl Builder {
         let Some(decl) = self.pop_declaration() else {
             return Ok(false);
         };
-        self.put(Piece::Item(Item::Declare(decl)))
+        self.put_item(Item::Declare(decl))
     }
 
     /// A function's definition (C11 6.9.1).
@@ -45,12 +45,12 @@ impl Builder {
             drop(head);
             return Ok(false);
         };
-        self.put(Piece::Item(Item::Function {
+        self.put_item(Item::Function {
             spec,
             storage,
             head,
             body,
             close,
-        }))
+        })
     }
 }

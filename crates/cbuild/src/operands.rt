@@ -77,10 +77,10 @@ impl Builder {
         let Some(value) = self.pop_expr() else {
             return Ok(false);
         };
-        self.put(Piece::Init(Init::Value {
+        self.put_init(Init::Value {
             value: value.into_inner(),
             after,
-        }))
+        })
     }
 
     /// No parts of an initialiser yet.
@@ -117,7 +117,7 @@ impl Builder {
         let Some(parts) = self.pop_parts() else {
             return Ok(false);
         };
-        self.put(Piece::Init(Init::Braces(parts)))
+        self.put_init(Init::Braces(parts))
     }
 
     /// No expression, where there may be one.
@@ -134,6 +134,6 @@ impl Builder {
         let Some(expr) = self.pop_expr() else {
             return Ok(false);
         };
-        self.put(Piece::Maybe(Some(expr.into_inner())))
+        self.put(Piece::Maybe(Some(expr)))
     }
 }

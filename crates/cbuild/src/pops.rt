@@ -57,7 +57,7 @@ impl Builder {
         ensures rest { self.new ≡ record { count = self.old.count; pieces = below self.old.pieces } }
     {
         match self.pieces.pop() {
-            Some(Piece::Type(tree)) => Some(tree),
+            Some(Piece::Type(tree)) => Some(tree.into_inner()),
             other => {
                 drop(other);
                 None
@@ -85,7 +85,7 @@ impl Builder {
         ensures rest { self.new ≡ record { count = self.old.count; pieces = below self.old.pieces } }
     {
         match self.pieces.pop() {
-            Some(Piece::TypeName(tree)) => Some(tree),
+            Some(Piece::TypeName(tree)) => Some(tree.into_inner()),
             other => {
                 drop(other);
                 None
@@ -169,7 +169,7 @@ impl Builder {
         ensures rest { self.new ≡ record { count = self.old.count; pieces = below self.old.pieces } }
     {
         match self.pieces.pop() {
-            Some(Piece::Declaration(tree)) => Some(tree),
+            Some(Piece::Declaration(tree)) => Some(tree.into_inner()),
             other => {
                 drop(other);
                 None
@@ -183,7 +183,7 @@ impl Builder {
         ensures rest { self.new ≡ record { count = self.old.count; pieces = below self.old.pieces } }
     {
         match self.pieces.pop() {
-            Some(Piece::Init(tree)) => Some(tree),
+            Some(Piece::Init(tree)) => Some(tree.into_inner()),
             other => {
                 drop(other);
                 None
@@ -211,7 +211,7 @@ impl Builder {
         ensures rest { self.new ≡ record { count = self.old.count; pieces = below self.old.pieces } }
     {
         match self.pieces.pop() {
-            Some(Piece::Maybe(tree)) => Some(tree),
+            Some(Piece::Maybe(tree)) => Some(taken_out(tree)),
             other => {
                 drop(other);
                 None
@@ -263,4 +263,14 @@ fn single<T: Drop>(list: List<T>) -> Option<T>
     let mut items = list.into_vec();
     let item = items.pop()?;
     if items.is_empty() { Some(item) } else { None }
+}
+
+/// The tree in a box, where there is one.
+fn taken_out<T: Drop>(tree: Option<Boxed<T>>) -> Option<T>
+    ensures { result ≡ tree }
+{
+    match tree {
+        None => None,
+        Some(tree) => Some(tree.into_inner()),
+    }
 }

@@ -42,22 +42,23 @@ pub(crate) fn maybe_identifier_at(
     }
 }
 
-/// A list with one item more at its end.
+/// A list with one item more at its end. Where it is the only one, the list takes no memory for more.
 pub(crate) fn appended<T: Drop>(list: List<T>, item: T) -> Result<List<T>, NoMemory>
     ensures { IfOk result (λ longer. longer ≡ list ++ item ∷ []) }
 {
-    let mut longer = list;
-    longer.push(item)?;
-    Ok(longer)
+    let mut items = list.into_vec();
+    if items.is_empty() {
+        items.reserve_exact(1)?;
+    }
+    items.push(item)?;
+    Ok(List::from_vec(items))
 }
 
 /// A list of one item.
 pub(crate) fn list_of_one<T: Drop>(alloc: Global, item: T) -> Result<List<T>, NoMemory>
     ensures { IfOk result (λ list. list ≡ item ∷ []) }
 {
-    let mut list = List::new(alloc);
-    list.push(item)?;
-    Ok(list)
+    appended(List::new(alloc), item)
 }
 
 /// How many `*` there are, as a number of a tree. A count that fits no such number is told as want of memory: it needs more

@@ -13,7 +13,7 @@ impl Builder {
     pub(crate) fn basic(&mut self, row: &[Terminal<'_>], basic: BasicType) -> Result<bool, NoMemory>
         ensures { IfOk result (λ made. left_by made self.new ≡ built row.now (Event.Basic basic) self.old.count self.old.pieces) }
     {
-        self.put(Piece::Type(TypeSpec::Basic(basic)))
+        self.put_type(TypeSpec::Basic(basic))
     }
 
     /// A type that a typedef names (C11 6.7.8).
@@ -21,7 +21,7 @@ impl Builder {
         ensures { IfOk result (λ made. left_by made self.new ≡ built row.now (Event.Named at) self.old.count self.old.pieces) }
     {
         let name = text_at(self.alloc, row, at)?;
-        self.put(Piece::Type(TypeSpec::Named(name)))
+        self.put_type(TypeSpec::Named(name))
     }
 
     /// A struct by its tag alone (C11 6.7.2.3).
@@ -29,10 +29,10 @@ impl Builder {
         ensures { IfOk result (λ made. left_by made self.new ≡ built row.now (Event.StructTag tag) self.old.count self.old.pieces) }
     {
         let name = identifier_at(self.alloc, row, tag)?;
-        self.put(Piece::Type(TypeSpec::Struct {
+        self.put_type(TypeSpec::Struct {
             name: Some(name),
             fields: None,
-        }))
+        })
     }
 
     /// An enum by its tag alone (C11 6.7.2.3).
@@ -40,10 +40,10 @@ impl Builder {
         ensures { IfOk result (λ made. left_by made self.new ≡ built row.now (Event.EnumTag tag) self.old.count self.old.pieces) }
     {
         let name = identifier_at(self.alloc, row, tag)?;
-        self.put(Piece::Type(TypeSpec::Enum {
+        self.put_type(TypeSpec::Enum {
             name: Some(name),
             values: None,
-        }))
+        })
     }
 
     /// A struct with its fields (C11 6.7.2.1).
@@ -58,10 +58,10 @@ impl Builder {
         let Some(fields) = self.pop_fields() else {
             return Ok(false);
         };
-        self.put(Piece::Type(TypeSpec::Struct {
+        self.put_type(TypeSpec::Struct {
             name,
             fields: Some(fields),
-        }))
+        })
     }
 
     /// An enum with its constants (C11 6.7.2.2).
@@ -76,10 +76,10 @@ impl Builder {
         let Some(values) = self.pop_enumerators() else {
             return Ok(false);
         };
-        self.put(Piece::Type(TypeSpec::Enum {
+        self.put_type(TypeSpec::Enum {
             name,
             values: Some(values),
-        }))
+        })
     }
 
     /// `typeof` of an expression.
@@ -89,7 +89,7 @@ impl Builder {
         let Some(expr) = self.pop_expr() else {
             return Ok(false);
         };
-        self.put(Piece::Type(TypeSpec::OfExpr(expr)))
+        self.put_type(TypeSpec::OfExpr(expr))
     }
 
     /// `typeof` of a type.
@@ -100,7 +100,7 @@ impl Builder {
             return Ok(false);
         };
         let to = Boxed::new(self.alloc, to)?;
-        self.put(Piece::Type(TypeSpec::OfType(to)))
+        self.put_type(TypeSpec::OfType(to))
     }
 
     /// No sizes yet.
@@ -146,6 +146,7 @@ impl Builder {
         let Some(spec) = self.pop_type() else {
             return Ok(false);
         };
-        self.put(Piece::TypeName(TypeName { spec, stars, sizes }))
+        let name = Boxed::new(self.alloc, TypeName { spec, stars, sizes })?;
+        self.put(Piece::TypeName(name))
     }
 }

@@ -3,7 +3,7 @@ use cbase::{
     Param, Part, Stmt, TypeName, TypeSpec,
 };
 
-/// A tree, or a list of trees, that other trees may be made of.
+/// A tree, or a list of trees, that other trees may be made of. A tree stands behind a pointer, so that a piece is small.
 #[derive(Drop)]
 pub enum Piece {
     /// An expression.
@@ -13,11 +13,11 @@ pub enum Piece {
     /// The members and indices of `__builtin_offsetof`.
     Path(List<Part>),
     /// A type.
-    Type(TypeSpec),
+    Type(Boxed<TypeSpec>),
     /// Sizes of arrays, which may be left out.
     Sizes(List<Option<Expr>>),
     /// The name of a type.
-    TypeName(TypeName),
+    TypeName(Boxed<TypeName>),
     /// The declarators of fields.
     FieldNames(List<FieldName>),
     /// Declarations of fields.
@@ -29,17 +29,17 @@ pub enum Piece {
     /// Declarators.
     Declarators(List<Declared>),
     /// A declaration.
-    Declaration(Decl),
+    Declaration(Boxed<Decl>),
     /// An initialiser.
-    Init(Init),
+    Init(Boxed<Init>),
     /// The parts of an initialiser in braces.
     Parts(List<InitPart>),
     /// An expression that may be left out.
-    Maybe(Option<Expr>),
+    Maybe(Option<Boxed<Expr>>),
     /// A statement.
     Statement(Boxed<Stmt>),
     /// Statements.
     Statements(List<Stmt>),
     /// An item of a file.
-    Item(Item),
+    Item(Boxed<Item>),
 }

@@ -20,7 +20,7 @@ fn has_label(scope: &Scope, row: &[Terminal<'_>]) -> bool
     match row {
         [] | [_] => false,
         [label, colon, ..] => {
-            label.is_name() && (!label.is_typedef(scope) && colon.is_mark(b":"))
+            colon.is_mark(b":") && (label.is_name() && !label.is_typedef(scope))
         }
     }
 }

@@ -82,11 +82,13 @@ impl<'a> Terminal<'a> {
         is_identifier(self.bytes) && !is_left_out(self.bytes)
     }
 
-    /// Whether it is an identifier that a typedef declares (C11 6.7.8).
+    /// Whether it is an identifier that a typedef declares (C11 6.7.8). Most words are no typedef's, and then it is not asked
+    /// whether they are keywords.
+    #[tactic(auto, using(ctokens::proofs::Choices::false_and))]
     pub fn is_typedef(&self, scope: &Scope) -> bool
         ensures { result ≡ is_typedef scope.now self.now }
     {
-        self.is_name() && scope.is_typedef(self.bytes)
+        self.is_any_word() && (scope.is_typedef(self.bytes) && self.is_name())
     }
 
     /// The storage class that it names, where it is the word `typedef`, `extern` or `static` (C11 6.7.1); `None` where it is

@@ -1,4 +1,5 @@
 pub mod Choices
+pub mod WordLengths
 pub mod Rows
 pub mod Closings
 pub mod Continued

@@ -12,6 +12,7 @@ pub mod Gathered
 pub mod Room
 pub mod TokenList
 pub mod SymbolTables
+pub mod WordLengths
 pub mod TokenSymbols
 pub mod Symbol
 pub mod Passed

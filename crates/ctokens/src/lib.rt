@@ -26,6 +26,7 @@ mod passed;
 mod piece;
 mod piece_at;
 mod progress;
+mod short_words;
 mod symbol;
 mod symbol_of;
 mod symbols;

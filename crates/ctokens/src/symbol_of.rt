@@ -4,6 +4,10 @@ ghost use Rattle.ctokens.specs.TokenSymbols.{token_symbol, token_word, word_of};
 ghost use Rattle.ctokens.specs.SymbolTables.{keyword_symbol, mark_symbol, name_symbol, passed_symbol, read_as, symbol_in, symbol_of, word_symbol};
 ghost use Rattle.ctokens.specs.SymbolRows.{row_read};
 
+use crate::short_words::{
+    symbol_of_eight, symbol_of_five, symbol_of_four, symbol_of_seven, symbol_of_six,
+    symbol_of_three, symbol_of_two,
+};
 use crate::symbol::Symbol;
 use crate::token::{Token, TokenKind};
 
@@ -119,7 +123,7 @@ const MARKS: [(&'static str, Symbol); 12] = [
 ];
 
 /// The symbol of the row that has these bytes, or `otherwise` where there is no such row.
-fn symbol_in(rows: &[(&str, Symbol)], otherwise: Symbol, bytes: &[u8]) -> Symbol
+pub(crate) fn symbol_in(rows: &[(&str, Symbol)], otherwise: Symbol, bytes: &[u8]) -> Symbol
     ensures { result ≡ symbol_in (map row_read rows.now) otherwise bytes.now }
 {
     for row in rows {
@@ -179,11 +183,21 @@ fn mark_symbol(bytes: &[u8]) -> Symbol
     symbol_in(MARKS.as_slice(), Symbol::Other, bytes)
 }
 
-/// The symbol of a word.
+/// The symbol of a word. A short one is looked for only among those of its length.
 fn word_symbol(bytes: &[u8]) -> Symbol
     ensures { result ≡ word_symbol bytes.now }
 {
-    passed_symbol(keyword_symbol(name_symbol(bytes), bytes), bytes)
+    match bytes.len() {
+        1 => Symbol::Name,
+        2 => symbol_of_two(bytes),
+        3 => symbol_of_three(bytes),
+        4 => symbol_of_four(bytes),
+        5 => symbol_of_five(bytes),
+        6 => symbol_of_six(bytes),
+        7 => symbol_of_seven(bytes),
+        8 => symbol_of_eight(bytes),
+        _ => passed_symbol(keyword_symbol(name_symbol(bytes), bytes), bytes),
+    }
 }
 
 /// Whether a word, as it is read, is an identifier and no keyword (C11 6.4.1, 6.4.2). `main` and the names of built-in
