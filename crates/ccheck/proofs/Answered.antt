@@ -1,5 +1,5 @@
 -- What is found of the items of a text from its beginning is what is answered of them.
-use Rattle.std.proofs.Common.{◌≡◌, ◌++◌, ℕ, Bool, List, [], map, refl, sym, ◌∙◌, subst}
+use Rattle.std.proofs.Common.{◌≡◌, ◌++◌, ℕ, Bool, List, map, refl, sym, ◌∙◌, subst}
 use Rattle.cbase.specs.declared.abi.Abi.{Abi}
 use Rattle.cbase.specs.declared.tree.item.Item.{Item}
 use Rattle.cgrammar.specs.Phrases.{Context as Standing}
@@ -18,11 +18,12 @@ use Rattle.languages.specs.Begins.{Begins}
 use Rattle.languages.specs.CLanguage.{Declarations, c_language, c_file}
 use Rattle.languages.specs.CLaws.{FindsWhatContextsFind}
 use Rattle.languages.specs.LeadsBack.{LeadsBack}
-use Rattle.ccheck.specs.declared.program.TypedProgram.{TypedProgram}
+use Rattle.ccheck.specs.declared.items_checked.ItemsChecked.{ItemsChecked}
+use Rattle.ccheck.specs.declared.items_checked.ItemsChecked.TheVariants.{AllPass, FirstRefused}
 use Rattle.ccheck.specs.declared.refusal.Refusal.{Refusal}
 use Rattle.ccheck.specs.Checked.{IsTyped, IsRefused, at_beginning}
 use Rattle.ccheck.specs.Needed.{spans_of}
-use Rattle.ccheck.specs.Steps.{PassSoFar, RefusedFirst}
+use Rattle.ccheck.specs.Steps.{AreChecked, PassSoFar, RefusedFirst}
 use Rattle.ccheck.specs.Walk.{ArePassing, IsFirstRefused}
 use Rattle.ccheck.proofs.Carrying.{passing_carried, refused_carried}
 
@@ -60,3 +61,24 @@ module _ (t : Tokens) (items : List ItemSpan) (numbers : List ℕ) (abi : Abi) (
         declarations_at n (declared new),
         subst (λ (env : Declarations). IsFirstRefused t (c_language abi) (c_file abi) (spans_of items numbers) at_file env refusal (declarations_at n (declared new))) begun first,
       )
+
+module _ (t : Tokens) (items : List ItemSpan) (numbers : List ℕ) (abi : Abi) (strict : Bool) (old new : Context) (spans : List ItemSpan) (bodied defined : List (List ℕ))
+    (carried : FindsWhatContextsFind) (are : spans ≡ spans_of items numbers) (bodies : bodied ≡ bodied_names t items) (definitions : defined ≡ defined_names t items)
+    (begins : Begins abi strict bodied defined old) (read_by : (n : Numbering) × Agrees n new × LeadsBack n) where
+  begins_here : Begins abi strict (bodied_names t items) (defined_names t items) old
+  begins_here =
+      subst (λ (names : List (List ℕ)). Begins abi strict (bodied_names t items) names old) definitions
+      (subst (λ (names : List (List ℕ)). Begins abi strict names defined old) bodies begins)
+
+  -- all of them pass
+  pub typed_from : (program : List Item) (checked : ItemsChecked) → checked ≡ AllPass program → AreChecked t abi spans old new checked
+      → IsTyped t items numbers abi strict (record { program = program; context = new; abi = abi; strict = strict })
+  typed_from program checked is found =
+      let (after, passed) = subst (AreChecked t abi spans old new) is found in
+      are_typed t items numbers abi strict carried old new begins_here program after read_by (subst (λ (all : List ItemSpan). PassSoFar t abi all program after old new) are passed)
+
+  -- one is the first that is refused
+  pub refused_from : (refusal : Refusal) (checked : ItemsChecked) → checked ≡ FirstRefused refusal → AreChecked t abi spans old new checked → IsRefused t items numbers abi strict refusal
+  refused_from refusal checked is found =
+      is_refused t items numbers abi strict carried old new begins_here refusal read_by
+      (subst (λ (all : List ItemSpan). RefusedFirst t abi all old new refusal) are (subst (AreChecked t abi spans old new) is found))

@@ -1,6 +1,5 @@
 -- What is found of items by numbers of types is found in the language of C.
-use Rattle.std.proofs.Common.{◌≡◌, List, map, refl, subst, sym}
-use Rattle.cbase.specs.declared.abi.Abi.{Abi}
+use Rattle.std.proofs.Common.{List}
 use Rattle.cbase.specs.declared.tree.item.Item.{Item}
 use Rattle.cgrammar.specs.Phrases.{Context as Standing}
 use Rattle.ctokens.specs.declared.item_span.ItemSpan.{ItemSpan}

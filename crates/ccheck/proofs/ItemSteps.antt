@@ -1,9 +1,9 @@
 -- Items that are read and checked so far, and the next one.
-use Rattle.std.proofs.Common.{◌≡◌, ℕ, ◌+◌, ◌<◌, List, [], ◌∷◌, ◌++◌, length, map, take, drop, get_or, drop-cons, add-one, append-nil, append_assoc, refl, ap, sym, ◌∙◌, subst, arith, Some, None, Option}
+use Rattle.std.proofs.Common.{◌≡◌, ℕ, ◌+◌, ◌<◌, ◌≤◌, List, [], ◌∷◌, ◌++◌, length, map, take, drop, get_or, drop-cons, add-one, append-nil, ap, sym, ◌∙◌, subst, Some, None}
 use Rattle.std.proofs.lemmas.List.{take-append-drop, take_more, map-append, take_all}
 use Rattle.cbase.specs.declared.abi.Abi.{Abi}
 use Rattle.cbase.specs.declared.tree.item.Item.{Item}
-use Rattle.cgrammar.specs.Phrases.{Context as Standing, context_at}
+use Rattle.cgrammar.specs.Phrases.{Context as Standing}
 use Rattle.cgrammar.specs.Scope.{Names, file_scope as names_of_file}
 use Rattle.cread.specs.InOrder.{at_file}
 use Rattle.cread.specs.ItemsRead.{IsItemRead}
@@ -12,11 +12,10 @@ use Rattle.cread.specs.declared.unread.Unread.{Unread}
 use Rattle.ctokens.specs.declared.item_span.ItemSpan.{ItemSpan}
 use Rattle.ctokens.specs.declared.token.Tokens.{Tokens}
 use Rattle.typing.specs.Outcomes.{Handed}
-use Rattle.expressions.specs.Context.{Context, declared, Agrees, Grows}
+use Rattle.expressions.specs.Context.{Context, declared}
 use Rattle.expressions.specs.FileScope.{file_scope}
 use Rattle.expressions.specs.Language.{language}
-use Rattle.expressions.specs.Numbers.{Numbering, handed_at}
-use Rattle.expressions.specs.declared.handed_row.HandedRow.{HandedRow}
+use Rattle.expressions.specs.Numbers.{handed_at}
 use Rattle.expressions.proofs.Growth.{agrees_before, grows_same, grows_trans}
 use Rattle.expressions.proofs.Walking.{handed_behind}
 use Rattle.ccheck.specs.declared.refusal.Refusal.{Refusal}
@@ -75,3 +74,8 @@ module _ (t : Tokens) (abi : Abi) where
             (subst (λ (all : List ItemSpan). IsFirstRefused t (language abi n) (file_scope abi n) all at_file (declared old) (of_fault t fault) (declared new)) (split_at spans at d within)
             (broken_behind {t = t} {l = language abi n} {file = file_scope abi n} (get_or spans at d) (drop (at + 1) spans) (passed.passing n (agrees_before mid new n stopped.grows agrees)) read (stopped.found n agrees)));
       }
+
+  -- all of them
+  pub all_passed : (spans : List ItemSpan) (old new : Context) (program : List Item) (after : Standing) (at : ℕ) → length spans ≤ at
+      → PassSoFar t abi (take at spans) program after old new → PassSoFar t abi spans program after old new
+  all_passed spans old new program after at past passed = subst (λ (all : List ItemSpan). PassSoFar t abi all program after old new) (take_all at spans past) passed

@@ -1,6 +1,6 @@
 -- Each refusal can be named: its construct has a number, and the file of its place a name.
-use Rattle.std.proofs.Common.{◌≡◌, ℕ, ◌<◌, ◌≤◌, ◌&&◌, nat_le, if◌then◌else◌, Bool, true, false, Option, None, Some, List, length, slice_get, option_map, unwrap_or, inl, inr, refl, sym, ◌∙◌, subst, arith}
-use Rattle.std.specs.List.{All}
+use Rattle.std.proofs.Common.{◌≡◌, ℕ, ◌<◌, ◌≤◌, ◌&&◌, nat_le, if◌then◌else◌, Bool, true, false, Option, None, Some, List, length, slice_get, option_map, unwrap_or, inl, inr, refl, subst, arith}
+use Rattle.std.proofs.lemmas.Bool.Decides.{nat_tests}
 use Rattle.std.proofs.lemmas.Option.{slice_get_cases, get_or_from_slice_get}
 use Rattle.cbase.specs.declared.abi.Abi.{Abi}
 use Rattle.cbase.specs.declared.place.Place.{Place}
@@ -16,7 +16,6 @@ use Rattle.ctokens.specs.declared.token.Tokens.{Tokens}
 use Rattle.ctokens.specs.TokenList.{HasNamedFiles}
 use Rattle.operators.specs.declared.found.Broken.{Broken}
 use Rattle.operators.specs.declared.found.Broken.TheVariants as broken
-use Rattle.typing.specs.declared.fault.Fault.{Fault}
 use Rattle.typing.specs.FileScope.{FileScope}
 use Rattle.typing.specs.Language.{Language}
 use Rattle.ccheck.specs.declared.checking.Checked.{Checked}
@@ -24,7 +23,7 @@ use Rattle.ccheck.specs.declared.checking.Checked.TheVariants.{Typed, Refused}
 use Rattle.ccheck.specs.declared.refusal.Refusal.{Refusal}
 use Rattle.ccheck.specs.Checked.{IsAnswer}
 use Rattle.ccheck.specs.Named.{IsNamed, AnswerIsNamed}
-use Rattle.ccheck.specs.Refusals.{of_broken, of_fault, of_unread, place_at}
+use Rattle.ccheck.specs.Refusals.{of_broken, of_unread, place_at}
 use Rattle.ccheck.specs.Walk.{IsFirstRefused, NotRead, Broken as BrokenItem, Later}
 
 module _ (t : Tokens) (named : HasNamedFiles t) where
@@ -42,7 +41,10 @@ module _ (t : Tokens) (named : HasNamedFiles t) where
 
   construct_named : (place : Place) (number : ℕ) (low high : Bool) → nat_le 1 number ≡ low → nat_le number 21 ≡ high → place.file < length t.names
       → IsNamed t.names (if low && high then Refusal.Construct number place else Refusal.Syntax place)
-  construct_named place number true true low high inside = ((omega (arith, low), omega (arith, high)), inside)
+  construct_named place number true true low high inside =
+      let at_least : 1 ≤ number = grind (arith, nat_tests, low) in
+      let at_most : number ≤ 21 = grind (arith, nat_tests, high) in
+      ((at_least, at_most), inside)
   construct_named place number true false low high inside = inside
   construct_named place number false high low also inside = inside
 

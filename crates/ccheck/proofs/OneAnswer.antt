@@ -1,5 +1,5 @@
 -- Of items that are read and checked one behind the other one answer is true at most.
-use Rattle.std.proofs.Common.{◌≡◌, List, [], ◌∷◌, ◌++◌, refl, ap, sym, ◌∙◌, subst}
+use Rattle.std.proofs.Common.{◌≡◌, List, ◌∷◌, ◌++◌, refl, ap, sym, ◌∙◌, subst}
 use Rattle.cbase.specs.declared.tree.item.Item.{Item}
 use Rattle.cgrammar.specs.Phrases.{Context}
 use Rattle.cread.specs.ItemsRead.{IsItemRead}

@@ -1,5 +1,5 @@
 -- Items of some numbers.
-use Rattle.std.proofs.Common.{◌≡◌, ℕ, ◌+◌, ◌<◌, Option, None, Some, Ok, List, [], ◌∷◌, ◌++◌, length, take, drop, slice_get, get_or, drop-cons, add-one, append_assoc, refl, ap, sym, ◌∙◌, subst}
+use Rattle.std.proofs.Common.{◌≡◌, ℕ, ◌+◌, ◌<◌, Option, None, Some, Ok, List, [], ◌∷◌, ◌++◌, length, drop, slice_get, get_or, drop-cons, add-one, append_assoc, refl, ap, sym, ◌∙◌, subst}
 use Rattle.std.specs.List.{All}
 use Rattle.std.proofs.lemmas.List.Elements.{All-nil, All-cons}
 use Rattle.std.proofs.lemmas.Option.{get_or_from_slice_get, slice_get_within}

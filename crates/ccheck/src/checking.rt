@@ -14,7 +14,7 @@ use cbase::{Abi, List, NoMemory};
 use ctokens::{ItemSpan, Tokens};
 use definitions::definitions;
 use items::begin;
-use languages::leads_back;
+use languages::{c_finds_what_contexts_find, leads_back};
 use std::alloc::Global;
 
 /// What is answered of the items that main needs: a program with its types, or why one of them is refused.
@@ -79,6 +79,7 @@ fn answer_of_items(
     )?;
     let checked = check_items(alloc, t, abi, spans.as_slice(), &mut context)?;
     leads_back(&context);
+    c_finds_what_contexts_find();
     match checked {
         ItemsChecked::AllPass(program) => Ok(Checked::Typed(TypedProgram {
             program,

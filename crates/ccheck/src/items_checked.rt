@@ -1,4 +1,4 @@
-ghost use Rattle.std.specs.Prelude.{◌≡◌, IfOk, length};
+ghost use Rattle.std.specs.Prelude.{◌≤◌, IfOk, length};
 ghost use Rattle.std.specs.List.{All};
 ghost use Rattle.cbase.specs.declared.abi.Abi.{Abi};
 ghost use Rattle.ctokens.specs.InText.{LieInText};
@@ -54,11 +54,13 @@ pub(crate) fn check_items(
                 } = behind;
                 let refused = refused_in(t, abi, *span, context, &item);
                 program.push(item)?;
-                if let Some(refusal) = refused? {
-                    return Ok(ItemsChecked::FirstRefused(refusal));
+                match refused? {
+                    Some(refusal) => return Ok(ItemsChecked::FirstRefused(refusal)),
+                    None => {
+                        scope = within;
+                        expressions = count;
+                    }
                 }
-                scope = within;
-                expressions = count;
             }
             ItemRead::Unread(unread) => {
                 return Ok(ItemsChecked::FirstRefused(of_unread(unread)));
