@@ -8,7 +8,7 @@ use Rattle.report.specs.declared.answer.Answer.TheVariants.{Safe, Warned, NotRea
 use Rattle.report.specs.declared.answer.Shown.{Shown}
 use Rattle.verdicts.specs.declared.top.Plan.{Plan}
 use Rattle.verdicts.specs.declared.judge.Judged.{Judged}
-use Rattle.verdicts.specs.Verdict.{IsVerdict, Judges}
+use Rattle.verdicts.specs.Verdict.{IsExact, IsVerdict, Judges}
 use Rattle.verdicts.specs.Answered.{IsAnswered, IsWhole}
 use Rattle.verdicts.specs.Shown.{AreNames}
 
@@ -39,6 +39,12 @@ pub plan_answered : {E : Type 0} (tells : Bool) (content : Option (List ℕ)) (l
     → IfOk result (λ plan. IsAnswered tells content left file plan.shown.names plan.shown.answer)
 plan_answered tells content left file (Ok plan) shown answered is = subst (λ (s : Shown). IsAnswered tells content left file s.names s.answer) (sym is) answered
 plan_answered tells content left file (Err error) shown answered is = tt
+
+-- and that it is exact
+pub plan_exact : {E : Type 0} (file whole : List ℕ) (result : Result Plan E) (shown : Shown) → ((shown.answer ≡ ReadFault → ⊥) → IsExact file whole shown.answer)
+    → IfOk result (λ plan. plan.shown ≡ shown) → IfOk result (λ plan. (plan.shown.answer ≡ ReadFault → ⊥) → IsExact file whole plan.shown.answer)
+plan_exact file whole (Ok plan) shown exact is = subst (λ (s : Shown). (s.answer ≡ ReadFault → ⊥) → IsExact file whole s.answer) (sym is) exact
+plan_exact file whole (Err error) shown exact is = tt
 
 -- the answers but these three are verdicts
 pub is_verdict : (answer : Answer) → (answer ≡ Usage → ⊥) → (answer ≡ ReadFault → ⊥) → (answer ≡ OutOfMemory → ⊥) → IsVerdict answer

@@ -1,3 +1,4 @@
+pub mod Checked
 pub mod Exactness
 pub mod FaultPlaces
 pub mod Told

@@ -11,10 +11,9 @@ use Rattle.ctokens.specs.Items.{IsFirstDeep, IsItems}
 use Rattle.ctokens.specs.Need.{IsNeed}
 use Rattle.ctokens.specs.ItemRows.{item_rows}
 use Rattle.cbase.specs.declared.abi.Abi.TheVariants.{Lp64}
-use Rattle.ccheck.specs.declared.program.TypedProgram.{TypedProgram}
 use Rattle.ccheck.specs.declared.refusal.Refusal.{Refusal}
 use Rattle.ccheck.specs.declared.refusal.Refusal.TheVariants as refusal
-use Rattle.ccheck.specs.Checked.{IsChecked, IsRefused, IsTyped}
+use Rattle.ccheck.specs.Checked.{IsChecked, IsRefused}
 use Rattle.ccheck.specs.Named.{IsNamed}
 use Rattle.std.proofs.lemmas.Option.{slice_get_cases, get_or_from_slice_get}
 use Rattle.report.specs.declared.answer.Why.TheVariants as why
@@ -82,10 +81,6 @@ refused_told t items numbers (refusal.Rule number place) is need first named = r
   printable = named;
   verdict = tt;
 }
-
--- items that are typed pass
-pub typed_is_checked : (t : Tokens) (items : List ItemSpan) (numbers : List ℕ) (p : TypedProgram) → IsTyped t items numbers Lp64 false p → IsChecked t items numbers Lp64 false
-typed_is_checked t items numbers p typed = typed.checked
 
 not_yet_told : (t : Tokens) (items : List ItemSpan) (numbers : List ℕ) → IsItems t (Ok items) → IsNeed (item_rows t items) (Some numbers)
     → IsChecked t items numbers Lp64 false → ((row : List PlacedToken) (program : Program) → IsFirstForm t items numbers row program → ⊥) → IsTold t NotYet

@@ -1,5 +1,5 @@
 -- What an answer says of a text: the theorem that the program carries.
-use Rattle.std.specs.Prelude.{◌≡◌, ℕ, ◌+◌, ◌<◌, ◌≤◌, ◌↔◌, Option, None, Some, Ok, Err, List, [], ◌∷◌, length, slice_get}
+use Rattle.std.specs.Prelude.{◌≡◌, ℕ, ◌+◌, ◌<◌, ◌≤◌, ◌↔◌, false, Option, None, Some, Ok, Err, List, [], ◌∷◌, length, slice_get}
 use Rattle.cbase.specs.declared.place.Place.{Place}
 use Rattle.ctokens.specs.InText.{most_bytes}
 use Rattle.ctokens.specs.declared.token.Tokens.{Tokens}

@@ -1,4 +1,4 @@
-ghost use Rattle.std.specs.Prelude.{◌≡◌, ◌≤◌, Ok, Some, length, IfOk};
+ghost use Rattle.std.specs.Prelude.{◌≡◌, ◌≤◌, false, Ok, Some, length, IfOk};
 ghost use Rattle.std.specs.List.{All};
 ghost use Rattle.ctokens.specs.Items.{IsInside, IsItems};
 ghost use Rattle.ctokens.specs.Need.{IsNeed};
@@ -9,7 +9,7 @@ ghost use Rattle.report.specs.Report.{HasPrintable};
 ghost use Rattle.ccheck.specs.Checked.{IsChecked};
 ghost use Rattle.cbase.specs.declared.abi.Abi.TheVariants.{Lp64};
 ghost use Rattle.first_form.specs.FirstForm.{IsSmall};
-ghost use Rattle.verdicts.specs.Told.{IsTold};
+ghost use Rattle.verdicts.specs.Told.{IsFirstOf, IsTold};
 ghost use Rattle.verdicts.specs.Verdict.{IsExact, IsVerdict, Judges, answer_of, only_item, verdict_of};
 ghost use Rattle.verdicts.specs.Shown.{AreNames};
 ghost use Rattle.verdicts.specs.Warnings.{AreWarnings};
@@ -134,7 +134,7 @@ fn answer_of_items(alloc: Global, t: &Tokens, items: &List<ItemSpan>) -> Result<
 }
 
 /// The answer to a text where main needs the items with these numbers: they are read and checked in order.
-#[tactic(auto, using(crate::proofs::Told::refused_told, crate::proofs::Told::typed_is_checked))]
+#[tactic(auto, using(crate::proofs::Told::refused_told))]
 fn answer_of_needed(
     alloc: Global,
     t: &Tokens,
@@ -149,9 +149,33 @@ fn answer_of_needed(
     requires needed { IsNeed (item_rows t.now items.now) (Some numbers.now) }
     ensures { IfOk result (IsTold t.now) }
 {
+    match first_refusal(alloc, t, items, numbers)? {
+        Some(refusal) => Ok(answer_of(refusal)),
+        None => answer_of_checked(alloc, t, items.as_slice(), numbers),
+    }
+}
+
+/// The first thing that is refused in the items with these numbers, if anything is. The program with its types, where nothing is, is let go of: nothing
+/// runs it yet.
+fn first_refusal(
+    alloc: Global,
+    t: &Tokens,
+    items: &List<ItemSpan>,
+    numbers: &[u32],
+) -> Result<Option<Refusal>, NoMemory>
+    requires text { LieInText t.now }
+    requires numbered { AreNumbered t.now.list }
+    requires named { HasNamedFiles t.now }
+    requires spans { IsItems t.now (Ok items.now) }
+    requires inside { All (IsInside (length t.now.list)) items.now }
+    ensures { IfOk result (IsFirstOf t.now items.now numbers.now) }
+{
     match check(alloc, t, items, numbers, Abi::Lp64, false)? {
-        Checked::Refused(refusal) => Ok(answer_of(refusal)),
-        Checked::Typed(_) => answer_of_checked(alloc, t, items.as_slice(), numbers),
+        Checked::Refused(refusal) => Ok(Some(refusal)),
+        Checked::Typed(program) => {
+            drop(program);
+            Ok(None)
+        }
     }
 }
 
