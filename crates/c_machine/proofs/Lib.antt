@@ -1,0 +1,6 @@
+pub mod ExamplesOfAccesses
+pub mod ExamplesOfBuiltIns
+pub mod ExamplesOfExpressions
+pub mod ExamplesOfInitialisers
+pub mod ExamplesOfLosses
+pub mod ExamplesOfStatements

@@ -1,0 +1,13 @@
+//! The source machine of C: what a program does, step by step, from what typing hands on of it (C11 5.1.2, 6.2 to 6.9).
+//!
+//! It says which state stands after each step, which choices a run takes, and which faults it meets where. It knows the trees, the
+//! rows of typing, and memory. It asks for no name, no scope and no token. It has no code: `specs/` has the definitions, with
+//! worked programs, which the functions here state as laws.
+#![tactic(auto)]
+
+mod rows;
+
+pub use rows::{
+    accesses_come_out, built_in_functions_come_out, expressions_come_out, initialisers_come_out,
+    losses_come_out, statements_come_out,
+};
