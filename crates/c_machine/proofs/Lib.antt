@@ -4,3 +4,4 @@ pub mod ExamplesOfExpressions
 pub mod ExamplesOfInitialisers
 pub mod ExamplesOfLosses
 pub mod ExamplesOfStatements
+pub mod OneChoice

@@ -7,6 +7,7 @@ pub mod ExamplesOfInitialisers
 pub mod ExamplesOfLosses
 pub mod ExamplesOfStatements
 pub mod Expressions
+pub mod Laws
 pub mod Program
 pub mod Run
 pub mod Sheet

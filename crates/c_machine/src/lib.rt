@@ -1,10 +1,11 @@
 //! The source machine of C: what a program does, step by step, from what typing hands on of it (C11 5.1.2, 6.2 to 6.9).
 //!
-//! It says which state stands after each step, which choices a run takes, and which faults it meets where. It knows the trees, the
-//! rows of typing, and memory. It asks for no name, no scope and no token. It has no code: `specs/` has the definitions, with
-//! worked programs, which the functions here state as laws.
+//! It says which state stands after each step, which choices a run takes, and which faults it meets where. It knows memory, and of a program
+//! what stands in its trees and in the rows of typing. It asks for no name, no scope and no token. It has no code: `specs/` has the
+//! definitions, with worked programs, and the functions here are its laws.
 #![tactic(auto)]
 
+pub mod laws;
 mod rows;
 
 pub use rows::{

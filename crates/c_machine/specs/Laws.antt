@@ -1,0 +1,21 @@
+-- Laws of the machine.
+use Rattle.std.specs.Prelude.{◌≡◌, ◌⊎◌, List, [], ◌∷◌}
+use Rattle.choices.specs.declared.choice.Choice.{Choice}
+use Rattle.c_machine.specs.Program.{Program}
+use Rattle.c_machine.specs.State.{State, Outcome, Went, Waits, Ended, Faulted, NotYet, Stuck}
+use Rattle.c_machine.specs.Step.{step}
+use Rattle.c_machine.specs.Text.{Text}
+use Rattle.c_machine.specs.Trees.{text_of}
+
+-- what a step that goes on leaves of the choices is all of them, or all but the first; and one that waits has none to take
+abbrev pub TakesOne : {t : Text} → List Choice → Outcome t → Type 0
+TakesOne choices (Went next rest) = (rest ≡ choices) ⊎ ((first : Choice) × (choices ≡ first ∷ rest))
+TakesOne choices Waits = choices ≡ []
+TakesOne choices Ended = Unit {0}
+TakesOne choices (Faulted kind place) = Unit {0}
+TakesOne choices NotYet = Unit {0}
+TakesOne choices Stuck = Unit {0}
+
+-- a step takes at most one choice, and waits only where there is none
+abbrev pub DoStepsTakeOne : Type 0
+DoStepsTakeOne = (p : Program) (state : State (text_of p)) (choices : List Choice) → TakesOne choices (step (text_of p) state choices)

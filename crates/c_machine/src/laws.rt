@@ -1,0 +1,8 @@
+//! Laws of the machine. Each is the contract of a function that does nothing.
+ghost use Rattle.c_machine.specs.Laws.{DoStepsTakeOne};
+
+/// A step takes at most one choice, and waits only where there is none.
+#[tactic(auto, using(crate::proofs::OneChoice::steps_take_one))]
+pub fn a_step_takes_at_most_one_choice()
+    ensures { DoStepsTakeOne }
+{}
