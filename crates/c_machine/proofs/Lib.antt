@@ -5,3 +5,4 @@ pub mod ExamplesOfInitialisers
 pub mod ExamplesOfLosses
 pub mod ExamplesOfStatements
 pub mod OneChoice
+pub mod TreesRead

@@ -9,6 +9,7 @@ pub mod ExamplesOfStatements
 pub mod Expressions
 pub mod Laws
 pub mod Program
+pub mod Reading
 pub mod Run
 pub mod Sheet
 pub mod State

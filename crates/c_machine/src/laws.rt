@@ -1,8 +1,14 @@
 //! Laws of the machine. Each is the contract of a function that does nothing.
 ghost use Rattle.c_machine.specs.Laws.{DoStepsTakeOne};
+ghost use Rattle.c_machine.specs.Reading.{AreRead};
 
 /// A step takes at most one choice, and waits only where there is none.
 #[tactic(auto, using(crate::proofs::OneChoice::steps_take_one))]
 pub fn a_step_takes_at_most_one_choice()
     ensures { DoStepsTakeOne }
+{}
+
+/// The machine is told of each form of expression, of each form of statement, of initialisers and of each type what stands in the tree.
+pub fn trees_are_read_form_by_form()
+    ensures { AreRead }
 {}
