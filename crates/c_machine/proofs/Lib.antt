@@ -6,3 +6,4 @@ pub mod ExamplesOfLosses
 pub mod ExamplesOfStatements
 pub mod OneChoice
 pub mod TreesRead
+pub mod MoreChoices

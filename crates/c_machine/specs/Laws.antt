@@ -1,5 +1,5 @@
 -- Laws of the machine.
-use Rattle.std.specs.Prelude.{◌≡◌, ◌⊎◌, List, [], ◌∷◌}
+use Rattle.std.specs.Prelude.{◌≡◌, ◌⊎◌, List, [], ◌∷◌, ◌++◌}
 use Rattle.choices.specs.declared.choice.Choice.{Choice}
 use Rattle.c_machine.specs.Program.{Program}
 use Rattle.c_machine.specs.State.{State, Outcome, Went, Waits, Ended, Faulted, NotYet, Stuck}
@@ -19,3 +19,17 @@ TakesOne choices Stuck = Unit {0}
 -- a step takes at most one choice, and waits only where there is none
 abbrev pub DoStepsTakeOne : Type 0
 DoStepsTakeOne = (p : Program) (state : State (text_of p)) (choices : List Choice) → TakesOne choices (step (text_of p) state choices)
+
+-- with more choices behind, what goes on leaves them too, and all else is as it was, but for what waits
+abbrev pub LeavesMore : {t : Text} → List Choice → Outcome t → Outcome t → Type 0
+LeavesMore more (Went next rest) after = after ≡ Went next (rest ++ more)
+LeavesMore more Waits after = Unit {0}
+LeavesMore more Ended after = after ≡ Ended
+LeavesMore more (Faulted kind place) after = after ≡ Faulted kind place
+LeavesMore more NotYet after = after ≡ NotYet
+LeavesMore more Stuck after = after ≡ Stuck
+
+abbrev pub DoStepsLeaveMore : Type 0
+DoStepsLeaveMore =
+    (p : Program) (state : State (text_of p)) (choices more : List Choice)
+    → LeavesMore more (step (text_of p) state choices) (step (text_of p) state (choices ++ more))

@@ -1,11 +1,17 @@
 //! Laws of the machine. Each is the contract of a function that does nothing.
-ghost use Rattle.c_machine.specs.Laws.{DoStepsTakeOne};
+ghost use Rattle.c_machine.specs.Laws.{DoStepsLeaveMore, DoStepsTakeOne};
 ghost use Rattle.c_machine.specs.Reading.{AreRead};
 
 /// A step takes at most one choice, and waits only where there is none.
 #[tactic(auto, using(crate::proofs::OneChoice::steps_take_one))]
 pub fn a_step_takes_at_most_one_choice()
     ensures { DoStepsTakeOne }
+{}
+
+/// Where a step does not wait, choices behind the others change nothing, and are left: it is determined by the first one.
+#[tactic(auto, using(crate::proofs::MoreChoices::steps_leave_more))]
+pub fn a_step_is_determined_by_its_choice()
+    ensures { DoStepsLeaveMore }
 {}
 
 /// The machine is told of each form of expression, of each form of statement, of initialisers and of each type what stands in the tree.
