@@ -7,3 +7,4 @@ pub mod ExamplesOfStatements
 pub mod OneChoice
 pub mod TreesRead
 pub mod MoreChoices
+pub mod ExamplesOfSteps

@@ -6,6 +6,7 @@ pub mod ExamplesOfExpressions
 pub mod ExamplesOfInitialisers
 pub mod ExamplesOfLosses
 pub mod ExamplesOfStatements
+pub mod ExamplesOfSteps
 pub mod Expressions
 pub mod Laws
 pub mod Program

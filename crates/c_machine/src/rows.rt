@@ -5,6 +5,7 @@ ghost use Rattle.c_machine.specs.ExamplesOfExpressions.{AreExpressions};
 ghost use Rattle.c_machine.specs.ExamplesOfInitialisers.{AreInitialisers};
 ghost use Rattle.c_machine.specs.ExamplesOfLosses.{AreLosses};
 ghost use Rattle.c_machine.specs.ExamplesOfStatements.{AreStatements};
+ghost use Rattle.c_machine.specs.ExamplesOfSteps.{AreSteps};
 
 /// Expressions, from left to right (C11 6.5).
 #[tactic(auto, using(crate::proofs::ExamplesOfExpressions::are_expressions))]
@@ -40,4 +41,10 @@ pub fn statements_come_out()
 #[tactic(auto, using(crate::proofs::ExamplesOfInitialisers::are_initialisers))]
 pub fn initialisers_come_out()
     ensures { AreInitialisers }
+{}
+
+/// Single steps: the ends of functions that are called, and what no program comes to (C11 5.1.2.2.3, 6.9.1).
+#[tactic(auto, using(crate::proofs::ExamplesOfSteps::are_steps))]
+pub fn steps_come_out()
+    ensures { AreSteps }
 {}
