@@ -8,3 +8,4 @@ pub mod OneChoice
 pub mod TreesRead
 pub mod MoreChoices
 pub mod ExamplesOfSteps
+pub mod MoreOfRuns

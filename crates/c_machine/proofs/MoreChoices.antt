@@ -187,7 +187,7 @@ leaves t (LeaveFunction place) state choices more = leaves_function t place (rec
 leaves t (EndOfBody is_main result close held) state choices more = ends_body is_main result close state choices more
 leaves t Unknown state choices more = refl
 
-leaves_on : (t : Text) (tasks : List (TaskIn t)) (state : State t) (choices more : List Choice) → LeavesMore more (step_on t tasks state choices) (step_on t tasks state (choices ++ more))
+pub leaves_on : (t : Text) (tasks : List (TaskIn t)) (state : State t) (choices more : List Choice) → LeavesMore more (step_on t tasks state choices) (step_on t tasks state (choices ++ more))
 leaves_on t [] state choices more = refl
 leaves_on t (task ∷ rest) state choices more = leaves t task (record state { tasks = rest }) choices more
 

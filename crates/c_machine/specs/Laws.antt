@@ -1,8 +1,9 @@
 -- Laws of the machine.
-use Rattle.std.specs.Prelude.{◌≡◌, ◌⊎◌, List, [], ◌∷◌, ◌++◌}
+use Rattle.std.specs.Prelude.{◌≡◌, ℕ, ◌⊎◌, List, [], ◌∷◌, ◌++◌}
 use Rattle.choices.specs.declared.choice.Choice.{Choice}
 use Rattle.c_machine.specs.Program.{Program}
 use Rattle.c_machine.specs.State.{State, Outcome, Went, Waits, Ended, Faulted, NotYet, Stuck}
+use Rattle.c_machine.specs.Run.{run, run_of}
 use Rattle.c_machine.specs.Step.{step}
 use Rattle.c_machine.specs.Text.{Text}
 use Rattle.c_machine.specs.Trees.{text_of}
@@ -33,3 +34,14 @@ abbrev pub DoStepsLeaveMore : Type 0
 DoStepsLeaveMore =
     (p : Program) (state : State (text_of p)) (choices more : List Choice)
     → LeavesMore more (step (text_of p) state choices) (step (text_of p) state (choices ++ more))
+
+-- so do runs, from any state and from the start
+abbrev pub DoRunsLeaveMore : Type 0
+DoRunsLeaveMore =
+    (p : Program) (steps : ℕ) (state : State (text_of p)) (choices more : List Choice)
+    → LeavesMore more (run steps (text_of p) state choices) (run steps (text_of p) state (choices ++ more))
+
+abbrev pub DoProgramsLeaveMore : Type 0
+DoProgramsLeaveMore =
+    (p : Program) (steps : ℕ) (choices more : List Choice)
+    → LeavesMore more (run_of (text_of p) choices steps) (run_of (text_of p) (choices ++ more) steps)
