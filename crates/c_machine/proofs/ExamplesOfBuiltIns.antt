@@ -44,4 +44,9 @@ are_built_ins = record {
   input_for_block = refl;
   block_for_input = refl;
   over_a_live_block = refl;
+  both_arguments = refl;
+  zeros_of_no_bytes = refl;
+  allocation_waits = refl;
+  read_after_free = refl;
+  copy_to_dead = refl;
 }

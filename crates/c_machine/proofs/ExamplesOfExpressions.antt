@@ -62,4 +62,11 @@ are_expressions = record {
   array_of_inner_block = refl;
   comma = refl;
   cast = refl;
+  null_is_not = refl;
+  two_objects = refl;
+  padding_copied = refl;
+  empty_struct_copied = refl;
+  nested_choice = refl;
+  compound_narrows = refl;
+  remainder_assigned = refl;
 }

@@ -51,4 +51,11 @@ are_losses = record {
   lost_before_never_freed = refl;
   freed_at_return = refl;
   exit_while_one_lives = refl;
+  array_stays = refl;
+  pointer_in_a_struct = refl;
+  out_by_continue = refl;
+  at_return_in_for = refl;
+  at_inner_block_first = refl;
+  overwritten = refl;
+  still_held_elsewhere = refl;
 }

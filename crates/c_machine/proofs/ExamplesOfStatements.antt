@@ -29,4 +29,8 @@ are_statements = record {
   parameter_waits = refl;
   defined_function = refl;
   block_without_value = refl;
+  break_leaves_one_loop = refl;
+  break_in_initialiser = refl;
+  break_in_last_part = refl;
+  dead_behind_its_block = refl;
 }

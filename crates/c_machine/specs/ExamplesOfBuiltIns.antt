@@ -1074,6 +1074,153 @@ over_a_live_block_text = record {
   strict = false;
 }
 
+-- __builtin_expect(3, «1»*(int *)0);
+abbrev pub both_arguments_text : Sheet
+both_arguments_text = record {
+  exprs = names a_long 6 (BuiltInStands (codes "__builtin_expect") (a_long ∷ a_long ∷ []) a_long) ∷
+      is an_int 8 (Known (Some 3)) ∷
+      is an_int 15 (Known (Some 0)) ∷
+      is (Pointer 4) 11 (Cast 2) ∷
+      is an_int 10 (Unary Follow 3) ∷
+      is a_long 6 (Call 0 (1 ∷ 4 ∷ [])) ∷
+      is an_int 19 (Known (Some 0)) ∷ [];
+  stmts = does 6 17 (Eval (Some 5)) ∷
+      does 18 20 (Return (Some 6)) ∷ [];
+  inits = [];
+  automatic = [];
+  stores = [];
+  linked = [];
+  statics = [];
+  sets = [];
+  params = [];
+  body = (0 ∷ 1 ∷ []);
+  close = 21;
+  strict = false;
+}
+
+-- char *p = calloc(0, 8); if (!p) return 0; p«2»[0];
+abbrev pub zeros_of_no_bytes_text : Sheet
+zeros_of_no_bytes_text = record {
+  exprs = names (Pointer 1) 10 (BuiltInStands (codes "calloc") (a_size ∷ a_size ∷ []) (Pointer 1)) ∷
+      is an_int 12 (Known (Some 0)) ∷
+      is an_int 14 (Known (Some 8)) ∷
+      is (Pointer 1) 10 (Call 0 (1 ∷ 2 ∷ [])) ∷
+      names (Pointer 1) 20 (ObjectStands 8) ∷
+      is an_int 19 (Unary Not 4) ∷
+      is an_int 23 (Known (Some 0)) ∷
+      names (Pointer 1) 25 (ObjectStands 8) ∷
+      is an_int 27 (Known (Some 0)) ∷
+      is a_char 26 (Index 7 8) ∷
+      is an_int 31 (Known (Some 0)) ∷ [];
+  stmts = does 6 16 (Declare ((record { place = token 8; init = Some 0 } ∷ []))) ∷
+      does 22 24 (Return (Some 6)) ∷
+      does 17 24 (If 5 (token 21) 1 None) ∷
+      does 25 29 (Eval (Some 9)) ∷
+      does 30 32 (Return (Some 10)) ∷ [];
+  inits = Value 3 (token 16) ∷ [];
+  automatic = ((8, 8) ∷ []);
+  stores = sets_at 8 3 0 (Pointer 1) ∷ [];
+  linked = [];
+  statics = [];
+  sets = [];
+  params = [];
+  body = (0 ∷ 2 ∷ 3 ∷ 4 ∷ []);
+  close = 33;
+  strict = false;
+}
+
+-- void *p = malloc(8);
+abbrev pub allocation_waits_text : Sheet
+allocation_waits_text = record {
+  exprs = names (Pointer 1) 10 (BuiltInStands (codes "malloc") (a_size ∷ []) (Pointer 1)) ∷
+      is an_int 12 (Known (Some 8)) ∷
+      is (Pointer 1) 10 (Call 0 (1 ∷ [])) ∷
+      is an_int 16 (Known (Some 0)) ∷ [];
+  stmts = does 6 14 (Declare ((record { place = token 8; init = Some 0 } ∷ []))) ∷
+      does 15 17 (Return (Some 3)) ∷ [];
+  inits = Value 2 (token 14) ∷ [];
+  automatic = ((8, 8) ∷ []);
+  stores = sets_at 8 2 0 (Pointer 1) ∷ [];
+  linked = [];
+  statics = [];
+  sets = [];
+  params = [];
+  body = (0 ∷ 1 ∷ []);
+  close = 18;
+  strict = false;
+}
+
+-- int *p = malloc(4); if (!p) return 0; free(p); «3»*p;
+abbrev pub read_after_free_text : Sheet
+read_after_free_text = record {
+  exprs = names (Pointer 1) 10 (BuiltInStands (codes "malloc") (a_size ∷ []) (Pointer 1)) ∷
+      is an_int 12 (Known (Some 4)) ∷
+      is (Pointer 1) 10 (Call 0 (1 ∷ [])) ∷
+      names (Pointer 4) 18 (ObjectStands 8) ∷
+      is an_int 17 (Unary Not 3) ∷
+      is an_int 21 (Known (Some 0)) ∷
+      names Void 23 (BuiltInStands (codes "free") ((Pointer 1) ∷ []) Void) ∷
+      names (Pointer 4) 25 (ObjectStands 8) ∷
+      is Void 23 (Call 6 (7 ∷ [])) ∷
+      names (Pointer 4) 29 (ObjectStands 8) ∷
+      is an_int 28 (Unary Follow 9) ∷
+      is an_int 32 (Known (Some 0)) ∷ [];
+  stmts = does 6 14 (Declare ((record { place = token 8; init = Some 0 } ∷ []))) ∷
+      does 20 22 (Return (Some 5)) ∷
+      does 15 22 (If 4 (token 19) 1 None) ∷
+      does 23 27 (Eval (Some 8)) ∷
+      does 28 30 (Eval (Some 10)) ∷
+      does 31 33 (Return (Some 11)) ∷ [];
+  inits = Value 2 (token 14) ∷ [];
+  automatic = ((8, 8) ∷ []);
+  stores = sets_at 8 2 0 (Pointer 4) ∷ [];
+  linked = [];
+  statics = [];
+  sets = [];
+  params = [];
+  body = (0 ∷ 2 ∷ 3 ∷ 4 ∷ 5 ∷ []);
+  close = 34;
+  strict = false;
+}
+
+-- char *p = malloc(4); if (!p) return 0; free(p); char a[4]; «3»memcpy(p, a, 4);
+abbrev pub copy_to_dead_text : Sheet
+copy_to_dead_text = record {
+  exprs = names (Pointer 1) 10 (BuiltInStands (codes "malloc") (a_size ∷ []) (Pointer 1)) ∷
+      is an_int 12 (Known (Some 4)) ∷
+      is (Pointer 1) 10 (Call 0 (1 ∷ [])) ∷
+      names (Pointer 1) 18 (ObjectStands 8) ∷
+      is an_int 17 (Unary Not 3) ∷
+      is an_int 21 (Known (Some 0)) ∷
+      names Void 23 (BuiltInStands (codes "free") ((Pointer 1) ∷ []) Void) ∷
+      names (Pointer 1) 25 (ObjectStands 8) ∷
+      is Void 23 (Call 6 (7 ∷ [])) ∷
+      is an_int 31 (Known (Some 4)) ∷
+      names (Pointer 1) 34 (BuiltInStands (codes "memcpy") ((Pointer 1) ∷ (Pointer 1) ∷ a_size ∷ []) (Pointer 1)) ∷
+      names (Pointer 1) 36 (ObjectStands 8) ∷
+      names (Array 1) 38 (ObjectStands 29) ∷
+      is an_int 40 (Known (Some 4)) ∷
+      is (Pointer 1) 34 (Call 10 (11 ∷ 12 ∷ 13 ∷ [])) ∷
+      is an_int 44 (Known (Some 0)) ∷ [];
+  stmts = does 6 14 (Declare ((record { place = token 8; init = Some 0 } ∷ []))) ∷
+      does 20 22 (Return (Some 5)) ∷
+      does 15 22 (If 4 (token 19) 1 None) ∷
+      does 23 27 (Eval (Some 8)) ∷
+      does 28 33 (Declare ((record { place = token 29; init = None } ∷ []))) ∷
+      does 34 42 (Eval (Some 14)) ∷
+      does 43 45 (Return (Some 15)) ∷ [];
+  inits = Value 2 (token 14) ∷ [];
+  automatic = ((8, 8) ∷ (29, 4) ∷ []);
+  stores = sets_at 8 2 0 (Pointer 1) ∷ [];
+  linked = [];
+  statics = [];
+  sets = [];
+  params = [];
+  body = (0 ∷ 2 ∷ 3 ∷ 4 ∷ 5 ∷ 6 ∷ []);
+  close = 46;
+  strict = false;
+}
+
 -- functions that are built in (C11 7.22.3, 7.24), and the choices that are asked for
 pub record AreBuiltIns : Type 0 where
   -- void *p = malloc(8); free(p); «5»free(p);
@@ -1152,3 +1299,13 @@ pub record AreBuiltIns : Type 0 where
   pub block_for_input : ComesTo block_for_input_text (NewBlock 16 (zeros 4) ∷ NewBlock 32 (zeros 4) ∷ []) Ended
   -- int x; int y; *(int *)0 = 1;
   pub over_a_live_block : ComesTo over_a_live_block_text (NewBlock 16 (zeros 4) ∷ NewBlock 16 (zeros 4) ∷ []) Ended
+  -- __builtin_expect(3, «1»*(int *)0);
+  pub both_arguments : ComesTo both_arguments_text [] (Faulted 1 (token 10))
+  -- char *p = calloc(0, 8); if (!p) return 0; p«2»[0];
+  pub zeros_of_no_bytes : ComesTo zeros_of_no_bytes_text (NewBlock 16 (zeros 8) ∷ NewBlock 32 (zeros 0) ∷ []) (Faulted 2 (token 26))
+  -- void *p = malloc(8);
+  pub allocation_waits : ComesTo allocation_waits_text (NewBlock 16 (zeros 8) ∷ []) Waits
+  -- int *p = malloc(4); if (!p) return 0; free(p); «3»*p;
+  pub read_after_free : ComesTo read_after_free_text (NewBlock 16 (zeros 8) ∷ NewBlock 32 (zeros 4) ∷ []) (Faulted 3 (token 28))
+  -- char *p = malloc(4); if (!p) return 0; free(p); char a[4]; «3»memcpy(p, a, 4);
+  pub copy_to_dead : ComesTo copy_to_dead_text (NewBlock 16 (zeros 8) ∷ NewBlock 32 (zeros 4) ∷ NewBlock 48 (zeros 4) ∷ []) (Faulted 3 (token 34))

@@ -1,7 +1,7 @@
 -- Worked examples of expressions, from left to right: programs with choices, and what they come to, worked out by hand. «7» stands before the token at which
 -- a fault of kind 7 is met, and tokens are counted from 0. Without a function a text stands in `int main(void) { .. return 0; }`.
 use Rattle.std.specs.Prelude.{true, false, [], ◌∷◌, None, Some, codes}
-use Rattle.cbase.specs.declared.tree.operators.BinaryOp.TheVariants.{Div, Rem, Add, Sub, Left, Right, Less, Greater, Equal, And, Xor, Or, Both, Either, Comma}
+use Rattle.cbase.specs.declared.tree.operators.BinaryOp.TheVariants.{Div, Rem, Add, Sub, Left, Right, Less, Greater, Equal, NotEqual, And, Xor, Or, Both, Either, Comma}
 use Rattle.cbase.specs.declared.tree.operators.UnaryOp.TheVariants.{Address, Follow, Plus, Minus, Flip, Not}
 use Rattle.choices.specs.declared.choice.Choice.TheVariants.{Block as NewBlock}
 use Rattle.typing.specs.Sample.{token}
@@ -1874,6 +1874,248 @@ cast_text = record {
   strict = false;
 }
 
+-- int *q = 0; if (!q) «1»*(int *)0 = 1;
+abbrev pub null_is_not_text : Sheet
+null_is_not_text = record {
+  exprs = is an_int 10 (Known (Some 0)) ∷
+      names (Pointer 4) 15 (ObjectStands 8) ∷
+      is an_int 14 (Unary Not 1) ∷
+      is an_int 22 (Known (Some 0)) ∷
+      is (Pointer 4) 18 (Cast 3) ∷
+      is an_int 17 (Unary Follow 4) ∷
+      is an_int 24 (Known (Some 1)) ∷
+      is an_int 23 (Assign None 5 6) ∷
+      is an_int 27 (Known (Some 0)) ∷ [];
+  stmts = does 6 11 (Declare ((record { place = token 8; init = Some 0 } ∷ []))) ∷
+      does 17 25 (Eval (Some 7)) ∷
+      does 12 25 (If 2 (token 16) 1 None) ∷
+      does 26 28 (Return (Some 8)) ∷ [];
+  inits = Value 0 (token 11) ∷ [];
+  automatic = ((8, 8) ∷ []);
+  stores = sets_at 8 0 0 (Pointer 4) ∷ [];
+  linked = [];
+  statics = [];
+  sets = [];
+  params = [];
+  body = (0 ∷ 2 ∷ 3 ∷ []);
+  close = 29;
+  strict = false;
+}
+
+-- int a[2]; int b[2]; if (a != b) «1»*(int *)0 = 1;
+abbrev pub two_objects_text : Sheet
+two_objects_text = record {
+  exprs = is an_int 9 (Known (Some 2)) ∷
+      is an_int 15 (Known (Some 2)) ∷
+      names (Array 4) 20 (ObjectStands 7) ∷
+      names (Array 4) 22 (ObjectStands 13) ∷
+      is an_int 21 (Binary NotEqual 2 3) ∷
+      is an_int 29 (Known (Some 0)) ∷
+      is (Pointer 4) 25 (Cast 5) ∷
+      is an_int 24 (Unary Follow 6) ∷
+      is an_int 31 (Known (Some 1)) ∷
+      is an_int 30 (Assign None 7 8) ∷
+      is an_int 34 (Known (Some 0)) ∷ [];
+  stmts = does 6 11 (Declare ((record { place = token 7; init = None } ∷ []))) ∷
+      does 12 17 (Declare ((record { place = token 13; init = None } ∷ []))) ∷
+      does 24 32 (Eval (Some 9)) ∷
+      does 18 32 (If 4 (token 23) 2 None) ∷
+      does 33 35 (Return (Some 10)) ∷ [];
+  inits = [];
+  automatic = ((7, 8) ∷ (13, 8) ∷ []);
+  stores = [];
+  linked = [];
+  statics = [];
+  sets = [];
+  params = [];
+  body = (0 ∷ 1 ∷ 3 ∷ 4 ∷ []);
+  close = 36;
+  strict = false;
+}
+
+-- struct t { char a; long b; }; int main(void) { struct t x; struct t y; memset(&x, 7, 16); y = x; if (((char *)&y)[3] == 7) «1»*(int *)0 = 1; return 0; }
+abbrev pub padding_copied_text : Sheet
+padding_copied_text = record {
+  exprs = names (Pointer 1) 25 (BuiltInStands (codes "memset") ((Pointer 1) ∷ an_int ∷ a_size ∷ []) (Pointer 1)) ∷
+      names (Struct 16) 28 (ObjectStands 19) ∷
+      is (Pointer 16) 27 (Unary Address 1) ∷
+      is an_int 30 (Known (Some 7)) ∷
+      is an_int 32 (Known (Some 16)) ∷
+      is (Pointer 1) 25 (Call 0 (2 ∷ 3 ∷ 4 ∷ [])) ∷
+      names (Struct 16) 35 (ObjectStands 23) ∷
+      names (Struct 16) 37 (ObjectStands 19) ∷
+      is Void 36 (Assign None 6 7) ∷
+      names (Struct 16) 47 (ObjectStands 23) ∷
+      is (Pointer 16) 46 (Unary Address 9) ∷
+      is (Pointer 1) 42 (Cast 10) ∷
+      is an_int 50 (Known (Some 3)) ∷
+      is a_char 49 (Index 11 12) ∷
+      is an_int 53 (Known (Some 7)) ∷
+      is an_int 52 (Binary Equal 13 14) ∷
+      is an_int 60 (Known (Some 0)) ∷
+      is (Pointer 4) 56 (Cast 16) ∷
+      is an_int 55 (Unary Follow 17) ∷
+      is an_int 62 (Known (Some 1)) ∷
+      is an_int 61 (Assign None 18 19) ∷
+      is an_int 65 (Known (Some 0)) ∷ [];
+  stmts = does 17 20 (Declare ((record { place = token 19; init = None } ∷ []))) ∷
+      does 21 24 (Declare ((record { place = token 23; init = None } ∷ []))) ∷
+      does 25 34 (Eval (Some 5)) ∷
+      does 35 38 (Eval (Some 8)) ∷
+      does 55 63 (Eval (Some 20)) ∷
+      does 39 63 (If 15 (token 54) 4 None) ∷
+      does 64 66 (Return (Some 21)) ∷ [];
+  inits = [];
+  automatic = ((19, 16) ∷ (23, 16) ∷ []);
+  stores = [];
+  linked = [];
+  statics = [];
+  sets = [];
+  params = [];
+  body = (0 ∷ 1 ∷ 2 ∷ 3 ∷ 5 ∷ 6 ∷ []);
+  close = 67;
+  strict = false;
+}
+
+-- struct e { }; int main(void) { struct e *p = 0; struct e x; x = *p; if (1) «1»*(int *)0 = 1; return 0; }
+abbrev pub empty_struct_copied_text : Sheet
+empty_struct_copied_text = record {
+  exprs = is an_int 16 (Known (Some 0)) ∷
+      names (Struct 0) 22 (ObjectStands 20) ∷
+      names (Pointer 0) 25 (ObjectStands 14) ∷
+      is (Struct 0) 24 (Unary Follow 2) ∷
+      is Void 23 (Assign None 1 3) ∷
+      is an_int 29 (Known (Some 1)) ∷
+      is an_int 36 (Known (Some 0)) ∷
+      is (Pointer 4) 32 (Cast 6) ∷
+      is an_int 31 (Unary Follow 7) ∷
+      is an_int 38 (Known (Some 1)) ∷
+      is an_int 37 (Assign None 8 9) ∷
+      is an_int 41 (Known (Some 0)) ∷ [];
+  stmts = does 11 17 (Declare ((record { place = token 14; init = Some 0 } ∷ []))) ∷
+      does 18 21 (Declare ((record { place = token 20; init = None } ∷ []))) ∷
+      does 22 26 (Eval (Some 4)) ∷
+      does 31 39 (Eval (Some 10)) ∷
+      does 27 39 (If 5 (token 30) 3 None) ∷
+      does 40 42 (Return (Some 11)) ∷ [];
+  inits = Value 0 (token 17) ∷ [];
+  automatic = ((14, 8) ∷ (20, 0) ∷ []);
+  stores = sets_at 14 0 0 (Pointer 0) ∷ [];
+  linked = [];
+  statics = [];
+  sets = [];
+  params = [];
+  body = (0 ∷ 1 ∷ 2 ∷ 4 ∷ 5 ∷ []);
+  close = 43;
+  strict = false;
+}
+
+-- int n = 0; if ((n ? 1 : n == 0 ? 2 : 3) == 2) «1»*(int *)0 = 1;
+abbrev pub nested_choice_text : Sheet
+nested_choice_text = record {
+  exprs = is an_int 9 (Known (Some 0)) ∷
+      names an_int 14 (ObjectStands 7) ∷
+      is an_int 16 (Known (Some 1)) ∷
+      names an_int 18 (ObjectStands 7) ∷
+      is an_int 20 (Known (Some 0)) ∷
+      is an_int 19 (Binary Equal 3 4) ∷
+      is an_int 22 (Known (Some 2)) ∷
+      is an_int 24 (Known (Some 3)) ∷
+      is an_int 21 (Choose 5 6 7) ∷
+      is an_int 15 (Choose 1 2 8) ∷
+      is an_int 27 (Known (Some 2)) ∷
+      is an_int 26 (Binary Equal 9 10) ∷
+      is an_int 34 (Known (Some 0)) ∷
+      is (Pointer 4) 30 (Cast 12) ∷
+      is an_int 29 (Unary Follow 13) ∷
+      is an_int 36 (Known (Some 1)) ∷
+      is an_int 35 (Assign None 14 15) ∷
+      is an_int 39 (Known (Some 0)) ∷ [];
+  stmts = does 6 10 (Declare ((record { place = token 7; init = Some 0 } ∷ []))) ∷
+      does 29 37 (Eval (Some 16)) ∷
+      does 11 37 (If 11 (token 28) 1 None) ∷
+      does 38 40 (Return (Some 17)) ∷ [];
+  inits = Value 0 (token 10) ∷ [];
+  automatic = ((7, 4) ∷ []);
+  stores = sets_at 7 0 0 an_int ∷ [];
+  linked = [];
+  statics = [];
+  sets = [];
+  params = [];
+  body = (0 ∷ 2 ∷ 3 ∷ []);
+  close = 41;
+  strict = false;
+}
+
+-- char c = 100; c += 100; if (c == -56) «1»*(int *)0 = 1;
+abbrev pub compound_narrows_text : Sheet
+compound_narrows_text = record {
+  exprs = is an_int 9 (Known (Some 100)) ∷
+      names a_char 11 (ObjectStands 7) ∷
+      is an_int 13 (Known (Some 100)) ∷
+      is a_char 12 (Assign (Some Add) 1 2) ∷
+      names a_char 17 (ObjectStands 7) ∷
+      is an_int 20 (Known (Some 56)) ∷
+      is an_int 19 (Unary Minus 5) ∷
+      is an_int 18 (Binary Equal 4 6) ∷
+      is an_int 27 (Known (Some 0)) ∷
+      is (Pointer 4) 23 (Cast 8) ∷
+      is an_int 22 (Unary Follow 9) ∷
+      is an_int 29 (Known (Some 1)) ∷
+      is an_int 28 (Assign None 10 11) ∷
+      is an_int 32 (Known (Some 0)) ∷ [];
+  stmts = does 6 10 (Declare ((record { place = token 7; init = Some 0 } ∷ []))) ∷
+      does 11 14 (Eval (Some 3)) ∷
+      does 22 30 (Eval (Some 12)) ∷
+      does 15 30 (If 7 (token 21) 2 None) ∷
+      does 31 33 (Return (Some 13)) ∷ [];
+  inits = Value 0 (token 10) ∷ [];
+  automatic = ((7, 1) ∷ []);
+  stores = sets_at 7 0 0 a_char ∷ [];
+  linked = [];
+  statics = [];
+  sets = [];
+  params = [];
+  body = (0 ∷ 1 ∷ 3 ∷ 4 ∷ []);
+  close = 34;
+  strict = false;
+}
+
+-- int n = -7; n %= 3; if (n == -1) «1»*(int *)0 = 1;
+abbrev pub remainder_assigned_text : Sheet
+remainder_assigned_text = record {
+  exprs = is an_int 10 (Known (Some 7)) ∷
+      is an_int 9 (Unary Minus 0) ∷
+      names an_int 12 (ObjectStands 7) ∷
+      is an_int 14 (Known (Some 3)) ∷
+      is an_int 13 (Assign (Some Rem) 2 3) ∷
+      names an_int 18 (ObjectStands 7) ∷
+      is an_int 21 (Known (Some 1)) ∷
+      is an_int 20 (Unary Minus 6) ∷
+      is an_int 19 (Binary Equal 5 7) ∷
+      is an_int 28 (Known (Some 0)) ∷
+      is (Pointer 4) 24 (Cast 9) ∷
+      is an_int 23 (Unary Follow 10) ∷
+      is an_int 30 (Known (Some 1)) ∷
+      is an_int 29 (Assign None 11 12) ∷
+      is an_int 33 (Known (Some 0)) ∷ [];
+  stmts = does 6 11 (Declare ((record { place = token 7; init = Some 0 } ∷ []))) ∷
+      does 12 15 (Eval (Some 4)) ∷
+      does 23 31 (Eval (Some 13)) ∷
+      does 16 31 (If 8 (token 22) 2 None) ∷
+      does 32 34 (Return (Some 14)) ∷ [];
+  inits = Value 1 (token 11) ∷ [];
+  automatic = ((7, 4) ∷ []);
+  stores = sets_at 7 1 0 an_int ∷ [];
+  linked = [];
+  statics = [];
+  sets = [];
+  params = [];
+  body = (0 ∷ 1 ∷ 3 ∷ 4 ∷ []);
+  close = 35;
+  strict = false;
+}
+
 -- expressions, from left to right (C11 6.5)
 pub record AreExpressions : Type 0 where
   -- int x; x = 3; if (x == 3) «1»*(int *)0 = 1;
@@ -1988,3 +2230,17 @@ pub record AreExpressions : Type 0 where
   pub comma : ComesTo comma_text (NewBlock 16 (zeros 4) ∷ []) (Faulted 1 (token 21))
   -- int n = 511; if ((unsigned char)n == 255 && (char)n == -1 && (_Bool)n == 1) «1»*(int *)0 = 1;
   pub cast : ComesTo cast_text (NewBlock 16 (zeros 4) ∷ []) (Faulted 1 (token 36))
+  -- int *q = 0; if (!q) «1»*(int *)0 = 1;
+  pub null_is_not : ComesTo null_is_not_text (NewBlock 16 (zeros 8) ∷ []) (Faulted 1 (token 17))
+  -- int a[2]; int b[2]; if (a != b) «1»*(int *)0 = 1;
+  pub two_objects : ComesTo two_objects_text (NewBlock 16 (zeros 8) ∷ NewBlock 32 (zeros 8) ∷ []) (Faulted 1 (token 24))
+  -- struct t { char a; long b; }; int main(void) { struct t x; struct t y; memset(&x, 7, 16); y = x; if (((char *)&y)[3] == 7) «1»*(int *)0 = 1; return 0; }
+  pub padding_copied : ComesTo padding_copied_text (NewBlock 16 (zeros 16) ∷ NewBlock 32 (zeros 16) ∷ []) (Faulted 1 (token 55))
+  -- struct e { }; int main(void) { struct e *p = 0; struct e x; x = *p; if (1) «1»*(int *)0 = 1; return 0; }
+  pub empty_struct_copied : ComesTo empty_struct_copied_text (NewBlock 16 (zeros 8) ∷ NewBlock 32 (zeros 0) ∷ []) (Faulted 1 (token 31))
+  -- int n = 0; if ((n ? 1 : n == 0 ? 2 : 3) == 2) «1»*(int *)0 = 1;
+  pub nested_choice : ComesTo nested_choice_text (NewBlock 16 (zeros 4) ∷ []) (Faulted 1 (token 29))
+  -- char c = 100; c += 100; if (c == -56) «1»*(int *)0 = 1;
+  pub compound_narrows : ComesTo compound_narrows_text (NewBlock 16 (zeros 1) ∷ []) (Faulted 1 (token 22))
+  -- int n = -7; n %= 3; if (n == -1) «1»*(int *)0 = 1;
+  pub remainder_assigned : ComesTo remainder_assigned_text (NewBlock 16 (zeros 4) ∷ []) (Faulted 1 (token 23))

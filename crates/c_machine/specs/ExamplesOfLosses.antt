@@ -1,11 +1,11 @@
 -- Worked examples of where lost memory is looked for: programs with choices, and what they come to, worked out by hand. «7» stands before the token at which
 -- a fault of kind 7 is met, and tokens are counted from 0. Without a function a text stands in `int main(void) { .. return 0; }`.
 use Rattle.std.specs.Prelude.{true, false, [], ◌∷◌, None, Some, codes}
-use Rattle.cbase.specs.declared.tree.operators.BinaryOp.TheVariants.{Equal, Both, Comma}
+use Rattle.cbase.specs.declared.tree.operators.BinaryOp.TheVariants.{Less, Equal, Both, Comma}
 use Rattle.cbase.specs.declared.tree.operators.UnaryOp.TheVariants.{Address, Follow, Not}
 use Rattle.choices.specs.declared.choice.Choice.TheVariants.{None as NoBlock, Block as NewBlock}
 use Rattle.typing.specs.Sample.{token}
-use Rattle.c_machine.specs.Text.{Pointer, Void, ObjectStands, BuiltInStands, Known, Unary, Binary, Assign, Choose, Cast, Member, Call, Inner, Value, Braces, Declare, Eval, Block, If, While, Do, For, Break, Continue, Return}
+use Rattle.c_machine.specs.Text.{Pointer, Struct, Void, ObjectStands, BuiltInStands, Known, Unary, Binary, Assign, Count, Choose, Cast, Index, Member, Call, Inner, Value, Braces, Declare, Eval, Block, If, While, Do, For, Break, Continue, Return}
 use Rattle.c_machine.specs.State.{Ended, Faulted}
 use Rattle.c_machine.specs.Sheet.{Sheet, is, names, does, sets_at, object, an_int, a_long, a_size, zeros, ComesTo}
 
@@ -1200,6 +1200,234 @@ exit_while_one_lives_text = record {
   strict = true;
 }
 
+-- ((int *)malloc(4))[({ 0; 0; })]«7»;
+abbrev pub array_stays_text : Sheet
+array_stays_text = record {
+  exprs = names (Pointer 1) 11 (BuiltInStands (codes "malloc") (a_size ∷ []) (Pointer 1)) ∷
+      is an_int 13 (Known (Some 4)) ∷
+      is (Pointer 1) 11 (Call 0 (1 ∷ [])) ∷
+      is (Pointer 4) 7 (Cast 2) ∷
+      is an_int 19 (Known (Some 0)) ∷
+      is an_int 21 (Known (Some 0)) ∷
+      is an_int 17 (Inner (0 ∷ 1 ∷ []) (token 23)) ∷
+      is an_int 16 (Index 3 6) ∷
+      is an_int 28 (Known (Some 0)) ∷ [];
+  stmts = does 19 20 (Eval (Some 4)) ∷
+      does 21 22 (Eval (Some 5)) ∷
+      does 6 26 (Eval (Some 7)) ∷
+      does 27 29 (Return (Some 8)) ∷ [];
+  inits = [];
+  automatic = [];
+  stores = [];
+  linked = [];
+  statics = [];
+  sets = [];
+  params = [];
+  body = (2 ∷ 3 ∷ []);
+  close = 30;
+  strict = false;
+}
+
+-- struct n { struct n *next; int v; }; int main(void) { struct n x; struct n y; x.next = malloc(16); y = x; x.next = 0; y.next = 0«7»; return 0; }
+abbrev pub pointer_in_a_struct_text : Sheet
+pointer_in_a_struct_text = record {
+  exprs = names (Struct 16) 27 (ObjectStands 21) ∷
+      is (Pointer 16) 28 (Member 0 0 false) ∷
+      names (Pointer 1) 31 (BuiltInStands (codes "malloc") (a_size ∷ []) (Pointer 1)) ∷
+      is an_int 33 (Known (Some 16)) ∷
+      is (Pointer 1) 31 (Call 2 (3 ∷ [])) ∷
+      is (Pointer 16) 30 (Assign None 1 4) ∷
+      names (Struct 16) 36 (ObjectStands 25) ∷
+      names (Struct 16) 38 (ObjectStands 21) ∷
+      is Void 37 (Assign None 6 7) ∷
+      names (Struct 16) 40 (ObjectStands 21) ∷
+      is (Pointer 16) 41 (Member 9 0 false) ∷
+      is an_int 44 (Known (Some 0)) ∷
+      is (Pointer 16) 43 (Assign None 10 11) ∷
+      names (Struct 16) 46 (ObjectStands 25) ∷
+      is (Pointer 16) 47 (Member 13 0 false) ∷
+      is an_int 50 (Known (Some 0)) ∷
+      is (Pointer 16) 49 (Assign None 14 15) ∷
+      is an_int 53 (Known (Some 0)) ∷ [];
+  stmts = does 19 22 (Declare ((record { place = token 21; init = None } ∷ []))) ∷
+      does 23 26 (Declare ((record { place = token 25; init = None } ∷ []))) ∷
+      does 27 35 (Eval (Some 5)) ∷
+      does 36 39 (Eval (Some 8)) ∷
+      does 40 45 (Eval (Some 12)) ∷
+      does 46 51 (Eval (Some 16)) ∷
+      does 52 54 (Return (Some 17)) ∷ [];
+  inits = [];
+  automatic = ((21, 16) ∷ (25, 16) ∷ []);
+  stores = [];
+  linked = [];
+  statics = [];
+  sets = [];
+  params = [];
+  body = (0 ∷ 1 ∷ 2 ∷ 3 ∷ 4 ∷ 5 ∷ 6 ∷ []);
+  close = 55;
+  strict = false;
+}
+
+-- int n = 0; while (n < 2) { n++; malloc(8) == ({ «7»continue; (void *)0; }); }
+abbrev pub out_by_continue_text : Sheet
+out_by_continue_text = record {
+  exprs = is an_int 9 (Known (Some 0)) ∷
+      names an_int 13 (ObjectStands 7) ∷
+      is an_int 15 (Known (Some 2)) ∷
+      is an_int 14 (Binary Less 1 2) ∷
+      names an_int 18 (ObjectStands 7) ∷
+      is an_int 19 (Count true true 4) ∷
+      names (Pointer 1) 21 (BuiltInStands (codes "malloc") (a_size ∷ []) (Pointer 1)) ∷
+      is an_int 23 (Known (Some 8)) ∷
+      is (Pointer 1) 21 (Call 6 (7 ∷ [])) ∷
+      is an_int 34 (Known (Some 0)) ∷
+      is (Pointer 1) 30 (Cast 9) ∷
+      is (Pointer 1) 26 (Inner (2 ∷ 3 ∷ []) (token 36)) ∷
+      is an_int 25 (Binary Equal 8 11) ∷
+      is an_int 41 (Known (Some 0)) ∷ [];
+  stmts = does 6 10 (Declare ((record { place = token 7; init = Some 0 } ∷ []))) ∷
+      does 18 20 (Eval (Some 5)) ∷
+      does 28 29 Continue ∷
+      does 30 35 (Eval (Some 10)) ∷
+      does 21 38 (Eval (Some 12)) ∷
+      does 17 39 (Block (1 ∷ 4 ∷ [])) ∷
+      does 11 39 (While 3 (token 16) 5) ∷
+      does 40 42 (Return (Some 13)) ∷ [];
+  inits = Value 0 (token 10) ∷ [];
+  automatic = ((7, 4) ∷ []);
+  stores = sets_at 7 0 0 an_int ∷ [];
+  linked = [];
+  statics = [];
+  sets = [];
+  params = [];
+  body = (0 ∷ 6 ∷ 7 ∷ []);
+  close = 43;
+  strict = false;
+}
+
+-- for (void *q = malloc(8);;) { «7»return 0; }
+abbrev pub at_return_in_for_text : Sheet
+at_return_in_for_text = record {
+  exprs = names (Pointer 1) 12 (BuiltInStands (codes "malloc") (a_size ∷ []) (Pointer 1)) ∷
+      is an_int 14 (Known (Some 8)) ∷
+      is (Pointer 1) 12 (Call 0 (1 ∷ [])) ∷
+      is an_int 21 (Known (Some 0)) ∷
+      is an_int 25 (Known (Some 0)) ∷ [];
+  stmts = does 8 16 (Declare ((record { place = token 10; init = Some 0 } ∷ []))) ∷
+      does 20 22 (Return (Some 3)) ∷
+      does 19 23 (Block (1 ∷ [])) ∷
+      does 6 23 (For 0 None (token 17) None (token 18) 2) ∷
+      does 24 26 (Return (Some 4)) ∷ [];
+  inits = Value 2 (token 16) ∷ [];
+  automatic = ((10, 8) ∷ []);
+  stores = sets_at 10 2 0 (Pointer 1) ∷ [];
+  linked = [];
+  statics = [];
+  sets = [];
+  params = [];
+  body = (3 ∷ 4 ∷ []);
+  close = 27;
+  strict = false;
+}
+
+-- void *q = malloc(8); { void *r = q; q = 0; «7»}
+abbrev pub at_inner_block_first_text : Sheet
+at_inner_block_first_text = record {
+  exprs = names (Pointer 1) 10 (BuiltInStands (codes "malloc") (a_size ∷ []) (Pointer 1)) ∷
+      is an_int 12 (Known (Some 8)) ∷
+      is (Pointer 1) 10 (Call 0 (1 ∷ [])) ∷
+      names (Pointer 1) 20 (ObjectStands 8) ∷
+      names (Pointer 1) 22 (ObjectStands 8) ∷
+      is an_int 24 (Known (Some 0)) ∷
+      is (Pointer 1) 23 (Assign None 4 5) ∷
+      is an_int 28 (Known (Some 0)) ∷ [];
+  stmts = does 6 14 (Declare ((record { place = token 8; init = Some 0 } ∷ []))) ∷
+      does 16 21 (Declare ((record { place = token 18; init = Some 1 } ∷ []))) ∷
+      does 22 25 (Eval (Some 6)) ∷
+      does 15 26 (Block (1 ∷ 2 ∷ [])) ∷
+      does 27 29 (Return (Some 7)) ∷ [];
+  inits = Value 2 (token 14) ∷
+      Value 3 (token 21) ∷ [];
+  automatic = ((8, 8) ∷ (18, 8) ∷ []);
+  stores = sets_at 8 2 0 (Pointer 1) ∷
+      sets_at 18 3 0 (Pointer 1) ∷ [];
+  linked = [];
+  statics = [];
+  sets = [];
+  params = [];
+  body = (0 ∷ 3 ∷ 4 ∷ []);
+  close = 30;
+  strict = false;
+}
+
+-- void *q = malloc(8); q = malloc(8)«7»;
+abbrev pub overwritten_text : Sheet
+overwritten_text = record {
+  exprs = names (Pointer 1) 10 (BuiltInStands (codes "malloc") (a_size ∷ []) (Pointer 1)) ∷
+      is an_int 12 (Known (Some 8)) ∷
+      is (Pointer 1) 10 (Call 0 (1 ∷ [])) ∷
+      names (Pointer 1) 15 (ObjectStands 8) ∷
+      names (Pointer 1) 17 (BuiltInStands (codes "malloc") (a_size ∷ []) (Pointer 1)) ∷
+      is an_int 19 (Known (Some 8)) ∷
+      is (Pointer 1) 17 (Call 4 (5 ∷ [])) ∷
+      is (Pointer 1) 16 (Assign None 3 6) ∷
+      is an_int 23 (Known (Some 0)) ∷ [];
+  stmts = does 6 14 (Declare ((record { place = token 8; init = Some 0 } ∷ []))) ∷
+      does 15 21 (Eval (Some 7)) ∷
+      does 22 24 (Return (Some 8)) ∷ [];
+  inits = Value 2 (token 14) ∷ [];
+  automatic = ((8, 8) ∷ []);
+  stores = sets_at 8 2 0 (Pointer 1) ∷ [];
+  linked = [];
+  statics = [];
+  sets = [];
+  params = [];
+  body = (0 ∷ 1 ∷ 2 ∷ []);
+  close = 25;
+  strict = false;
+}
+
+-- void *q = malloc(8); void *r = q; q = 0; free(r); if (1) «1»*(int *)0 = 1;
+abbrev pub still_held_elsewhere_text : Sheet
+still_held_elsewhere_text = record {
+  exprs = names (Pointer 1) 10 (BuiltInStands (codes "malloc") (a_size ∷ []) (Pointer 1)) ∷
+      is an_int 12 (Known (Some 8)) ∷
+      is (Pointer 1) 10 (Call 0 (1 ∷ [])) ∷
+      names (Pointer 1) 19 (ObjectStands 8) ∷
+      names (Pointer 1) 21 (ObjectStands 8) ∷
+      is an_int 23 (Known (Some 0)) ∷
+      is (Pointer 1) 22 (Assign None 4 5) ∷
+      names Void 25 (BuiltInStands (codes "free") ((Pointer 1) ∷ []) Void) ∷
+      names (Pointer 1) 27 (ObjectStands 17) ∷
+      is Void 25 (Call 7 (8 ∷ [])) ∷
+      is an_int 32 (Known (Some 1)) ∷
+      is an_int 39 (Known (Some 0)) ∷
+      is (Pointer 4) 35 (Cast 11) ∷
+      is an_int 34 (Unary Follow 12) ∷
+      is an_int 41 (Known (Some 1)) ∷
+      is an_int 40 (Assign None 13 14) ∷
+      is an_int 44 (Known (Some 0)) ∷ [];
+  stmts = does 6 14 (Declare ((record { place = token 8; init = Some 0 } ∷ []))) ∷
+      does 15 20 (Declare ((record { place = token 17; init = Some 1 } ∷ []))) ∷
+      does 21 24 (Eval (Some 6)) ∷
+      does 25 29 (Eval (Some 9)) ∷
+      does 34 42 (Eval (Some 15)) ∷
+      does 30 42 (If 10 (token 33) 4 None) ∷
+      does 43 45 (Return (Some 16)) ∷ [];
+  inits = Value 2 (token 14) ∷
+      Value 3 (token 20) ∷ [];
+  automatic = ((8, 8) ∷ (17, 8) ∷ []);
+  stores = sets_at 8 2 0 (Pointer 1) ∷
+      sets_at 17 3 0 (Pointer 1) ∷ [];
+  linked = [];
+  statics = [];
+  sets = [];
+  params = [];
+  body = (0 ∷ 1 ∷ 2 ∷ 3 ∷ 5 ∷ 6 ∷ []);
+  close = 46;
+  strict = false;
+}
+
 -- where lost memory is looked for
 pub record AreLosses : Type 0 where
   -- void *p = malloc(8); «7»return 0;
@@ -1292,3 +1520,17 @@ pub record AreLosses : Type 0 where
   pub freed_at_return : ComesTo freed_at_return_text (NewBlock 16 (zeros 8) ∷ NewBlock 32 (zeros 8) ∷ []) Ended
   -- void *q = malloc(8); exit(0);    (where no allocated block may live when main returns)
   pub exit_while_one_lives : ComesTo exit_while_one_lives_text (NewBlock 16 (zeros 8) ∷ NewBlock 32 (zeros 8) ∷ []) Ended
+  -- ((int *)malloc(4))[({ 0; 0; })]«7»;
+  pub array_stays : ComesTo array_stays_text (NewBlock 16 (zeros 4) ∷ []) (Faulted 7 (token 26))
+  -- struct n { struct n *next; int v; }; int main(void) { struct n x; struct n y; x.next = malloc(16); y = x; x.next = 0; y.next = 0«7»; return 0; }
+  pub pointer_in_a_struct : ComesTo pointer_in_a_struct_text (NewBlock 16 (zeros 16) ∷ NewBlock 32 (zeros 16) ∷ NewBlock 48 (zeros 16) ∷ []) (Faulted 7 (token 51))
+  -- int n = 0; while (n < 2) { n++; malloc(8) == ({ «7»continue; (void *)0; }); }
+  pub out_by_continue : ComesTo out_by_continue_text (NewBlock 16 (zeros 4) ∷ NewBlock 32 (zeros 8) ∷ []) (Faulted 7 (token 28))
+  -- for (void *q = malloc(8);;) { «7»return 0; }
+  pub at_return_in_for : ComesTo at_return_in_for_text (NewBlock 16 (zeros 8) ∷ NewBlock 32 (zeros 8) ∷ []) (Faulted 7 (token 20))
+  -- void *q = malloc(8); { void *r = q; q = 0; «7»}
+  pub at_inner_block_first : ComesTo at_inner_block_first_text (NewBlock 16 (zeros 8) ∷ NewBlock 32 (zeros 8) ∷ NewBlock 48 (zeros 8) ∷ []) (Faulted 7 (token 26))
+  -- void *q = malloc(8); q = malloc(8)«7»;
+  pub overwritten : ComesTo overwritten_text (NewBlock 16 (zeros 8) ∷ NewBlock 32 (zeros 8) ∷ NewBlock 48 (zeros 8) ∷ []) (Faulted 7 (token 21))
+  -- void *q = malloc(8); void *r = q; q = 0; free(r); if (1) «1»*(int *)0 = 1;
+  pub still_held_elsewhere : ComesTo still_held_elsewhere_text (NewBlock 16 (zeros 8) ∷ NewBlock 32 (zeros 8) ∷ NewBlock 48 (zeros 8) ∷ []) (Faulted 1 (token 34))

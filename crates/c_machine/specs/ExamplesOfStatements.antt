@@ -742,6 +742,155 @@ block_without_value_text = record {
   strict = false;
 }
 
+-- int n = 0; while (1) { while (1) break; n++; if (n == 2) break; } if (n == 2) «1»*(int *)0 = 1;
+abbrev pub break_leaves_one_loop_text : Sheet
+break_leaves_one_loop_text = record {
+  exprs = is an_int 9 (Known (Some 0)) ∷
+      is an_int 13 (Known (Some 1)) ∷
+      is an_int 18 (Known (Some 1)) ∷
+      names an_int 22 (ObjectStands 7) ∷
+      is an_int 23 (Count true true 3) ∷
+      names an_int 27 (ObjectStands 7) ∷
+      is an_int 29 (Known (Some 2)) ∷
+      is an_int 28 (Binary Equal 5 6) ∷
+      names an_int 36 (ObjectStands 7) ∷
+      is an_int 38 (Known (Some 2)) ∷
+      is an_int 37 (Binary Equal 8 9) ∷
+      is an_int 45 (Known (Some 0)) ∷
+      is (Pointer 4) 41 (Cast 11) ∷
+      is an_int 40 (Unary Follow 12) ∷
+      is an_int 47 (Known (Some 1)) ∷
+      is an_int 46 (Assign None 13 14) ∷
+      is an_int 50 (Known (Some 0)) ∷ [];
+  stmts = does 6 10 (Declare ((record { place = token 7; init = Some 0 } ∷ []))) ∷
+      does 20 21 Break ∷
+      does 16 21 (While 2 (token 19) 1) ∷
+      does 22 24 (Eval (Some 4)) ∷
+      does 31 32 Break ∷
+      does 25 32 (If 7 (token 30) 4 None) ∷
+      does 15 33 (Block (2 ∷ 3 ∷ 5 ∷ [])) ∷
+      does 11 33 (While 1 (token 14) 6) ∷
+      does 40 48 (Eval (Some 15)) ∷
+      does 34 48 (If 10 (token 39) 8 None) ∷
+      does 49 51 (Return (Some 16)) ∷ [];
+  inits = Value 0 (token 10) ∷ [];
+  automatic = ((7, 4) ∷ []);
+  stores = sets_at 7 0 0 an_int ∷ [];
+  linked = [];
+  statics = [];
+  sets = [];
+  params = [];
+  body = (0 ∷ 7 ∷ 9 ∷ 10 ∷ []);
+  close = 52;
+  strict = false;
+}
+
+-- while (1) { int x = ({ break; 1; }); } if (1) «1»*(int *)0 = 1;
+abbrev pub break_in_initialiser_text : Sheet
+break_in_initialiser_text = record {
+  exprs = is an_int 8 (Known (Some 1)) ∷
+      is an_int 18 (Known (Some 1)) ∷
+      is an_int 14 (Inner (0 ∷ 1 ∷ []) (token 20)) ∷
+      is an_int 26 (Known (Some 1)) ∷
+      is an_int 33 (Known (Some 0)) ∷
+      is (Pointer 4) 29 (Cast 4) ∷
+      is an_int 28 (Unary Follow 5) ∷
+      is an_int 35 (Known (Some 1)) ∷
+      is an_int 34 (Assign None 6 7) ∷
+      is an_int 38 (Known (Some 0)) ∷ [];
+  stmts = does 16 17 Break ∷
+      does 18 19 (Eval (Some 1)) ∷
+      does 11 22 (Declare ((record { place = token 12; init = Some 0 } ∷ []))) ∷
+      does 10 23 (Block (2 ∷ [])) ∷
+      does 6 23 (While 0 (token 9) 3) ∷
+      does 28 36 (Eval (Some 8)) ∷
+      does 24 36 (If 3 (token 27) 5 None) ∷
+      does 37 39 (Return (Some 9)) ∷ [];
+  inits = Value 2 (token 22) ∷ [];
+  automatic = ((12, 4) ∷ []);
+  stores = sets_at 12 2 0 an_int ∷ [];
+  linked = [];
+  statics = [];
+  sets = [];
+  params = [];
+  body = (4 ∷ 6 ∷ 7 ∷ []);
+  close = 40;
+  strict = false;
+}
+
+-- int n = 0; while (1) { for (;; ({ break; })) n++; } if (n == 1) «1»*(int *)0 = 1;
+abbrev pub break_in_last_part_text : Sheet
+break_in_last_part_text = record {
+  exprs = is an_int 9 (Known (Some 0)) ∷
+      is an_int 13 (Known (Some 1)) ∷
+      is Void 20 (Inner (2 ∷ []) (token 24)) ∷
+      names an_int 27 (ObjectStands 7) ∷
+      is an_int 28 (Count true true 3) ∷
+      names an_int 33 (ObjectStands 7) ∷
+      is an_int 35 (Known (Some 1)) ∷
+      is an_int 34 (Binary Equal 5 6) ∷
+      is an_int 42 (Known (Some 0)) ∷
+      is (Pointer 4) 38 (Cast 8) ∷
+      is an_int 37 (Unary Follow 9) ∷
+      is an_int 44 (Known (Some 1)) ∷
+      is an_int 43 (Assign None 10 11) ∷
+      is an_int 47 (Known (Some 0)) ∷ [];
+  stmts = does 6 10 (Declare ((record { place = token 7; init = Some 0 } ∷ []))) ∷
+      does 18 18 (Eval None) ∷
+      does 22 23 Break ∷
+      does 27 29 (Eval (Some 4)) ∷
+      does 16 29 (For 1 None (token 19) (Some 2) (token 26) 3) ∷
+      does 15 30 (Block (4 ∷ [])) ∷
+      does 11 30 (While 1 (token 14) 5) ∷
+      does 37 45 (Eval (Some 12)) ∷
+      does 31 45 (If 7 (token 36) 7 None) ∷
+      does 46 48 (Return (Some 13)) ∷ [];
+  inits = Value 0 (token 10) ∷ [];
+  automatic = ((7, 4) ∷ []);
+  stores = sets_at 7 0 0 an_int ∷ [];
+  linked = [];
+  statics = [];
+  sets = [];
+  params = [];
+  body = (0 ∷ 6 ∷ 8 ∷ 9 ∷ []);
+  close = 49;
+  strict = false;
+}
+
+-- int *q = 0; while (1) { int x; q = &x; break; } «3»*q = 1;
+abbrev pub dead_behind_its_block_text : Sheet
+dead_behind_its_block_text = record {
+  exprs = is an_int 10 (Known (Some 0)) ∷
+      is an_int 14 (Known (Some 1)) ∷
+      names (Pointer 4) 20 (ObjectStands 8) ∷
+      names an_int 23 (ObjectStands 18) ∷
+      is (Pointer 4) 22 (Unary Address 3) ∷
+      is (Pointer 4) 21 (Assign None 2 4) ∷
+      names (Pointer 4) 29 (ObjectStands 8) ∷
+      is an_int 28 (Unary Follow 6) ∷
+      is an_int 31 (Known (Some 1)) ∷
+      is an_int 30 (Assign None 7 8) ∷
+      is an_int 34 (Known (Some 0)) ∷ [];
+  stmts = does 6 11 (Declare ((record { place = token 8; init = Some 0 } ∷ []))) ∷
+      does 17 19 (Declare ((record { place = token 18; init = None } ∷ []))) ∷
+      does 20 24 (Eval (Some 5)) ∷
+      does 25 26 Break ∷
+      does 16 27 (Block (1 ∷ 2 ∷ 3 ∷ [])) ∷
+      does 12 27 (While 1 (token 15) 4) ∷
+      does 28 32 (Eval (Some 9)) ∷
+      does 33 35 (Return (Some 10)) ∷ [];
+  inits = Value 0 (token 11) ∷ [];
+  automatic = ((8, 8) ∷ (18, 4) ∷ []);
+  stores = sets_at 8 0 0 (Pointer 4) ∷ [];
+  linked = [];
+  statics = [];
+  sets = [];
+  params = [];
+  body = (0 ∷ 5 ∷ 6 ∷ 7 ∷ []);
+  close = 36;
+  strict = false;
+}
+
 -- statements and blocks (C11 6.8)
 pub record AreStatements : Type 0 where
   -- int s = 0; for (int i = 0; i < 3; i++) s += i; if (s == 3) «1»*(int *)0 = 1;
@@ -790,3 +939,11 @@ pub record AreStatements : Type 0 where
   pub defined_function : ComesTo defined_function_text [] NotYet
   -- ({ int x; }); if (1) «1»*(int *)0 = 1;
   pub block_without_value : ComesTo block_without_value_text (NewBlock 16 (zeros 4) ∷ []) (Faulted 1 (token 18))
+  -- int n = 0; while (1) { while (1) break; n++; if (n == 2) break; } if (n == 2) «1»*(int *)0 = 1;
+  pub break_leaves_one_loop : ComesTo break_leaves_one_loop_text (NewBlock 16 (zeros 4) ∷ []) (Faulted 1 (token 40))
+  -- while (1) { int x = ({ break; 1; }); } if (1) «1»*(int *)0 = 1;
+  pub break_in_initialiser : ComesTo break_in_initialiser_text (NewBlock 16 (zeros 4) ∷ []) (Faulted 1 (token 28))
+  -- int n = 0; while (1) { for (;; ({ break; })) n++; } if (n == 1) «1»*(int *)0 = 1;
+  pub break_in_last_part : ComesTo break_in_last_part_text (NewBlock 16 (zeros 4) ∷ []) (Faulted 1 (token 37))
+  -- int *q = 0; while (1) { int x; q = &x; break; } «3»*q = 1;
+  pub dead_behind_its_block : ComesTo dead_behind_its_block_text (NewBlock 16 (zeros 8) ∷ NewBlock 32 (zeros 4) ∷ []) (Faulted 3 (token 28))
