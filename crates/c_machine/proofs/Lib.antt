@@ -9,3 +9,4 @@ pub mod TreesRead
 pub mod MoreChoices
 pub mod ExamplesOfSteps
 pub mod MoreOfRuns
+pub mod ExamplesOfRows

@@ -5,6 +5,7 @@ pub mod ExamplesOfBuiltIns
 pub mod ExamplesOfExpressions
 pub mod ExamplesOfInitialisers
 pub mod ExamplesOfLosses
+pub mod ExamplesOfRows
 pub mod ExamplesOfStatements
 pub mod ExamplesOfSteps
 pub mod Expressions

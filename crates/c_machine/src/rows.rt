@@ -4,6 +4,7 @@ ghost use Rattle.c_machine.specs.ExamplesOfBuiltIns.{AreBuiltIns};
 ghost use Rattle.c_machine.specs.ExamplesOfExpressions.{AreExpressions};
 ghost use Rattle.c_machine.specs.ExamplesOfInitialisers.{AreInitialisers};
 ghost use Rattle.c_machine.specs.ExamplesOfLosses.{AreLosses};
+ghost use Rattle.c_machine.specs.ExamplesOfRows.{AreFoundInRows};
 ghost use Rattle.c_machine.specs.ExamplesOfStatements.{AreStatements};
 ghost use Rattle.c_machine.specs.ExamplesOfSteps.{AreSteps};
 
@@ -47,4 +48,10 @@ pub fn initialisers_come_out()
 #[tactic(auto, using(crate::proofs::ExamplesOfSteps::are_steps))]
 pub fn steps_come_out()
     ensures { AreSteps }
+{}
+
+/// What is found in the rows that typing hands on: objects, values of initialisers and parameters (C11 6.2.2, 6.2.4, 6.7.9, 6.9.1).
+#[tactic(auto, using(crate::proofs::ExamplesOfRows::are_found))]
+pub fn rows_are_found()
+    ensures { AreFoundInRows }
 {}
