@@ -17,7 +17,7 @@ use Rattle.choices.specs.declared.choice.Choice.{Choice}
 use Rattle.choices.specs.declared.choice.Choice.TheVariants.{None, Block as NewBlock, Input}
 use Rattle.c_machine.specs.Choosing.{with_block, allocated, received, count_of, with_object, with_static}
 use Rattle.c_machine.specs.Laws.{LeavesMore, DoStepsLeaveMore}
-use Rattle.c_machine.specs.State.{BuiltIn, Malloc, Calloc, Free, Memset, Memcpy, Memmove, EndsRun, Assume, Expect, GivesInput, TaskIn, ValueOf, AddressOf, Push, ObjectAt, Shift, Load, Convert, Apply, Operate, Answer, AndThen, OrElse, Pick, Drop, Store, Update, CountBy, CopyStruct, RunBuiltIn, CallDefined, EndRun, Finish, Keep, Execute, Branch, Test, Again, OpenBlock, MakeObject, MakeStatic, LeaveBlock, Zero, Initialise, BreakAt, ContinueAt, GiveBack, LeaveFunction, EndOfBody, Unknown, Frame, State, Outcome, Went, doing, with_operand, popped_of, unless_fault, block_of, blocks_of, objects_of, roots}
+use Rattle.c_machine.specs.State.{BuiltIn, Malloc, Calloc, Free, Memset, Memcpy, Memmove, EndsRun, Assume, Expect, GivesInput, Task, TaskIn, ValueOf, AddressOf, Push, ObjectAt, Shift, Load, Convert, Apply, Operate, Answer, AndThen, OrElse, Pick, Drop, Store, Update, CountBy, CopyStruct, RunBuiltIn, CallDefined, EndRun, Finish, Keep, Execute, Branch, Test, Again, OpenBlock, MakeObject, MakeStatic, LeaveBlock, Zero, Initialise, BreakAt, ContinueAt, GiveBack, LeaveFunction, EndOfBody, Unknown, Frame, State, StateIn, Outcome, Went, doing, with_operand, popped_of, unless_fault, block_of, blocks_of, objects_of, roots}
 use Rattle.c_machine.specs.Statements.{LoopLeft, loop_left, after_break, after_continue, BodyLeft, body_left, oldest, branch_place, branch_tasks}
 use Rattle.c_machine.specs.Step.{unless_lost, or_ended, or_stuck, object_at, load_step, store_step, stored_result, updated, and_then, or_else, assumed, built_in_step, leave_block, leave_loop, give_back, end_of_body, returned, leave_function, without_objects, counting, counted, step_of, step_on}
 use Rattle.c_machine.specs.Text.{Kind, Integer, Pointer, Array, Struct, Void, Text}
@@ -26,86 +26,86 @@ use Rattle.c_machine.specs.Words.{is_true, as_kind, applied, operated, kind_afte
 use Rattle.operators.specs.Integers.{int}
 
 -- whatever a step tests
-by_test : {t : Text} (one one' other other' : Outcome t) (choices more : List Choice) (b : Bool) → LeavesMore more one one' → LeavesMore more other other' →
+by_test : {E S I : Type 0} (one one' other other' : Outcome E S I) (choices more : List Choice) (b : Bool) → LeavesMore more one one' → LeavesMore more other other' →
     LeavesMore more (if b then one else other) (if b then one' else other')
 by_test one one' other other' choices more true first second = first
 by_test one one' other other' choices more false first second = second
 
-fault_or : {t : Text} (onward onward' : Outcome t) (choices more : List Choice) (fault : Option ℕ) (place : Place) → LeavesMore more onward onward' →
+fault_or : {E S I : Type 0} (onward onward' : Outcome E S I) (choices more : List Choice) (fault : Option ℕ) (place : Place) → LeavesMore more onward onward' →
     LeavesMore more (unless_fault fault place onward) (unless_fault fault place onward')
 fault_or onward onward' choices more Nothing place goes = goes
 fault_or onward onward' choices more (Some kind) place goes = refl
 
-lost_or : {t : Text} (place : Place) (state : State t) (choices more : List Choice) → LeavesMore more (unless_lost place state choices) (unless_lost place state (choices ++ more))
+lost_or : {E S I : Type 0} (place : Place) (state : State E S I) (choices more : List Choice) → LeavesMore more (unless_lost place state choices) (unless_lost place state (choices ++ more))
 lost_or place state choices more = by_test _ _ _ _ choices more (is_lost state.memory (roots state)) refl refl
 
-popping : {t : Text} (operands : List Word) (state : State t) (choices more : List Choice) (onward onward' : Word → State t → Outcome t) →
-    ((word : Word) (after : State t) → LeavesMore more (onward word after) (onward' word after)) → LeavesMore more (popped_of operands state onward) (popped_of operands state onward')
+popping : {E S I : Type 0} (operands : List Word) (state : State E S I) (choices more : List Choice) (onward onward' : Word → State E S I → Outcome E S I) →
+    ((word : Word) (after : State E S I) → LeavesMore more (onward word after) (onward' word after)) → LeavesMore more (popped_of operands state onward) (popped_of operands state onward')
 popping [] state choices more onward onward' each = refl
 popping (word ∷ operands) state choices more onward onward' each = each word (record state { operands = operands })
 
-ended_or : {t : Text} (word : Option Word) (state : State t) (choices more : List Choice) → LeavesMore more (or_ended word state choices) (or_ended word state (choices ++ more))
+ended_or : {E S I : Type 0} (word : Option Word) (state : State E S I) (choices more : List Choice) → LeavesMore more (or_ended word state choices) (or_ended word state (choices ++ more))
 ended_or Nothing state choices more = refl
 ended_or (Some word) state choices more = refl
 
-stuck_or : {t : Text} (word : Option Word) (state : State t) (choices more : List Choice) → LeavesMore more (or_stuck word state choices) (or_stuck word state (choices ++ more))
+stuck_or : {E S I : Type 0} (word : Option Word) (state : State E S I) (choices more : List Choice) → LeavesMore more (or_stuck word state choices) (or_stuck word state (choices ++ more))
 stuck_or Nothing state choices more = refl
 stuck_or (Some word) state choices more = refl
 
-object_or : {t : Text} (block : Option ℕ) (state : State t) (choices more : List Choice) → LeavesMore more (object_at block state choices) (object_at block state (choices ++ more))
+object_or : {E S I : Type 0} (block : Option ℕ) (state : State E S I) (choices more : List Choice) → LeavesMore more (object_at block state choices) (object_at block state (choices ++ more))
 object_or Nothing state choices more = refl
 object_or (Some block) state choices more = refl
 
 -- loads and stores
-loads : {t : Text} (place : Place) (kind : Kind) (bytes : Option ℕ) (at : Word) (state : State t) (choices more : List Choice) → LeavesMore more (load_step place kind bytes at state choices) (load_step place kind bytes at state (choices ++ more))
+loads : {E S I : Type 0} (place : Place) (kind : Kind) (bytes : Option ℕ) (at : Word) (state : State E S I) (choices more : List Choice) → LeavesMore more (load_step place kind bytes at state choices) (load_step place kind bytes at state (choices ++ more))
 loads place kind Nothing at state choices more = refl
 loads place kind (Some bytes) at state choices more = fault_or _ _ choices more (access_fault state.memory at bytes) place refl
 
-stores : {t : Text} (place : Place) (bytes : Option ℕ) (at word : Word) (state : State t) (choices more : List Choice) → LeavesMore more (store_step place bytes at word state choices) (store_step place bytes at word state (choices ++ more))
+stores : {E S I : Type 0} (place : Place) (bytes : Option ℕ) (at word : Word) (state : State E S I) (choices more : List Choice) → LeavesMore more (store_step place bytes at word state choices) (store_step place bytes at word state (choices ++ more))
 stores place Nothing at word state choices more = refl
 stores place (Some bytes) at word state choices more = fault_or _ _ choices more (access_fault state.memory at bytes) place refl
 
-results : {t : Text} (from kind : Kind) (bytes : ℕ) (at : Word) (result : Option Word) (value : Word → Word) (state : State t) (choices more : List Choice) → LeavesMore more (stored_result from kind bytes at result value state choices) (stored_result from kind bytes at result value state (choices ++ more))
+results : {E S I : Type 0} (from kind : Kind) (bytes : ℕ) (at : Word) (result : Option Word) (value : Word → Word) (state : State E S I) (choices more : List Choice) → LeavesMore more (stored_result from kind bytes at result value state choices) (stored_result from kind bytes at result value state (choices ++ more))
 results from kind bytes at Nothing value state choices more = refl
 results from kind bytes at (Some result) value state choices more = refl
 
-updates : {t : Text} (op : _) (place : Place) (kind : Kind) (bytes : Option ℕ) (right : Kind) (at word : Word) (value : Word → Word → Word) (state : State t) (choices more : List Choice) → LeavesMore more (updated op place kind bytes right at word value state choices) (updated op place kind bytes right at word value state (choices ++ more))
+updates : {E S I : Type 0} (op : _) (place : Place) (kind : Kind) (bytes : Option ℕ) (right : Kind) (at word : Word) (value : Word → Word → Word) (state : State E S I) (choices more : List Choice) → LeavesMore more (updated op place kind bytes right at word value state choices) (updated op place kind bytes right at word value state (choices ++ more))
 updates op place kind Nothing right at word value state choices more = refl
 updates op place kind (Some bytes) right at word value state choices more = fault_or _ _ choices more (access_fault state.memory at bytes) place (results (kind_after op kind right) kind bytes at (operated state.memory op kind right (loaded state.memory at bytes (is_pointer kind)) word) (value (loaded state.memory at bytes (is_pointer kind))) state choices more)
 
-and_steps : {t : Text} (holds : Bool) (right : List (TaskIn t)) (state : State t) (choices more : List Choice) → LeavesMore more (and_then holds right state choices) (and_then holds right state (choices ++ more))
+and_steps : {E S I : Type 0} (holds : Bool) (right : List (Task E S I)) (state : State E S I) (choices more : List Choice) → LeavesMore more (and_then holds right state choices) (and_then holds right state (choices ++ more))
 and_steps true right state choices more = refl
 and_steps false right state choices more = refl
 
-or_steps : {t : Text} (holds : Bool) (right : List (TaskIn t)) (state : State t) (choices more : List Choice) → LeavesMore more (or_else holds right state choices) (or_else holds right state (choices ++ more))
+or_steps : {E S I : Type 0} (holds : Bool) (right : List (Task E S I)) (state : State E S I) (choices more : List Choice) → LeavesMore more (or_else holds right state choices) (or_else holds right state (choices ++ more))
 or_steps true right state choices more = refl
 or_steps false right state choices more = refl
 
-assumes : {t : Text} (holds : Bool) (state : State t) (choices more : List Choice) → LeavesMore more (assumed holds state choices) (assumed holds state (choices ++ more))
+assumes : {E S I : Type 0} (holds : Bool) (state : State E S I) (choices more : List Choice) → LeavesMore more (assumed holds state choices) (assumed holds state (choices ++ more))
 assumes true state choices more = refl
 assumes false state choices more = refl
 
 -- choices
-blocks : {t : Text} (kind : BlockKind) (size : ℕ) (zeroed : Bool) (state : State t) (choices more : List Choice) (after : State t → ℕ → State t) → LeavesMore more (with_block kind size zeroed state choices (λ next block left. Went (after next block) left)) (with_block kind size zeroed state (choices ++ more) (λ next block left. Went (after next block) left))
+blocks : {E S I : Type 0} (kind : BlockKind) (size : ℕ) (zeroed : Bool) (state : State E S I) (choices more : List Choice) (after : State E S I → ℕ → State E S I) → LeavesMore more (with_block kind size zeroed state choices (λ next block left. Went (after next block) left)) (with_block kind size zeroed state (choices ++ more) (λ next block left. Went (after next block) left))
 blocks kind size zeroed state [] more after = tt
 blocks kind size zeroed state (None ∷ choices) more after = refl
 blocks kind size zeroed state (Input number ∷ choices) more after = refl
 blocks kind size zeroed state (NewBlock base contents ∷ choices) more after = by_test _ _ _ _ (NewBlock base contents ∷ choices) more (is_new_block state.memory kind size base contents && (not zeroed || list_all (nat_eq 0) contents)) refl refl
 
-allocates : {t : Text} (size : ℕ) (zeroed : Bool) (state : State t) (choices more : List Choice) → LeavesMore more (allocated size zeroed state choices) (allocated size zeroed state (choices ++ more))
+allocates : {E S I : Type 0} (size : ℕ) (zeroed : Bool) (state : State E S I) (choices more : List Choice) → LeavesMore more (allocated size zeroed state choices) (allocated size zeroed state (choices ++ more))
 allocates size zeroed state [] more = tt
 allocates size zeroed state (None ∷ choices) more = refl
 allocates size zeroed state (Input number ∷ choices) more = refl
 allocates size zeroed state (NewBlock base contents ∷ choices) more = blocks storage.Heap size zeroed state (NewBlock base contents ∷ choices) more (λ next block. with_operand (To block (pos 0)) next)
 
-receives : {t : Text} (kind : Kind) (state : State t) (choices more : List Choice) → LeavesMore more (received kind state choices) (received kind state (choices ++ more))
+receives : {E S I : Type 0} (kind : Kind) (state : State E S I) (choices more : List Choice) → LeavesMore more (received kind state choices) (received kind state (choices ++ more))
 receives kind state [] more = tt
 receives kind state (None ∷ choices) more = refl
 receives kind state (NewBlock base contents ∷ choices) more = refl
 receives kind state (Input number ∷ choices) more = by_test _ _ _ _ (Input number ∷ choices) more (nat_lt number (count_of kind)) refl refl
 
 -- built-in functions
-built_in_steps : {t : Text} (what : BuiltIn) (place : Place) (result : Kind) (state : State t) (choices more : List Choice) → LeavesMore more (built_in_step what place result state choices) (built_in_step what place result state (choices ++ more))
+built_in_steps : {E S I : Type 0} (what : BuiltIn) (place : Place) (result : Kind) (state : State E S I) (choices more : List Choice) → LeavesMore more (built_in_step what place result state choices) (built_in_step what place result state (choices ++ more))
 built_in_steps Malloc place result state choices more = popping state.operands state choices more _ _ (λ size after. allocates (address_number state.memory size) false after choices more)
 built_in_steps Calloc place result state choices more = popping state.operands state choices more _ _ (λ size before. popping before.operands before choices more _ _ (λ count after. allocates (address_number state.memory count * address_number state.memory size) true after choices more))
 built_in_steps Free place result state choices more = popping state.operands state choices more _ _ (λ word after. fault_or _ _ choices more (free_fault state.memory word) place refl)
@@ -118,19 +118,19 @@ built_in_steps Expect place result state choices more = popping state.operands s
 built_in_steps GivesInput place result state choices more = receives result state choices more
 
 -- ways out
-leaves_block : {t : Text} (frame : Frame) (place : Place) (state : State t) (choices more : List Choice) → LeavesMore more (leave_block frame place state choices) (leave_block frame place state (choices ++ more))
+leaves_block : {E S I : Type 0} (frame : Frame) (place : Place) (state : State E S I) (choices more : List Choice) → LeavesMore more (leave_block frame place state choices) (leave_block frame place state (choices ++ more))
 leaves_block [] place state choices more = refl
 leaves_block (scope ∷ scopes) place state choices more = lost_or place (record state { frame = scopes; memory = without_objects (blocks_of scope) state.memory }) choices more
 
-leaves_loop : {t : Text} (left : Option (LoopLeft t)) (onward : LoopLeft t → List (TaskIn t)) (word : Place) (state : State t) (choices more : List Choice) → LeavesMore more (leave_loop left onward word state choices) (leave_loop left onward word state (choices ++ more))
+leaves_loop : {E S I : Type 0} (left : Option (LoopLeft E S I)) (onward : LoopLeft E S I → List (Task E S I)) (word : Place) (state : State E S I) (choices more : List Choice) → LeavesMore more (leave_loop left onward word state choices) (leave_loop left onward word state (choices ++ more))
 leaves_loop Nothing onward word state choices more = refl
 leaves_loop (Some left) onward word state choices more = lost_or word (record state { tasks = onward left; operands = oldest left.held state.operands }) choices more
 
-gives_back : {t : Text} (left : Option (BodyLeft t)) (word : Place) (from : Kind) (value : Word) (state : State t) (choices more : List Choice) → LeavesMore more (give_back left word from value state choices) (give_back left word from value state (choices ++ more))
+gives_back : {E S I : Type 0} (left : Option (BodyLeft E S I)) (word : Place) (from : Kind) (value : Word) (state : State E S I) (choices more : List Choice) → LeavesMore more (give_back left word from value state choices) (give_back left word from value state (choices ++ more))
 gives_back Nothing word from value state choices more = refl
 gives_back (Some left) word from value state choices more = lost_or word (record state { tasks = LeaveFunction word ∷ left.rest; operands = as_kind state.memory from left.result value ∷ oldest left.held state.operands }) choices more
 
-ends_body : {t : Text} (is_main : Bool) (result : Kind) (close : Place) (state : State t) (choices more : List Choice) → LeavesMore more (end_of_body is_main result close state choices) (end_of_body is_main result close state (choices ++ more))
+ends_body : {E S I : Type 0} (is_main : Bool) (result : Kind) (close : Place) (state : State E S I) (choices more : List Choice) → LeavesMore more (end_of_body is_main result close state choices) (end_of_body is_main result close state (choices ++ more))
 ends_body true result close state choices more = refl
 ends_body false Void close state choices more = refl
 ends_body false (Integer of) close state choices more = receives (Integer of) _ choices more
@@ -138,15 +138,15 @@ ends_body false (Pointer bytes) close state choices more = receives (Pointer byt
 ends_body false (Array bytes) close state choices more = receives (Array bytes) _ choices more
 ends_body false (Struct bytes) close state choices more = receives (Struct bytes) _ choices more
 
-returns_to : (t : Text) (callers : List Frame) (place : Place) (state : State t) (choices more : List Choice) → LeavesMore more (returned t callers place state choices) (returned t callers place state (choices ++ more))
+returns_to : (t : Text) (callers : List Frame) (place : Place) (state : StateIn t) (choices more : List Choice) → LeavesMore more (returned t callers place state choices) (returned t callers place state (choices ++ more))
 returns_to t [] place state choices more = by_test _ _ _ _ choices more t.strict (by_test _ _ _ _ choices more (is_lost state.memory []) refl refl) refl
 returns_to t (frame ∷ callers) place state choices more = refl
 
-leaves_function : (t : Text) (place : Place) (state : State t) (choices more : List Choice) → LeavesMore more (leave_function t place state choices) (leave_function t place state (choices ++ more))
+leaves_function : (t : Text) (place : Place) (state : StateIn t) (choices more : List Choice) → LeavesMore more (leave_function t place state choices) (leave_function t place state (choices ++ more))
 leaves_function t place state choices more = by_test _ _ _ _ choices more (is_lost state.memory (roots state)) refl (returns_to t state.callers place state choices more)
 
 -- each step
-leaves : (t : Text) (task : TaskIn t) (state : State t) (choices more : List Choice) → LeavesMore more (step_of t task state choices) (step_of t task state (choices ++ more))
+leaves : (t : Text) (task : TaskIn t) (state : StateIn t) (choices more : List Choice) → LeavesMore more (step_of t task state choices) (step_of t task state (choices ++ more))
 leaves t (ValueOf expr) state choices more = refl
 leaves t (AddressOf expr) state choices more = refl
 leaves t (Push word) state choices more = refl
@@ -187,7 +187,7 @@ leaves t (LeaveFunction place) state choices more = leaves_function t place (rec
 leaves t (EndOfBody is_main result close held) state choices more = ends_body is_main result close state choices more
 leaves t Unknown state choices more = refl
 
-pub leaves_on : (t : Text) (tasks : List (TaskIn t)) (state : State t) (choices more : List Choice) → LeavesMore more (step_on t tasks state choices) (step_on t tasks state (choices ++ more))
+pub leaves_on : (t : Text) (tasks : List (TaskIn t)) (state : StateIn t) (choices more : List Choice) → LeavesMore more (step_on t tasks state choices) (step_on t tasks state (choices ++ more))
 leaves_on t [] state choices more = refl
 leaves_on t (task ∷ rest) state choices more = leaves t task (record state { tasks = rest }) choices more
 

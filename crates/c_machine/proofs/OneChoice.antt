@@ -17,7 +17,7 @@ use Rattle.choices.specs.declared.choice.Choice.{Choice}
 use Rattle.choices.specs.declared.choice.Choice.TheVariants.{None, Block as NewBlock, Input}
 use Rattle.c_machine.specs.Choosing.{with_block, allocated, received, count_of, with_object, with_static}
 use Rattle.c_machine.specs.Laws.{TakesOne, DoStepsTakeOne}
-use Rattle.c_machine.specs.State.{BuiltIn, Malloc, Calloc, Free, Memset, Memcpy, Memmove, EndsRun, Assume, Expect, GivesInput, TaskIn, ValueOf, AddressOf, Push, ObjectAt, Shift, Load, Convert, Apply, Operate, Answer, AndThen, OrElse, Pick, Drop, Store, Update, CountBy, CopyStruct, RunBuiltIn, CallDefined, EndRun, Finish, Keep, Execute, Branch, Test, Again, OpenBlock, MakeObject, MakeStatic, LeaveBlock, Zero, Initialise, BreakAt, ContinueAt, GiveBack, LeaveFunction, EndOfBody, Unknown, Frame, State, Outcome, Went, doing, with_operand, popped_of, unless_fault, block_of, blocks_of, objects_of, roots}
+use Rattle.c_machine.specs.State.{BuiltIn, Malloc, Calloc, Free, Memset, Memcpy, Memmove, EndsRun, Assume, Expect, GivesInput, Task, TaskIn, ValueOf, AddressOf, Push, ObjectAt, Shift, Load, Convert, Apply, Operate, Answer, AndThen, OrElse, Pick, Drop, Store, Update, CountBy, CopyStruct, RunBuiltIn, CallDefined, EndRun, Finish, Keep, Execute, Branch, Test, Again, OpenBlock, MakeObject, MakeStatic, LeaveBlock, Zero, Initialise, BreakAt, ContinueAt, GiveBack, LeaveFunction, EndOfBody, Unknown, Frame, State, StateIn, Outcome, Went, doing, with_operand, popped_of, unless_fault, block_of, blocks_of, objects_of, roots}
 use Rattle.c_machine.specs.Statements.{LoopLeft, loop_left, after_break, after_continue, BodyLeft, body_left, oldest, branch_place, branch_tasks}
 use Rattle.c_machine.specs.Step.{unless_lost, or_ended, or_stuck, object_at, load_step, store_step, stored_result, updated, and_then, or_else, assumed, built_in_step, leave_block, leave_loop, give_back, end_of_body, returned, leave_function, without_objects, counting, counted, step_of, step_on}
 use Rattle.c_machine.specs.Text.{Kind, Integer, Pointer, Array, Struct, Void, Text}
@@ -26,89 +26,89 @@ use Rattle.c_machine.specs.Words.{is_true, as_kind, applied, operated, kind_afte
 use Rattle.operators.specs.Integers.{int}
 
 -- whatever a step tests
-by_test : {t : Text} (one other : Outcome t) (choices : List Choice) (b : Bool) → TakesOne choices one → TakesOne choices other → TakesOne choices (if b then one else other)
+by_test : {E S I : Type 0} (one other : Outcome E S I) (choices : List Choice) (b : Bool) → TakesOne choices one → TakesOne choices other → TakesOne choices (if b then one else other)
 by_test one other choices true first second = first
 by_test one other choices false first second = second
 
-fault_or : {t : Text} (onward : Outcome t) (choices : List Choice) (fault : Option ℕ) (place : Place) → TakesOne choices onward → TakesOne choices (unless_fault fault place onward)
+fault_or : {E S I : Type 0} (onward : Outcome E S I) (choices : List Choice) (fault : Option ℕ) (place : Place) → TakesOne choices onward → TakesOne choices (unless_fault fault place onward)
 fault_or onward choices Nothing place goes = goes
 fault_or onward choices (Some kind) place goes = tt
 
-lost_or : {t : Text} (place : Place) (state : State t) (choices : List Choice) → TakesOne choices (unless_lost place state choices)
+lost_or : {E S I : Type 0} (place : Place) (state : State E S I) (choices : List Choice) → TakesOne choices (unless_lost place state choices)
 lost_or place state choices = by_test _ _ choices (is_lost state.memory (roots state)) tt (inl refl)
 
-popping : {t : Text} (operands : List Word) (state : State t) (choices : List Choice) (onward : Word → State t → Outcome t) →
-    ((word : Word) (after : State t) → TakesOne choices (onward word after)) → TakesOne choices (popped_of operands state onward)
+popping : {E S I : Type 0} (operands : List Word) (state : State E S I) (choices : List Choice) (onward : Word → State E S I → Outcome E S I) →
+    ((word : Word) (after : State E S I) → TakesOne choices (onward word after)) → TakesOne choices (popped_of operands state onward)
 popping [] state choices onward each = tt
 popping (word ∷ operands) state choices onward each = each word (record state { operands = operands })
 
-ended_or : {t : Text} (word : Option Word) (state : State t) (choices : List Choice) → TakesOne choices (or_ended word state choices)
+ended_or : {E S I : Type 0} (word : Option Word) (state : State E S I) (choices : List Choice) → TakesOne choices (or_ended word state choices)
 ended_or Nothing state choices = tt
 ended_or (Some word) state choices = inl refl
 
-stuck_or : {t : Text} (word : Option Word) (state : State t) (choices : List Choice) → TakesOne choices (or_stuck word state choices)
+stuck_or : {E S I : Type 0} (word : Option Word) (state : State E S I) (choices : List Choice) → TakesOne choices (or_stuck word state choices)
 stuck_or Nothing state choices = tt
 stuck_or (Some word) state choices = inl refl
 
-object_or : {t : Text} (block : Option ℕ) (state : State t) (choices : List Choice) → TakesOne choices (object_at block state choices)
+object_or : {E S I : Type 0} (block : Option ℕ) (state : State E S I) (choices : List Choice) → TakesOne choices (object_at block state choices)
 object_or Nothing state choices = tt
 object_or (Some block) state choices = inl refl
 
 -- loads and stores
-loads : {t : Text} (place : Place) (kind : Kind) (bytes : Option ℕ) (at : Word) (state : State t) (choices : List Choice) → TakesOne choices (load_step place kind bytes at state choices)
+loads : {E S I : Type 0} (place : Place) (kind : Kind) (bytes : Option ℕ) (at : Word) (state : State E S I) (choices : List Choice) → TakesOne choices (load_step place kind bytes at state choices)
 loads place kind Nothing at state choices = inl refl
 loads place kind (Some bytes) at state choices = fault_or _ choices (access_fault state.memory at bytes) place (inl refl)
 
-stores : {t : Text} (place : Place) (bytes : Option ℕ) (at word : Word) (state : State t) (choices : List Choice) → TakesOne choices (store_step place bytes at word state choices)
+stores : {E S I : Type 0} (place : Place) (bytes : Option ℕ) (at word : Word) (state : State E S I) (choices : List Choice) → TakesOne choices (store_step place bytes at word state choices)
 stores place Nothing at word state choices = tt
 stores place (Some bytes) at word state choices = fault_or _ choices (access_fault state.memory at bytes) place (inl refl)
 
-results : {t : Text} (from kind : Kind) (bytes : ℕ) (at : Word) (result : Option Word) (value : Word → Word) (state : State t) (choices : List Choice) →
+results : {E S I : Type 0} (from kind : Kind) (bytes : ℕ) (at : Word) (result : Option Word) (value : Word → Word) (state : State E S I) (choices : List Choice) →
     TakesOne choices (stored_result from kind bytes at result value state choices)
 results from kind bytes at Nothing value state choices = tt
 results from kind bytes at (Some result) value state choices = inl refl
 
-updates : {t : Text} (op : _) (place : Place) (kind : Kind) (bytes : Option ℕ) (right : Kind) (at word : Word) (value : Word → Word → Word) (state : State t) (choices : List Choice) →
+updates : {E S I : Type 0} (op : _) (place : Place) (kind : Kind) (bytes : Option ℕ) (right : Kind) (at word : Word) (value : Word → Word → Word) (state : State E S I) (choices : List Choice) →
     TakesOne choices (updated op place kind bytes right at word value state choices)
 updates op place kind Nothing right at word value state choices = tt
 updates op place kind (Some bytes) right at word value state choices = fault_or _ choices (access_fault state.memory at bytes) place
     (results (kind_after op kind right) kind bytes at (operated state.memory op kind right (loaded state.memory at bytes (is_pointer kind)) word) (value (loaded state.memory at bytes (is_pointer kind))) state choices)
 
-and_steps : {t : Text} (holds : Bool) (right : List (TaskIn t)) (state : State t) (choices : List Choice) → TakesOne choices (and_then holds right state choices)
+and_steps : {E S I : Type 0} (holds : Bool) (right : List (Task E S I)) (state : State E S I) (choices : List Choice) → TakesOne choices (and_then holds right state choices)
 and_steps true right state choices = inl refl
 and_steps false right state choices = inl refl
 
-or_steps : {t : Text} (holds : Bool) (right : List (TaskIn t)) (state : State t) (choices : List Choice) → TakesOne choices (or_else holds right state choices)
+or_steps : {E S I : Type 0} (holds : Bool) (right : List (Task E S I)) (state : State E S I) (choices : List Choice) → TakesOne choices (or_else holds right state choices)
 or_steps true right state choices = inl refl
 or_steps false right state choices = inl refl
 
-assumes : {t : Text} (holds : Bool) (state : State t) (choices : List Choice) → TakesOne choices (assumed holds state choices)
+assumes : {E S I : Type 0} (holds : Bool) (state : State E S I) (choices : List Choice) → TakesOne choices (assumed holds state choices)
 assumes true state choices = inl refl
 assumes false state choices = tt
 
 -- choices
-blocks : {t : Text} (kind : BlockKind) (size : ℕ) (zeroed : Bool) (state : State t) (choices : List Choice) (after : State t → ℕ → State t) →
+blocks : {E S I : Type 0} (kind : BlockKind) (size : ℕ) (zeroed : Bool) (state : State E S I) (choices : List Choice) (after : State E S I → ℕ → State E S I) →
     TakesOne choices (with_block kind size zeroed state choices (λ next block more. Went (after next block) more))
 blocks kind size zeroed state [] after = refl
 blocks kind size zeroed state (None ∷ choices) after = tt
 blocks kind size zeroed state (Input number ∷ choices) after = tt
 blocks kind size zeroed state (NewBlock base contents ∷ choices) after = by_test _ _ (NewBlock base contents ∷ choices) (is_new_block state.memory kind size base contents && (not zeroed || list_all (nat_eq 0) contents)) (inr (_, refl)) tt
 
-allocates : {t : Text} (size : ℕ) (zeroed : Bool) (state : State t) (choices : List Choice) → TakesOne choices (allocated size zeroed state choices)
+allocates : {E S I : Type 0} (size : ℕ) (zeroed : Bool) (state : State E S I) (choices : List Choice) → TakesOne choices (allocated size zeroed state choices)
 allocates size zeroed state [] = refl
 allocates size zeroed state (None ∷ choices) = inr (None, refl)
 allocates size zeroed state (Input number ∷ choices) = tt
 allocates size zeroed state (NewBlock base contents ∷ choices) =
     blocks storage.Heap size zeroed state (NewBlock base contents ∷ choices) (λ next block. with_operand (To block (pos 0)) next)
 
-receives : {t : Text} (kind : Kind) (state : State t) (choices : List Choice) → TakesOne choices (received kind state choices)
+receives : {E S I : Type 0} (kind : Kind) (state : State E S I) (choices : List Choice) → TakesOne choices (received kind state choices)
 receives kind state [] = refl
 receives kind state (None ∷ choices) = tt
 receives kind state (NewBlock base contents ∷ choices) = tt
 receives kind state (Input number ∷ choices) = by_test _ _ (Input number ∷ choices) (nat_lt number (count_of kind)) (inr (Input number, refl)) tt
 
 -- built-in functions
-built_in_steps : {t : Text} (what : BuiltIn) (place : Place) (result : Kind) (state : State t) (choices : List Choice) →
+built_in_steps : {E S I : Type 0} (what : BuiltIn) (place : Place) (result : Kind) (state : State E S I) (choices : List Choice) →
     TakesOne choices (built_in_step what place result state choices)
 built_in_steps Malloc place result state choices = popping state.operands state choices _ (λ size after. allocates (address_number state.memory size) false after choices)
 built_in_steps Calloc place result state choices =
@@ -126,18 +126,18 @@ built_in_steps Expect place result state choices = popping state.operands state 
 built_in_steps GivesInput place result state choices = receives result state choices
 
 -- ways out
-leaves_block : {t : Text} (frame : Frame) (place : Place) (state : State t) (choices : List Choice) → TakesOne choices (leave_block frame place state choices)
+leaves_block : {E S I : Type 0} (frame : Frame) (place : Place) (state : State E S I) (choices : List Choice) → TakesOne choices (leave_block frame place state choices)
 leaves_block [] place state choices = tt
 leaves_block (scope ∷ scopes) place state choices =
     lost_or place (record state { frame = scopes; memory = without_objects (blocks_of scope) state.memory }) choices
 
-leaves_loop : {t : Text} (left : Option (LoopLeft t)) (onward : LoopLeft t → List (TaskIn t)) (word : Place) (state : State t) (choices : List Choice) →
+leaves_loop : {E S I : Type 0} (left : Option (LoopLeft E S I)) (onward : LoopLeft E S I → List (Task E S I)) (word : Place) (state : State E S I) (choices : List Choice) →
     TakesOne choices (leave_loop left onward word state choices)
 leaves_loop Nothing onward word state choices = tt
 leaves_loop (Some left) onward word state choices =
     lost_or word (record state { tasks = onward left; operands = oldest left.held state.operands }) choices
 
-gives_back : {t : Text} (left : Option (BodyLeft t)) (word : Place) (from : Kind) (value : Word) (state : State t) (choices : List Choice) →
+gives_back : {E S I : Type 0} (left : Option (BodyLeft E S I)) (word : Place) (from : Kind) (value : Word) (state : State E S I) (choices : List Choice) →
     TakesOne choices (give_back left word from value state choices)
 gives_back Nothing word from value state choices = tt
 gives_back (Some left) word from value state choices =
@@ -146,7 +146,7 @@ gives_back (Some left) word from value state choices =
       operands = as_kind state.memory from left.result value ∷ oldest left.held state.operands;
     }) choices
 
-ends_body : {t : Text} (is_main : Bool) (result : Kind) (close : Place) (state : State t) (choices : List Choice) → TakesOne choices (end_of_body is_main result close state choices)
+ends_body : {E S I : Type 0} (is_main : Bool) (result : Kind) (close : Place) (state : State E S I) (choices : List Choice) → TakesOne choices (end_of_body is_main result close state choices)
 ends_body true result close state choices = inl refl
 ends_body false Void close state choices = inl refl
 ends_body false (Integer of) close state choices = receives (Integer of) _ choices
@@ -154,15 +154,15 @@ ends_body false (Pointer bytes) close state choices = receives (Pointer bytes) _
 ends_body false (Array bytes) close state choices = receives (Array bytes) _ choices
 ends_body false (Struct bytes) close state choices = receives (Struct bytes) _ choices
 
-returns_to : (t : Text) (callers : List Frame) (place : Place) (state : State t) (choices : List Choice) → TakesOne choices (returned t callers place state choices)
+returns_to : (t : Text) (callers : List Frame) (place : Place) (state : StateIn t) (choices : List Choice) → TakesOne choices (returned t callers place state choices)
 returns_to t [] place state choices = by_test _ _ choices t.strict (by_test _ _ choices (is_lost state.memory []) tt tt) tt
 returns_to t (frame ∷ callers) place state choices = inl refl
 
-leaves_function : (t : Text) (place : Place) (state : State t) (choices : List Choice) → TakesOne choices (leave_function t place state choices)
+leaves_function : (t : Text) (place : Place) (state : StateIn t) (choices : List Choice) → TakesOne choices (leave_function t place state choices)
 leaves_function t place state choices = by_test _ _ choices (is_lost state.memory (roots state)) tt (returns_to t state.callers place state choices)
 
 -- each step
-takes : (t : Text) (task : TaskIn t) (state : State t) (choices : List Choice) → TakesOne choices (step_of t task state choices)
+takes : (t : Text) (task : TaskIn t) (state : StateIn t) (choices : List Choice) → TakesOne choices (step_of t task state choices)
 takes t (ValueOf expr) state choices = inl refl
 takes t (AddressOf expr) state choices = inl refl
 takes t (Push word) state choices = inl refl
@@ -208,7 +208,7 @@ takes t (LeaveFunction place) state choices = leaves_function t place (record st
 takes t (EndOfBody is_main result close held) state choices = ends_body is_main result close state choices
 takes t Unknown state choices = tt
 
-takes_on : (t : Text) (tasks : List (TaskIn t)) (state : State t) (choices : List Choice) → TakesOne choices (step_on t tasks state choices)
+takes_on : (t : Text) (tasks : List (TaskIn t)) (state : StateIn t) (choices : List Choice) → TakesOne choices (step_on t tasks state choices)
 takes_on t [] state choices = tt
 takes_on t (task ∷ rest) state choices = takes t task (record state { tasks = rest }) choices
 

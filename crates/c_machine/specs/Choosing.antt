@@ -7,11 +7,11 @@ use Rattle.bytes_core.specs.declared.word.Word.TheVariants.{Plain, To}
 use Rattle.bytes_core.specs.Placement.{new_block, is_new_block, placed}
 use Rattle.choices.specs.declared.choice.Choice.{Choice}
 use Rattle.choices.specs.declared.choice.Choice.TheVariants.{None, Block as NewBlock, Input}
-use Rattle.c_machine.specs.Text.{Kind, Integer, Pointer, Object, Text}
+use Rattle.c_machine.specs.Text.{Kind, Integer, Pointer, Object}
 use Rattle.c_machine.specs.State.{State, Frame, Variable, Outcome, Went, Waits, Ended, with_operand, with_memory}
 
 -- a new block of a kind and size, and what is done with it: its base and its contents are a choice, of zeros alone where that is asked
-abbrev pub with_block : {t : Text} → BlockKind → ℕ → Bool → State t → List Choice → (State t → ℕ → List Choice → Outcome t) → Outcome t
+abbrev pub with_block : {E S I : Type 0} → BlockKind → ℕ → Bool → State E S I → List Choice → (State E S I → ℕ → List Choice → Outcome E S I) → Outcome E S I
 with_block kind size zeroed state [] onward = Waits
 with_block kind size zeroed state (None ∷ choices) onward = Ended
 with_block kind size zeroed state (Input number ∷ choices) onward = Ended
@@ -25,22 +25,22 @@ abbrev pub in_innermost : Variable → Frame → Frame
 in_innermost variable [] = (variable ∷ []) ∷ []
 in_innermost variable (scope ∷ scopes) = (scope ++ variable ∷ []) ∷ scopes
 
-abbrev pub with_object : {t : Text} → Option ℕ → State t → ℕ → State t
+abbrev pub with_object : {E S I : Type 0} → Option ℕ → State E S I → ℕ → State E S I
 with_object token state block = record state { frame = in_innermost (record { token = token; block = block }) state.frame }
 
-abbrev pub with_static : {t : Text} → Option ℕ → State t → ℕ → State t
+abbrev pub with_static : {E S I : Type 0} → Option ℕ → State E S I → ℕ → State E S I
 with_static token state block = record state { statics = state.statics ++ record { token = token; block = block } ∷ [] }
 
-abbrev pub object_made : {t : Text} → Object → State t → List Choice → Outcome t
+abbrev pub object_made : {E S I : Type 0} → Object → State E S I → List Choice → Outcome E S I
 object_made object state choices =
     with_block storage.Local object.bytes false state choices (λ after block more. Went (with_object object.token after block) more)
 
-abbrev pub static_made : {t : Text} → Object → State t → List Choice → Outcome t
+abbrev pub static_made : {E S I : Type 0} → Object → State E S I → List Choice → Outcome E S I
 static_made object state choices =
     with_block storage.Static object.bytes true state choices (λ after block more. Went (with_static object.token after block) more)
 
 -- an allocation answers null or a new block (7.22.3)
-abbrev pub allocated : {t : Text} → ℕ → Bool → State t → List Choice → Outcome t
+abbrev pub allocated : {E S I : Type 0} → ℕ → Bool → State E S I → List Choice → Outcome E S I
 allocated size zeroed state (None ∷ choices) = Went (with_operand (Plain 0) state) choices
 allocated size zeroed state choices =
     with_block storage.Heap size zeroed state choices (λ after block more. Went (with_operand (To block (pos 0)) after) more)
@@ -51,7 +51,7 @@ count_of (Integer of) = if of.truth then 2 else 256 ^ of.bytes
 count_of (Pointer bytes) = 2 ^ 64
 count_of other = 0
 
-abbrev pub received : {t : Text} → Kind → State t → List Choice → Outcome t
+abbrev pub received : {E S I : Type 0} → Kind → State E S I → List Choice → Outcome E S I
 received kind state [] = Waits
 received kind state (None ∷ choices) = Ended
 received kind state (NewBlock base contents ∷ choices) = Ended

@@ -1,6 +1,6 @@
 -- Worked examples of single steps that no whole program shows yet: the ends of functions that are called, and what no program comes to. The memory is the
 -- example of `bytes_core`: block 0 is an object that holds the pointer to block 1, block 1 is allocated, and block 2 was freed.
-use Rattle.std.specs.Prelude.{◌≡◌, ◌-◌, ◌^◌, true, false, List, [], ◌∷◌, pos, Some, slice_get}
+use Rattle.std.specs.Prelude.{◌≡◌, ℕ, ◌-◌, ◌^◌, true, false, List, [], ◌∷◌, pos, Some, slice_get}
 use Rattle.bytes_core.specs.declared.word.Word.{Word}
 use Rattle.bytes_core.specs.declared.word.Word.TheVariants.{Plain, To}
 use Rattle.bytes_core.specs.Examples.{example}
@@ -9,7 +9,7 @@ use Rattle.choices.specs.declared.choice.Choice.{Choice}
 use Rattle.choices.specs.declared.choice.Choice.TheVariants.{None as NoBlock, Input}
 use Rattle.typing.specs.Sample.{token}
 use Rattle.c_machine.specs.Sheet.{Sheet, text_in, an_int, a_truth}
-use Rattle.c_machine.specs.State.{TaskIn, Push, Finish, LeaveFunction, EndOfBody, BreakAt, GiveBack, Unknown, Frame, State, Outcome, Went, Waits, Ended, Faulted, Stuck, with_memory}
+use Rattle.c_machine.specs.State.{Task, Push, Finish, LeaveFunction, EndOfBody, BreakAt, GiveBack, Unknown, Frame, State, Outcome, Went, Waits, Ended, Faulted, Stuck, with_memory}
 use Rattle.c_machine.specs.Step.{step}
 use Rattle.c_machine.specs.Text.{Pointer, Void}
 
@@ -31,11 +31,11 @@ blank = record {
 }
 
 -- a state with these things to do, these operands, these objects of the function that runs, and those of its caller
-abbrev pub doing : List (TaskIn (text_in blank)) → List Word → Frame → List Frame → State (text_in blank)
+abbrev pub doing : List (Task ℕ ℕ ℕ) → List Word → Frame → List Frame → State ℕ ℕ ℕ
 doing tasks operands frame callers = record { tasks = tasks; operands = operands; frame = frame; callers = callers; statics = []; memory = example }
 
 -- what a step comes to
-abbrev pub after : List (TaskIn (text_in blank)) → List Word → Frame → List Frame → List Choice → Outcome (text_in blank)
+abbrev pub after : List (Task ℕ ℕ ℕ) → List Word → Frame → List Frame → List Choice → Outcome ℕ ℕ ℕ
 after tasks operands frame callers choices = step (text_in blank) (doing tasks operands frame callers) choices
 
 -- the object of block 0 alone

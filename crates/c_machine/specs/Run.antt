@@ -4,12 +4,12 @@ use Rattle.cbase.specs.declared.place.Place.{Place}
 use Rattle.choices.specs.declared.choice.Choice.{Choice}
 use Rattle.operators.specs.Integers.{int}
 use Rattle.c_machine.specs.Text.{Integer, Main, Text}
-use Rattle.c_machine.specs.State.{TaskIn, Execute, OpenBlock, MakeObject, MakeStatic, Initialise, EndOfBody, State, Outcome, Went, Waits, Ended, Faulted, NotYet, Stuck}
+use Rattle.c_machine.specs.State.{Task, TaskIn, Execute, OpenBlock, MakeObject, MakeStatic, Initialise, EndOfBody, State, StateIn, Outcome, OutcomeIn, Went, Waits, Ended, Faulted, NotYet, Stuck}
 use Rattle.c_machine.specs.Blocks.{entered}
 use Rattle.c_machine.specs.Step.{step}
 
 -- goes on from what a step left
-abbrev pub then_go : {t : Text} → Outcome t → (State t → List Choice → Outcome t) → Outcome t
+abbrev pub then_go : {E S I : Type 0} → Outcome E S I → (State E S I → List Choice → Outcome E S I) → Outcome E S I
 then_go (Went state choices) onward = onward state choices
 then_go Waits onward = Waits
 then_go Ended onward = Ended
@@ -18,12 +18,12 @@ then_go NotYet onward = NotYet
 then_go Stuck onward = Stuck
 
 -- what stands after at most so many steps, with the choices taken in order
-abbrev pub run : ℕ → (t : Text) → State t → List Choice → Outcome t
+abbrev pub run : ℕ → (t : Text) → StateIn t → List Choice → OutcomeIn t
 run zero t state choices = Went state choices
 run (suc steps) t state choices = then_go (step t state choices) (run steps t)
 
 -- a state in which nothing is made, with so much to do
-abbrev pub blank : (t : Text) → List (TaskIn t) → State t
+abbrev pub blank : (t : Text) → List (TaskIn t) → StateIn t
 blank t tasks = record { tasks = tasks; operands = []; frame = []; callers = []; statics = []; memory = [] }
 
 -- objects that live as long as the program runs are made, those of the file first, each with a choice of its own; then their initialisers are written (C11
@@ -37,25 +37,25 @@ main_tasks t main =
     OpenBlock ∷ (map MakeObject main.params ++ (entered t main.body ++ (map Execute main.body ++ EndOfBody true (Integer int) main.close 0 ∷ [])))
 
 -- what is to be done is done to its end. An initialiser is as deep as it is: so many steps are enough, or it is never done
-abbrev pub finished : {t : Text} → List (TaskIn t) → State t → List Choice → (State t → List Choice → Outcome t) → Outcome t
+abbrev pub finished : {E S I : Type 0} → List (Task E S I) → State E S I → List Choice → (State E S I → List Choice → Outcome E S I) → Outcome E S I
 finished [] state choices onward = Went state choices
 finished (task ∷ tasks) state choices onward = onward state choices
 
-abbrev pub done_within : ℕ → (t : Text) → State t → List Choice → Outcome t
+abbrev pub done_within : ℕ → (t : Text) → StateIn t → List Choice → OutcomeIn t
 done_within zero t state choices = finished state.tasks state choices (λ after more. Stuck)
 done_within (suc steps) t state choices = finished state.tasks state choices (λ after more. then_go (step t after more) (done_within steps t))
 
 -- the start of a run, where the initialisers of static objects are written in so many steps
-abbrev pub start_main : (t : Text) → ℕ → Option (Main t.Stmt) → List Choice → Outcome t
+abbrev pub start_main : (t : Text) → ℕ → Option (Main t.Stmt) → List Choice → OutcomeIn t
 start_main t steps None choices = Stuck
 start_main t steps (Some main) choices =
     then_go (done_within steps t (blank t (static_tasks t)) choices) (λ state more. Went (record state { tasks = main_tasks t main }) more)
 
-abbrev pub start : (t : Text) → List Choice → Outcome t
+abbrev pub start : (t : Text) → List Choice → OutcomeIn t
 start t choices = start_main t t.enough t.main choices
 
 -- what stands after at most so many steps from the start
-abbrev pub run_of : (t : Text) → List Choice → ℕ → Outcome t
+abbrev pub run_of : (t : Text) → List Choice → ℕ → OutcomeIn t
 run_of t choices steps = then_go (start t choices) (run steps t)
 
 -- with these choices the run meets this fault

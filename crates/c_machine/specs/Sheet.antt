@@ -128,10 +128,10 @@ abbrev pub zeros : ℕ → List ℕ
 zeros count = replicate count 0
 
 -- with these choices the run comes to that within 400 steps: a fault of a kind at a token, or another end
-abbrev pub ComesTo : (sheet : Sheet) → List Choice → Outcome (text_in sheet) → Type 0
+abbrev pub ComesTo : Sheet → List Choice → Outcome ℕ ℕ ℕ → Type 0
 ComesTo sheet choices outcome = run_of (text_in sheet) choices 400 ≡ outcome
 
 -- with these choices the run still goes on behind 50 steps
 abbrev pub GoesOn : Sheet → List Choice → Type 0
 GoesOn sheet choices =
-    (state : State (text_in sheet)) × (rest : List Choice) × (run_of (text_in sheet) choices 50 ≡ Went state rest)
+    (state : State ℕ ℕ ℕ) × (rest : List Choice) × (run_of (text_in sheet) choices 50 ≡ Went state rest)

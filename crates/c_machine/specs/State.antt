@@ -108,8 +108,8 @@ abbrev pub Frame : Type 0
 Frame = List Scope
 
 -- the first thing to do and the operand that was computed last stand first, and the latest caller
-pub record State (t : Text) : Type 0 where
-  pub tasks : List (TaskIn t)
+pub record State (E S I : Type 0) : Type 0 where
+  pub tasks : List (Task E S I)
   pub operands : List Word
   pub frame : Frame
   pub callers : List Frame
@@ -117,40 +117,47 @@ pub record State (t : Text) : Type 0 where
   pub memory : List Block
 
 -- what a step or a run comes to
-pub data Outcome (t : Text) : Type 0 where
+pub data Outcome (E S I : Type 0) : Type 0 where
   -- the state that it leaves, and the choices that are not taken yet
-  Went : (next : State t) (choices : List Choice) → Outcome t
+  Went : (next : State E S I) (choices : List Choice) → Outcome E S I
   -- a choice is asked for, and there is none left
-  Waits : Outcome t
+  Waits : Outcome E S I
   -- the run is over, with no fault
-  Ended : Outcome t
+  Ended : Outcome E S I
   -- the run is over with a fault of this kind
-  Faulted : (kind : ℕ) (place : Place) → Outcome t
+  Faulted : (kind : ℕ) (place : Place) → Outcome E S I
   -- a function of the program is called, which is not described yet
-  NotYet : Outcome t
+  NotYet : Outcome E S I
   -- no program of C comes there
-  Stuck : Outcome t
+  Stuck : Outcome E S I
+
+-- those of a program
+abbrev pub StateIn : Text → Type 0
+StateIn t = State t.Expr t.Stmt t.Init
+
+abbrev pub OutcomeIn : Text → Type 0
+OutcomeIn t = Outcome t.Expr t.Stmt t.Init
 
 -- a state with more to do first, with one more operand, with other operands, or with another memory
-abbrev pub doing : {t : Text} → List (TaskIn t) → State t → State t
+abbrev pub doing : {E S I : Type 0} → List (Task E S I) → State E S I → State E S I
 doing tasks state = record state { tasks = tasks ++ state.tasks }
 
-abbrev pub with_operand : {t : Text} → Word → State t → State t
+abbrev pub with_operand : {E S I : Type 0} → Word → State E S I → State E S I
 with_operand word state = record state { operands = word ∷ state.operands }
 
-abbrev pub with_memory : {t : Text} → List Block → State t → State t
+abbrev pub with_memory : {E S I : Type 0} → List Block → State E S I → State E S I
 with_memory memory state = record state { memory = memory }
 
 -- goes on with the operand that was computed last
-abbrev pub popped_of : {t : Text} → List Word → State t → (Word → State t → Outcome t) → Outcome t
+abbrev pub popped_of : {E S I : Type 0} → List Word → State E S I → (Word → State E S I → Outcome E S I) → Outcome E S I
 popped_of [] state onward = Stuck
 popped_of (word ∷ operands) state onward = onward word (record state { operands = operands })
 
-abbrev pub popped : {t : Text} → State t → (Word → State t → Outcome t) → Outcome t
+abbrev pub popped : {E S I : Type 0} → State E S I → (Word → State E S I → Outcome E S I) → Outcome E S I
 popped state onward = popped_of state.operands state onward
 
 -- goes on, or meets a fault at the place
-abbrev pub unless_fault : {t : Text} → Option ℕ → Place → Outcome t → Outcome t
+abbrev pub unless_fault : {E S I : Type 0} → Option ℕ → Place → Outcome E S I → Outcome E S I
 unless_fault None place onward = onward
 unless_fault (Some kind) place onward = Faulted kind place
 
@@ -166,7 +173,7 @@ block_in (variable ∷ rest) token = if is_named variable.token token then Some 
 abbrev pub objects_of : Frame → Scope
 objects_of frame = flat_map (λ scope. scope) frame
 
-abbrev pub block_of : {t : Text} → State t → ℕ → Option ℕ
+abbrev pub block_of : {E S I : Type 0} → State E S I → ℕ → Option ℕ
 block_of state token = block_in (objects_of state.frame ++ state.statics) token
 
 -- the blocks of objects, and those that operands lead to
@@ -180,7 +187,7 @@ led_to (To block offset ∷ rest) = block ∷ led_to rest
 
 -- where chains of stored pointers start: at the live objects of all functions that run, at those that live as long as the program runs, and at what
 -- unfinished expressions hold
-abbrev pub roots : {t : Text} → State t → List ℕ
+abbrev pub roots : {E S I : Type 0} → State E S I → List ℕ
 roots state =
     blocks_of (objects_of state.frame)
     ++ (blocks_of (flat_map objects_of state.callers) ++ (blocks_of state.statics ++ led_to state.operands))

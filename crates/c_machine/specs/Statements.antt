@@ -5,7 +5,7 @@ use Rattle.cbase.specs.declared.place.Place.{Place}
 use Rattle.bytes_core.specs.declared.word.Word.{Word}
 use Rattle.bytes_core.specs.declared.word.Word.TheVariants.{Plain}
 use Rattle.c_machine.specs.Text.{Kind, Void, Clause, Declare, Eval, Block, If, While, Do, For, Break, Continue, Return, Text}
-use Rattle.c_machine.specs.State.{TaskIn, ValueOf, Push, Finish, Execute, Branch, Test, Again, OpenBlock, LeaveBlock, BreakAt, ContinueAt, GiveBack, EndOfBody, Unknown}
+use Rattle.c_machine.specs.State.{Task, TaskIn, ValueOf, Push, Finish, Execute, Branch, Test, Again, OpenBlock, LeaveBlock, BreakAt, ContinueAt, GiveBack, EndOfBody, Unknown}
 use Rattle.c_machine.specs.Blocks.{objects_in, in_block, declared_tasks}
 use Rattle.c_machine.specs.Expressions.{value_kind}
 
@@ -93,16 +93,16 @@ branch_tasks t stmt held holds = branch_parts t stmt held (t.clause stmt) holds
 
 -- what stands behind the body of the innermost loop: how many blocks are left up to there, the loop, how many operands the unfinished expressions
 -- around it hold, and what is to be done behind it. A condition and the parts of a `for` lie in no body of their loop
-pub record LoopLeft (t : Text) : Type 0 where
+pub record LoopLeft (E S I : Type 0) : Type 0 where
   pub blocks : ℕ
-  pub loop : t.Stmt
+  pub loop : S
   pub held : ℕ
-  pub rest : List (TaskIn t)
+  pub rest : List (Task E S I)
 
-abbrev pub one_more : (t : Text) → LoopLeft t → LoopLeft t
+abbrev pub one_more : (t : Text) → LoopLeft t.Expr t.Stmt t.Init → LoopLeft t.Expr t.Stmt t.Init
 one_more t left = record left { blocks = suc left.blocks }
 
-abbrev pub loop_left : (t : Text) → List (TaskIn t) → Option (LoopLeft t)
+abbrev pub loop_left : (t : Text) → List (TaskIn t) → Option (LoopLeft t.Expr t.Stmt t.Init)
 loop_left t [] = None
 loop_left t (Again stmt held ∷ rest) = Some (record { blocks = 0; loop = stmt; held = held; rest = rest })
 loop_left t (LeaveBlock place ∷ rest) = option_map (one_more t) (loop_left t rest)
@@ -121,20 +121,20 @@ abbrev pub behind_loop : (t : Text) → Place → Clause t.Expr t.Stmt t.Init �
 behind_loop t word (For first test semicolon next close body) rest = behind_for t word rest
 behind_loop t word other rest = rest
 
-abbrev pub after_break : (t : Text) → Place → LoopLeft t → List (TaskIn t)
+abbrev pub after_break : (t : Text) → Place → LoopLeft t.Expr t.Stmt t.Init → List (TaskIn t)
 after_break t word left = leaves t left.blocks word ++ behind_loop t word (t.clause left.loop) left.rest
 
-abbrev pub after_continue : (t : Text) → Place → LoopLeft t → List (TaskIn t)
+abbrev pub after_continue : (t : Text) → Place → LoopLeft t.Expr t.Stmt t.Init → List (TaskIn t)
 after_continue t word left = leaves t left.blocks word ++ Again left.loop left.held ∷ left.rest
 
 -- what stands behind the body of the function: the kind of its result, how many operands the unfinished expressions around the call hold, and what is
 -- to be done behind it
-pub record BodyLeft (t : Text) : Type 0 where
+pub record BodyLeft (E S I : Type 0) : Type 0 where
   pub result : Kind
   pub held : ℕ
-  pub rest : List (TaskIn t)
+  pub rest : List (Task E S I)
 
-abbrev pub body_left : (t : Text) → List (TaskIn t) → Option (BodyLeft t)
+abbrev pub body_left : (t : Text) → List (TaskIn t) → Option (BodyLeft t.Expr t.Stmt t.Init)
 body_left t [] = None
 body_left t (EndOfBody is_main result close held ∷ rest) = Some (record { result = result; held = held; rest = rest })
 body_left t (other ∷ rest) = body_left t rest

@@ -15,7 +15,7 @@ use Rattle.bytes_core.specs.Value.{address_number, moved}
 use Rattle.choices.specs.declared.choice.Choice.{Choice}
 use Rattle.operators.specs.Integers.{int}
 use Rattle.c_machine.specs.Text.{Kind, Integer, Void, Text}
-use Rattle.c_machine.specs.State.{BuiltIn, Malloc, Calloc, Free, Memset, Memcpy, Memmove, EndsRun, Assume, Expect, GivesInput, TaskIn, ValueOf, AddressOf, Push, ObjectAt, Shift, Load, Convert, Apply, Operate, Answer, AndThen, OrElse, Pick, Drop, Store, Update, CountBy, CopyStruct, RunBuiltIn, CallDefined, EndRun, Finish, Keep, Execute, Branch, Test, Again, OpenBlock, MakeObject, MakeStatic, LeaveBlock, Zero, Initialise, BreakAt, ContinueAt, GiveBack, LeaveFunction, EndOfBody, Unknown, Frame, State, Outcome, Went, Ended, Faulted, NotYet, Stuck, doing, with_operand, with_memory, popped, unless_fault, block_of, blocks_of, objects_of, roots}
+use Rattle.c_machine.specs.State.{BuiltIn, Malloc, Calloc, Free, Memset, Memcpy, Memmove, EndsRun, Assume, Expect, GivesInput, Task, TaskIn, ValueOf, AddressOf, Push, ObjectAt, Shift, Load, Convert, Apply, Operate, Answer, AndThen, OrElse, Pick, Drop, Store, Update, CountBy, CopyStruct, RunBuiltIn, CallDefined, EndRun, Finish, Keep, Execute, Branch, Test, Again, OpenBlock, MakeObject, MakeStatic, LeaveBlock, Zero, Initialise, BreakAt, ContinueAt, GiveBack, LeaveFunction, EndOfBody, Unknown, Frame, State, StateIn, Outcome, OutcomeIn, Went, Ended, Faulted, NotYet, Stuck, doing, with_operand, with_memory, popped, unless_fault, block_of, blocks_of, objects_of, roots}
 use Rattle.c_machine.specs.Words.{is_true, told, as_kind, applied, operated, kind_after, decayed, scalar_bytes, is_pointer}
 use Rattle.c_machine.specs.Blocks.{initialiser_tasks}
 use Rattle.c_machine.specs.Expressions.{address_tasks, value_tasks}
@@ -27,43 +27,43 @@ abbrev pub block_never_freed : ℕ
 block_never_freed = 9
 
 -- goes on, unless memory is lost
-abbrev pub unless_lost : {t : Text} → Place → State t → List Choice → Outcome t
+abbrev pub unless_lost : {E S I : Type 0} → Place → State E S I → List Choice → Outcome E S I
 unless_lost place state choices = if is_lost state.memory (roots state) then Faulted memory_lost place else Went state choices
 
 -- goes on with a value; where an operator has none the run ends, and where no operator is the machine is stuck
-abbrev pub or_ended : {t : Text} → Option Word → State t → List Choice → Outcome t
+abbrev pub or_ended : {E S I : Type 0} → Option Word → State E S I → List Choice → Outcome E S I
 or_ended None state choices = Ended
 or_ended (Some word) state choices = Went (with_operand word state) choices
 
-abbrev pub or_stuck : {t : Text} → Option Word → State t → List Choice → Outcome t
+abbrev pub or_stuck : {E S I : Type 0} → Option Word → State E S I → List Choice → Outcome E S I
 or_stuck None state choices = Stuck
 or_stuck (Some word) state choices = Went (with_operand word state) choices
 
-abbrev pub object_at : {t : Text} → Option ℕ → State t → List Choice → Outcome t
+abbrev pub object_at : {E S I : Type 0} → Option ℕ → State E S I → List Choice → Outcome E S I
 object_at None state choices = Stuck
 object_at (Some block) state choices = Went (with_operand (To block (pos 0)) state) choices
 
 -- the value of an lvalue of a kind: one load of its bytes. The value of an array is its address, and a struct is not loaded
-abbrev pub load_step : {t : Text} → Place → Kind → Option ℕ → Word → State t → List Choice → Outcome t
+abbrev pub load_step : {E S I : Type 0} → Place → Kind → Option ℕ → Word → State E S I → List Choice → Outcome E S I
 load_step place kind None at state choices = Went (with_operand at state) choices
 load_step place kind (Some bytes) at state choices =
     unless_fault (access_fault state.memory at bytes) place (Went (with_operand (loaded state.memory at bytes (is_pointer kind)) state) choices)
 
 -- a store of a value, which is the value of the assignment (C11 6.5.16p3)
-abbrev pub store_step : {t : Text} → Place → Option ℕ → Word → Word → State t → List Choice → Outcome t
+abbrev pub store_step : {E S I : Type 0} → Place → Option ℕ → Word → Word → State E S I → List Choice → Outcome E S I
 store_step place None at word state choices = Stuck
 store_step place (Some bytes) at word state choices =
     unless_fault (access_fault state.memory at bytes) place (Went (with_operand word (with_memory (stored state.memory at bytes word) state)) choices)
 
 -- `+=` and its like: a load, the operation, a conversion and a store (6.5.16.2p3); `++` and `--` are these with the int 1, and where they stand behind
 -- their operand their value is the old one (6.5.2.4p2, 6.5.3.1p2)
-abbrev pub stored_result : {t : Text} → Kind → Kind → ℕ → Word → Option Word → (Word → Word) → State t → List Choice → Outcome t
+abbrev pub stored_result : {E S I : Type 0} → Kind → Kind → ℕ → Word → Option Word → (Word → Word) → State E S I → List Choice → Outcome E S I
 stored_result from kind bytes at None value state choices = Ended
 stored_result from kind bytes at (Some result) value state choices =
     Went (with_operand (value (as_kind state.memory from kind result))
     (with_memory (stored state.memory at bytes (as_kind state.memory from kind result)) state)) choices
 
-abbrev pub updated : {t : Text} → BinaryOp → Place → Kind → Option ℕ → Kind → Word → Word → (Word → Word → Word) → State t → List Choice → Outcome t
+abbrev pub updated : {E S I : Type 0} → BinaryOp → Place → Kind → Option ℕ → Kind → Word → Word → (Word → Word → Word) → State E S I → List Choice → Outcome E S I
 updated op place kind None right at word value state choices = Stuck
 updated op place kind (Some bytes) right at word value state choices =
     unless_fault (access_fault state.memory at bytes) place
@@ -80,46 +80,46 @@ counted true old new = old
 counted false old new = new
 
 -- `&&` and `||` behind their left side, whose value goes at once (6.5.13p4, 6.5.14p4)
-abbrev pub and_then : {t : Text} → Bool → List (TaskIn t) → State t → List Choice → Outcome t
+abbrev pub and_then : {E S I : Type 0} → Bool → List (Task E S I) → State E S I → List Choice → Outcome E S I
 and_then true right state choices = Went (doing right state) choices
 and_then false right state choices = Went (with_operand (Plain 0) state) choices
 
-abbrev pub or_else : {t : Text} → Bool → List (TaskIn t) → State t → List Choice → Outcome t
+abbrev pub or_else : {E S I : Type 0} → Bool → List (Task E S I) → State E S I → List Choice → Outcome E S I
 or_else true right state choices = Went (with_operand (Plain 1) state) choices
 or_else false right state choices = Went (doing right state) choices
 
 -- built-in functions, by the values of their arguments (7.22.3, 7.24)
-abbrev pub malloc_step : {t : Text} → State t → List Choice → Outcome t
+abbrev pub malloc_step : {E S I : Type 0} → State E S I → List Choice → Outcome E S I
 malloc_step state choices = popped state (λ size after. allocated (address_number state.memory size) false after choices)
 
-abbrev pub calloc_step : {t : Text} → State t → List Choice → Outcome t
+abbrev pub calloc_step : {E S I : Type 0} → State E S I → List Choice → Outcome E S I
 calloc_step state choices =
     popped state (λ size before. popped before (λ count after.
     allocated (address_number state.memory count * address_number state.memory size) true after choices))
 
-abbrev pub free_step : {t : Text} → Place → State t → List Choice → Outcome t
+abbrev pub free_step : {E S I : Type 0} → Place → State E S I → List Choice → Outcome E S I
 free_step place state choices =
     popped state (λ word after.
     unless_fault (free_fault state.memory word) place (Went (with_operand (Plain 0) (with_memory (freed state.memory word) after)) choices))
 
-abbrev pub memset_step : {t : Text} → Place → State t → List Choice → Outcome t
+abbrev pub memset_step : {E S I : Type 0} → Place → State E S I → List Choice → Outcome E S I
 memset_step place state choices =
     popped state (λ count one. popped one (λ byte two. popped two (λ at after.
     unless_fault (range_fault state.memory at (address_number state.memory count)) place
     (Went (with_operand at
     (with_memory (filled state.memory at (address_number state.memory byte % 256) (address_number state.memory count)) after)) choices))))
 
-abbrev pub copy_step : {t : Text} → Bool → Place → State t → List Choice → Outcome t
+abbrev pub copy_step : {E S I : Type 0} → Bool → Place → State E S I → List Choice → Outcome E S I
 copy_step disjoint place state choices =
     popped state (λ count one. popped one (λ from two. popped two (λ to after.
     unless_fault (copy_fault state.memory to from (address_number state.memory count) disjoint) place
     (Went (with_operand to (with_memory (copied state.memory to from (address_number state.memory count)) after)) choices))))
 
-abbrev pub assumed : {t : Text} → Bool → State t → List Choice → Outcome t
+abbrev pub assumed : {E S I : Type 0} → Bool → State E S I → List Choice → Outcome E S I
 assumed true state choices = Went (with_operand (Plain 0) state) choices
 assumed false state choices = Ended
 
-abbrev pub built_in_step : {t : Text} → BuiltIn → Place → Kind → State t → List Choice → Outcome t
+abbrev pub built_in_step : {E S I : Type 0} → BuiltIn → Place → Kind → State E S I → List Choice → Outcome E S I
 built_in_step Malloc place result state choices = malloc_step state choices
 built_in_step Calloc place result state choices = calloc_step state choices
 built_in_step Free place result state choices = free_step place state choices
@@ -137,21 +137,21 @@ without_objects [] memory = memory
 without_objects (block ∷ rest) memory = without_objects rest (without memory block (slice_get memory block))
 
 -- a block is left: its objects die, then loss is looked for (6.2.4p6)
-abbrev pub leave_block : {t : Text} → Frame → Place → State t → List Choice → Outcome t
+abbrev pub leave_block : {E S I : Type 0} → Frame → Place → State E S I → List Choice → Outcome E S I
 leave_block [] place state choices = Stuck
 leave_block (scope ∷ scopes) place state choices =
     unless_lost place (record state { frame = scopes; memory = without_objects (blocks_of scope) state.memory }) choices
 
 -- `break` and `continue`: what the unfinished expressions hold that are left goes first, and loss is looked for; then the blocks are left (6.8.6.2,
 -- 6.8.6.3)
-abbrev pub leave_loop : {t : Text} → Option (LoopLeft t) → (LoopLeft t → List (TaskIn t)) → Place → State t → List Choice → Outcome t
+abbrev pub leave_loop : {E S I : Type 0} → Option (LoopLeft E S I) → (LoopLeft E S I → List (Task E S I)) → Place → State E S I → List Choice → Outcome E S I
 leave_loop None onward word state choices = Stuck
 leave_loop (Some left) onward word state choices =
     unless_lost word (record state { tasks = onward left; operands = oldest left.held state.operands }) choices
 
 -- `return`: its value is converted and kept, what the unfinished expressions hold that are left goes, and loss is looked for; then all blocks of the
 -- function are left at once (6.8.6.4)
-abbrev pub give_back : {t : Text} → Option (BodyLeft t) → Place → Kind → Word → State t → List Choice → Outcome t
+abbrev pub give_back : {E S I : Type 0} → Option (BodyLeft E S I) → Place → Kind → Word → State E S I → List Choice → Outcome E S I
 give_back None word from value state choices = Stuck
 give_back (Some left) word from value state choices =
     unless_lost word (record state {
@@ -160,24 +160,24 @@ give_back (Some left) word from value state choices =
     }) choices
 
 -- the `}` of a body: main answers 0, and another function with a result any input of it (5.1.2.2.3, 6.9.1p12)
-abbrev pub end_of_body : {t : Text} → Bool → Kind → Place → State t → List Choice → Outcome t
+abbrev pub end_of_body : {E S I : Type 0} → Bool → Kind → Place → State E S I → List Choice → Outcome E S I
 end_of_body true result close state choices = Went (doing (LeaveFunction close ∷ []) (with_operand (Plain 0) state)) choices
 end_of_body false Void close state choices = Went (doing (LeaveFunction close ∷ []) (with_operand (Plain 0) state)) choices
 end_of_body false result close state choices = received result (doing (LeaveFunction close ∷ []) state) choices
 
 -- behind the return of a function its caller goes on; where there is none the run is over. Where main may not return while an allocated block lives, that
 -- is a fault: without roots each such block is lost
-abbrev pub returned : (t : Text) → List Frame → Place → State t → List Choice → Outcome t
+abbrev pub returned : (t : Text) → List Frame → Place → StateIn t → List Choice → OutcomeIn t
 returned t [] place state choices =
     if t.strict then (if is_lost state.memory [] then Faulted block_never_freed place else Ended) else Ended
 returned t (frame ∷ callers) place state choices = Went (record state { frame = frame; callers = callers }) choices
 
-abbrev pub leave_function : (t : Text) → Place → State t → List Choice → Outcome t
+abbrev pub leave_function : (t : Text) → Place → StateIn t → List Choice → OutcomeIn t
 leave_function t place state choices =
     if is_lost state.memory (roots state) then Faulted memory_lost place else returned t state.callers place state choices
 
 -- the step of each thing that is to be done, where the rest of the list stands in the state
-abbrev pub step_of : (t : Text) → TaskIn t → State t → List Choice → Outcome t
+abbrev pub step_of : (t : Text) → TaskIn t → StateIn t → List Choice → OutcomeIn t
 step_of t (ValueOf expr) state choices = Went (doing (value_tasks t expr) state) choices
 step_of t (AddressOf expr) state choices = Went (doing (address_tasks t expr) state) choices
 step_of t (Push word) state choices = Went (with_operand word state) choices
@@ -236,9 +236,9 @@ step_of t (EndOfBody is_main result close held) state choices = end_of_body is_m
 step_of t Unknown state choices = Stuck
 
 -- with nothing to do the run is over
-abbrev pub step_on : (t : Text) → List (TaskIn t) → State t → List Choice → Outcome t
+abbrev pub step_on : (t : Text) → List (TaskIn t) → StateIn t → List Choice → OutcomeIn t
 step_on t [] state choices = Ended
 step_on t (task ∷ rest) state choices = step_of t task (record state { tasks = rest }) choices
 
-abbrev pub step : (t : Text) → State t → List Choice → Outcome t
+abbrev pub step : (t : Text) → StateIn t → List Choice → OutcomeIn t
 step t state choices = step_on t state.tasks state choices
