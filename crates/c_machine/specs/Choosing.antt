@@ -11,7 +11,8 @@ use Rattle.c_machine.specs.Text.{Kind, Integer, Pointer, Object}
 use Rattle.c_machine.specs.State.{State, Frame, Variable, Outcome, Went, Waits, Ended, with_operand, with_memory}
 
 -- a new block of a kind and size, and what is done with it: its base and its contents are a choice, of zeros alone where that is asked
-abbrev pub with_block : {E S I : Type 0} → BlockKind → ℕ → Bool → State E S I → List Choice → (State E S I → ℕ → List Choice → Outcome E S I) → Outcome E S I
+abbrev pub with_block : {E S I : Type 0} → BlockKind → ℕ → Bool → State E S I → List Choice →
+    (State E S I → ℕ → List Choice → Outcome E S I) → Outcome E S I
 with_block kind size zeroed state [] onward = Waits
 with_block kind size zeroed state (None ∷ choices) onward = Ended
 with_block kind size zeroed state (Input number ∷ choices) onward = Ended

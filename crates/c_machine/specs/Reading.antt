@@ -46,7 +46,8 @@ read_init p initial = (text_of p).initialiser initial
 -- expressions (C11 6.5)
 pub record AreExpressionsRead (p : Program) (number : ℕ) (place : Place) : Type 0 where
   pub name : (bytes : List ℕ) → read p (expr_of number place (tree.Name bytes)) ≡ Name
-  pub constant : (spelling : List ℕ) → read p (expr_of number place (tree.Constant spelling)) ≡ Known (constant_of p (expr_of number place (tree.Constant spelling)))
+  pub constant : (spelling : List ℕ) →
+      read p (expr_of number place (tree.Constant spelling)) ≡ Known (constant_of p (expr_of number place (tree.Constant spelling)))
   pub unary : (op : UnaryOp) (arg : Expr) → read p (expr_of number place (tree.Unary op arg)) ≡ Unary op arg
   pub binary : (op : BinaryOp) (left right : Expr) → read p (expr_of number place (tree.Binary op left right)) ≡ Binary op left right
   pub assignment : (op : Option BinaryOp) (left right : Expr) → read p (expr_of number place (tree.Assign op left right)) ≡ Assign op left right
@@ -55,7 +56,8 @@ pub record AreExpressionsRead (p : Program) (number : ℕ) (place : Place) : Typ
   pub cast : (to : TypeName) (arg : Expr) → read p (expr_of number place (tree.Cast to arg)) ≡ Cast arg
   pub size : (arg : Expr) → read p (expr_of number place (tree.SizeOf arg)) ≡ Known (constant_of p (expr_of number place (tree.SizeOf arg)))
   pub size_of_type : (to : TypeName) → read p (expr_of number place (tree.SizeOfType to)) ≡ Known (constant_of p (expr_of number place (tree.SizeOfType to)))
-  pub offset_of : (to : TypeName) (path : List Part) → read p (expr_of number place (tree.OffsetOf to path)) ≡ Known (constant_of p (expr_of number place (tree.OffsetOf to path)))
+  pub offset_of : (to : TypeName) (path : List Part) →
+      read p (expr_of number place (tree.OffsetOf to path)) ≡ Known (constant_of p (expr_of number place (tree.OffsetOf to path)))
   pub index : (base index : Expr) → read p (expr_of number place (tree.Index base index)) ≡ Index base index
   pub member : (base : Expr) (name : Identifier) →
       read p (expr_of number place (tree.Member base name false)) ≡ Member base (offset (member_offset p.abi p.structs (type_of p base) name.name)) false
@@ -72,7 +74,8 @@ pub record AreStatementsRead (p : Program) (first last : Place) : Type 0 where
   pub declared : (parts : DeclaratorParts) → name_of (roll-Declared parts) ≡ record { place = parts.place; init = parts.init }
   pub evaluation : (expr : Option Expr) → read_stmt p (stmt_of first last (stmt.Eval expr)) ≡ Eval expr
   pub block : (body : List Stmt) → read_stmt p (stmt_of first last (stmt.Block body)) ≡ Block body
-  pub branch : (test : Expr) (close : Place) (one : Stmt) (other : Option Stmt) → read_stmt p (stmt_of first last (stmt.If test close one other)) ≡ If test close one other
+  pub branch : (test : Expr) (close : Place) (one : Stmt) (other : Option Stmt) →
+      read_stmt p (stmt_of first last (stmt.If test close one other)) ≡ If test close one other
   pub while_loop : (test : Expr) (close : Place) (body : Stmt) → read_stmt p (stmt_of first last (stmt.While test close body)) ≡ While test close body
   pub do_loop : (body : Stmt) (test : Expr) (close : Place) → read_stmt p (stmt_of first last (stmt.Do body test close)) ≡ Do body test close
   pub for_loop : (begin : Stmt) (test : Option Expr) (semicolon : Place) (next : Option Expr) (close : Place) (body : Stmt) →
@@ -94,4 +97,5 @@ pub record AreTypesRead (p : Program) : Type 0 where
 
 -- all that is read
 abbrev pub AreRead : Type 0
-AreRead = (p : Program) → ((number : ℕ) (place : Place) → AreExpressionsRead p number place) × ((first last : Place) → AreStatementsRead p first last) × AreTypesRead p
+AreRead =
+    (p : Program) → ((number : ℕ) (place : Place) → AreExpressionsRead p number place) × ((first last : Place) → AreStatementsRead p first last) × AreTypesRead p

@@ -16,9 +16,9 @@ use Rattle.choices.specs.declared.choice.Choice.{Choice}
 use Rattle.operators.specs.Integers.{int}
 use Rattle.c_machine.specs.Text.{Kind, Integer, Void, Text}
 use Rattle.c_machine.specs.State.{BuiltIn, Malloc, Calloc, Free, Memset, Memcpy, Memmove, EndsRun, Assume, Expect, GivesInput, Task, TaskIn, ValueOf, AddressOf, Push, ObjectAt, Shift, Load, Convert, Apply, Operate, Answer, AndThen, OrElse, Pick, Drop, Store, Update, CountBy, CopyStruct, RunBuiltIn, CallDefined, EndRun, Finish, Keep, Execute, Branch, Test, Again, OpenBlock, MakeObject, MakeStatic, LeaveBlock, Zero, Initialise, BreakAt, ContinueAt, GiveBack, LeaveFunction, EndOfBody, Unknown, Frame, State, StateIn, Outcome, OutcomeIn, Went, Ended, Faulted, NotYet, Stuck, doing, with_operand, with_memory, popped, unless_fault, block_of, blocks_of, objects_of, roots}
-use Rattle.c_machine.specs.Words.{is_true, told, as_kind, applied, operated, kind_after, decayed, scalar_bytes, is_pointer}
+use Rattle.c_machine.specs.Words.{is_true, told, as_kind, applied, operated, kind_after, scalar_bytes, is_pointer}
 use Rattle.c_machine.specs.Blocks.{initialiser_tasks}
-use Rattle.c_machine.specs.Expressions.{address_tasks, value_tasks}
+use Rattle.c_machine.specs.Expressions.{value_kind, address_tasks, value_tasks}
 use Rattle.c_machine.specs.Statements.{statement_tasks, test_tasks, again_tasks, branch_place, branch_tasks, LoopLeft, loop_left, after_break, after_continue, BodyLeft, body_left, oldest}
 use Rattle.c_machine.specs.Choosing.{object_made, static_made, allocated, received}
 
@@ -63,7 +63,8 @@ stored_result from kind bytes at (Some result) value state choices =
     Went (with_operand (value (as_kind state.memory from kind result))
     (with_memory (stored state.memory at bytes (as_kind state.memory from kind result)) state)) choices
 
-abbrev pub updated : {E S I : Type 0} → BinaryOp → Place → Kind → Option ℕ → Kind → Word → Word → (Word → Word → Word) → State E S I → List Choice → Outcome E S I
+abbrev pub updated : {E S I : Type 0} → BinaryOp → Place → Kind → Option ℕ → Kind → Word → Word →
+    (Word → Word → Word) → State E S I → List Choice → Outcome E S I
 updated op place kind None right at word value state choices = Stuck
 updated op place kind (Some bytes) right at word value state choices =
     unless_fault (access_fault state.memory at bytes) place
@@ -87,6 +88,10 @@ and_then false right state choices = Went (with_operand (Plain 0) state) choices
 abbrev pub or_else : {E S I : Type 0} → Bool → List (Task E S I) → State E S I → List Choice → Outcome E S I
 or_else true right state choices = Went (with_operand (Plain 1) state) choices
 or_else false right state choices = Went (doing right state) choices
+
+-- an arm of `?:`, converted to its kind (6.5.15p4, p5)
+abbrev pub arm : (t : Text) → Kind → t.Expr → List (TaskIn t)
+arm t kind expr = ValueOf expr ∷ Convert (value_kind t expr) kind ∷ []
 
 -- built-in functions, by the values of their arguments (7.22.3, 7.24)
 abbrev pub malloc_step : {E S I : Type 0} → State E S I → List Choice → Outcome E S I
@@ -144,7 +149,8 @@ leave_block (scope ∷ scopes) place state choices =
 
 -- `break` and `continue`: what the unfinished expressions hold that are left goes first, and loss is looked for; then the blocks are left (6.8.6.2,
 -- 6.8.6.3)
-abbrev pub leave_loop : {E S I : Type 0} → Option (LoopLeft E S I) → (LoopLeft E S I → List (Task E S I)) → Place → State E S I → List Choice → Outcome E S I
+abbrev pub leave_loop : {E S I : Type 0} → Option (LoopLeft E S I) → (LoopLeft E S I → List (Task E S I)) →
+    Place → State E S I → List Choice → Outcome E S I
 leave_loop None onward word state choices = Stuck
 leave_loop (Some left) onward word state choices =
     unless_lost word (record state { tasks = onward left; operands = oldest left.held state.operands }) choices
@@ -193,8 +199,7 @@ step_of t (Answer holds) state choices = popped state (λ word after. Went (with
 step_of t (AndThen right) state choices = popped state (λ word after. and_then (is_true state.memory word) (ValueOf right ∷ Answer true ∷ []) after choices)
 step_of t (OrElse right) state choices = popped state (λ word after. or_else (is_true state.memory word) (ValueOf right ∷ Answer true ∷ []) after choices)
 step_of t (Pick kind one other) state choices =
-    popped state (λ word after.
-    Went (doing (if is_true state.memory word then ValueOf one ∷ Convert (decayed (t.kind one)) kind ∷ [] else ValueOf other ∷ Convert (decayed (t.kind other)) kind ∷ []) after) choices)
+    popped state (λ word after. Went (doing (if is_true state.memory word then arm t kind one else arm t kind other) after) choices)
 step_of t Drop state choices = popped state (λ word after. Went after choices)
 step_of t (Store place kind) state choices =
     popped state (λ word before. popped before (λ at after. store_step place (scalar_bytes kind) at word after choices))
