@@ -10,3 +10,4 @@ pub mod MoreChoices
 pub mod ExamplesOfSteps
 pub mod MoreOfRuns
 pub mod ExamplesOfRows
+pub mod ExamplesOfTrees

@@ -1,5 +1,6 @@
 pub mod Blocks
 pub mod Choosing
+pub mod ExamplesOfTrees
 pub mod ExamplesOfAccesses
 pub mod ExamplesOfBuiltIns
 pub mod ExamplesOfExpressions

@@ -10,5 +10,5 @@ mod rows;
 
 pub use rows::{
     accesses_come_out, built_in_functions_come_out, expressions_come_out, initialisers_come_out,
-    losses_come_out, rows_are_found, statements_come_out, steps_come_out,
+    losses_come_out, rows_are_found, statements_come_out, steps_come_out, whole_programs_come_out,
 };

@@ -7,6 +7,13 @@ ghost use Rattle.c_machine.specs.ExamplesOfLosses.{AreLosses};
 ghost use Rattle.c_machine.specs.ExamplesOfRows.{AreFoundInRows};
 ghost use Rattle.c_machine.specs.ExamplesOfStatements.{AreStatements};
 ghost use Rattle.c_machine.specs.ExamplesOfSteps.{AreSteps};
+ghost use Rattle.c_machine.specs.ExamplesOfTrees.{AreWholePrograms};
+
+/// Whole programs as trees, with the rows that typing hands on of them.
+#[tactic(auto, using(crate::proofs::ExamplesOfTrees::are_whole_programs))]
+pub fn whole_programs_come_out()
+    ensures { AreWholePrograms }
+{}
 
 /// Expressions, from left to right (C11 6.5).
 #[tactic(auto, using(crate::proofs::ExamplesOfExpressions::are_expressions))]
