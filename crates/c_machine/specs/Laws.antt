@@ -1,0 +1,46 @@
+-- Laws of the machine.
+use Rattle.std.specs.Prelude.{◌≡◌, ℕ, ◌⊎◌, List, [], ◌∷◌, ◌++◌}
+use Rattle.choices.specs.declared.choice.Choice.{Choice}
+use Rattle.c_machine.specs.Program.{Program}
+use Rattle.c_machine.specs.State.{StateIn, Outcome, Went, Waits, Ended, Faulted, NotYet, Stuck}
+use Rattle.c_machine.specs.Run.{run, run_of}
+use Rattle.c_machine.specs.Step.{step}
+use Rattle.c_machine.specs.Trees.{text_of}
+
+-- what a step that goes on leaves of the choices is all of them, or all but the first; and one that waits has none to take
+abbrev pub TakesOne : {E S I : Type 0} → List Choice → Outcome E S I → Type 0
+TakesOne choices (Went next rest) = (rest ≡ choices) ⊎ ((first : Choice) × (choices ≡ first ∷ rest))
+TakesOne choices Waits = choices ≡ []
+TakesOne choices Ended = Unit {0}
+TakesOne choices (Faulted kind place) = Unit {0}
+TakesOne choices NotYet = Unit {0}
+TakesOne choices Stuck = Unit {0}
+
+-- a step takes at most one choice, and waits only where there is none
+abbrev pub DoStepsTakeOne : Type 0
+DoStepsTakeOne = (p : Program) (state : StateIn (text_of p)) (choices : List Choice) → TakesOne choices (step (text_of p) state choices)
+
+-- with more choices behind, what goes on leaves them too, and all else is as it was, but for what waits
+abbrev pub LeavesMore : {E S I : Type 0} → List Choice → Outcome E S I → Outcome E S I → Type 0
+LeavesMore more (Went next rest) after = after ≡ Went next (rest ++ more)
+LeavesMore more Waits after = Unit {0}
+LeavesMore more Ended after = after ≡ Ended
+LeavesMore more (Faulted kind place) after = after ≡ Faulted kind place
+LeavesMore more NotYet after = after ≡ NotYet
+LeavesMore more Stuck after = after ≡ Stuck
+
+abbrev pub DoStepsLeaveMore : Type 0
+DoStepsLeaveMore =
+    (p : Program) (state : StateIn (text_of p)) (choices more : List Choice)
+    → LeavesMore more (step (text_of p) state choices) (step (text_of p) state (choices ++ more))
+
+-- so do runs, from any state and from the start
+abbrev pub DoRunsLeaveMore : Type 0
+DoRunsLeaveMore =
+    (p : Program) (steps : ℕ) (state : StateIn (text_of p)) (choices more : List Choice)
+    → LeavesMore more (run steps (text_of p) state choices) (run steps (text_of p) state (choices ++ more))
+
+abbrev pub DoProgramsLeaveMore : Type 0
+DoProgramsLeaveMore =
+    (p : Program) (steps : ℕ) (choices more : List Choice)
+    → LeavesMore more (run_of (text_of p) choices steps) (run_of (text_of p) (choices ++ more) steps)

@@ -1,0 +1,67 @@
+-- Runs: how a program starts, what stands after so many steps, and which faults are met.
+use Rattle.std.specs.Prelude.{◌≡◌, ℕ, zero, suc, true, List, [], ◌∷◌, ◌++◌, map, Option, None, Some}
+use Rattle.cbase.specs.declared.place.Place.{Place}
+use Rattle.choices.specs.declared.choice.Choice.{Choice}
+use Rattle.operators.specs.Integers.{int}
+use Rattle.c_machine.specs.Text.{Integer, Main, Text}
+use Rattle.c_machine.specs.State.{Task, TaskIn, Execute, OpenBlock, MakeObject, MakeStatic, Initialise, EndOfBody, State, StateIn, Outcome, OutcomeIn, Went, Waits, Ended, Faulted, NotYet, Stuck}
+use Rattle.c_machine.specs.Blocks.{entered}
+use Rattle.c_machine.specs.Step.{step}
+
+-- goes on from what a step left
+abbrev pub then_go : {E S I : Type 0} → Outcome E S I → (State E S I → List Choice → Outcome E S I) → Outcome E S I
+then_go (Went state choices) onward = onward state choices
+then_go Waits onward = Waits
+then_go Ended onward = Ended
+then_go (Faulted kind place) onward = Faulted kind place
+then_go NotYet onward = NotYet
+then_go Stuck onward = Stuck
+
+-- what stands after at most so many steps, with the choices taken in order
+abbrev pub run : ℕ → (t : Text) → StateIn t → List Choice → OutcomeIn t
+run zero t state choices = Went state choices
+run (suc steps) t state choices = then_go (step t state choices) (run steps t)
+
+-- a state in which nothing is made, with so much to do
+abbrev pub blank : (t : Text) → List (TaskIn t) → StateIn t
+blank t tasks = record { tasks = tasks; operands = []; frame = []; callers = []; statics = []; memory = [] }
+
+-- objects that live as long as the program runs are made, those of the file first, each with a choice of its own; then their initialisers are written (C11
+-- 5.1.2p1, 6.2.4p3)
+abbrev pub static_tasks : (t : Text) → List (TaskIn t)
+static_tasks t = map MakeStatic t.statics ++ map (λ set. Initialise set.place set.init) t.sets
+
+-- then main is called: its parameters and its body's outermost block are one block (6.2.1p4, 6.9.1p9)
+abbrev pub main_tasks : (t : Text) → Main t.Stmt → List (TaskIn t)
+main_tasks t main =
+    OpenBlock ∷ (map MakeObject main.params ++ (entered t main.body ++ (map Execute main.body ++ EndOfBody true (Integer int) main.close 0 ∷ [])))
+
+-- what is to be done is done to its end. An initialiser is as deep as it is: so many steps are enough, or it is never done
+abbrev pub finished : {E S I : Type 0} → List (Task E S I) → State E S I → List Choice → (State E S I → List Choice → Outcome E S I) → Outcome E S I
+finished [] state choices onward = Went state choices
+finished (task ∷ tasks) state choices onward = onward state choices
+
+abbrev pub done_within : ℕ → (t : Text) → StateIn t → List Choice → OutcomeIn t
+done_within zero t state choices = finished state.tasks state choices (λ after more. Stuck)
+done_within (suc steps) t state choices = finished state.tasks state choices (λ after more. then_go (step t after more) (done_within steps t))
+
+-- the start of a run, where the initialisers of static objects are written in so many steps
+abbrev pub start_main : (t : Text) → ℕ → Option (Main t.Stmt) → List Choice → OutcomeIn t
+start_main t steps None choices = Stuck
+start_main t steps (Some main) choices =
+    then_go (done_within steps t (blank t (static_tasks t)) choices) (λ state more. Went (record state { tasks = main_tasks t main }) more)
+
+abbrev pub start : (t : Text) → List Choice → OutcomeIn t
+start t choices = start_main t t.enough t.main choices
+
+-- what stands after at most so many steps from the start
+abbrev pub run_of : (t : Text) → List Choice → ℕ → OutcomeIn t
+run_of t choices steps = then_go (start t choices) (run steps t)
+
+-- with these choices the run meets this fault
+abbrev pub Leads : Text → List Choice → ℕ → Place → Type 0
+Leads t choices kind place = (steps : ℕ) × (run_of t choices steps ≡ Faulted kind place)
+
+-- a program is sound where no choices and no number of steps reach a fault
+abbrev pub IsSound : Text → Type 0
+IsSound t = (choices : List Choice) (kind : ℕ) (place : Place) → Leads t choices kind place → ⊥

@@ -1,0 +1,27 @@
+//! Laws of the machine. Each is the contract of a function that does nothing.
+ghost use Rattle.c_machine.specs.Laws.{DoProgramsLeaveMore, DoRunsLeaveMore, DoStepsLeaveMore, DoStepsTakeOne};
+ghost use Rattle.c_machine.specs.Reading.{AreRead};
+
+/// A step takes at most one choice, and waits only where there is none.
+#[tactic(auto, using(crate::proofs::OneChoice::steps_take_one))]
+pub fn a_step_takes_at_most_one_choice()
+    ensures { DoStepsTakeOne }
+{}
+
+/// Where a step does not wait, choices behind the others change nothing, and are left: it is determined by the first one.
+#[tactic(auto, using(crate::proofs::MoreChoices::steps_leave_more))]
+pub fn a_step_is_determined_by_its_choice()
+    ensures { DoStepsLeaveMore }
+{}
+
+/// Where a run does not wait, choices behind the others change nothing, and are left: from any state, and from the start.
+#[tactic(auto, using(crate::proofs::MoreOfRuns::runs_leave_more, crate::proofs::MoreOfRuns::programs_leave_more))]
+pub fn a_run_is_determined_by_its_choices()
+    ensures runs { DoRunsLeaveMore }
+    ensures programs { DoProgramsLeaveMore }
+{}
+
+/// The machine is told of each form of expression, of each form of statement, of initialisers and of each type what stands in the tree.
+pub fn trees_are_read_form_by_form()
+    ensures { AreRead }
+{}
