@@ -3,12 +3,12 @@ ghost use Rattle.ctokens.specs.InText.{LieInText};
 ghost use Rattle.ctokens.specs.TokenList.{AreNumbered};
 
 use crate::answers::{Asked, last, typedef};
+use crate::at_tokens::{block, expression, left, statements};
 use crate::constructs::{construct, layout};
 use crate::cut::cut;
-use crate::expressions::{block, expression, left, statements};
 use crate::faults::{faults, program};
-use crate::items::{items, needed, passed};
 use crate::lexical::tokens;
+use crate::needs::{items, needed, passed};
 use crate::reports::report;
 use crate::row::{row_of_line, unescaped};
 use crate::scopes::scope;

@@ -6,13 +6,13 @@
 #![tactic(auto)]
 
 mod answers;
+mod at_tokens;
 mod constructs;
 mod cut;
-mod expressions;
 mod faults;
-mod items;
 mod lexical;
 mod line;
+mod needs;
 mod nodes;
 mod places;
 mod reports;
