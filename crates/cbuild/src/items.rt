@@ -22,7 +22,7 @@ impl Builder {
         let Some(decl) = self.pop_declaration() else {
             return Ok(false);
         };
-        self.put_item(Item::Declare(decl))
+        self.put_item(Item::Declare(decl.into_inner()))
     }
 
     /// A function's definition (C11 6.9.1).

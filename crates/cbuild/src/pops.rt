@@ -80,12 +80,12 @@ impl Builder {
     }
 
     /// Takes the name of a type on top. Whatever stands there is gone.
-    pub(crate) fn pop_type_name(&mut self) -> Option<TypeName>
+    pub(crate) fn pop_type_name(&mut self) -> Option<Boxed<TypeName>>
         ensures tree { result ≡ top_of type_name_of self.old.pieces }
         ensures rest { self.new ≡ record { count = self.old.count; pieces = below self.old.pieces } }
     {
         match self.pieces.pop() {
-            Some(Piece::TypeName(tree)) => Some(tree.into_inner()),
+            Some(Piece::TypeName(tree)) => Some(tree),
             other => {
                 drop(other);
                 None
@@ -164,12 +164,12 @@ impl Builder {
     }
 
     /// Takes the declaration on top. Whatever stands there is gone.
-    pub(crate) fn pop_declaration(&mut self) -> Option<Decl>
+    pub(crate) fn pop_declaration(&mut self) -> Option<Boxed<Decl>>
         ensures tree { result ≡ top_of declaration_of self.old.pieces }
         ensures rest { self.new ≡ record { count = self.old.count; pieces = below self.old.pieces } }
     {
         match self.pieces.pop() {
-            Some(Piece::Declaration(tree)) => Some(tree.into_inner()),
+            Some(Piece::Declaration(tree)) => Some(tree),
             other => {
                 drop(other);
                 None
@@ -206,12 +206,12 @@ impl Builder {
     }
 
     /// Takes the expression that may be left out on top. Whatever stands there is gone.
-    pub(crate) fn pop_maybe(&mut self) -> Option<Option<Expr>>
+    pub(crate) fn pop_maybe(&mut self) -> Option<Option<Boxed<Expr>>>
         ensures tree { result ≡ top_of maybe_of self.old.pieces }
         ensures rest { self.new ≡ record { count = self.old.count; pieces = below self.old.pieces } }
     {
         match self.pieces.pop() {
-            Some(Piece::Maybe(tree)) => Some(taken_out(tree)),
+            Some(Piece::Maybe(tree)) => Some(tree),
             other => {
                 drop(other);
                 None
@@ -263,14 +263,4 @@ fn single<T: Drop>(list: List<T>) -> Option<T>
     let mut items = list.into_vec();
     let item = items.pop()?;
     if items.is_empty() { Some(item) } else { None }
-}
-
-/// The tree in a box, where there is one.
-fn taken_out<T: Drop>(tree: Option<Boxed<T>>) -> Option<T>
-    ensures { result ≡ tree }
-{
-    match tree {
-        None => None,
-        Some(tree) => Some(tree.into_inner()),
-    }
 }

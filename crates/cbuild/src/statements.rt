@@ -104,7 +104,6 @@ impl Builder {
             return Ok(false);
         };
         let after = yes.get().after;
-        let test = test.into_inner();
         self.state(
             place_at(row, first),
             after,
@@ -137,7 +136,6 @@ impl Builder {
             return Ok(false);
         };
         let after = no.get().after;
-        let test = test.into_inner();
         self.state(
             place_at(row, first),
             after,
@@ -167,7 +165,6 @@ impl Builder {
             return Ok(false);
         };
         let after = body.get().after;
-        let test = test.into_inner();
         self.state(
             place_at(row, first),
             after,
@@ -192,7 +189,6 @@ impl Builder {
         let Some(body) = self.pop_statement() else {
             return Ok(false);
         };
-        let test = test.into_inner();
         self.state(
             place_at(row, first),
             place_at(row, last),

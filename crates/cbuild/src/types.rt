@@ -99,7 +99,6 @@ impl Builder {
         let Some(to) = self.pop_type_name() else {
             return Ok(false);
         };
-        let to = Boxed::new(self.alloc, to)?;
         self.put_type(TypeSpec::OfType(to))
     }
 

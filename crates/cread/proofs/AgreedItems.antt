@@ -29,12 +29,12 @@ use Rattle.cgrammar.specs.Scope.{Names, declared_around, left}
 use Rattle.cgrammar.specs.Terminals.{Terminal, is_mark, is_name}
 use Rattle.cgrammar.specs.Trees as tree
 use Rattle.cgrammar.specs.TypeWords.{declares_typedef}
-use Rattle.creader.specs.DeclarationSteps.{specifiers, parameters, declaration}
-use Rattle.creader.specs.ItemSteps.{declare_around, defined, definition_inside, definition_body, definition_with, definition_named, definition_behind, definition, ends_with_brace, external}
-use Rattle.creader.specs.State.{State, rest, with_scope, skipped}
-use Rattle.creader.specs.StatementSteps.{block_item, block_items}
-use Rattle.creader.specs.Steps.{Inner, write, mark, until_brace}
-use Rattle.creader.specs.declared.status.Status.TheVariants.{Nothing}
+use Rattle.cparser.specs.DeclarationSteps.{specifiers, parameters, declaration}
+use Rattle.cparser.specs.ItemSteps.{declare_around, defined, definition_inside, definition_body, definition_with, definition_named, definition_behind, definition, ends_with_brace, external}
+use Rattle.cparser.specs.State.{State, rest, with_scope, skipped}
+use Rattle.cparser.specs.StatementSteps.{block_item, block_items}
+use Rattle.cparser.specs.Steps.{Inner, write, mark, until_brace}
+use Rattle.cparser.specs.declared.status.Status.TheVariants.{Nothing}
 use Rattle.cread_expr.proofs.Agreed.{Pieces, none, shop, Ended, Agreed, Follows, ends, context_of, LevelAgrees, statements_piece}
 use Rattle.cread_expr.proofs.AgreedDeclarations.{declaration_agrees}
 use Rattle.cread_expr.proofs.AgreedDeclarationsParameters.{then_both, then_specifiers, still_parameters, parameters_agree}

@@ -35,7 +35,7 @@ use Rattle.cread.proofs.BehindFunctions.{behind_function}
 use Rattle.cread.specs.Items.{SpellsItem, EmptyItem, DeclarationItem, FunctionDefinition, in_body}
 use Rattle.cread.specs.OneItem.{IsOneItem}
 use Rattle.cread.specs.ReadItem.{Head, head_of, read_head, read_function, read_external}
-use Rattle.creader.specs.ItemSteps.{ends_with_brace}
+use Rattle.cparser.specs.ItemSteps.{ends_with_brace}
 
 -- a function's declarator, with what stands behind its parameters
 head_front : (inner : Level) (before : Context) (stars : List Terminal) (name : Terminal) (others : List Terminal) (result : Outcome Head) → AreStars stars → IsName name

@@ -24,10 +24,10 @@ use Rattle.ctokens.specs.TokenList.{AreNumbered}
 use Rattle.cgrammar.specs.Readings.{most_levels, row_between}
 use Rattle.cgrammar.specs.Scope.{Names}
 use Rattle.cgrammar.specs.Terminals.{Terminal, terminal_of}
-use Rattle.creader.specs.ItemSteps.{item_alone}
-use Rattle.creader.specs.ReadingSteps.{inner_at}
-use Rattle.creader.specs.State.{State}
-use Rattle.creader.specs.Writings.{ItemWriting, item_written_of, start_of}
+use Rattle.cparser.specs.ItemSteps.{item_alone}
+use Rattle.cparser.specs.ReadingSteps.{inner_at}
+use Rattle.cparser.specs.State.{State}
+use Rattle.cparser.specs.Writings.{ItemWriting, item_written_of, start_of}
 use Rattle.cread.proofs.UnreadItems.{All-at, All-unpassed}
 use Rattle.cread.proofs.ReadRows.{RowRead, row_read, no_row_read}
 use Rattle.cread.specs.UnreadItems.{IsPlaceOf, IsPlaceIn, IsUnread, ShowsLayout}

@@ -14,12 +14,12 @@ use Rattle.cgrammar.specs.Phrases.{Context, context_at}
 use Rattle.cgrammar.specs.Reader.{level}
 use Rattle.cgrammar.specs.Scope.{Names}
 use Rattle.cgrammar.specs.Terminals.{Terminal}
-use Rattle.creader.specs.ItemSteps.{external, ended_with, at_end, item_alone}
-use Rattle.creader.specs.ReadingSteps.{inner_at}
-use Rattle.creader.specs.State.{State, rest, goes, is_going}
-use Rattle.creader.specs.Writings.{start_of}
-use Rattle.creader.specs.declared.status.Status.{Status}
-use Rattle.creader.specs.declared.status.Status.TheVariants.{Going, Stopped}
+use Rattle.cparser.specs.ItemSteps.{external, ended_with, at_end, item_alone}
+use Rattle.cparser.specs.ReadingSteps.{inner_at}
+use Rattle.cparser.specs.State.{State, rest, goes, is_going}
+use Rattle.cparser.specs.Writings.{start_of}
+use Rattle.cparser.specs.declared.status.Status.{Status}
+use Rattle.cparser.specs.declared.status.Status.TheVariants.{Going, Stopped}
 use Rattle.cread_expr.proofs.Agreed.{Ended, Agreed, none, shop, ends}
 use Rattle.cread_expr.proofs.AgreedLevels.{levels_agree}
 use Rattle.cread_expr.proofs.AgreedSteps.{if_going, if_idle}

@@ -22,7 +22,7 @@ use Rattle.cgrammar.specs.TypeWords.{declares_typedef}
 use Rattle.cread.proofs.BehindFunctions.{function_spelled}
 use Rattle.cread.specs.Items.{SpellsItem, EmptyItem, DeclarationItem, in_body}
 use Rattle.cread.specs.ReadItem.{Head, head_of, read_head, read_function, read_external}
-use Rattle.creader.specs.ItemSteps.{ends_with_brace}
+use Rattle.cparser.specs.ItemSteps.{ends_with_brace}
 
 abbrev says_head : Head → Context → List Terminal → Context → List Terminal → Type 0
 says_head head before front behind rest = Spells (FunctionDeclarator head.name head.declared) before front behind

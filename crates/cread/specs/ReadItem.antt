@@ -11,7 +11,7 @@ use Rattle.cgrammar.specs.Terminals.{is_name}
 use Rattle.cgrammar.specs.Trees.{function}
 use Rattle.cgrammar.specs.TypeWords.{declares_typedef}
 use Rattle.cread.specs.Items.{in_body}
-use Rattle.creader.specs.ItemSteps.{ends_with_brace}
+use Rattle.cparser.specs.ItemSteps.{ends_with_brace}
 
 -- a function's declarator with its name; behind it the scope of the parameters is still entered
 pub record Head : Type 0 where

@@ -17,7 +17,7 @@ use cbase::{Item, NoMemory, Place};
 use cbuild::{BuiltItem, Unbuilt, build_item};
 use cconstructs::{first_construct, first_layout};
 use cgrammar::{Scope, Terminal, row_of_part};
-use creader::WrittenItem;
+use cparser::WrittenItem;
 use ctokens::{ItemSpan, Tokens};
 use std::alloc::Global;
 
@@ -102,7 +102,7 @@ fn read_row(
     ensures read { IfOk result (λ read. IfSome read (λ behind. IsItemOf row.now (context_at scope expressions) behind.item (context_at behind.scope behind.expressions))) }
     ensures none { IfOk result (λ read. IfNone read (IsItemOfNone row.now (context_at scope expressions))) }
 {
-    let written = creader::read_item(alloc, row, scope)?;
+    let written = cparser::read_item(alloc, row, scope)?;
     if !written.found {
         return Ok(None);
     }

@@ -16,10 +16,10 @@ use Rattle.cgrammar.specs.Phrases.{Context}
 use Rattle.cgrammar.specs.ReadLevels.{Level}
 use Rattle.cgrammar.specs.Terminals.{Terminal}
 use Rattle.cgrammar.specs.declared.reading.operand.Operand.{Operand}
-use Rattle.creader.specs.State.{State, rest}
-use Rattle.creader.specs.Steps.{Inner}
-use Rattle.creader.specs.declared.status.Status.TheVariants.{Going, Stopped, Nothing}
-use Rattle.creader.specs.declared.wanted.Wanted.TheVariants as wanted
+use Rattle.cparser.specs.State.{State, rest}
+use Rattle.cparser.specs.Steps.{Inner}
+use Rattle.cparser.specs.declared.status.Status.TheVariants.{Going, Stopped, Nothing}
+use Rattle.cparser.specs.declared.wanted.Wanted.TheVariants as wanted
 
 abbrev pub shop : ℕ → List Piece → Option Workshop
 shop count pieces = Some (record { count = count; pieces = pieces })

@@ -9,12 +9,12 @@ use Rattle.cgrammar.specs.Outcomes.{Outcome, Reader, or_else, with_right, contin
 use Rattle.cgrammar.specs.Outcomes as outcome
 use Rattle.cgrammar.specs.Phrases.{Context, counted}
 use Rattle.cgrammar.specs.Terminals.{Terminal, is_mark}
-use Rattle.creader.specs.State.{State, rest, is_going, goes, with_levels, with_event, skipped, stopped, point_of, back_at}
-use Rattle.creader.specs.Steps.{Inner, mark_or_back, back_unless_going, join, joined, ask, ask_right}
-use Rattle.creader.specs.declared.point.Point.{Point}
-use Rattle.creader.specs.declared.status.Status.{Status}
-use Rattle.creader.specs.declared.status.Status.TheVariants.{Going, Stopped, Nothing}
-use Rattle.creader.specs.declared.wanted.Wanted.{Wanted}
+use Rattle.cparser.specs.State.{State, rest, is_going, goes, with_levels, with_event, skipped, stopped, point_of, back_at}
+use Rattle.cparser.specs.Steps.{Inner, mark_or_back, back_unless_going, join, joined, ask, ask_right}
+use Rattle.cparser.specs.declared.point.Point.{Point}
+use Rattle.cparser.specs.declared.status.Status.{Status}
+use Rattle.cparser.specs.declared.status.Status.TheVariants.{Going, Stopped, Nothing}
+use Rattle.cparser.specs.declared.wanted.Wanted.{Wanted}
 use Rattle.ctokens.proofs.Choices.{chosen_yes, chosen_no}
 use Rattle.cread_expr.proofs.Agreed.{shop, Pieces, none, Kept, Halted, Ended, Agreed, Reads, Continues, anyhow}
 use Rattle.cread_expr.proofs.AgreedRules.{agreed_lost, agreed_halted, agreed_at, same_first, from_here, ask_anyhow}

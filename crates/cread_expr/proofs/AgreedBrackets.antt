@@ -12,13 +12,13 @@ use Rattle.cgrammar.specs.ReadOperators.{expr_of}
 use Rattle.cgrammar.specs.ReadStarts.{operand_start}
 use Rattle.cgrammar.specs.Terminals.{Terminal}
 use Rattle.cgrammar.specs.declared.reading.operand.Operand.{Operand}
-use Rattle.creader.specs.OperandSteps.{operand_first, plain, opened, closed, all_closed, cast_behind, cast}
-use Rattle.creader.specs.OperandSteps as steps
-use Rattle.creader.specs.OperatorSteps.{all_operations, conditional_from, assignment_from, expression_from}
-use Rattle.creader.specs.State.{State, rest, is_going, goes, skipped, lost}
-use Rattle.creader.specs.Steps.{Inner, whole}
-use Rattle.creader.specs.declared.status.Status.{Status}
-use Rattle.creader.specs.declared.status.Status.TheVariants.{Nothing}
+use Rattle.cparser.specs.OperandSteps.{operand_first, plain, opened, closed, all_closed, cast_behind, cast}
+use Rattle.cparser.specs.OperandSteps as steps
+use Rattle.cparser.specs.OperatorSteps.{all_operations, conditional_from, assignment_from, expression_from}
+use Rattle.cparser.specs.State.{State, rest, is_going, goes, skipped, lost}
+use Rattle.cparser.specs.Steps.{Inner, whole}
+use Rattle.cparser.specs.declared.status.Status.{Status}
+use Rattle.cparser.specs.declared.status.Status.TheVariants.{Nothing}
 use Rattle.cread_expr.proofs.Agreed.{Pieces, none, Kept, Ended, Agreed, Ready, Reads, context_of, anyhow, LevelAgrees, expr_piece, operand_piece, operand_fits}
 use Rattle.cread_expr.proofs.AgreedBack.{then_continued}
 use Rattle.cread_expr.proofs.AgreedLists.{failed_lost}

@@ -16,12 +16,12 @@ use Rattle.cgrammar.specs.ReadTypes.{star_count, behind_stars, never}
 use Rattle.cgrammar.specs.Terminals.{Terminal, is_mark, is_name}
 use Rattle.cgrammar.specs.Trees as tree
 use Rattle.cgrammar.specs.TypeWords.{declares_typedef}
-use Rattle.creader.specs.DeclarationSteps.{specifiers, parameters, object_behind, declarator_behind, declarator, declarators, declaration_behind, declaration}
-use Rattle.creader.specs.State.{State, rest}
-use Rattle.creader.specs.Steps.{Inner, all_parts}
-use Rattle.creader.specs.TypeSteps.{all_sizes}
-use Rattle.creader.specs.declared.status.Status.TheVariants.{Going, Nothing}
-use Rattle.creader.specs.declared.wanted.Wanted.TheVariants as wanted
+use Rattle.cparser.specs.DeclarationSteps.{specifiers, parameters, object_behind, declarator_behind, declarator, declarators, declaration_behind, declaration}
+use Rattle.cparser.specs.State.{State, rest}
+use Rattle.cparser.specs.Steps.{Inner, all_parts}
+use Rattle.cparser.specs.TypeSteps.{all_sizes}
+use Rattle.cparser.specs.declared.status.Status.TheVariants.{Going, Nothing}
+use Rattle.cparser.specs.declared.wanted.Wanted.TheVariants as wanted
 use Rattle.cread_expr.proofs.Agreed.{shop, Pieces, none, Ended, Agreed, Ready, Continues, ends, context_of, LevelAgrees}
 use Rattle.cread_expr.proofs.AgreedRules.{agreed_read, agreed_at, agreed_goes, if_first, then_asked, then_ends, then_mark}
 use Rattle.cread_expr.proofs.AgreedSteps.{Still, still_lost, still_goes, still_mark, still_write, still_declare, still_leave, ended_levels, ended_part, ended_skip, ended_token, ended_write, ended_leave, ended_declare}

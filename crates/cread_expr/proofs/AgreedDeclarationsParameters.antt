@@ -20,13 +20,13 @@ use Rattle.cgrammar.specs.Terminals.{Terminal, is_mark, is_word, is_name}
 use Rattle.cgrammar.specs.TokenReadings.{storage_of}
 use Rattle.cgrammar.specs.Trees as tree
 use Rattle.cgrammar.specs.declared.reading.specifiers.Specifiers.{Specifiers}
-use Rattle.creader.specs.DeclarationSteps.{over_storage, specifiers, storage_or_plain, storage_with, storage_read, parameter_behind, parameter_named, parameter, parameters_inside, parameters}
-use Rattle.creader.specs.DeclarationSteps as steps
-use Rattle.creader.specs.State.{State, rest, goes, is_going, skipped}
-use Rattle.creader.specs.Steps.{Inner, write, enter, all_parts}
-use Rattle.creader.specs.declared.status.Status.{Status}
-use Rattle.creader.specs.declared.status.Status.TheVariants.{Nothing}
-use Rattle.creader.specs.declared.wanted.Wanted.TheVariants as wanted
+use Rattle.cparser.specs.DeclarationSteps.{over_storage, specifiers, storage_or_plain, storage_with, storage_read, parameter_behind, parameter_named, parameter, parameters_inside, parameters}
+use Rattle.cparser.specs.DeclarationSteps as steps
+use Rattle.cparser.specs.State.{State, rest, goes, is_going, skipped}
+use Rattle.cparser.specs.Steps.{Inner, write, enter, all_parts}
+use Rattle.cparser.specs.declared.status.Status.{Status}
+use Rattle.cparser.specs.declared.status.Status.TheVariants.{Nothing}
+use Rattle.cparser.specs.declared.wanted.Wanted.TheVariants as wanted
 use Rattle.cread_expr.proofs.Agreed.{shop, Pieces, none, Ended, Agreed, Follows, Continues, ends, context_of, LevelAgrees}
 use Rattle.cread_expr.proofs.AgreedLists.{still_both}
 use Rattle.cread_expr.proofs.AgreedRules.{agreed_at, agreed_outcome, agreed_goes, agreed_test, if_first, then_asked, then_ends, then_mark}

@@ -7,11 +7,11 @@ use Rattle.cgrammar.specs.Outcomes.{Outcome, Reader, then_read}
 use Rattle.cgrammar.specs.Outcomes as outcome
 use Rattle.cgrammar.specs.Phrases.{Context}
 use Rattle.cgrammar.specs.Terminals.{Terminal}
-use Rattle.creader.specs.State.{State, rest, is_going, goes, lost}
-use Rattle.creader.specs.Steps.{Inner, whole, write, ask, ask_whole}
-use Rattle.creader.specs.declared.status.Status.{Status}
-use Rattle.creader.specs.declared.status.Status.TheVariants.{Going, Stopped}
-use Rattle.creader.specs.declared.wanted.Wanted.{Wanted}
+use Rattle.cparser.specs.State.{State, rest, is_going, goes, lost}
+use Rattle.cparser.specs.Steps.{Inner, whole, write, ask, ask_whole}
+use Rattle.cparser.specs.declared.status.Status.{Status}
+use Rattle.cparser.specs.declared.status.Status.TheVariants.{Going, Stopped}
+use Rattle.cparser.specs.declared.wanted.Wanted.{Wanted}
 use Rattle.cread_expr.proofs.Agreed.{shop, Pieces, Kept, Ended, Agreed, Reads, Follows, Continues, ends, anyhow, context_of}
 use Rattle.cread_expr.proofs.AgreedRules.{agreed_read, agreed_failed, agreed_lost, agreed_halted, agreed_at, ask_anyhow}
 use Rattle.cread_expr.proofs.AgreedSteps.{kept_ended, kept_went, failed_then, if_going, if_idle, still_lost, still_write, ended_levels, ended_then, halted_then, ended_write}

@@ -11,10 +11,10 @@ use Rattle.cgrammar.specs.ReadLevels.{Level, read_list}
 use Rattle.cgrammar.specs.ReadTypes.{closes_braces, behind_comma}
 use Rattle.cgrammar.specs.Terminals.{Terminal, is_mark, is_name}
 use Rattle.cgrammar.specs.Trees as tree
-use Rattle.creader.specs.DeclarationSteps.{member_part, init_part, init_parts, in_braces, valued, initializer}
-use Rattle.creader.specs.State.{State, rest}
-use Rattle.creader.specs.Steps.{Inner, all_parts}
-use Rattle.creader.specs.declared.wanted.Wanted.TheVariants as wanted
+use Rattle.cparser.specs.DeclarationSteps.{member_part, init_part, init_parts, in_braces, valued, initializer}
+use Rattle.cparser.specs.State.{State, rest}
+use Rattle.cparser.specs.Steps.{Inner, all_parts}
+use Rattle.cparser.specs.declared.wanted.Wanted.TheVariants as wanted
 use Rattle.cread_expr.proofs.Agreed.{shop, Pieces, none, Ended, Agreed, Reads, Continues, ends, anyhow, context_of, init_piece, LevelAgrees}
 use Rattle.cread_expr.proofs.AgreedRules.{agreed_goes, if_first, then_asked, then_ends, then_mark}
 use Rattle.cread_expr.proofs.AgreedSteps.{still_lost, still_mark, still_write, still_make, still_ask_whole, ended_levels, ended_part, ended_none, ended_skip, ended_token, place_next, ended_write, ended_make}

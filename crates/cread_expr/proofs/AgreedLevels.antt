@@ -2,8 +2,8 @@
 use Rattle.std.proofs.Common.{◌≡◌, ℕ, zero, suc, ◌+◌, refl, arith}
 use Rattle.cgrammar.specs.ReadLevels.{Level}
 use Rattle.cgrammar.specs.Reader.{level}
-use Rattle.creader.specs.ReadingSteps.{reads, inner_at}
-use Rattle.creader.specs.Steps.{Inner}
+use Rattle.cparser.specs.ReadingSteps.{reads, inner_at}
+use Rattle.cparser.specs.Steps.{Inner}
 use Rattle.cread_expr.proofs.Agreed.{LevelAgrees}
 use Rattle.cread_expr.proofs.AgreedBrackets.{cast_agrees, operation_reads, conditional_reads, assignment_reads, expression_reads}
 use Rattle.cread_expr.proofs.AgreedInitializers.{initializer_agrees}

@@ -9,10 +9,10 @@ use Rattle.cgrammar.specs.Outcomes as outcome
 use Rattle.cgrammar.specs.Phrases.{Context}
 use Rattle.cgrammar.specs.ReadLevels.{prepended, read_list, read_until_brace}
 use Rattle.cgrammar.specs.Terminals.{Terminal, is_mark}
-use Rattle.creader.specs.State.{State, rest, is_going, goes, skipped, lost}
-use Rattle.creader.specs.Steps.{write, parts, all_parts, parts_until_brace, until_brace}
-use Rattle.creader.specs.declared.status.Status.{Status}
-use Rattle.creader.specs.declared.status.Status.TheVariants.{Going, Stopped, Nothing}
+use Rattle.cparser.specs.State.{State, rest, is_going, goes, skipped, lost}
+use Rattle.cparser.specs.Steps.{write, parts, all_parts, parts_until_brace, until_brace}
+use Rattle.cparser.specs.declared.status.Status.{Status}
+use Rattle.cparser.specs.declared.status.Status.TheVariants.{Going, Stopped, Nothing}
 use Rattle.ctokens.proofs.Choices.{chosen_yes, chosen_no}
 use Rattle.cread_expr.proofs.Agreed.{shop, Pieces, none, Follows, Failed, Ended, Agreed, Continues, ends, context_of}
 use Rattle.cread_expr.proofs.AgreedEntire.{entirely, entire_then, entirely_ends, agreed_then}

@@ -29,15 +29,15 @@ use Rattle.cgrammar.specs.Trees.{identifier}
 use Rattle.cgrammar.specs.declared.reading.operand.Operand.{Operand}
 use Rattle.cgrammar.specs.declared.reading.starts.OperandStart.{OperandStart}
 use Rattle.cgrammar.specs.declared.reading.starts.OperandStart.TheVariants as start
-use Rattle.creader.specs.OperandSteps.{as_operand, path, offset_path, offset_of, over_to, assert_fail, inner_closed, cast_to, bracket, size_of}
-use Rattle.creader.specs.OperandSteps as steps
-use Rattle.creader.specs.State.{State, rest, is_nothing, with_levels, with_event, skipped, lost}
-use Rattle.creader.specs.StatementSteps.{block}
-use Rattle.creader.specs.Steps.{Inner, mark, write, make, wrap, wrapped, ask}
-use Rattle.creader.specs.TypeSteps.{type_name}
-use Rattle.creader.specs.declared.status.Status.{Status}
-use Rattle.creader.specs.declared.status.Status.TheVariants.{Going, Stopped, Nothing}
-use Rattle.creader.specs.declared.wanted.Wanted.TheVariants as wanted
+use Rattle.cparser.specs.OperandSteps.{as_operand, path, offset_path, offset_of, over_to, assert_fail, inner_closed, cast_to, bracket, size_of}
+use Rattle.cparser.specs.OperandSteps as steps
+use Rattle.cparser.specs.State.{State, rest, is_nothing, with_levels, with_event, skipped, lost}
+use Rattle.cparser.specs.StatementSteps.{block}
+use Rattle.cparser.specs.Steps.{Inner, mark, write, make, wrap, wrapped, ask}
+use Rattle.cparser.specs.TypeSteps.{type_name}
+use Rattle.cparser.specs.declared.status.Status.{Status}
+use Rattle.cparser.specs.declared.status.Status.TheVariants.{Going, Stopped, Nothing}
+use Rattle.cparser.specs.declared.wanted.Wanted.TheVariants as wanted
 use Rattle.cread_expr.proofs.Agreed.{shop, Pieces, none, Kept, Failed, Ended, Agreed, context_of, Follows, ends, LevelAgrees, operand_piece, operand_fits, statements_piece}
 use Rattle.cread_expr.proofs.AgreedPaths.{path_piece, agreed_losing, path_agrees, still_matched, over_matched_to, ended_matched}
 use Rattle.cread_expr.proofs.AgreedPostfixes.{Begins, unary_is, agreed_operand, still_operand, still_postfixes_from, postfixes_from_agree}

@@ -16,13 +16,13 @@ use Rattle.cgrammar.specs.ReadOperators.{expression_of, itself, binary_with, rea
 use Rattle.cgrammar.specs.ReadOperators as reader
 use Rattle.cgrammar.specs.Terminals.{Terminal, is_mark}
 use Rattle.cgrammar.specs.declared.reading.operand.Operand.{Operand}
-use Rattle.creader.specs.OperatorSteps.{operation_with, operations, all_operations, choice_behind, choice, comma_with, commas}
-use Rattle.creader.specs.OperatorSteps as steps
-use Rattle.creader.specs.State.{State, rest, is_going, goes, skipped, point_of}
-use Rattle.creader.specs.Steps.{Inner, ask, first_row}
-use Rattle.creader.specs.declared.status.Status.{Status}
-use Rattle.creader.specs.declared.status.Status.TheVariants.{Stopped}
-use Rattle.creader.specs.declared.wanted.Wanted.TheVariants as wanted
+use Rattle.cparser.specs.OperatorSteps.{operation_with, operations, all_operations, choice_behind, choice, comma_with, commas}
+use Rattle.cparser.specs.OperatorSteps as steps
+use Rattle.cparser.specs.State.{State, rest, is_going, goes, skipped, point_of}
+use Rattle.cparser.specs.Steps.{Inner, ask, first_row}
+use Rattle.cparser.specs.declared.status.Status.{Status}
+use Rattle.cparser.specs.declared.status.Status.TheVariants.{Stopped}
+use Rattle.cparser.specs.declared.wanted.Wanted.TheVariants as wanted
 use Rattle.ctokens.proofs.Choices.{chosen_no}
 use Rattle.cread_expr.proofs.Agreed.{shop, Pieces, Ended, Agreed, anyhow, LevelAgrees}
 use Rattle.cread_expr.proofs.AgreedBack.{agreed_back, agreed_stopped, else_back, mark_back, right_joined, then_continued}

@@ -14,11 +14,11 @@ use Rattle.cgrammar.specs.ReadLevels.{Level, prepended}
 use Rattle.cgrammar.specs.ReadOperands.{behind_matched, read_path}
 use Rattle.cgrammar.specs.Terminals.{Terminal, is_mark, is_name}
 use Rattle.cgrammar.specs.Trees.{identifier}
-use Rattle.creader.specs.OperandSteps.{path_member, path_index, path_with, path, over_to, over_matched}
-use Rattle.creader.specs.State.{State, rest, skipped, lost}
-use Rattle.creader.specs.Steps.{Inner}
-use Rattle.creader.specs.declared.status.Status.TheVariants.{Going, Nothing}
-use Rattle.creader.specs.declared.wanted.Wanted.TheVariants as wanted
+use Rattle.cparser.specs.OperandSteps.{path_member, path_index, path_with, path, over_to, over_matched}
+use Rattle.cparser.specs.State.{State, rest, skipped, lost}
+use Rattle.cparser.specs.Steps.{Inner}
+use Rattle.cparser.specs.declared.status.Status.TheVariants.{Going, Nothing}
+use Rattle.cparser.specs.declared.wanted.Wanted.TheVariants as wanted
 use Rattle.ctokens.proofs.Choices.{chosen_no}
 use Rattle.cread_expr.proofs.Agreed.{shop, Pieces, none, Ended, Agreed, Continues, ends, LevelAgrees}
 use Rattle.cread_expr.proofs.AgreedLists.{then_prepended, failed_lost}

@@ -6,8 +6,8 @@ use Rattle.std.specs.Prelude.{if◌then◌else◌, nat_eq}
 use Rattle.cevents.specs.Workshop.{place_at, no_token}
 use Rattle.cgrammar.specs.FrontOf.{front_of}
 use Rattle.cgrammar.specs.Terminals.{Terminal, first_place, last_place, first_word_place, is_any_word}
-use Rattle.creader.specs.OperandSteps.{is_no_word, call_place}
-use Rattle.creader.specs.State.{State, rest}
+use Rattle.cparser.specs.OperandSteps.{is_no_word, call_place}
+use Rattle.cparser.specs.State.{State, rest}
 
 -- the token at a number
 pub place_here : (at : ℕ) (row : List Terminal) (first : Terminal) (more : List Terminal) → drop at row ≡ first ∷ more → place_at row at ≡ first.place

@@ -20,13 +20,13 @@ use Rattle.cgrammar.specs.Trees.{identifier}
 use Rattle.cgrammar.specs.declared.reading.operand.Operand.{Operand}
 use Rattle.cgrammar.specs.declared.reading.starts.PostfixStart.{PostfixStart}
 use Rattle.cgrammar.specs.declared.reading.starts.PostfixStart.TheVariants as postfix
-use Rattle.creader.specs.OperandSteps.{as_operand, argument, arguments, call_place, postfix_first, postfix_at, postfixes}
-use Rattle.creader.specs.OperandSteps as steps
-use Rattle.creader.specs.State.{State, rest, is_going, is_nothing, goes, with_unary, skipped, stopped, point_of}
-use Rattle.creader.specs.Steps.{Inner, make, ask, ask_whole, back_unless_going, mark_or_back}
-use Rattle.creader.specs.declared.status.Status.{Status}
-use Rattle.creader.specs.declared.status.Status.TheVariants.{Going, Stopped, Nothing}
-use Rattle.creader.specs.declared.wanted.Wanted.TheVariants as wanted
+use Rattle.cparser.specs.OperandSteps.{as_operand, argument, arguments, call_place, postfix_first, postfix_at, postfixes}
+use Rattle.cparser.specs.OperandSteps as steps
+use Rattle.cparser.specs.State.{State, rest, is_going, is_nothing, goes, with_unary, skipped, stopped, point_of}
+use Rattle.cparser.specs.Steps.{Inner, make, ask, ask_whole, back_unless_going, mark_or_back}
+use Rattle.cparser.specs.declared.status.Status.{Status}
+use Rattle.cparser.specs.declared.status.Status.TheVariants.{Going, Stopped, Nothing}
+use Rattle.cparser.specs.declared.wanted.Wanted.TheVariants as wanted
 use Rattle.ctokens.proofs.Choices.{chosen_no}
 use Rattle.cread_expr.proofs.Agreed.{shop, Pieces, none, Ended, Agreed, Ready, context_of, Follows, ends, LevelAgrees, expr_piece, operand_piece, operand_fits}
 use Rattle.cread_expr.proofs.AgreedBack.{agreed_back, agreed_stopped, else_back, mark_back}

@@ -6,11 +6,11 @@ use Rattle.cgrammar.specs.Outcomes as outcome
 use Rattle.cgrammar.specs.Phrases.{Context}
 use Rattle.cgrammar.specs.Scope.{Names}
 use Rattle.cgrammar.specs.Terminals.{Terminal, is_mark, is_word}
-use Rattle.creader.specs.State.{State, rest, is_going, goes, with_levels, skipped, lost}
-use Rattle.creader.specs.Steps.{Inner, over, mark, word, whole, with_deeper, ask, ask_whole}
-use Rattle.creader.specs.declared.status.Status.{Status}
-use Rattle.creader.specs.declared.status.Status.TheVariants.{Going, Stopped, Nothing}
-use Rattle.creader.specs.declared.wanted.Wanted.{Wanted}
+use Rattle.cparser.specs.State.{State, rest, is_going, goes, with_levels, skipped, lost}
+use Rattle.cparser.specs.Steps.{Inner, over, mark, word, whole, with_deeper, ask, ask_whole}
+use Rattle.cparser.specs.declared.status.Status.{Status}
+use Rattle.cparser.specs.declared.status.Status.TheVariants.{Going, Stopped, Nothing}
+use Rattle.cparser.specs.declared.wanted.Wanted.{Wanted}
 use Rattle.ctokens.proofs.Choices.{chosen_yes, chosen_no}
 use Rattle.cread_expr.proofs.Agreed.{Pieces, none, Kept, Went, Failed, Halted, Ended, Agreed, Reads, Follows, Continues, ends, anyhow, context_of}
 use Rattle.cread_expr.proofs.AgreedSteps.{kept_then, kept_went, kept_ended, failed_then, if_going, if_idle, Still, ready, ended_at, ended_then, ended_skip}

@@ -20,12 +20,12 @@ use Rattle.cgrammar.specs.ReadStatements.{read_block, read_maybe, read_clause, d
 use Rattle.cgrammar.specs.Scope.{left}
 use Rattle.cgrammar.specs.Terminals.{Terminal, is_mark, first_place, last_place}
 use Rattle.cgrammar.specs.Trees.{statement as statement_of}
-use Rattle.creader.specs.DeclarationSteps.{declaration}
-use Rattle.creader.specs.State.{State, rest, goes, with_scope}
-use Rattle.creader.specs.StatementSteps.{block_item, block_items, block, maybe, declared, declared_statement, evaluated, expression_statement, clause}
-use Rattle.creader.specs.Steps.{Inner, leave, parts_until_brace}
-use Rattle.creader.specs.declared.status.Status.TheVariants.{Going, Stopped, Nothing}
-use Rattle.creader.specs.declared.wanted.Wanted.TheVariants as wanted
+use Rattle.cparser.specs.DeclarationSteps.{declaration}
+use Rattle.cparser.specs.State.{State, rest, goes, with_scope}
+use Rattle.cparser.specs.StatementSteps.{block_item, block_items, block, maybe, declared, declared_statement, evaluated, expression_statement, clause}
+use Rattle.cparser.specs.Steps.{Inner, leave, parts_until_brace}
+use Rattle.cparser.specs.declared.status.Status.TheVariants.{Going, Stopped, Nothing}
+use Rattle.cparser.specs.declared.wanted.Wanted.TheVariants as wanted
 use Rattle.cread_expr.proofs.Agreed.{Pieces, none, shop, Ended, Agreed, Ready, Reads, Follows, Continues, ends, anyhow, context_of, statement_piece, statements_piece, LevelAgrees}
 use Rattle.cread_expr.proofs.AgreedDeclarations.{declaration_agrees}
 use Rattle.cread_expr.proofs.AgreedEntire.{entirely, entirely_asked, agreed_then, agreed_write}

@@ -21,9 +21,9 @@ use Rattle.cgrammar.specs.Terminals.{Terminal, last_place, first_place}
 use Rattle.cgrammar.specs.Trees.{statement as statement_of}
 use Rattle.cgrammar.specs.declared.reading.starts.StatementStart.{StatementStart}
 use Rattle.cgrammar.specs.declared.reading.starts.StatementStart.TheVariants as start
-use Rattle.creader.specs.State.{State, rest, skipped}
-use Rattle.creader.specs.StatementSteps.{block, blocked, block_statement, other_statement, statement_with, statement_first, unlabeled_with, unlabeled, labels_length, statement, item}
-use Rattle.creader.specs.Steps.{Inner}
+use Rattle.cparser.specs.State.{State, rest, skipped}
+use Rattle.cparser.specs.StatementSteps.{block, blocked, block_statement, other_statement, statement_with, statement_first, unlabeled_with, unlabeled, labels_length, statement, item}
+use Rattle.cparser.specs.Steps.{Inner}
 use Rattle.cread_expr.proofs.Agreed.{none, shop, Ended, Agreed, Ready, Reads, ends, context_of, statement_piece, LevelAgrees}
 use Rattle.cread_expr.proofs.AgreedEntire.{agreed_then}
 use Rattle.cread_expr.proofs.AgreedLists.{failed_lost}

@@ -17,11 +17,11 @@ use Rattle.cgrammar.specs.ReadLevels.{Level}
 use Rattle.cgrammar.specs.ReadStatements.{read_maybe, read_if, read_while, read_do, read_for, read_return, untyped as read_untyped, substatement as read_substatement, otherwise_behind as read_otherwise}
 use Rattle.cgrammar.specs.Terminals.{Terminal, is_mark, is_word, begins_with_typedef}
 use Rattle.cgrammar.specs.Trees.{statement as statement_of}
-use Rattle.creader.specs.State.{State, rest, is_going, goes, lost}
-use Rattle.creader.specs.StatementSteps.{maybe, untyped, tested, substatement, otherwise_behind, if_tested, if_behind, while_tested, while_behind, done, do_tested, do_behind, for_closed, for_next, for_behind, broken, break_behind, continued, continue_behind, returned, return_behind}
-use Rattle.creader.specs.Steps.{Inner, ask_whole, leave}
-use Rattle.creader.specs.declared.status.Status.TheVariants.{Nothing}
-use Rattle.creader.specs.declared.wanted.Wanted.TheVariants as wanted
+use Rattle.cparser.specs.State.{State, rest, is_going, goes, lost}
+use Rattle.cparser.specs.StatementSteps.{maybe, untyped, tested, substatement, otherwise_behind, if_tested, if_behind, while_tested, while_behind, done, do_tested, do_behind, for_closed, for_next, for_behind, broken, break_behind, continued, continue_behind, returned, return_behind}
+use Rattle.cparser.specs.Steps.{Inner, ask_whole, leave}
+use Rattle.cparser.specs.declared.status.Status.TheVariants.{Nothing}
+use Rattle.cparser.specs.declared.wanted.Wanted.TheVariants as wanted
 use Rattle.ctokens.proofs.Choices.{chosen_yes, chosen_no}
 use Rattle.cread_expr.proofs.Agreed.{Pieces, none, shop, Ended, Agreed, ends, statement_piece, LevelAgrees}
 use Rattle.cread_expr.proofs.AgreedLists.{failed_lost}

@@ -9,12 +9,12 @@ use Rattle.cevents.specs.declared.piece.Piece.{Piece}
 use Rattle.cgrammar.specs.Phrases.{Context, scoped}
 use Rattle.cgrammar.specs.Scope.{Names, entered, left, declared}
 use Rattle.cgrammar.specs.Terminals.{Terminal, first_place}
-use Rattle.creader.specs.State.{State, rest, is_going, goes, with_levels, with_scope, with_event, skipped, lost}
-use Rattle.creader.specs.Steps.{Inner, mark, word, mark_or_back, whole, write, make, wrap, wrapped, declare, enter, leave, ask, ask_whole, ask_right}
-use Rattle.creader.specs.declared.point.Point.{Point}
-use Rattle.creader.specs.declared.status.Status.{Status}
-use Rattle.creader.specs.declared.status.Status.TheVariants.{Going, Stopped, Nothing}
-use Rattle.creader.specs.declared.wanted.Wanted.{Wanted}
+use Rattle.cparser.specs.State.{State, rest, is_going, goes, with_levels, with_scope, with_event, skipped, lost}
+use Rattle.cparser.specs.Steps.{Inner, mark, word, mark_or_back, whole, write, make, wrap, wrapped, declare, enter, leave, ask, ask_whole, ask_right}
+use Rattle.cparser.specs.declared.point.Point.{Point}
+use Rattle.cparser.specs.declared.status.Status.{Status}
+use Rattle.cparser.specs.declared.status.Status.TheVariants.{Going, Stopped, Nothing}
+use Rattle.cparser.specs.declared.wanted.Wanted.{Wanted}
 use Rattle.cread_expr.proofs.Agreed.{shop, Pieces, none, Kept, Went, Failed, Halted, Ended, Ready, context_of}
 use Rattle.cread_expr.proofs.AgreedPlaces.{place_first}
 

@@ -15,12 +15,12 @@ use Rattle.cgrammar.specs.ReadTypes.{star_count, behind_stars, never, read_field
 use Rattle.cgrammar.specs.ReadTypes as reader
 use Rattle.cgrammar.specs.Terminals.{Terminal, is_mark, is_name}
 use Rattle.cgrammar.specs.Trees as tree
-use Rattle.creader.specs.State.{State, rest}
-use Rattle.creader.specs.Steps.{Inner, all_parts, until_brace}
-use Rattle.creader.specs.TypeSteps.{field_name, field_names, fields, enumerator, enumerator_behind}
-use Rattle.creader.specs.TypeSteps as steps
-use Rattle.creader.specs.declared.status.Status.TheVariants.{Nothing}
-use Rattle.creader.specs.declared.wanted.Wanted.TheVariants as wanted
+use Rattle.cparser.specs.State.{State, rest}
+use Rattle.cparser.specs.Steps.{Inner, all_parts, until_brace}
+use Rattle.cparser.specs.TypeSteps.{field_name, field_names, fields, enumerator, enumerator_behind}
+use Rattle.cparser.specs.TypeSteps as steps
+use Rattle.cparser.specs.declared.status.Status.TheVariants.{Nothing}
+use Rattle.cparser.specs.declared.wanted.Wanted.TheVariants as wanted
 use Rattle.cread_expr.proofs.Agreed.{shop, Pieces, Ended, Agreed, Continues, ends, LevelAgrees}
 use Rattle.cread_expr.proofs.AgreedLists.{list_agrees, braces_agree, over_brace, still_parts}
 use Rattle.cread_expr.proofs.AgreedRules.{agreed_goes, if_first, then_asked, then_ends, then_mark}

@@ -14,12 +14,12 @@ use Rattle.cgrammar.specs.ReadLevels.{Level, prepended}
 use Rattle.cgrammar.specs.ReadTypes.{star_count, behind_stars, read_sizes, read_type_name}
 use Rattle.cgrammar.specs.ReadTypes as reader
 use Rattle.cgrammar.specs.Terminals.{Terminal, is_mark}
-use Rattle.creader.specs.State.{State, rest, skipped, lost}
-use Rattle.creader.specs.Steps.{Inner, mark, ask_whole, write}
-use Rattle.creader.specs.TypeSteps.{sizes, sizes_from, all_sizes, type_name, type_name_behind}
-use Rattle.creader.specs.TypeSteps as steps
-use Rattle.creader.specs.declared.status.Status.TheVariants.{Nothing}
-use Rattle.creader.specs.declared.wanted.Wanted.TheVariants as wanted
+use Rattle.cparser.specs.State.{State, rest, skipped, lost}
+use Rattle.cparser.specs.Steps.{Inner, mark, ask_whole, write}
+use Rattle.cparser.specs.TypeSteps.{sizes, sizes_from, all_sizes, type_name, type_name_behind}
+use Rattle.cparser.specs.TypeSteps as steps
+use Rattle.cparser.specs.declared.status.Status.TheVariants.{Nothing}
+use Rattle.cparser.specs.declared.wanted.Wanted.TheVariants as wanted
 use Rattle.ctokens.proofs.Choices.{chosen_yes, chosen_no}
 use Rattle.cread_expr.proofs.Agreed.{Pieces, none, Ended, Agreed, Follows, Continues, ends, context_of, LevelAgrees}
 use Rattle.cread_expr.proofs.AgreedLists.{failed_lost, then_prepended}

@@ -24,12 +24,12 @@ use Rattle.cgrammar.specs.Trees.{identifier}
 use Rattle.cgrammar.specs.TypeWords.{basic_rows, basic_of}
 use Rattle.cgrammar.specs.declared.reading.starts.TypeStart.{TypeStart}
 use Rattle.cgrammar.specs.declared.reading.starts.TypeStart.TheVariants as start
-use Rattle.creader.specs.State.{State, rest, goes, is_going, skipped}
-use Rattle.creader.specs.Steps.{Inner, all_parts, until_brace}
-use Rattle.creader.specs.TypeSteps.{type_name, fields, all_fields, enumerator, all_enumerators, over_comma, struct_with, struct_behind, enum_with, enum_behind, tag_number, basic, specifier}
-use Rattle.creader.specs.TypeSteps as steps
-use Rattle.creader.specs.declared.status.Status.TheVariants.{Nothing}
-use Rattle.creader.specs.declared.wanted.Wanted.TheVariants as wanted
+use Rattle.cparser.specs.State.{State, rest, goes, is_going, skipped}
+use Rattle.cparser.specs.Steps.{Inner, all_parts, until_brace}
+use Rattle.cparser.specs.TypeSteps.{type_name, fields, all_fields, enumerator, all_enumerators, over_comma, struct_with, struct_behind, enum_with, enum_behind, tag_number, basic, specifier}
+use Rattle.cparser.specs.TypeSteps as steps
+use Rattle.cparser.specs.declared.status.Status.TheVariants.{Nothing}
+use Rattle.cparser.specs.declared.wanted.Wanted.TheVariants as wanted
 use Rattle.ctokens.proofs.Choices.{chosen_yes, chosen_no}
 use Rattle.cread_expr.proofs.Agreed.{shop, Pieces, none, Ended, Agreed, Reads, ends, anyhow, context_of, type_piece, LevelAgrees}
 use Rattle.cread_expr.proofs.AgreedLists.{over_brace, then_brace, still_both}

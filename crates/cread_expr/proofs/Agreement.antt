@@ -15,12 +15,12 @@ use Rattle.ctokens.specs.TokenList.{AreNumbered}
 use Rattle.cgrammar.specs.Readings.{at_first, IsExpressionAt, IsLongestExpressionAt, IsBlockAt}
 use Rattle.cgrammar.specs.Scope.{Names}
 use Rattle.cgrammar.specs.Terminals.{Terminal, terminals, last_place, comes_before}
-use Rattle.creader.specs.ReadingSteps.{reads, inner_at}
-use Rattle.creader.specs.State.{State, rest, is_nothing}
-use Rattle.creader.specs.StatementSteps.{block}
-use Rattle.creader.specs.declared.status.Status.{Status}
-use Rattle.creader.specs.declared.status.Status.TheVariants.{Going, Stopped, Nothing}
-use Rattle.creader.specs.declared.wanted.Wanted.TheVariants as wanted
+use Rattle.cparser.specs.ReadingSteps.{reads, inner_at}
+use Rattle.cparser.specs.State.{State, rest, is_nothing}
+use Rattle.cparser.specs.StatementSteps.{block}
+use Rattle.cparser.specs.declared.status.Status.{Status}
+use Rattle.cparser.specs.declared.status.Status.TheVariants.{Going, Stopped, Nothing}
+use Rattle.cparser.specs.declared.wanted.Wanted.TheVariants as wanted
 use Rattle.ctokens.specs.declared.token.Tokens.{Tokens}
 use Rattle.cread_expr.specs.Exactly.{ExpressionsAreExact, BlocksAreExact, at_token}
 use Rattle.cread_expr.proofs.Agreed.{Pieces, none, shop, Agreed, Ready, context_of, expr_piece, statements_piece}

@@ -10,11 +10,11 @@ use Rattle.ctokens.specs.TokenList.{AreNumbered}
 use Rattle.cgrammar.specs.Readings.{IsExpressionAt, IsLongestExpressionAt, IsBlockAt}
 use Rattle.cgrammar.specs.Scope.{Names}
 use Rattle.cgrammar.specs.Terminals.{Terminal, terminals, last_place, comes_before}
-use Rattle.creader.specs.ReadingSteps.{reads, inner_at}
-use Rattle.creader.specs.State.{State, is_nothing}
-use Rattle.creader.specs.StatementSteps.{block}
-use Rattle.creader.specs.Writings.{Writing, start_at, written_of}
-use Rattle.creader.specs.declared.wanted.Wanted.TheVariants as wanted
+use Rattle.cparser.specs.ReadingSteps.{reads, inner_at}
+use Rattle.cparser.specs.State.{State, is_nothing}
+use Rattle.cparser.specs.StatementSteps.{block}
+use Rattle.cparser.specs.Writings.{Writing, start_at, written_of}
+use Rattle.cparser.specs.declared.wanted.Wanted.TheVariants as wanted
 use Rattle.ctokens.specs.declared.token.Tokens.{Tokens}
 use Rattle.cread_expr.specs.Exactly.{at_token}
 use Rattle.cread_expr.proofs.Agreement.{starts_there, is_something, is_no_more, expression_read, no_expression_read, block_read, no_block_read}

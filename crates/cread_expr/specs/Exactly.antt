@@ -10,11 +10,11 @@ use Rattle.ctokens.specs.TokenList.{AreNumbered}
 use Rattle.cgrammar.specs.Readings.{IsExpressionAt, IsLongestExpressionAt, IsBlockAt}
 use Rattle.cgrammar.specs.Scope.{Names}
 use Rattle.cgrammar.specs.Terminals.{terminals, last_place, comes_before}
-use Rattle.creader.specs.ReadingSteps.{reads, inner_at}
-use Rattle.creader.specs.State.{State}
-use Rattle.creader.specs.StatementSteps.{block}
-use Rattle.creader.specs.Writings.{Writing, start_at, written_of}
-use Rattle.creader.specs.declared.wanted.Wanted.TheVariants as wanted
+use Rattle.cparser.specs.ReadingSteps.{reads, inner_at}
+use Rattle.cparser.specs.State.{State}
+use Rattle.cparser.specs.StatementSteps.{block}
+use Rattle.cparser.specs.Writings.{Writing, start_at, written_of}
+use Rattle.cparser.specs.declared.wanted.Wanted.TheVariants as wanted
 use Rattle.ctokens.specs.declared.token.Tokens.{Tokens}
 
 -- the reader at a token of a text, before it reads

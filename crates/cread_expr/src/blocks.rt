@@ -12,7 +12,7 @@ use crate::front::front_at;
 use cbase::{List, NoMemory, Stmt};
 use cbuild::{Unbuilt, build_block};
 use cgrammar::{Scope, Terminal};
-use creader::{Written, read_statements};
+use cparser::{Written, read_statements};
 use ctokens::Tokens;
 use std::alloc::Global;
 

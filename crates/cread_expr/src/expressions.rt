@@ -12,7 +12,7 @@ use crate::front::front_at;
 use cbase::{Expr, NoMemory};
 use cbuild::{Unbuilt, build_expr};
 use cgrammar::{Scope, Terminal};
-use creader::{Written, read_expression};
+use cparser::{Written, read_expression};
 use ctokens::Tokens;
 use std::alloc::Global;
 

@@ -12,7 +12,7 @@ pub enum Node<'a> {
     Maybe(&'static str, &'a Option<Identifier>),
     Expr(&'a Expr),
     Exprs(&'a [Expr]),
-    MaybeExpr(&'a Option<Expr>),
+    MaybeExpr(&'a Option<Boxed<Expr>>),
     Steps(&'a [Part]),
     Type(&'a TypeSpec),
     Fields(&'a [FieldDecl]),
@@ -44,7 +44,8 @@ pub fn step<'a>(
     match node {
         Node::Found(what, place) => show(alloc, shown, what, place),
         Node::Maybe(what, Some(name)) => show(alloc, shown, what, name.place),
-        Node::Expr(expr) | Node::MaybeExpr(Some(expr)) => in_expr(todo, &expr.form),
+        Node::Expr(expr) => in_expr(todo, &expr.form),
+        Node::MaybeExpr(Some(expr)) => in_expr(todo, &expr.get().form),
         Node::Type(spec) => in_spec(todo, spec),
         Node::Name(name) => in_name(todo, name),
         Node::Init(Init::Value { value, after }) => {
@@ -130,11 +131,14 @@ fn in_expr<'a>(todo: &mut Vec<Node<'a>>, form: &'a ExprForm) -> Result<(), NoMem
             ],
         ),
         ExprForm::Cast { to, arg } => {
-            follow(todo, &[Node::Type(&to.spec), Node::Expr(arg.get())])
+            follow(todo, &[Node::Type(&to.get().spec), Node::Expr(arg.get())])
         }
-        ExprForm::SizeOfType(to) => follow(todo, &[Node::Type(&to.spec)]),
+        ExprForm::SizeOfType(to) => follow(todo, &[Node::Type(&to.get().spec)]),
         ExprForm::OffsetOf { to, path } => {
-            follow(todo, &[Node::Type(&to.spec), Node::Steps(path.as_slice())])
+            follow(
+                todo,
+                &[Node::Type(&to.get().spec), Node::Steps(path.as_slice())],
+            )
         }
         ExprForm::Member { base, name, .. } => {
             follow(
@@ -192,6 +196,7 @@ fn in_stmt<'a>(todo: &mut Vec<Node<'a>>, form: &'a StmtForm) -> Result<(), NoMem
     match form {
         StmtForm::Break | StmtForm::Continue => Ok(()),
         StmtForm::Declare(decl) => {
+            let decl = decl.get();
             follow(
                 todo,
                 &[Node::Type(&decl.spec), Node::Names(decl.names.as_slice())],
@@ -207,7 +212,7 @@ fn in_stmt<'a>(todo: &mut Vec<Node<'a>>, form: &'a StmtForm) -> Result<(), NoMem
         } => follow(
             todo,
             &[
-                Node::Expr(test),
+                Node::Expr(test.get()),
                 Node::Found("if", *close),
                 Node::Stmt(yes.get()),
                 Node::MaybeStmt(no),
@@ -216,7 +221,7 @@ fn in_stmt<'a>(todo: &mut Vec<Node<'a>>, form: &'a StmtForm) -> Result<(), NoMem
         StmtForm::While { test, close, body } => follow(
             todo,
             &[
-                Node::Expr(test),
+                Node::Expr(test.get()),
                 Node::Found("while", *close),
                 Node::Stmt(body.get()),
             ],
@@ -225,7 +230,7 @@ fn in_stmt<'a>(todo: &mut Vec<Node<'a>>, form: &'a StmtForm) -> Result<(), NoMem
             todo,
             &[
                 Node::Stmt(body.get()),
-                Node::Expr(test),
+                Node::Expr(test.get()),
                 Node::Found("do", *close),
             ],
         ),

@@ -72,16 +72,16 @@ fn parts<F: Fn(&mut Context, Within, Part<'_>) -> Result<Found<Told>, NoMemory>>
     ensures { IfOk result (λ found. Walked (SaysParts checker.now.abi (parts_in place (out-StmtForm form.now))) nothing context.old context.new found) }
 {
     match form {
-        StmtForm::Declare(decl) => declaration(checker, alloc, context, place, decl),
+        StmtForm::Declare(decl) => declaration(checker, alloc, context, place, decl.get()),
         StmtForm::Eval(expr) => optional(checker, context, Demand::Dropped, expr),
         StmtForm::Block(body) => block(checker, alloc, context, body.as_slice()),
         StmtForm::If { test, yes, no, .. } => {
-            choose(checker, alloc, context, test, yes.get(), no)
+            choose(checker, alloc, context, test.get(), yes.get(), no)
         }
         StmtForm::While { test, body, .. } => {
-            while_loop(checker, alloc, context, test, body.get())
+            while_loop(checker, alloc, context, test.get(), body.get())
         }
-        StmtForm::Do { body, test, .. } => do_loop(checker, alloc, context, body.get(), test),
+        StmtForm::Do { body, test, .. } => do_loop(checker, alloc, context, body.get(), test.get()),
         StmtForm::For {
             first,
             test,

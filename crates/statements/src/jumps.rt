@@ -9,7 +9,7 @@ ghost use Rattle.statements.specs.Parts.{SaysPart};
 
 use crate::demands::{Demand, fault_of_return};
 use crate::taken::value;
-use cbase::{Expr, NoMemory, Place};
+use cbase::{Boxed, Expr, NoMemory, Place};
 use expressions::{Checker, Context, Found, Part, Told, Within};
 use operators::Broken;
 use typing::Fault;
@@ -44,7 +44,7 @@ pub(crate) fn return_value<F: Fn(&mut Context, Within, Part<'_>) -> Result<Found
     checker: &Checker<F>,
     context: &mut Context,
     word: Place,
-    expr: &Option<Expr>,
+    expr: &Option<Boxed<Expr>>,
 ) -> Result<Found<()>, NoMemory>
     requires nests { Nests checker.now.abi checker.now.depth (F.pre checker.now.inner) (F.post checker.now.inner) }
     requires deep { maybe_levels expr.now ≤ checker.now.depth }
@@ -54,7 +54,7 @@ pub(crate) fn return_value<F: Fn(&mut Context, Within, Part<'_>) -> Result<Found
         None => Ok(return_nothing(context, word)),
         Some(expr) => {
             let result = context.result();
-            value(checker, context, Demand::Returned(word, result), expr)
+            value(checker, context, Demand::Returned(word, result), expr.get())
         }
     }
 }

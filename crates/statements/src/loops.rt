@@ -8,7 +8,7 @@ ghost use Rattle.statements.specs.Parts.{SaysPart, SaysParts};
 
 use crate::demands::Demand;
 use crate::taken::{optional, value};
-use cbase::{Expr, NoMemory, Stmt};
+use cbase::{Boxed, Expr, NoMemory, Stmt};
 use expressions::{Checker, Context, Found, Part, Told, Within};
 use std::alloc::Global;
 
@@ -76,8 +76,8 @@ pub(crate) fn for_loop<F: Fn(&mut Context, Within, Part<'_>) -> Result<Found<Tol
     alloc: Global,
     context: &mut Context,
     first: &Stmt,
-    test: &Option<Expr>,
-    next: &Option<Expr>,
+    test: &Option<Boxed<Expr>>,
+    next: &Option<Boxed<Expr>>,
     body: &Stmt,
 ) -> Result<Found<()>, NoMemory>
     requires nests { Nests checker.now.abi checker.now.depth (F.pre checker.now.inner) (F.post checker.now.inner) }

@@ -7,7 +7,7 @@ ghost use Rattle.statements.specs.Demands.{IsDemandBelow};
 ghost use Rattle.statements.specs.Parts.{SaysValue, SaysOptional};
 
 use crate::demands::{Demand, fault_of_value};
-use cbase::{Expr, NoMemory};
+use cbase::{Boxed, Expr, NoMemory};
 use expressions::{Checker, Context, Found, Part, Told, Within};
 
 /// A value that is taken for something: what is refused in it, or what is broken at it.
@@ -36,7 +36,7 @@ pub(crate) fn optional<F: Fn(&mut Context, Within, Part<'_>) -> Result<Found<Tol
     checker: &Checker<F>,
     context: &mut Context,
     demand: Demand,
-    expr: &Option<Expr>,
+    expr: &Option<Boxed<Expr>>,
 ) -> Result<Found<()>, NoMemory>
     requires nests { Nests checker.now.abi checker.now.depth (F.pre checker.now.inner) (F.post checker.now.inner) }
     requires deep { maybe_levels expr.now ≤ checker.now.depth }
@@ -45,6 +45,6 @@ pub(crate) fn optional<F: Fn(&mut Context, Within, Part<'_>) -> Result<Found<Tol
 {
     match expr {
         None => Ok(Found::Passes(())),
-        Some(expr) => value(checker, context, demand, expr),
+        Some(expr) => value(checker, context, demand, expr.get()),
     }
 }

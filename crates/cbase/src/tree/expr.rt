@@ -75,18 +75,18 @@ pub enum ExprForm {
     /// A cast (C11 6.5.4).
     Cast {
         /// The type in brackets.
-        to: TypeName,
+        to: Boxed<TypeName>,
         /// What is converted.
         arg: Boxed<Expr>,
     },
     /// `sizeof` of an expression (C11 6.5.3.4).
     SizeOf(Boxed<Expr>),
     /// `sizeof` of a type in brackets (C11 6.5.3.4).
-    SizeOfType(TypeName),
+    SizeOfType(Boxed<TypeName>),
     /// `__builtin_offsetof`, by which `offsetof` of C11 7.19 is written.
     OffsetOf {
         /// The struct's type.
-        to: TypeName,
+        to: Boxed<TypeName>,
         /// The way to the member, from the struct inwards.
         path: List<Part>,
     },

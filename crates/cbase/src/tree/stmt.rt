@@ -21,15 +21,15 @@ pub struct Stmt {
 #[cycle(tree)]
 pub enum StmtForm {
     /// A declaration (C11 6.7).
-    Declare(Decl),
+    Declare(Boxed<Decl>),
     /// An expression, or nothing, before a `;` (C11 6.8.3).
-    Eval(Option<Expr>),
+    Eval(Option<Boxed<Expr>>),
     /// A block (C11 6.8.2).
     Block(List<Stmt>),
     /// `if` (C11 6.8.4.1).
     If {
         /// The condition.
-        test: Expr,
+        test: Boxed<Expr>,
         /// The place of the `)` behind the condition.
         close: Place,
         /// The statement behind it.
@@ -40,7 +40,7 @@ pub enum StmtForm {
     /// `while` (C11 6.8.5.1).
     While {
         /// The condition.
-        test: Expr,
+        test: Boxed<Expr>,
         /// The place of the `)` behind the condition.
         close: Place,
         /// The loop's body.
@@ -51,7 +51,7 @@ pub enum StmtForm {
         /// The loop's body.
         body: Boxed<Stmt>,
         /// The condition.
-        test: Expr,
+        test: Boxed<Expr>,
         /// The place of the `)` behind the condition.
         close: Place,
     },
@@ -60,11 +60,11 @@ pub enum StmtForm {
         /// The declaration or the expression that comes first; an `Eval` of nothing where it is left out.
         first: Boxed<Stmt>,
         /// The condition, where there is one.
-        test: Option<Expr>,
+        test: Option<Boxed<Expr>>,
         /// The place of the `;` behind the condition. That of the `;` before it is the last place of what comes first.
         semicolon: Place,
         /// What is done after each turn, where there is something.
-        next: Option<Expr>,
+        next: Option<Boxed<Expr>>,
         /// The place of the `)` behind it.
         close: Place,
         /// The loop's body.
@@ -75,5 +75,5 @@ pub enum StmtForm {
     /// `continue` (C11 6.8.6.2).
     Continue,
     /// `return`, with a value or without (C11 6.8.6.4).
-    Return(Option<Expr>),
+    Return(Option<Boxed<Expr>>),
 }

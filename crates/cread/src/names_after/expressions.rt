@@ -44,10 +44,10 @@ fn declare_in_form(alloc: Global, scope: &mut Scope, form: &ExprForm) -> Result<
             yes.get(),
             no.get(),
         ),
-        ExprForm::Cast { to, arg } => declare_in_cast(alloc, scope, to, arg.get()),
+        ExprForm::Cast { to, arg } => declare_in_cast(alloc, scope, to.get(), arg.get()),
         ExprForm::SizeOf(arg) => declare_in_expr(alloc, scope, arg.get()),
-        ExprForm::SizeOfType(to) => declare_in_type_name(alloc, scope, to),
-        ExprForm::OffsetOf { to, path } => declare_in_path(alloc, scope, to, path.as_slice()),
+        ExprForm::SizeOfType(to) => declare_in_type_name(alloc, scope, to.get()),
+        ExprForm::OffsetOf { to, path } => declare_in_path(alloc, scope, to.get(), path.as_slice()),
         ExprForm::Index { base, index } => declare_in_two(alloc, scope, base.get(), index.get()),
         ExprForm::Member { base, .. } => declare_in_expr(alloc, scope, base.get()),
         ExprForm::Call { callee, args } => declare_in_call(

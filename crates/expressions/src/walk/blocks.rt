@@ -108,7 +108,7 @@ fn value_of(last: bool, stmt: &Stmt) -> Option<&Expr>
         return None;
     }
     match &stmt.form {
-        StmtForm::Eval(expr) => expr.as_ref(),
+        StmtForm::Eval(Some(expr)) => Some(expr.get()),
         _ => None,
     }
 }

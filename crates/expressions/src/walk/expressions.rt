@@ -72,11 +72,11 @@ impl<F: Fn(&mut Context, Within, Part<'_>) -> Result<Found<Told>, NoMemory>> Che
             ExprForm::Choose { test, yes, no } => {
                 self.choice(context, node, test.get(), yes.get(), no.get())
             }
-            ExprForm::Cast { to, arg } => self.cast(alloc, context, node, to, arg.get()),
+            ExprForm::Cast { to, arg } => self.cast(alloc, context, node, to.get(), arg.get()),
             ExprForm::SizeOf(arg) => self.size(context, node, arg.get()),
-            ExprForm::SizeOfType(to) => self.type_size(alloc, context, node, to),
+            ExprForm::SizeOfType(to) => self.type_size(alloc, context, node, to.get()),
             ExprForm::OffsetOf { to, path } => {
-                self.offset(context, node, to, path.as_slice(), alloc)
+                self.offset(context, node, to.get(), path.as_slice(), alloc)
             }
             ExprForm::Index { base, index } => {
                 self.subscript(context, node, base.get(), index.get())

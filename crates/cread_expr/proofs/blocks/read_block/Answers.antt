@@ -5,8 +5,8 @@ use Rattle.cevents.specs.Building.{built_all}
 use Rattle.cevents.specs.Workshop.{block_alone, start}
 use Rattle.cgrammar.specs.Readings.{IsBlockAt, most_levels}
 use Rattle.cgrammar.specs.Terminals.{last_place, comes_before}
-use Rattle.creader.specs.ReadingSteps.{inner_at}
-use Rattle.creader.specs.StatementSteps.{block}
+use Rattle.cparser.specs.ReadingSteps.{inner_at}
+use Rattle.cparser.specs.StatementSteps.{block}
 use Rattle.cread_expr.proofs.Calls.{block_reading, is_built, is_there, is_none}
 use Rattle.cread_expr.proofs.Parts.{if_some, if_none}
 use Rattle.cread_expr.proofs.blocks.read_block.Goals as goal

@@ -5,8 +5,8 @@ use Rattle.cevents.specs.Building.{built_all}
 use Rattle.cevents.specs.Workshop.{expr_alone, start}
 use Rattle.cgrammar.specs.Readings.{IsExpressionAt, IsLongestExpressionAt, most_levels}
 use Rattle.cgrammar.specs.Terminals.{last_place, comes_before}
-use Rattle.creader.specs.ReadingSteps.{reads}
-use Rattle.creader.specs.declared.wanted.Wanted.TheVariants.{Expression}
+use Rattle.cparser.specs.ReadingSteps.{reads}
+use Rattle.cparser.specs.declared.wanted.Wanted.TheVariants.{Expression}
 use Rattle.cread_expr.proofs.Calls.{expression_reading, is_built, is_there, is_none}
 use Rattle.cread_expr.proofs.Parts.{if_some, if_none}
 use Rattle.cread_expr.proofs.expressions.read_expr.Goals as goal

@@ -1,0 +1,4 @@
+use Rattle.cparser.proofs.reading.+read.Given as goal
+
+abbrev pub decreases-read : goal.decreases-read
+decreases-read l = l.most
