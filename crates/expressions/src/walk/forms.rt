@@ -1,5 +1,6 @@
 ghost use Rattle.std.specs.Prelude.{◌≡◌, ◌≤◌, [], ℕ, Bool, true, false, None, Some, All, IfOk};
-ghost use Rattle.cbase.specs.declared.tree.expr.ExprForm.TheOpen.{Name, Constant, Unary, Binary, Assign, Count, Choose, Cast, SizeOf, SizeOfType, OffsetOf, Index, ExprForm::Member, AssertFail};
+ghost use Rattle.cbase.specs.declared.tree.expr.ExprForm.TheOpen.{Unary, Binary, Assign, Count, Choose, Cast, SizeOf, SizeOfType, OffsetOf, Index, ExprForm::Member, AssertFail};
+ghost use Rattle.cbase.specs.declared.abi.Abi.{Abi};
 ghost use Rattle.ctrees.specs.Levels.{expr_levels, type_name_levels, part_levels};
 ghost use Rattle.cbase.specs.declared.tree.operators.UnaryOp.TheVariants.{Address, Follow};
 ghost use Rattle.typing.specs.Nodes.{is_arithmetic};
@@ -14,10 +15,8 @@ use crate::known::Known;
 use crate::nodes::assigning::{assignment_node, update_node};
 use crate::nodes::casting::cast_node;
 use crate::nodes::choosing::choice_node;
-use crate::nodes::constant::constant_node;
 use crate::nodes::finishing::{Node, pass};
 use crate::nodes::members::{index_node, member_node, pointed_member_node};
-use crate::nodes::names::name_node;
 use crate::nodes::offsets::offset_node;
 use crate::nodes::operations::{
     address_node, binary_node, counting_node, indirection_node, unary_node,
@@ -28,32 +27,6 @@ use cbase::{BinaryOp, Expr, Identifier, NoMemory, TypeName, UnaryOp};
 use std::alloc::Global;
 
 impl<F: Fn(&mut Context, Within, Part<'_>) -> Result<Found<Told>, NoMemory>> Checker<F> {
-    /// A name (C11 6.5.1).
-    pub(crate) fn name(
-        &self,
-        context: &mut Context,
-        node: Node,
-        name: &[u8],
-    ) -> Result<Found<Known>, NoMemory>
-        requires nests { Nests self.now.abi self.now.depth (F.pre self.now.inner) (F.post self.now.inner) }
-        ensures { IfOk result (λ found. Walked (SaysForm self.now.abi node.number node.place (Name name.now)) an_expression context.old context.new found) }
-    {
-        name_node(context, node, name)
-    }
-
-    /// A constant (C11 6.4.4).
-    pub(crate) fn constant(
-        &self,
-        context: &mut Context,
-        node: Node,
-        spelling: &[u8],
-    ) -> Result<Found<Known>, NoMemory>
-        requires nests { Nests self.now.abi self.now.depth (F.pre self.now.inner) (F.post self.now.inner) }
-        ensures { IfOk result (λ found. Walked (SaysForm self.now.abi node.number node.place (Constant spelling.now)) an_expression context.old context.new found) }
-    {
-        constant_node(context, node, self.abi, spelling)
-    }
-
     /// A unary operator (C11 6.5.3.2, 6.5.3.3). The operand of `&` is not loaded.
     pub(crate) fn unary(
         &self,
@@ -142,9 +115,10 @@ impl<F: Fn(&mut Context, Within, Part<'_>) -> Result<Found<Told>, NoMemory>> Che
         requires right { expr_levels right.now ≤ self.now.depth }
         ensures { IfOk result (λ found. Walked (SaysForm self.now.abi node.number node.place (Binary op left.now right.now)) an_expression context.old context.new found) }
     {
-        match self.two(context, left, right)? {
-            Found::Passes((a, b)) => binary_node(context, node, op, a, b),
-            Found::Refused(fault) => Ok(Found::Refused(fault)),
+        match self.two(context, left, right) {
+            Ok(Found::Passes((a, b))) => binary_node(context, node, op, a, b),
+            Ok(Found::Refused(fault)) => Ok(Found::Refused(fault)),
+            Err(error) => Err(error),
         }
     }
 
@@ -374,17 +348,15 @@ impl<F: Fn(&mut Context, Within, Part<'_>) -> Result<Found<Told>, NoMemory>> Che
             Found::Refused(fault) => Ok(Found::Refused(fault)),
         }
     }
+}
 
-    /// `__assert_fail`, whose arguments are not read: it has no value.
-    pub(crate) fn failed_assertion(
-        &self,
-        context: &mut Context,
-        node: Node,
-    ) -> Result<Found<Known>, NoMemory>
-        requires nests { Nests self.now.abi self.now.depth (F.pre self.now.inner) (F.post self.now.inner) }
-        ensures { IfOk result (λ found. Walked (SaysForm self.now.abi node.number node.place (AssertFail)) an_expression context.old context.new found) }
-    {
-        let ctype = context.void()?;
-        pass(context, node.number, Known::plain(ctype))
-    }
+/// `__assert_fail`, whose arguments are not read: it has no value.
+pub(crate) fn failed_assertion(
+    context: &mut Context,
+    node: Node,
+) -> Result<Found<Known>, NoMemory>
+    ensures { (abi : Abi) → IfOk result (λ found. Walked (SaysForm abi node.number node.place AssertFail) an_expression context.old context.new found) }
+{
+    let ctype = context.void()?;
+    pass(context, node.number, Known::plain(ctype))
 }
