@@ -103,7 +103,13 @@ impl<F: Fn(&mut Context, Within, Part<'_>) -> Result<Found<Told>, NoMemory>> Che
         requires slot { slot.ctype < length context.old.types }
         ensures { IfOk result (λ found. Walked (SaysBy self.now.abi (λ n o. InitialiserIs (subject_of subject) (slot_at n slot) init.now o)) nothing context.old context.new found) }
     {
-        nothing_in((self.inner)(context, self.within(), Part::Initialiser(subject, Some(slot), init)))
+        nothing_in(
+            (self.inner)(
+                context,
+                self.within(),
+                Part::Initialiser(subject, Some(slot), init),
+            ),
+        )
     }
 
     /// What is found of an initialiser for which there is no place.
@@ -117,7 +123,13 @@ impl<F: Fn(&mut Context, Within, Part<'_>) -> Result<Found<Told>, NoMemory>> Che
         requires deep { init_levels init.now ≤ self.now.depth }
         ensures { IfOk result (λ found. Walked (Says self.now.abi (λ o. SurplusIs subject.place init.now o)) nothing context.old context.new found) }
     {
-        nothing_in((self.inner)(context, self.within(), Part::Initialiser(subject, None, init)))
+        nothing_in(
+            (self.inner)(
+                context,
+                self.within(),
+                Part::Initialiser(subject, None, init),
+            ),
+        )
     }
 }
 

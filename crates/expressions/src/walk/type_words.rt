@@ -62,9 +62,10 @@ impl<F: Fn(&mut Context, Within, Part<'_>) -> Result<Found<Told>, NoMemory>> Che
         requires deep { expr_levels expr.now ≤ self.now.depth }
         ensures { IfOk result (λ found. Walked (Says self.now.abi (λ o. WordsAre (OfExpr expr.now) o)) a_type context.old context.new found) }
     {
-        match self.unloaded(context, expr)? {
-            Found::Passes(known) => Ok(whole(known.ctype)),
-            Found::Refused(fault) => Ok(Found::Refused(fault)),
+        match self.unloaded(context, expr) {
+            Ok(Found::Passes(known)) => Ok(whole(known.ctype)),
+            Ok(Found::Refused(fault)) => Ok(Found::Refused(fault)),
+            Err(error) => Err(error),
         }
     }
 }

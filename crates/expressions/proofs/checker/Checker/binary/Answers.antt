@@ -13,3 +13,18 @@ returns-in-Ok-Passes g c = judged_result c.args.self.now.abi c.args.node.number 
 
 pub returns-in-Ok-Refused : goal.returns-in-Ok-Refused
 returns-in-Ok-Refused g c = refused_form c.args.self.now.abi c.args.node.number c.args.node.place (Binary c.args.op c.args.left.now c.args.right.now) two_operands c.args.context.now c.two.new.context c.in-Ok-Refused.fault _ c.in-Ok-Refused.field-0-is c.in-Ok-Refused.ensures
+
+pub two-requires-clause-nests : goal.two-requires-clause-nests
+two-requires-clause-nests g c = c.requires.nests
+
+pub two-requires-clause-left : goal.two-requires-clause-left
+two-requires-clause-left g c = c.requires.left
+
+pub two-requires-clause-right : goal.two-requires-clause-right
+two-requires-clause-right g c = c.requires.right
+
+pub binary_node-requires-clause-left : goal.binary_node-requires-clause-left
+binary_node-requires-clause-left g c = (passed_of _ _ _ _ _ _ c.in-Ok-Passes.field-0-is c.in-Ok-Passes.ensures).below.0
+
+pub binary_node-requires-clause-right : goal.binary_node-requires-clause-right
+binary_node-requires-clause-right g c = (passed_of _ _ _ _ _ _ c.in-Ok-Passes.field-0-is c.in-Ok-Passes.ensures).below.1

@@ -43,3 +43,15 @@ returns-in-None-name-2 g c = layered c.args.self.now.abi c.args.context.now c.no
 pub returns-in-OfExpr : goal.returns-in-OfExpr
 returns-in-OfExpr g c = layered c.args.self.now.abi c.args.context.now c.type_of.new.context c.args.spec.now (OfExpr c.get.result.now) c.type_of.result
     (typeof_expr_layer c.args.spec.now c.in-OfExpr.expr c.get.result.now c.in-OfExpr.is c.get.ensures) (c.type_of.ensures)
+
+pub ask_members-requires-clause-nests : goal.ask_members-requires-clause-nests
+ask_members-requires-clause-nests g c = c.requires.nests
+
+pub ask_enumerators-requires-clause-nests : goal.ask_enumerators-requires-clause-nests
+ask_enumerators-requires-clause-nests g c = c.requires.nests
+
+pub ask_type_name-requires-clause-nests : goal.ask_type_name-requires-clause-nests
+ask_type_name-requires-clause-nests g c = c.requires.nests
+
+pub type_of-requires-clause-nests : goal.type_of-requires-clause-nests
+type_of-requires-clause-nests g c = c.requires.nests
