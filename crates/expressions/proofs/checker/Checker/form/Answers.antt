@@ -4,24 +4,19 @@ use Rattle.cbase.specs.declared.tree.expr.ExprForm.TheOpen.{Name, Constant, Unar
 use Rattle.cbase.specs.declared.tree.expr.ExprForm.TheViews.{out-ExprForm, outs-Name, outs-Constant, outs-Unary, outs-Binary, outs-Count, outs-Choose, outs-Cast, outs-SizeOf, outs-SizeOfType, outs-OffsetOf, outs-Index, outs-Call, outs-Inner, outs-AssertFail}
 use Rattle.ctrees.specs.Levels.{expr_levels, type_name_levels}
 use Rattle.expressions.proofs.Levels.{one_within, first_within, second_within, middle_within, third_within, unary_levels, binary_levels, assign_levels, count_levels, choose_levels, cast_levels, size_levels, type_size_levels, offset_levels, index_levels, member_levels, call_levels, path_within, arguments_within, body_within}
+use Rattle.expressions.proofs.ByRule.{name_form, constant_form}
 use Rattle.expressions.proofs.Walking.{form_alike}
 use Rattle.expressions.proofs.checker.Checker.form.Goals as goal
 
-pub name-requires : goal.name-requires
-name-requires g c = record { nests = c.requires.nests }
-
 pub returns-in-Name : goal.returns-in-Name
 returns-in-Name g c =
-    form_alike c.args.self.now.abi c.args.node.number c.args.node.place (Name c.as_slice.result.now) (out-ExprForm c.args.form.now) c.args.context.now _ c.name.result
-    (ap Name c.as_slice.ensures ∙ sym (ap out-ExprForm c.in-Name.is ∙ outs-Name c.in-Name.name)) c.name.ensures
-
-pub constant-requires : goal.constant-requires
-constant-requires g c = record { nests = c.requires.nests }
+    form_alike c.args.self.now.abi c.args.node.number c.args.node.place (Name c.as_slice.result.now) (out-ExprForm c.args.form.now) c.args.context.now _ c.name_node.result
+    (ap Name c.as_slice.ensures ∙ sym (ap out-ExprForm c.in-Name.is ∙ outs-Name c.in-Name.name)) (name_form c.args.self.now.abi c.args.node.number c.args.node.place c.as_slice.result.now c.args.context.now _ c.name_node.result c.name_node.ensures)
 
 pub returns-in-Constant : goal.returns-in-Constant
 returns-in-Constant g c =
-    form_alike c.args.self.now.abi c.args.node.number c.args.node.place (Constant c.as_slice-in-Constant.result.now) (out-ExprForm c.args.form.now) c.args.context.now _ c.constant.result
-    (ap Constant c.as_slice-in-Constant.ensures ∙ sym (ap out-ExprForm c.in-Constant.is ∙ outs-Constant c.in-Constant.spelling)) c.constant.ensures
+    form_alike c.args.self.now.abi c.args.node.number c.args.node.place (Constant c.as_slice-in-Constant.result.now) (out-ExprForm c.args.form.now) c.args.context.now _ c.constant_node.result
+    (ap Constant c.as_slice-in-Constant.ensures ∙ sym (ap out-ExprForm c.in-Constant.is ∙ outs-Constant c.in-Constant.spelling)) (constant_form c.args.self.now.abi c.args.node.number c.args.node.place c.as_slice-in-Constant.result.now c.args.context.now _ c.constant_node.result c.constant_node.ensures)
 
 pub unary-requires-clause-nests : goal.unary-requires-clause-nests
 unary-requires-clause-nests g c = c.requires.nests
@@ -193,10 +188,7 @@ pub returns-in-Inner : goal.returns-in-Inner
 returns-in-Inner g c = form_alike c.args.self.now.abi c.args.node.number c.args.node.place (Inner c.as_slice-in-Inner.result.now c.in-Inner.close) (out-ExprForm c.args.form.now) c.args.context.now _ c.statement_expression.result
     (ap (λ body. Inner body c.in-Inner.close) c.as_slice-in-Inner.ensures ∙ sym (ap out-ExprForm c.in-Inner.is ∙ outs-Inner c.in-Inner.body c.in-Inner.close)) (c.statement_expression.ensures c.in-Inner.close)
 
-pub failed_assertion-requires : goal.failed_assertion-requires
-failed_assertion-requires g c = record { nests = c.requires.nests }
-
 pub returns-in-AssertFail : goal.returns-in-AssertFail
 returns-in-AssertFail g c =
     form_alike c.args.self.now.abi c.args.node.number c.args.node.place (AssertFail) (out-ExprForm c.args.form.now) c.args.context.now _ c.failed_assertion.result
-    (sym (ap out-ExprForm c.in-AssertFail.is ∙ outs-AssertFail)) c.failed_assertion.ensures
+    (sym (ap out-ExprForm c.in-AssertFail.is ∙ outs-AssertFail)) (c.failed_assertion.ensures c.args.self.now.abi)
