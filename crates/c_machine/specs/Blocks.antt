@@ -3,7 +3,10 @@ use Rattle.std.specs.Prelude.{List, [], ◌∷◌, ◌++◌, map, Option, None, 
 use Rattle.std.specs.List.{flat_map}
 use Rattle.cbase.specs.declared.place.Place.{Place}
 use Rattle.bytes_core.specs.declared.word.Word.TheVariants.{Plain}
-use Rattle.c_machine.specs.Text.{Kind, Struct, Clause, Declare, Eval, Initialiser, Value, Braces, Declared, Object, Store as Stored, Text}
+use Rattle.c_machine.specs.declared.kind.Kind.TheVariants.{Struct}
+use Rattle.c_machine.specs.declared.kind.Kind.{Kind}
+use Rattle.c_machine.specs.declared.object.Object.{Object}
+use Rattle.c_machine.specs.Text.{Clause, Declare, Eval, Initialiser, Value, Braces, Declared, Store as Stored, Text}
 use Rattle.c_machine.specs.State.{TaskIn, ValueOf, AddressOf, Push, ObjectAt, Shift, Convert, Store, CopyStruct, Finish, Keep, Execute, OpenBlock, MakeObject, LeaveBlock, Zero, Initialise, Unknown}
 use Rattle.c_machine.specs.Words.{decayed}
 

@@ -11,7 +11,7 @@ use Rattle.typing.specs.Sample.{token}
 use Rattle.c_machine.specs.Sheet.{Sheet, text_in, an_int, a_truth}
 use Rattle.c_machine.specs.State.{Task, Push, Finish, LeaveFunction, EndOfBody, BreakAt, GiveBack, Unknown, Frame, State, Outcome, Went, Waits, Ended, Faulted, Stuck, with_memory}
 use Rattle.c_machine.specs.Step.{step}
-use Rattle.c_machine.specs.Text.{Pointer, Void}
+use Rattle.c_machine.specs.declared.kind.Kind.TheVariants.{Pointer, Void}
 
 -- a program of which nothing is asked
 abbrev pub blank : Sheet

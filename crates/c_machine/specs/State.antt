@@ -13,20 +13,11 @@ use Rattle.bytes_core.specs.declared.block.Block.{Block}
 use Rattle.bytes_core.specs.declared.word.Word.{Word}
 use Rattle.bytes_core.specs.declared.word.Word.TheVariants.{Plain, To}
 use Rattle.choices.specs.declared.choice.Choice.{Choice}
-use Rattle.c_machine.specs.Text.{Kind, Object, Text}
-
--- the functions that are built in, by what they do. The last one gives an input of its result
-pub data BuiltIn : Type 0 where
-  Malloc : BuiltIn
-  Calloc : BuiltIn
-  Free : BuiltIn
-  Memset : BuiltIn
-  Memcpy : BuiltIn
-  Memmove : BuiltIn
-  EndsRun : BuiltIn
-  Assume : BuiltIn
-  Expect : BuiltIn
-  GivesInput : BuiltIn
+use Rattle.c_machine.specs.declared.built_in.BuiltIn.{BuiltIn}
+use Rattle.c_machine.specs.declared.kind.Kind.{Kind}
+use Rattle.c_machine.specs.declared.object.Object.{Object}
+use Rattle.c_machine.specs.declared.variable.Variable.{Variable}
+use Rattle.c_machine.specs.Text.{Text}
 
 -- what is to be done. A place is that of a fault, if one is met
 pub data Task (E S I : Type 0) : Type 0 where
@@ -94,11 +85,6 @@ pub data Task (E S I : Type 0) : Type 0 where
 -- what is to be done in a program
 abbrev pub TaskIn : Text → Type 0
 TaskIn t = Task t.Expr t.Stmt t.Init
-
--- an object by how many tokens stand before the name that declared it first, if it has one, and its block
-pub record Variable : Type 0 where
-  pub token : Option ℕ
-  pub block : ℕ
 
 -- the objects of a block, in the order in which they were made; and those of a function, those of the innermost block first
 abbrev pub Scope : Type 0

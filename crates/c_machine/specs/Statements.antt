@@ -4,7 +4,9 @@ use Rattle.std.specs.List.{flat_map}
 use Rattle.cbase.specs.declared.place.Place.{Place}
 use Rattle.bytes_core.specs.declared.word.Word.{Word}
 use Rattle.bytes_core.specs.declared.word.Word.TheVariants.{Plain}
-use Rattle.c_machine.specs.Text.{Kind, Void, Clause, Declare, Eval, Block, If, While, Do, For, Break, Continue, Return, Text}
+use Rattle.c_machine.specs.declared.kind.Kind.TheVariants.{Void}
+use Rattle.c_machine.specs.declared.kind.Kind.{Kind}
+use Rattle.c_machine.specs.Text.{Clause, Declare, Eval, Block, If, While, Do, For, Break, Continue, Return, Text}
 use Rattle.c_machine.specs.State.{Task, TaskIn, ValueOf, Push, Finish, Execute, Branch, Test, Again, OpenBlock, LeaveBlock, BreakAt, ContinueAt, GiveBack, EndOfBody, Unknown}
 use Rattle.c_machine.specs.Blocks.{objects_in, in_block, declared_tasks}
 use Rattle.c_machine.specs.Expressions.{value_kind}
