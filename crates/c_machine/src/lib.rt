@@ -10,6 +10,7 @@ mod kind;
 pub mod laws;
 mod object;
 mod rows;
+mod task;
 mod variable;
 
 pub use built_in::BuiltIn;
@@ -19,4 +20,5 @@ pub use rows::{
     accesses_come_out, built_in_functions_come_out, expressions_come_out, initialisers_come_out,
     losses_come_out, rows_are_found, statements_come_out, steps_come_out, whole_programs_come_out,
 };
+pub use task::Task;
 pub use variable::Variable;
