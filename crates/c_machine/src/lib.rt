@@ -11,6 +11,7 @@ pub mod laws;
 mod object;
 mod rows;
 mod variable;
+mod whole_type;
 
 pub use built_in::BuiltIn;
 pub use kind::Kind;
@@ -20,3 +21,4 @@ pub use rows::{
     losses_come_out, rows_are_found, statements_come_out, steps_come_out, whole_programs_come_out,
 };
 pub use variable::Variable;
+pub use whole_type::WholeType;
