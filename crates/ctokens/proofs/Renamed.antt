@@ -8,7 +8,7 @@ use Rattle.ctokens.specs.declared.symbol.Lexeme.{Lexeme}
 use Rattle.ctokens.specs.Symbol.{is_word, is_identifier, is_main, is_built_in, is_tag_word, is_left_brace, is_comma, is_star, is_left_parenthesis, is_passed_over, is_selector}
 use Rattle.ctokens.specs.Passed.{depth_after}
 use Rattle.ctokens.specs.ItemEnds.{ends_body, body_after}
-use Rattle.ctokens.specs.Offered.{tag_at, tags, enumerator_at, enumerators, declared_at, declared, behind_stars, pointers, offered, is_in_enum, follows_declared, set_after, brackets_after}
+use Rattle.ctokens.specs.Offered.{tag_at, tags, enumerator_at, enumerators, declared_at, declared, behind_stars, pointers, is_said, says_declared, behind_brackets, bracketed, offered, is_in_enum, follows_declared, set_after, brackets_after}
 use Rattle.ctokens.specs.Bodies.{has_body, ends_with_body}
 use Rattle.ctokens.specs.Need.{offers_main, offers_built_in, defines_main, declares_built_in, needed_by, contained}
 use Rattle.ctokens.specs.ItemRows.{lexemes, kept, item_row}
@@ -91,16 +91,42 @@ module _ {M N : Type 0} (f : M → N) where
       (bracket-by (nat_eq depth 0 && is_left_parenthesis bracket.symbol) (behind_stars false rest) (behind_stars false (all_renamed rest)) (behind_stars-renamed false rest))
       (pointers-renamed (depth_after depth bracket.symbol) rest)
 
+  said-renamed : (row : List (Lexeme M)) → is_said row ≡ is_said (all_renamed row)
+  said-renamed [] = refl
+  said-renamed (next ∷ []) = refl
+  said-renamed (next ∷ (after ∷ rest)) = refl
+
+  behind_brackets-renamed : (nested : Bool) (row : List (Lexeme M)) → all_renamed (behind_brackets nested row) ≡ behind_brackets nested (all_renamed row)
+  behind_brackets-renamed nested [] = refl
+  behind_brackets-renamed nested (next ∷ rest) =
+      stars-by (is_star next.symbol || is_left_parenthesis next.symbol) (is_identifier next.symbol && (nested || is_said rest)) next
+      (behind_brackets true rest) (behind_brackets true (all_renamed rest)) (behind_brackets-renamed true rest)
+      ∙ ap (λ said. cond (is_star next.symbol || is_left_parenthesis next.symbol) (behind_brackets true (all_renamed rest))
+      (cond (is_identifier next.symbol && (nested || said)) (renamed next ∷ []) [])) (said-renamed rest)
+
+  bracketed-renamed : (depth : ℕ) (set : Bool) (row : List (Lexeme M)) → all_renamed (bracketed depth set row) ≡ bracketed depth set (all_renamed row)
+  bracketed-renamed depth set [] = refl
+  bracketed-renamed depth set (bracket ∷ rest) =
+      let here = (nat_eq depth 0 && not set) && is_left_parenthesis bracket.symbol in
+      let deeper = depth_after depth bracket.symbol in
+      let behind = set_after depth set bracket.symbol in
+      joined (cond here (behind_brackets false rest) []) (bracketed deeper behind rest)
+      (cond here (behind_brackets false (all_renamed rest)) []) (bracketed deeper behind (all_renamed rest))
+      (bracket-by here (behind_brackets false rest) (behind_brackets false (all_renamed rest)) (behind_brackets-renamed false rest))
+      (bracketed-renamed deeper behind rest)
+
   offered-renamed : (row : List (Lexeme M)) → all_renamed (offered row) ≡ offered (all_renamed row)
   offered-renamed row =
-      joined (tags row) (enumerators Other Other [] row ++ (declared 0 false row ++ pointers 0 row)) (tags (all_renamed row))
-      (enumerators Other Other [] (all_renamed row) ++ (declared 0 false (all_renamed row) ++ pointers 0 (all_renamed row)))
+      joined (tags row) (enumerators Other Other [] row ++ (declared 0 false row ++ (pointers 0 row ++ bracketed 0 false row))) (tags (all_renamed row))
+      (enumerators Other Other [] (all_renamed row) ++ (declared 0 false (all_renamed row) ++ (pointers 0 (all_renamed row) ++ bracketed 0 false (all_renamed row))))
       (tags-renamed row)
-      (joined (enumerators Other Other [] row) (declared 0 false row ++ pointers 0 row) (enumerators Other Other [] (all_renamed row))
-      (declared 0 false (all_renamed row) ++ pointers 0 (all_renamed row))
+      (joined (enumerators Other Other [] row) (declared 0 false row ++ (pointers 0 row ++ bracketed 0 false row)) (enumerators Other Other [] (all_renamed row))
+      (declared 0 false (all_renamed row) ++ (pointers 0 (all_renamed row) ++ bracketed 0 false (all_renamed row)))
       (enumerators-renamed Other Other [] row)
-      (joined (declared 0 false row) (pointers 0 row) (declared 0 false (all_renamed row)) (pointers 0 (all_renamed row))
-      (declared-renamed 0 false row) (pointers-renamed 0 row)))
+      (joined (declared 0 false row) (pointers 0 row ++ bracketed 0 false row) (declared 0 false (all_renamed row)) (pointers 0 (all_renamed row) ++ bracketed 0 false (all_renamed row))
+      (declared-renamed 0 false row)
+      (joined (pointers 0 row) (bracketed 0 false row) (pointers 0 (all_renamed row)) (bracketed 0 false (all_renamed row))
+      (pointers-renamed 0 row) (bracketed-renamed 0 false row))))
 
   has_body-renamed : (depth : ℕ) (before : Symbol) (body last : Bool) (row : List (Lexeme M))
       → has_body depth before body last row ≡ has_body depth before body last (all_renamed row)

@@ -1,8 +1,8 @@
--- The names that an item offers, in four ways.
+-- The names that an item offers, in five ways.
 use Rattle.std.specs.Prelude.{ℕ, ◌-◌, Bool, true, false, ◌&&◌, ◌||◌, not, if◌then◌else◌, List, [], ◌∷◌, ◌++◌, length, nat_eq, take}
 use Rattle.std.specs.List.{slice_index_or}
 use Rattle.ctokens.specs.declared.symbol.Symbol.{Symbol}
-use Rattle.ctokens.specs.declared.symbol.Symbol.TheVariants.{Assembly, LeftParenthesis, LeftBracket, Semicolon, Comma, Equals, Other}
+use Rattle.ctokens.specs.declared.symbol.Symbol.TheVariants.{Assembly, LeftParenthesis, RightParenthesis, LeftBracket, Semicolon, Comma, Equals, Other}
 use Rattle.ctokens.specs.declared.symbol.Lexeme.{Lexeme}
 use Rattle.ctokens.specs.Symbol.{is_word, is_identifier, is_tag_word, is_opening, is_closing, is_enumeration, is_left_parenthesis, is_left_brace, is_comma, is_equals, is_star}
 use Rattle.ctokens.specs.Passed.{depth_after}
@@ -31,6 +31,22 @@ follows_declared Comma = true
 follows_declared Semicolon = true
 follows_declared Assembly = true
 follows_declared _ = false
+
+-- what stands behind the `)` of brackets round a declared word
+abbrev pub follows_bracketed : Symbol → Bool
+follows_bracketed LeftParenthesis = true
+follows_bracketed LeftBracket = true
+follows_bracketed Equals = true
+follows_bracketed Assembly = true
+follows_bracketed _ = false
+
+-- whether two tokens behind a word in one bracket say that it is a declared one: `[`; `(` without a `*` behind it, which no list of
+-- parameters begins with; and a `)` with what goes on with a declarator behind it
+abbrev pub says_declared : Symbol → Symbol → Bool
+says_declared LeftBracket after = true
+says_declared LeftParenthesis after = not (is_star after)
+says_declared RightParenthesis after = follows_bracketed after
+says_declared _ after = false
 
 -- whether a `=` stands at depth 0 since the last `,` there
 abbrev pub set_after : ℕ → Bool → Symbol → Bool
@@ -90,6 +106,28 @@ module _ {N : Type 0} where
       (if nat_eq depth 0 && is_left_parenthesis bracket.symbol then behind_stars false rest else [])
       ++ pointers (depth_after depth bracket.symbol) rest
 
-  -- the words that the four ways give
+  -- whether what stands behind a word in one bracket says that it is a declared one
+  abbrev pub is_said : List (Lexeme N) → Bool
+  is_said [] = false
+  is_said (next ∷ []) = false
+  is_said (next ∷ (after ∷ rest)) = says_declared next.symbol after.symbol
+
+  -- the word, not a keyword, behind the brackets and stars that a row begins with, where that is a declared one: it is where one of these stands
+  -- between it and the bracket before the row, of which `nested` says whether one is passed, and else what follows it says so
+  abbrev pub behind_brackets : Bool → List (Lexeme N) → List (Lexeme N)
+  behind_brackets nested [] = []
+  behind_brackets nested (next ∷ rest) =
+      if is_star next.symbol || is_left_parenthesis next.symbol then behind_brackets true rest
+      else (if is_identifier next.symbol && (nested || is_said rest) then next ∷ [] else [])
+
+  -- Way 5: a declared word in brackets of its own, of which the first stands at depth 0, and behind no `=` there since the last `,`
+  -- (C11 6.7.6p6), as in `void (free)(void *p)`.
+  abbrev pub bracketed : ℕ → Bool → List (Lexeme N) → List (Lexeme N)
+  bracketed depth set [] = []
+  bracketed depth set (bracket ∷ rest) =
+      (if (nat_eq depth 0 && not set) && is_left_parenthesis bracket.symbol then behind_brackets false rest else [])
+      ++ bracketed (depth_after depth bracket.symbol) (set_after depth set bracket.symbol) rest
+
+  -- the words that the five ways give
   abbrev pub offered : List (Lexeme N) → List (Lexeme N)
-  offered row = tags row ++ (enumerators Other Other [] row ++ (declared 0 false row ++ pointers 0 row))
+  offered row = tags row ++ (enumerators Other Other [] row ++ (declared 0 false row ++ (pointers 0 row ++ bracketed 0 false row)))

@@ -1,9 +1,9 @@
-//! The four ways in which an item offers a name.
+//! The five ways in which an item offers a name.
 
 ghost use Rattle.std.specs.Prelude.{◌≡◌, ◌≤◌, ◌++◌, [], false, length, IfOk, OnOk};
 ghost use Rattle.std.specs.Option.{option_to_list};
 ghost use Rattle.ctokens.specs.InText.{most_bytes};
-ghost use Rattle.ctokens.specs.Offered.{behind_stars, brackets_after, declared, declared_at, enumerator_at, enumerators, is_in_enum, offered, opens_enum, pointers, set_after, tag_at, tags};
+ghost use Rattle.ctokens.specs.Offered.{behind_brackets, behind_stars, bracketed, brackets_after, declared, declared_at, enumerator_at, enumerators, is_in_enum, is_said, offered, opens_enum, pointers, set_after, tag_at, tags};
 ghost use Rattle.ctokens.specs.declared.symbol.Symbol.TheVariants.{Other};
 
 use crate::passed::depth_after;
@@ -123,6 +123,50 @@ fn push_pointers(found: &mut Vec<Lexeme<u32>>, row: &[Lexeme<u32>]) -> Result<()
     Ok(())
 }
 
+/// Whether what stands behind a word in one bracket says that it is a declared one.
+fn is_said(row: &[Lexeme<u32>]) -> bool
+    ensures { result ≡ is_said row.now }
+{
+    match row {
+        [next, after, ..] => next.symbol.says_declared(after.symbol),
+        _ => false,
+    }
+}
+
+/// The declared word behind the brackets and stars with which the row begins.
+fn behind_brackets(row: &[Lexeme<u32>]) -> Option<Lexeme<u32>>
+    ensures { option_to_list result ≡ behind_brackets false row.now }
+{
+    let mut nested = false;
+    for (i, token) in row.iter().enumerate() {
+        if !(token.symbol.is_star() || token.symbol.is_left_parenthesis()) {
+            if token.symbol.is_identifier() && (nested || is_said(row.split_at(i + 1).1)) {
+                return Some(*token);
+            }
+            return None;
+        }
+        nested = true;
+    }
+    None
+}
+
+/// Appends the declared words in brackets of their own, where the first of these stands at depth 0.
+fn push_bracketed(found: &mut Vec<Lexeme<u32>>, row: &[Lexeme<u32>]) -> Result<(), NoMemory>
+    requires { length row.now ≤ most_bytes }
+    ensures { OnOk result (found.new.items ≡ found.old.items ++ bracketed 0 false row.now) }
+{
+    let mut depth: u32 = 0;
+    let mut set = false;
+    for (i, token) in row.iter().enumerate() {
+        if depth == 0 && !set && token.symbol.is_left_parenthesis() {
+            push_found(found, behind_brackets(row.split_at(i + 1).1))?;
+        }
+        set = set_after(depth, set, token.symbol);
+        depth = depth_after(depth, token.symbol);
+    }
+    Ok(())
+}
+
 /// Whether a `{` behind two tokens opens the braces of an enum.
 fn opens_enum(earlier: Symbol, before: Symbol) -> bool
     ensures { result ≡ opens_enum earlier before }
@@ -192,7 +236,7 @@ fn push_enumerators(
     Ok(())
 }
 
-/// The words that a row of tokens offers as names, in the four ways.
+/// The words that a row of tokens offers as names, in the five ways.
 pub(crate) fn offered(alloc: Global, row: &[Lexeme<u32>]) -> Result<Vec<Lexeme<u32>>, NoMemory>
     requires { length row.now ≤ most_bytes }
     ensures { IfOk result (λ found. found.items ≡ offered row.now) }
@@ -202,5 +246,6 @@ pub(crate) fn offered(alloc: Global, row: &[Lexeme<u32>]) -> Result<Vec<Lexeme<u
     push_enumerators(alloc, &mut found, row)?;
     push_declared(&mut found, row)?;
     push_pointers(&mut found, row)?;
+    push_bracketed(&mut found, row)?;
     Ok(found)
 }

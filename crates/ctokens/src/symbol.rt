@@ -50,7 +50,7 @@ pub(crate) enum Symbol {
 impl Symbol {
     ghost use Rattle.std.specs.Prelude.{◌≡◌};
     ghost use Rattle.ctokens.specs.Symbol.{is_word, is_identifier, is_main, is_built_in, is_tag_word, is_opening, is_closing, is_enumeration, is_attribute, is_passed_over, is_left_parenthesis, is_right_parenthesis, is_left_brace, is_right_brace, is_semicolon, is_comma, is_equals, is_star, is_selector};
-    ghost use Rattle.ctokens.specs.Offered.{follows_declared};
+    ghost use Rattle.ctokens.specs.Offered.{follows_bracketed, follows_declared, says_declared};
 
     /// Whether it is a word, a keyword or not.
     pub(crate) fn is_word(self) -> bool
@@ -199,6 +199,28 @@ impl Symbol {
         ensures { result ≡ is_selector self }
     {
         matches!(self, Symbol::Selector)
+    }
+
+    /// Whether it stands behind the `)` of brackets round a declared word.
+    fn follows_bracketed(self) -> bool
+        ensures { result ≡ follows_bracketed self }
+    {
+        matches!(
+            self,
+            Symbol::LeftParenthesis | Symbol::LeftBracket | Symbol::Equals | Symbol::Assembly
+        )
+    }
+
+    /// Whether it says, with the token behind it, that the word before it, which stands in one bracket, is a declared one.
+    pub(crate) fn says_declared(self, after: Symbol) -> bool
+        ensures { result ≡ says_declared self after }
+    {
+        match self {
+            Symbol::LeftBracket => true,
+            Symbol::LeftParenthesis => !after.is_star(),
+            Symbol::RightParenthesis => after.follows_bracketed(),
+            _ => false,
+        }
     }
 
     /// Whether it may stand behind a word that is declared: `(`, `[`, `=`, `,`, `;` or `asm`.
