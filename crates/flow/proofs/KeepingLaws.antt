@@ -12,6 +12,7 @@ use Rattle.bytes_core.specs.Access.{stored}
 use Rattle.bytes_core.specs.declared.block.BlockKind.TheVariants as storage
 use Rattle.bytes_core.specs.Placement.{placed}
 use Rattle.bytes_core.specs.Loss.{is_lost}
+use Rattle.bytes_core.specs.Fault.{block_never_freed}
 use Rattle.flow.specs.declared.instruction.Instr.{Instr}
 use Rattle.flow.specs.declared.instruction.Instr.TheVariants.{Number, Address, Move, Read, Write, Shift, ShiftBy, Compute, Convert, IfSame, IfDifferent, Allocate, AllocateNone, Release, Fill, Copy, Enter, Leave, Finish, Input, Call, Return, Close}
 use Rattle.flow.specs.declared.flow_graph.Flow.{Flow}
@@ -21,7 +22,7 @@ use Rattle.flow.specs.declared.flow_graph.Standing.{Standing}
 use Rattle.flow.specs.declared.flow_graph.Variable.{Variable}
 use Rattle.flow.specs.declared.flow_graph.Width.{Width}
 use Rattle.flow.specs.Holding.{Held, Owned, width, held_by, size_of, put, put_width, emptied, emptied_widths, put_owned}
-use Rattle.flow.specs.Machine.{Choice, NoBlock, NewBlock, GivenInput, Frame, Caller, State, Outcome, Went, Barred, Waits, Ended, Faulted, execute, step_along, with_new_block, with_variable, with_memory, entered, with_parameters, with_arguments, size_in, at, with_value, without_registers, block_here, addressed, allocated, allocated_none, received, after_scope, block_never_freed, called, returned, result_of, with_result, step, step_among, unless_barred}
+use Rattle.flow.specs.Machine.{Choice, NoBlock, NewBlock, GivenInput, Frame, Caller, State, Outcome, Went, Barred, Waits, Ended, Faulted, execute, step_along, with_new_block, with_variable, with_memory, entered, with_parameters, with_arguments, size_in, at, with_value, without_registers, block_here, addressed, allocated, allocated_none, received, after_scope, called, returned, result_of, with_result, step, step_among, unless_barred}
 use Rattle.flow.specs.Standing.{emptied_by, filled_by, with_filled, registers_after, variables_after, stands_after, stands_at, with_variables, any, sized, result_size, first_size}
 use Rattle.flow.specs.InRange.{entry_of}
 use Rattle.flow.specs.Walks.{is_return}
