@@ -38,7 +38,7 @@ pub fn standing_is_told()
     ensures { IsStandingTold }
 {}
 
-/// The one edge out of an exit is a return.
+/// The one edge out of an exit is a return, and no variable stands there.
 #[tactic(auto, using(crate::proofs::ClauseRows::exits_told))]
 pub fn exits_are_told()
     ensures { AreExitsTold }
