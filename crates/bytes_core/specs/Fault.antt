@@ -33,6 +33,10 @@ memory_lost = 7
 abbrev pub overlapping_copy : ℕ
 overlapping_copy = 8
 
+-- a heap block that lives when main returns, where that is asked for
+abbrev pub block_never_freed : ℕ
+block_never_freed = 9
+
 -- whether a number is that of a kind
 abbrev pub is_kind : ℕ → Bool
-is_kind number = nat_le 1 number && nat_le number 8
+is_kind number = nat_le 1 number && nat_le number 9

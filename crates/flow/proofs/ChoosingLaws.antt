@@ -10,7 +10,7 @@ use Rattle.cbase.specs.declared.place.Place.{Place}
 use Rattle.bytes_core.specs.declared.word.Word.TheVariants.{Plain, To}
 use Rattle.bytes_core.specs.declared.block.BlockKind.{BlockKind}
 use Rattle.bytes_core.specs.declared.block.BlockKind.TheVariants as storage
-use Rattle.bytes_core.specs.Fault.{memory_lost}
+use Rattle.bytes_core.specs.Fault.{memory_lost, block_never_freed}
 use Rattle.bytes_core.specs.Placement.{new_block, is_new_block, placed}
 use Rattle.bytes_core.specs.Access.{stored}
 use Rattle.bytes_core.specs.Loss.{is_lost}
@@ -21,7 +21,7 @@ use Rattle.flow.specs.declared.flow_graph.FlowEdge.{FlowEdge}
 use Rattle.flow.specs.declared.flow_graph.FlowFunction.{FlowFunction}
 use Rattle.flow.specs.declared.flow_graph.Variable.{Variable}
 use Rattle.flow.specs.Holding.{Held, emptied, put_owned, held_by}
-use Rattle.flow.specs.Machine.{Choice, NoBlock, NewBlock, GivenInput, Caller, State, Outcome, Went, Barred, Waits, Ended, Faulted, execute, step, step_along, step_among, unless_barred, given, unless_fault, unless_lost, if_computed, with_new_block, with_variable, with_memory, with_value, entered, with_parameters, with_arguments, size_in, at, block_here, addressed, allocated, allocated_none, received, called, returned, result_of, roots, block_never_freed}
+use Rattle.flow.specs.Machine.{Choice, NoBlock, NewBlock, GivenInput, Caller, State, Outcome, Went, Barred, Waits, Ended, Faulted, execute, step, step_along, step_among, unless_barred, given, unless_fault, unless_lost, if_computed, with_new_block, with_variable, with_memory, with_value, entered, with_parameters, with_arguments, size_in, at, block_here, addressed, allocated, allocated_none, received, called, returned, result_of, roots}
 use Rattle.flow.specs.Runs.{parameters_of, then_go, with_statics, with_initials, start, run, blank}
 use Rattle.flow.specs.InRange.{entry_of}
 use Rattle.flow.proofs.Ascending.{Among, Contains-among}

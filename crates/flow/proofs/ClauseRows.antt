@@ -1,6 +1,6 @@
 -- The rows hold by computation.
-use Rattle.std.proofs.Common.{refl, ◌≡◌, List, [], ◌∷◌, None}
-use Rattle.flow.specs.ClauseRows.{AreSizesTold, AreObjectsTold, IsStandingTold, AreExitsTold, edge, with_edges, second}
+use Rattle.std.proofs.Common.{refl, ◌≡◌, ℕ, List, [], ◌∷◌, None}
+use Rattle.flow.specs.ClauseRows.{AreSizesTold, AreObjectsTold, IsStandingTold, AreExitsTold, edge, with_edges, with_variables, second}
 use Rattle.flow.specs.declared.flow_graph.FlowEdge.{FlowEdge}
 use Rattle.flow.specs.declared.instruction.Instr.TheVariants.{Return}
 use Rattle.flow.specs.Valid.{HasReturn}
@@ -119,9 +119,16 @@ two_edges_out : HasReturn (with_edges (edge 2 0 (Return None) ∷ edge 2 1 (Retu
 two_edges_out has =
     let e : edge 2 0 (Return None) ∷ edge 2 1 (Return None) ∷ [] ≡ has.edge ∷ [] = has.only in cc
 
+a_variable_left : HasReturn (with_variables (2 ∷ [])) second → ⊥
+a_variable_left has =
+    let none : List ℕ = [] in
+    let e : 2 ∷ [] ≡ none = has.variables in cc
+
 pub exits_told : AreExitsTold
 exits_told = record {
-  one_return = record { edge = edge 2 0 (Return None); only = refl; returns = refl; ends = refl };
+  one_return = record { edge = edge 2 0 (Return None); only = refl; returns = refl; variables = refl; ends = refl };
+  no_variable_left = record { edge = edge 2 0 (Return None); only = refl; returns = refl; variables = refl; ends = refl };
+  a_variable_left = a_variable_left;
   no_edge_out = no_edge_out;
   two_edges_out = two_edges_out;
 }

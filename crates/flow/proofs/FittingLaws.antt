@@ -31,6 +31,7 @@ use Rattle.bytes_core.specs.Access.{access_fault, range_fault, bytes_at, loaded,
 use Rattle.bytes_core.specs.Copying.{copy_fault, copied}
 use Rattle.bytes_core.specs.Release.{free_fault, freed, without}
 use Rattle.bytes_core.specs.Loss.{is_lost}
+use Rattle.bytes_core.specs.Fault.{block_never_freed}
 use Rattle.flow.specs.declared.instruction.Instr.{Instr}
 use Rattle.flow.specs.declared.instruction.Instr.TheVariants.{Number, Address, Move, Read, Write, Shift, ShiftBy, Compute, Convert, IfSame, IfDifferent, Allocate, AllocateNone, Release, Fill, Copy, Enter, Leave, Finish, Input, Call, Return, Close}
 use Rattle.flow.specs.declared.flow_graph.Flow.{Flow}
@@ -39,7 +40,7 @@ use Rattle.flow.specs.declared.flow_graph.FlowFunction.{FlowFunction}
 use Rattle.flow.specs.declared.flow_graph.Variable.{Variable}
 use Rattle.flow.specs.declared.flow_graph.Initial.{Initial}
 use Rattle.flow.specs.Holding.{Held, Owned, held_by, put, put_owned, emptied, block_of}
-use Rattle.flow.specs.Machine.{Choice, NoBlock, NewBlock, GivenInput, Frame, Caller, State, Outcome, Went, Barred, Waits, Ended, Faulted, execute, step_along, given, unless_fault, if_computed, with_new_block, step, step_among, unless_barred, with_variable, with_memory, with_registers, with_value, without_registers, entered, with_parameters, with_arguments, size_in, size_after, at, block_here, addressed, allocated, allocated_none, received, called, returned, result_of, with_result, block_never_freed, number_in, after_scope, without_variables, without_block}
+use Rattle.flow.specs.Machine.{Choice, NoBlock, NewBlock, GivenInput, Frame, Caller, State, Outcome, Went, Barred, Waits, Ended, Faulted, execute, step_along, given, unless_fault, if_computed, with_new_block, step, step_among, unless_barred, with_variable, with_memory, with_registers, with_value, without_registers, entered, with_parameters, with_arguments, size_in, size_after, at, block_here, addressed, allocated, allocated_none, received, called, returned, result_of, with_result, number_in, after_scope, without_variables, without_block}
 use Rattle.flow.specs.InRange.{entry_of}
 use Rattle.flow.specs.Runs.{blank, parameters_of, with_statics, with_initial, with_initials, initial_word, start, run, then_go}
 use Rattle.flow.specs.Valid.{IsFlow, has_sizes, is_scalar_size, fits_size}

@@ -12,6 +12,7 @@ use Rattle.bytes_core.specs.Access.{stored}
 use Rattle.bytes_core.specs.declared.block.BlockKind.TheVariants as storage
 use Rattle.bytes_core.specs.Placement.{placed}
 use Rattle.bytes_core.specs.Loss.{is_lost}
+use Rattle.bytes_core.specs.Fault.{block_never_freed}
 use Rattle.flow.specs.declared.instruction.Instr.{Instr}
 use Rattle.flow.specs.declared.instruction.Instr.TheVariants.{Number, Address, Move, Read, Write, Shift, ShiftBy, Compute, Convert, IfSame, IfDifferent, Allocate, AllocateNone, Release, Fill, Copy, Enter, Leave, Finish, Input, Call, Return, Close}
 use Rattle.flow.specs.declared.flow_graph.Flow.{Flow}
@@ -21,13 +22,13 @@ use Rattle.flow.specs.declared.flow_graph.Standing.{Standing}
 use Rattle.flow.specs.declared.flow_graph.Variable.{Variable}
 use Rattle.flow.specs.declared.flow_graph.Width.{Width}
 use Rattle.flow.specs.Holding.{Held, Owned, width, held_by, size_of, put, put_width, emptied, emptied_widths, put_owned}
-use Rattle.flow.specs.Machine.{Choice, NoBlock, NewBlock, GivenInput, Frame, Caller, State, Outcome, Went, Barred, Waits, Ended, Faulted, execute, step_along, with_new_block, with_variable, with_memory, entered, with_parameters, with_arguments, size_in, at, with_value, without_registers, block_here, addressed, allocated, allocated_none, received, after_scope, block_never_freed, called, returned, result_of, with_result, step, step_among, unless_barred}
+use Rattle.flow.specs.Machine.{Choice, NoBlock, NewBlock, GivenInput, Frame, Caller, State, Outcome, Went, Barred, Waits, Ended, Faulted, execute, step_along, with_new_block, with_variable, with_memory, entered, with_parameters, with_arguments, size_in, at, with_value, without_registers, block_here, addressed, allocated, allocated_none, received, after_scope, called, returned, result_of, with_result, step, step_among, unless_barred}
 use Rattle.flow.specs.Standing.{emptied_by, filled_by, with_filled, registers_after, variables_after, stands_after, stands_at, with_variables, any, sized, result_size, first_size}
 use Rattle.flow.specs.InRange.{entry_of}
 use Rattle.flow.specs.Walks.{is_return}
 use Rattle.flow.specs.Runs.{parameters_of, blank, then_go, with_statics, with_initials, start, run}
 use Rattle.flow.specs.Valid.{takes_result, calls_rightly, returns_what_stands, stands_alone, HasReturn, edges_out, ascend, are_distinct, is_local, is_parameter, IsFlow, Reached, Along, Here}
-use Rattle.flow.specs.Keeping.{variables_of, IsCallerAt, AreCallersAt, IsStateOf, result_width, DoStepsKeep, DoStartsKeep, DoRunsKeep}
+use Rattle.flow.specs.Keeping.{variables_of, IsCallerAt, AreCallersAt, IsStateOf, result_width, DoStepsKeep, DoStartsKeep, DoRunsKeep, DoReturnsLeaveNothing}
 use Rattle.flow.proofs.Outcomes.{Leaves, left_state, Leaves-then, Leaves-weaker, Leaves-given, Leaves-unless_fault, Leaves-if_computed, Leaves-if, Leaves-unless_lost, Leaves-new_block}
 use Rattle.flow.proofs.StandingLaws.{finish_empties, call_empties}
 use Rattle.flow.proofs.Ascending.{Among, Among-contains, Contains-among, All-at, ascend-same, with-there, with-back, with-ascends}
@@ -442,6 +443,23 @@ returns_size flow edge state from number function valid stands begins return is 
     last : stands_alone from (stands_at flow function.exit).registers ≡ true
     last = subst (λ (instr : Instr). returns_what_stands instr (stands_at flow function.exit).registers ≡ true)
         (ap (λ (one : FlowEdge). one.instr) only ∙ return) has.returns
+
+-- the variables of a frame from which a function goes back
+none_owned : (owned : List Owned) → variables_of owned ≡ [] → owned ≡ []
+none_owned [] is = refl
+none_owned (first ∷ rest) is = cc
+
+pub returns_leave_nothing : DoReturnsLeaveNothing
+returns_leave_nothing flow edge state valid stands begins return is =
+    none_owned state.frame.variables (is.frame.variables ∙ (ap (λ (point : ℕ). (stands_at flow point).variables) (sym (leaves.3 ∙ begins)) ∙ has.variables))
+  where
+    leaves : (place : ℕ) × (second : FlowFunction) × (slice_get flow.functions place ≡ Some second) × (second.exit ≡ edge.from)
+    leaves = exit_function flow.functions edge.from (Among-contains (map (λ one. one.exit) flow.functions) edge.from
+        (All-contains (λ one. IsTrue (is_return one.instr) → Contains (map (λ function. function.exit) flow.functions) one.from) flow.edges edge valid.returns stands
+        return))
+
+    has : HasReturn flow leaves.1
+    has = All-at (HasReturn flow) flow.functions leaves.0 leaves.1 leaves.2 valid.exits
 
 -- what a caller goes on with
 result_registers : (result : Option Held) (into size : Option ℕ) (frame : Frame) → option_map (λ one. one.size) result ≡ size →

@@ -5,6 +5,7 @@ pub mod Trails
 pub mod Marks
 pub mod Steps
 pub mod MachineRows
+pub mod StartRows
 pub mod ClauseRows
 pub mod StandingLaws
 pub mod ScalarLaws

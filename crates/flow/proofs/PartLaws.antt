@@ -15,7 +15,7 @@ use Rattle.bytes_core.specs.declared.word.Word.TheVariants.{Plain, To}
 use Rattle.bytes_core.specs.declared.block.BlockKind.{BlockKind}
 use Rattle.bytes_core.specs.declared.block.BlockKind.TheVariants as storage
 use Rattle.bytes_core.specs.declared.block.Block.{Block}
-use Rattle.bytes_core.specs.Fault.{memory_lost}
+use Rattle.bytes_core.specs.Fault.{memory_lost, block_never_freed}
 use Rattle.bytes_core.specs.Value.{word_bytes, address_number, is_same_address, moved}
 use Rattle.bytes_core.specs.Placement.{new_block, is_new_block, placed}
 use Rattle.bytes_core.specs.Access.{access_fault, range_fault, bytes_at, loaded, with_bytes, written_at, stored, filled}
@@ -27,7 +27,7 @@ use Rattle.flow.specs.declared.instruction.Instr.TheVariants.{Number, Address, M
 use Rattle.flow.specs.declared.flow_graph.Flow.{Flow}
 use Rattle.flow.specs.declared.flow_graph.FlowFunction.{FlowFunction}
 use Rattle.flow.specs.Holding.{Held, Owned, held_by, block_of, emptied}
-use Rattle.flow.specs.Machine.{Choice, NoBlock, NewBlock, GivenInput, Caller, State, Outcome, Went, Barred, Waits, Ended, Faulted, execute, step_along, given, unless_fault, if_computed, with_new_block, with_variable, with_memory, with_value, without_registers, entered, with_parameters, with_arguments, size_in, size_after, at, block_here, addressed, allocated, allocated_none, received, called, returned, result_of, with_result, roots, block_never_freed, number_in, after_scope, without_variables, without_block}
+use Rattle.flow.specs.Machine.{Choice, NoBlock, NewBlock, GivenInput, Caller, State, Outcome, Went, Barred, Waits, Ended, Faulted, execute, step_along, given, unless_fault, if_computed, with_new_block, with_variable, with_memory, with_value, without_registers, entered, with_parameters, with_arguments, size_in, size_after, at, block_here, addressed, allocated, allocated_none, received, called, returned, result_of, with_result, roots, number_in, after_scope, without_variables, without_block}
 use Rattle.flow.specs.Walks.{is_return}
 use Rattle.flow.specs.Hiding.{hidden, IsPartOf, IsLoss, Follows, DoPartsFollow}
 use Rattle.flow.proofs.HiddenBlocks.{length-hidden, hidden-placed, address_number-hidden, loaded-hidden, stored-hidden, filled-hidden, copied-hidden, without-hidden, freed-hidden, access_fault-hidden, range_fault-hidden, copy_fault-hidden, free_fault-hidden, new_block-hidden}

@@ -12,7 +12,7 @@ use Rattle.bytes_core.specs.declared.word.Word.TheVariants.{Plain, To}
 use Rattle.bytes_core.specs.declared.block.BlockKind.{BlockKind}
 use Rattle.bytes_core.specs.declared.block.BlockKind.TheVariants as storage
 use Rattle.bytes_core.specs.declared.block.Block.{Block}
-use Rattle.bytes_core.specs.Fault.{memory_lost}
+use Rattle.bytes_core.specs.Fault.{memory_lost, block_never_freed}
 use Rattle.bytes_core.specs.Value.{is_same_address, moved}
 use Rattle.bytes_core.specs.Placement.{new_block, is_new_block, placed}
 use Rattle.bytes_core.specs.Access.{access_fault, range_fault, loaded, stored, filled}
@@ -24,7 +24,7 @@ use Rattle.flow.specs.declared.instruction.Instr.TheVariants.{Number, Address, M
 use Rattle.flow.specs.declared.flow_graph.Flow.{Flow}
 use Rattle.flow.specs.declared.flow_graph.FlowFunction.{FlowFunction}
 use Rattle.flow.specs.Holding.{Held, Owned, held_by, put, emptied, block_of}
-use Rattle.flow.specs.Machine.{Choice, NoBlock, NewBlock, GivenInput, Frame, Caller, State, Outcome, Went, Barred, Ended, Faulted, execute, step_along, given, unless_fault, unless_lost, if_computed, with_new_block, with_variable, with_memory, with_value, with_registers, without_registers, entered, with_parameters, with_arguments, size_in, size_after, at, block_here, addressed, allocated, allocated_none, received, called, returned, result_of, with_result, roots, block_never_freed, number_in, after_scope, without_variables, without_block}
+use Rattle.flow.specs.Machine.{Choice, NoBlock, NewBlock, GivenInput, Frame, Caller, State, Outcome, Went, Barred, Ended, Faulted, execute, step_along, given, unless_fault, unless_lost, if_computed, with_new_block, with_variable, with_memory, with_value, with_registers, without_registers, entered, with_parameters, with_arguments, size_in, size_after, at, block_here, addressed, allocated, allocated_none, received, called, returned, result_of, with_result, roots, number_in, after_scope, without_variables, without_block}
 use Rattle.flow.specs.Renaming.{renamed_word, AreRenamed, ReadsRenamed, ChangesRenamed}
 use Rattle.flow.specs.RenamedSteps.{renamed_held, renamed_owned, renamed_frame, renamed_caller, renamed_state, IsSameRenamed, DoStepsRename}
 use Rattle.flow.proofs.RenamedBlocks.{renaming_kept}

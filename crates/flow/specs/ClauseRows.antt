@@ -157,8 +157,16 @@ second = record { entry = 2; exit = 2; parameters = [] }
 abbrev pub with_edges : List FlowEdge → Flow
 with_edges edges = record graph { edges = edges }
 
+-- the same graph with one return out of that exit, at which these variables stand
+abbrev pub with_variables : List ℕ → Flow
+with_variables variables = record (with_edges (edge 2 0 (Return None) ∷ [])) {
+  stands = stand (1 ∷ []) [] ∷ stand [] (width 0 4 ∷ []) ∷ stand variables [] ∷ [];
+}
+
 -- returns out of an exit
 pub record AreExitsTold : Type 0 where
   pub one_return : HasReturn (with_edges (edge 2 0 (Return None) ∷ [])) second
   pub no_edge_out : HasReturn (with_edges []) second → ⊥
+  pub no_variable_left : HasReturn (with_variables []) second
+  pub a_variable_left : HasReturn (with_variables (2 ∷ [])) second → ⊥
   pub two_edges_out : HasReturn (with_edges (edge 2 0 (Return None) ∷ edge 2 1 (Return None) ∷ [])) second → ⊥

@@ -7,7 +7,7 @@ use Rattle.bytes_core.specs.declared.word.Word.{Word}
 use Rattle.bytes_core.specs.declared.block.BlockKind.{BlockKind}
 use Rattle.bytes_core.specs.declared.block.BlockKind.TheVariants as storage
 use Rattle.bytes_core.specs.declared.block.Block.{Block}
-use Rattle.bytes_core.specs.Fault.{memory_lost}
+use Rattle.bytes_core.specs.Fault.{memory_lost, block_never_freed}
 use Rattle.bytes_core.specs.Value.{address_number, is_same_address}
 use Rattle.bytes_core.specs.Placement.{is_new_block, placed}
 use Rattle.bytes_core.specs.Access.{access_fault, range_fault, bytes_at, loaded, stored, filled}
@@ -16,7 +16,7 @@ use Rattle.bytes_core.specs.Release.{is_heap, free_fault, freed, without}
 use Rattle.bytes_core.specs.Loss.{Chain, is_lost}
 use Rattle.flow.specs.declared.flow_graph.Flow.{Flow}
 use Rattle.flow.specs.declared.flow_graph.FlowEdge.{FlowEdge}
-use Rattle.flow.specs.Machine.{Choice, Caller, State, Outcome, Went, Barred, Waits, Ended, Faulted, block_never_freed, step_along}
+use Rattle.flow.specs.Machine.{Choice, Caller, State, Outcome, Went, Barred, Waits, Ended, Faulted, step_along}
 use Rattle.flow.specs.Walks.{is_return}
 use Rattle.flow.specs.Choosing.{run_along}
 

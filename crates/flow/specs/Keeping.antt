@@ -1,5 +1,5 @@
 -- The states of a flow graph: those that have what stands at their points.
-use Rattle.std.specs.Prelude.{◌≡◌, ℕ, List, [], ◌∷◌, map, Option, None, Some, slice_get, Contains}
+use Rattle.std.specs.Prelude.{◌≡◌, ℕ, List, [], ◌∷◌, map, Option, None, Some, slice_get, IsTrue, Contains}
 use Rattle.std.specs.Option.{option_map}
 use Rattle.flow.specs.declared.flow_graph.Flow.{Flow}
 use Rattle.flow.specs.declared.flow_graph.FlowEdge.{FlowEdge}
@@ -11,6 +11,7 @@ use Rattle.flow.specs.Machine.{Choice, Frame, Caller, State, Went, step_along}
 use Rattle.flow.specs.Runs.{start, run, then_go}
 use Rattle.flow.specs.Standing.{stands_at, result_size, with_filled}
 use Rattle.flow.specs.Valid.{Reached, IsFlow}
+use Rattle.flow.specs.Walks.{is_return}
 
 -- the numbers of variables that stand
 abbrev pub variables_of : List Owned → List ℕ
@@ -60,3 +61,8 @@ DoStartsKeep = (flow : Flow) (state : State) (choices rest : List Choice) → Is
 abbrev pub DoRunsKeep : Type 0
 DoRunsKeep = (flow : Flow) (state : State) (choices rest : List Choice) (steps : ℕ) →
     IsFlow flow → then_go (start flow choices) (run steps flow) ≡ Went state rest → IsStateOf flow state
+
+-- where a function goes back no variable of its frame is left: each was left before, with a look for lost memory
+abbrev pub DoReturnsLeaveNothing : Type 0
+DoReturnsLeaveNothing = (flow : Flow) (edge : FlowEdge) (state : State) →
+    IsFlow flow → Contains flow.edges edge → edge.from ≡ state.point → IsTrue (is_return edge.instr) → IsStateOf flow state → state.frame.variables ≡ []

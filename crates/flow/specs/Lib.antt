@@ -13,6 +13,7 @@ pub mod Hiding
 pub mod Renaming
 pub mod RenamedSteps
 pub mod MachineRows
+pub mod StartRows
 pub mod ClauseRows
 pub mod Deciding
 pub mod Marked

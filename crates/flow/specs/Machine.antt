@@ -18,7 +18,7 @@ use Rattle.bytes_core.specs.declared.word.Word.TheVariants.{Plain, To}
 use Rattle.bytes_core.specs.declared.block.BlockKind.{BlockKind}
 use Rattle.bytes_core.specs.declared.block.BlockKind.TheVariants as storage
 use Rattle.bytes_core.specs.declared.block.Block.{Block}
-use Rattle.bytes_core.specs.Fault.{memory_lost}
+use Rattle.bytes_core.specs.Fault.{memory_lost, block_never_freed}
 use Rattle.bytes_core.specs.Value.{address_number, is_same_address, moved}
 use Rattle.bytes_core.specs.Placement.{new_block, is_new_block, placed}
 use Rattle.bytes_core.specs.Access.{access_fault, range_fault, loaded, stored, filled}
@@ -73,10 +73,6 @@ pub data Outcome : Type 0 where
   Ended : Outcome
   -- the run is over with a fault of this kind
   Faulted : (kind : ℕ) (place : Place) → Outcome
-
--- a heap block that lives when main returns, where that is asked for
-abbrev pub block_never_freed : ℕ
-block_never_freed = 9
 
 -- the block that a word leads to is one of these roots, too
 abbrev pub with_block_of : Word → List ℕ → List ℕ

@@ -1,5 +1,5 @@
 -- Worked examples of the flow machine: what each instruction leaves in a small state, and each fault that it can meet.
-use Rattle.std.specs.Prelude.{◌≡◌, ℕ, ◌-◌, ◌^◌, true, false, List, [], ◌∷◌, pos, negsuc, Option, None, Some, slice_get}
+use Rattle.std.specs.Prelude.{◌≡◌, ℕ, ◌-◌, ◌^◌, true, false, List, [], ◌∷◌, replicate, pos, negsuc, Option, None, Some, slice_get}
 use Rattle.cbase.specs.declared.abi.Abi.TheVariants.{Lp64}
 use Rattle.cbase.specs.declared.place.Place.{Place}
 use Rattle.arithmetic.specs.declared.op.Op.TheVariants as op
@@ -68,6 +68,28 @@ with_caller into state = record state {
   callers = record { frame = record { variables = record { variable = 0; block = 0 } ∷ []; registers = [] }; point = 5; into = into } ∷ [];
 }
 
+-- a graph whose function has two parameters, of 4 and of 8 bytes
+abbrev pub with_two : Flow
+with_two = record graph {
+  functions = record { entry = 7; exit = 8; parameters = 1 ∷ 2 ∷ [] } ∷ [];
+  variables = record { size = 16; fixed = false } ∷ record { size = 4; fixed = false } ∷ record { size = 8; fixed = false } ∷ [];
+}
+
+-- a call of it with the values of registers 2 and 3, on the way to point 5
+abbrev pub called_with_two : List Choice → Outcome
+called_with_two choices =
+    execute with_two (Call 0 (2 ∷ 3 ∷ []) None) 5 place (state (holds 2 4 (Plain 258) ∷ holds 3 8 (To 1 (pos 0)) ∷ [])) choices
+
+-- choices of 4, of 8 and of 16 bytes
+abbrev pub four : ℕ → Choice
+four base = NewBlock base (1 ∷ 2 ∷ 3 ∷ 4 ∷ [])
+
+abbrev pub eight : ℕ → Choice
+eight base = NewBlock base (replicate 8 9)
+
+abbrev pub sixteen : ℕ → Choice
+sixteen base = NewBlock base (replicate 16 9)
+
 -- an edge, and the graph with such edges
 abbrev pub edge : ℕ → ℕ → Instr → FlowEdge
 edge from to instr = record { from = from; to = to; instr = instr; place = place }
@@ -123,6 +145,8 @@ pub record AreAccesses : Type 0 where
   pub read_pointer : after (Read 2 1 8 true) (holds 1 8 (To 0 (pos 0)) ∷ []) [] ≡ went (holds 2 8 (To 1 (pos 0)) ∷ [])
   pub read_number : after (Read 2 1 8 false) (holds 1 8 (To 0 (pos 0)) ∷ []) [] ≡ went (holds 2 8 (Plain 8192) ∷ [])
   pub read_last : after (Read 2 1 1 false) (holds 1 8 (To 1 (pos 7)) ∷ []) [] ≡ went (holds 2 1 (Plain 0) ∷ [])
+  -- the register of the address gets what is read
+  pub read_over_its_address : after (Read 1 1 4 false) (holds 1 8 (To 1 (pos 0)) ∷ []) [] ≡ went (holds 1 4 (Plain 0) ∷ [])
   pub read_nowhere : after (Read 2 1 4 false) [] [] ≡ Ended
   pub read_null : after (Read 2 1 4 false) (holds 1 8 (Plain 0) ∷ []) [] ≡ Faulted 1 place
   pub read_near_null : after (Read 2 1 4 false) (holds 1 8 (Plain 4095) ∷ []) [] ≡ Faulted 1 place
@@ -184,6 +208,9 @@ pub record AreWays : Type 0 where
   pub not_same : after (IfSame 1 2) (holds 1 4 (Plain 1) ∷ holds 2 4 (Plain 0) ∷ []) [] ≡ Barred
   pub different : after (IfDifferent 1 2) (holds 1 4 (Plain 1) ∷ holds 2 4 (Plain 0) ∷ []) [] ≡ went []
   pub not_different : after (IfDifferent 1 2) (holds 1 8 (To 1 (pos 0)) ∷ holds 2 8 (Plain 8192) ∷ []) [] ≡ Barred
+  -- a register is compared with itself
+  pub same_as_itself : after (IfSame 1 1) (holds 1 4 (Plain 7) ∷ []) [] ≡ went []
+  pub different_from_itself : after (IfDifferent 1 1) (holds 1 4 (Plain 7) ∷ []) [] ≡ Barred
   pub same_as_nothing : after (IfSame 1 2) (holds 1 4 (Plain 1) ∷ []) [] ≡ Ended
   pub nothing_same : after (IfSame 1 2) (holds 2 4 (Plain 1) ∷ []) [] ≡ Ended
   pub different_from_nothing : after (IfDifferent 1 2) (holds 1 4 (Plain 1) ∷ []) [] ≡ Ended
@@ -232,6 +259,21 @@ pub record AreWays : Type 0 where
         memory = placed example (new_block storage.Local 16384 (1 ∷ 2 ∷ 3 ∷ 4 ∷ []));
         outer = [];
       }) []
+  -- two variables of different sizes are made in the order in which they are named
+  pub enter_two : execute graph (Enter (1 ∷ 0 ∷ [])) 5 place (alone (holds 1 8 (To 1 (pos 0)) ∷ [])) (four 16384 ∷ sixteen 20480 ∷ GivenInput 7 ∷ [])
+      ≡ Went (record {
+        point = 5;
+        frame = record {
+          variables = record { variable = 0; block = 4 } ∷ record { variable = 1; block = 3 } ∷ [];
+          registers = holds 1 8 (To 1 (pos 0)) ∷ [];
+        };
+        callers = [];
+        statics = [];
+        memory = placed (placed example (new_block storage.Local 16384 (1 ∷ 2 ∷ 3 ∷ 4 ∷ []))) (new_block storage.Local 20480 (replicate 16 9));
+        outer = [];
+      }) (GivenInput 7 ∷ [])
+  pub enter_two_exchanged : execute graph (Enter (1 ∷ 0 ∷ [])) 5 place (alone []) (sixteen 16384 ∷ four 20480 ∷ []) ≡ Ended
+  pub enter_two_at_one_base : execute graph (Enter (1 ∷ 0 ∷ [])) 5 place (alone []) (four 16384 ∷ sixteen 16384 ∷ []) ≡ Ended
   -- the variable held the only pointer to block 1
   pub leave : after (Leave (0 ∷ [])) [] [] ≡ Faulted 7 place
   pub leave_kept : after (Leave (0 ∷ [])) (holds 1 8 (To 1 (pos 4)) ∷ []) []
@@ -265,6 +307,28 @@ pub record AreWays : Type 0 where
   pub call_short : after (Call 0 (2 ∷ []) (Some 4)) (holds 2 4 (Plain 258) ∷ []) (NewBlock 16384 (9 ∷ 9 ∷ 9 ∷ []) ∷ []) ≡ Ended
   pub call_with_nothing : after (Call 0 (2 ∷ []) (Some 4)) [] (NewBlock 16384 (9 ∷ 9 ∷ 9 ∷ 9 ∷ []) ∷ []) ≡ Ended
   pub call_without : after (Call 0 [] None) [] (NewBlock 16384 (9 ∷ 9 ∷ 9 ∷ 9 ∷ []) ∷ []) ≡ Ended
+  -- each parameter has a choice of its own, in order
+  pub call_with_two : called_with_two (four 16384 ∷ eight 20480 ∷ GivenInput 7 ∷ [])
+      ≡ Went (record {
+        point = 7;
+        frame = record { variables = record { variable = 1; block = 3 } ∷ record { variable = 2; block = 4 } ∷ []; registers = [] };
+        callers = record {
+          frame = record { variables = record { variable = 0; block = 0 } ∷ []; registers = [] };
+          point = 5;
+          into = None;
+        } ∷ [];
+        statics = [];
+        memory = stored (placed (placed example (new_block storage.Local 16384 (2 ∷ 1 ∷ 0 ∷ 0 ∷ []))) (new_block storage.Local 20480 (replicate 8 9)))
+            (To 4 (pos 0)) 8 (To 1 (pos 0));
+        outer = [];
+      }) (GivenInput 7 ∷ [])
+  pub second_waits : called_with_two (four 16384 ∷ []) ≡ Waits
+  pub second_null : called_with_two (four 16384 ∷ NoBlock ∷ []) ≡ Ended
+  pub second_given : called_with_two (four 16384 ∷ GivenInput 1 ∷ []) ≡ Ended
+  pub second_short : called_with_two (four 16384 ∷ four 20480 ∷ []) ≡ Ended
+  pub second_over_first : called_with_two (four 16384 ∷ eight 16384 ∷ []) ≡ Ended
+  pub second_over_live : called_with_two (four 16384 ∷ eight 8192 ∷ []) ≡ Ended
+  pub exchanged : called_with_two (eight 16384 ∷ four 20480 ∷ []) ≡ Ended
   pub call_of_none : after (Call 1 (2 ∷ []) (Some 4)) (holds 2 4 (Plain 258) ∷ []) [] ≡ Ended
   pub return_from_last : after (Return None) [] [] ≡ Ended
   pub return_nothing : execute graph (Return None) 8 place (with_caller None (alone [])) [] ≡ went []

@@ -141,11 +141,12 @@ returns_what_stands (Return from) widths = stands_alone from widths
 returns_what_stands instr widths = false
 
 -- the one edge out of a function's exit is its return, which leads to a point without edges out; at the exit only the
--- register of the return stands
+-- register of the return stands, and no variable
 pub record HasReturn (flow : Flow) (function : FlowFunction) : Type 0 where
   pub edge : FlowEdge
   pub only : edges_out flow function.exit ≡ edge ∷ []
   pub returns : IsTrue (returns_what_stands edge.instr (stands_at flow function.exit).registers)
+  pub variables : (stands_at flow function.exit).variables ≡ []
   pub ends : edges_out flow edge.to ≡ []
 
 -- a point is reached along edges from another

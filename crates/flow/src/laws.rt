@@ -1,6 +1,7 @@
 //! Worked examples of the flow machine, and of what holds of flow graphs. Each is the contract of a function that does nothing.
 ghost use Rattle.flow.specs.ClauseRows.{AreSizesTold, AreObjectsTold, IsStandingTold, AreExitsTold};
 ghost use Rattle.flow.specs.MachineRows.{AreValuesMade, AreAccesses, AreWays};
+ghost use Rattle.flow.specs.StartRows.{AreStarts};
 
 /// Values that are made, moved, computed and converted come out as they should.
 #[tactic(auto, using(crate::proofs::MachineRows::values_made))]
@@ -18,6 +19,12 @@ pub fn accesses_come_out()
 #[tactic(auto, using(crate::proofs::MachineRows::ways))]
 pub fn ways_come_out()
     ensures { AreWays }
+{}
+
+/// A run begins with static variables that hold what they hold at the start, and with main's parameters.
+#[tactic(auto, using(crate::proofs::StartRows::starts))]
+pub fn starts_come_out()
+    ensures { AreStarts }
 {}
 
 /// Numbers name what is there, and sizes are those of scalars and objects.
@@ -38,7 +45,7 @@ pub fn standing_is_told()
     ensures { IsStandingTold }
 {}
 
-/// The one edge out of an exit is a return.
+/// The one edge out of an exit is a return, and no variable stands there.
 #[tactic(auto, using(crate::proofs::ClauseRows::exits_told))]
 pub fn exits_are_told()
     ensures { AreExitsTold }

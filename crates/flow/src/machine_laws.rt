@@ -2,7 +2,7 @@
 ghost use Rattle.flow.specs.Choosing.{AreRunsByFirst, AreStepsByFirst, DoRunsGoAlong, DoRunsKeepMore};
 ghost use Rattle.flow.specs.Fitting.{DoRunsFit, DoStepsFit};
 ghost use Rattle.flow.specs.Hiding.{AreHiddenRightly, DoPartsFollow, DoRunsFollow, IsNoMoreLost};
-ghost use Rattle.flow.specs.Keeping.{DoRunsKeep, DoStartsKeep, DoStepsKeep};
+ghost use Rattle.flow.specs.Keeping.{DoReturnsLeaveNothing, DoRunsKeep, DoStartsKeep, DoStepsKeep};
 ghost use Rattle.flow.specs.RenamedSteps.{DoRunsRename, DoStepsRename};
 ghost use Rattle.flow.specs.Renaming.{IsRenamingKept};
 
@@ -22,6 +22,12 @@ pub fn a_run_begins_with_what_stands()
 #[tactic(auto, using(crate::proofs::KeepingLaws::runs_keep))]
 pub fn a_run_keeps_what_stands()
     ensures { DoRunsKeep }
+{}
+
+/// Where a function goes back, no variable of its frame is left.
+#[tactic(auto, using(crate::proofs::KeepingLaws::returns_leave_nothing))]
+pub fn a_return_leaves_no_variables()
+    ensures { DoReturnsLeaveNothing }
 {}
 
 /// A step along an edge of a flow graph keeps what registers hold within its size, and what bytes hold below 256.

@@ -7,7 +7,7 @@ ghost use Rattle.flow.specs.Valid.{stands_alone, returns_what_stands, HasReturn}
 
 use crate::flow_graph::{Flow, FlowEdge, FlowFunction, Width};
 use crate::instruction::Instr;
-use crate::standing::registers_at;
+use crate::standing::{registers_at, variables_at};
 use cbase::NoMemory;
 use std::alloc::Global;
 
@@ -76,6 +76,13 @@ fn returns_what_stands(flow: &Flow, point: u32, instr: &Instr) -> bool
     }
 }
 
+/// Whether no variable of the frame stands at a point.
+fn has_no_variables(flow: &Flow, point: u32) -> bool
+    ensures { IsTrue result ↔ ((stands_at flow.now point).variables ≡ []) }
+{
+    variables_at(flow, point).is_empty()
+}
+
 /// Whether no edge leads out of a point.
 fn is_end(outs: &[Out], point: u32) -> bool
     ensures { IsTrue result ↔ (slice_index_or outs.now point Out.Nothing ≡ Out.Nothing) }
@@ -86,7 +93,8 @@ fn is_end(outs: &[Out], point: u32) -> bool
     }
 }
 
-/// Whether the one edge out of a function's exit is its return, which leads to a point without edges out.
+/// Whether the one edge out of a function's exit is its return, which leads to a point without edges out, and only the register
+/// of the return stands at the exit.
 fn has_return(flow: &Flow, outs: &[Out], function: &FlowFunction) -> bool
     requires { AreOuts flow.now.edges flow.now.edges outs.now }
     ensures { IsTrue result ↔ HasReturn flow.now function.now }
@@ -97,7 +105,9 @@ fn has_return(flow: &Flow, outs: &[Out], function: &FlowFunction) -> bool
     let Some(edge) = flow.edges.as_slice().get(at) else {
         return false;
     };
-    returns_what_stands(flow, function.exit, &edge.instr) && is_end(outs, edge.to)
+    returns_what_stands(flow, function.exit, &edge.instr)
+        && has_no_variables(flow, function.exit)
+        && is_end(outs, edge.to)
 }
 
 /// Whether this holds of each function.

@@ -57,7 +57,7 @@ word_names_there there set set' moves (To block offset) names = moves block name
 
 -- The same state.
 
-All-at : {X : Type 0} (P : X → Type 0) (items : List X) (place : ℕ) (item : X) → slice_get items place ≡ Some item → All P items → P item
+pub All-at : {X : Type 0} (P : X → Type 0) (items : List X) (place : ℕ) (item : X) → slice_get items place ≡ Some item → All P items → P item
 All-at P items place item is all = subst P (get_or_from_slice_get items place item item is) (all place item (slice_get_within items place item is))
 
 below_among : (count : ℕ) (byte : Byte) → NamesBelow count byte → NamesAmong (λ number. nat_lt number count) byte

@@ -1,6 +1,7 @@
 pub mod Tests
 pub mod Found
 pub mod Pulled
+pub mod DeadObjects
 pub mod Renamed
 pub mod Reformed
 pub mod Numbered

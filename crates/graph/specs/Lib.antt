@@ -7,6 +7,7 @@ pub mod Whole
 pub mod State
 pub mod Meaning
 pub mod Laws
+pub mod DeadObjects
 pub mod Choices
 pub mod Alike
 pub mod AlikeMemories

@@ -5,6 +5,7 @@ ghost use Rattle.bytes_core.specs.declared.word.Word.{Word};
 ghost use Rattle.graph.specs.declared.parts.Parts.{Parts};
 ghost use Rattle.graph.specs.Alike.{IsSeenAs};
 ghost use Rattle.graph.specs.Choices.{IsChoice, IsMadeWith};
+ghost use Rattle.graph.specs.DeadObjects.{AreHeldBlocksThere};
 ghost use Rattle.graph.specs.Laws.{IsRenaming};
 ghost use Rattle.graph.specs.Meaning.{StandsFor};
 ghost use Rattle.graph.specs.Renaming.{renamed, numbered, object_place, value_place};
@@ -49,6 +50,11 @@ pub fn what_is_not_seen_may_differ()
         IsSeenAs there back one other →
         StandsFor parts one →
         StandsFor parts other }
+{}
+
+/// A dead object whose address a register, a port or a live object holds has its block: one that is there, dead and of its kind.
+pub fn dead_objects_that_are_held_have_their_blocks()
+    ensures { AreHeldBlocksThere }
 {}
 
 /// Every well-formed graph within the limits stands for some state.

@@ -1,0 +1,115 @@
+-- A dead object whose address is held has its block: the word that is held names a block of the memory.
+use Rattle.std.proofs.Common.{◌≡◌, ℕ, ◌<◌, Bool, true, false, List, [], ◌∷◌, map, length, Option, Some, sym, ◌∙◌, ap, subst, arith, eqb-true, nat_eq, slice_get, zero, suc, inl, inr}
+use Rattle.std.specs.Prelude.{ℤ, take, drop, option_map}
+use Rattle.std.specs.Option.{option_map_or}
+use Rattle.std.specs.List.{All, list_all}
+use Rattle.std.proofs.lemmas.Option.{same_Some, none-some, slice_get_cases}
+use Rattle.std.proofs.lemmas.List.Elements.{All-head, All-tail, All-take, All-drop}
+use Rattle.bytes_core.specs.declared.byte.Byte.{Byte}
+use Rattle.bytes_core.specs.declared.byte.Byte.TheVariants.{Part}
+use Rattle.bytes_core.specs.declared.word.Word.{Word}
+use Rattle.bytes_core.specs.declared.word.Word.TheVariants.{Plain, To}
+use Rattle.bytes_core.specs.declared.block.BlockKind.{BlockKind}
+use Rattle.bytes_core.specs.declared.block.Block.{Block}
+use Rattle.bytes_core.specs.Valid.{NamesBelow, WordNamesBelow}
+use Rattle.bytes_core.specs.Value.{word_bytes}
+use Rattle.graph.specs.declared.edges.HasValue.{HasValue}
+use Rattle.graph.specs.declared.object.Object.{Object}
+use Rattle.graph.specs.declared.object.Shape.{Shape}
+use Rattle.graph.specs.declared.object.Shape.TheVariants.{Region as RegionShape}
+use Rattle.graph.specs.declared.value.Target.{Target}
+use Rattle.graph.specs.declared.value.Target.TheVariants.{Region}
+use Rattle.graph.specs.declared.value.Value.{Value}
+use Rattle.graph.specs.declared.value.Value.TheVariants.{Address}
+use Rattle.graph.specs.declared.parts.KeyedObject.{KeyedObject}
+use Rattle.graph.specs.DeadObjects.{IsDeadBlock, IsHeld, InRegister, InPort, InObject, AreHeldBlocksThere}
+use Rattle.graph.specs.Maps.{object_at, value_at}
+use Rattle.graph.specs.State.{IsWordBelow}
+use Rattle.graph.specs.Meaning.{IsGone, HoldsWord, HoldEdges, StandsAt, HasShape, HasBlocksAs, address_word}
+use Rattle.graph.specs.Sizes.{value_size}
+use Rattle.graph.specs.WellFormed.{edge_has_size}
+use Rattle.graph.proofs.AlikeStates.{All-at}
+use Rattle.graph.proofs.Found.{found-all}
+use Rattle.graph.proofs.Tests.{and_left, and_right}
+
+-- items at a place
+passes-at : {X : Type 0} (test : X → Bool) (items : List X) (place : ℕ) (item : X) → slice_get items place ≡ Some item → list_all test items ≡ true → test item ≡ true
+passes-at test [] place item is all = absurd (none-some item is)
+passes-at test (first ∷ rest) zero item is all = subst (λ one. test one ≡ true) (same_Some first item is) (and_left (test first) (list_all test rest) all)
+passes-at test (first ∷ rest) (suc place) item is all = passes-at test rest place item is (and_right (test first) (list_all test rest) all)
+
+mapped-at : {X Y : Type 0} (P : Y → Type 0) (f : X → Y) (items : List X) (place : ℕ) (item : X) → slice_get items place ≡ Some item → All P (map f items) → P (f item)
+mapped-at P f [] place item is all = absurd (none-some item is)
+mapped-at P f (first ∷ rest) zero item is all = subst (λ one. P (f one)) (same_Some first item is) (All-head P (f first) (map f rest) all)
+mapped-at P f (first ∷ rest) (suc place) item is all = mapped-at P f rest place item is (All-tail P (f first) (map f rest) all)
+
+edge-at : (bytes : List Byte) (word : ℕ → Word) (edges : List HasValue) (place : ℕ) (edge : HasValue) → slice_get edges place ≡ Some edge →
+    HoldEdges bytes word edges → HoldsWord bytes edge (word edge.value)
+edge-at bytes word [] place edge is hold = absurd (none-some edge is)
+edge-at bytes word (first ∷ rest) zero edge is hold = subst (λ one. HoldsWord bytes one (word one.value)) (same_Some first edge is) hold.0
+edge-at bytes word (first ∷ rest) (suc place) edge is hold = edge-at bytes word rest place edge is hold.1
+
+-- a pointer whose eight parts name blocks of the memory is one of it
+whole_below : (count size : ℕ) (word : Word) → 8 ≡ size → All (NamesBelow count) (take size (word_bytes word)) → WordNamesBelow count word
+whole_below count size (Plain number) is all = tt
+whole_below count size (To block offset) is all =
+    (All-head (NamesBelow count) (Part block offset 0) (map (Part block offset) (1 ∷ 2 ∷ 3 ∷ 4 ∷ 5 ∷ 6 ∷ 7 ∷ []))
+    (subst (λ size. All (NamesBelow count) (take size (word_bytes (To block offset)))) (sym is) all)).0
+
+-- the word of an address names the block of its object
+names_block : (target : Target) (blocks : List ℕ) (number count : ℕ) (offset : ℤ) → blocks ≡ number ∷ [] →
+    WordNamesBelow count (address_word target blocks offset) → number < count
+names_block Region blocks number count offset is below = subst (λ blocks. WordNamesBelow count (address_word Region blocks offset)) is below
+
+-- a dead block that is there
+dead_block : (memory : List Block) (kind : BlockKind) (number : ℕ) → IsGone kind (slice_get memory number) → number < length memory → IsDeadBlock memory kind number
+dead_block memory kind number gone below = elim (slice_get_cases memory number).1 [
+  | inl found ↦ (let dead = subst (IsGone kind) found.2 gone in record { block = found.0; there = found.2; live = dead.0; kind = dead.1 })
+  | inr past ↦ (let above = past.0 in absurd (omega arith))
+]
+
+pub held_blocks_there : AreHeldBlocksThere
+held_blocks_there parts state given key value object offset target well is meets stands dead leads held = (
+  gone.0,
+  gone.1,
+  dead_block state.memory object.kind gone.0 gone.2
+      (names_block target (given.blocks key) gone.0 (length state.memory) offset gone.1
+      (subst (WordNamesBelow (length state.memory)) (meets.values value (Address key offset target) leads) (by_held held))),
+)
+  where
+    gone : (number : ℕ) × (given.blocks key ≡ number ∷ []) × IsGone object.kind (slice_get state.memory number)
+    gone = subst (λ (live : Bool). HasBlocksAs live state.memory object given.word (given.blocks key)) dead (meets.objects key object stands)
+
+    within : (number : ℕ) (holder : Object) (place : ℕ) (edge : HasValue) → slice_get holder.edges place ≡ Some edge → edge.value ≡ value → 8 ≡ edge.size →
+        StandsAt state.memory holder given.word number → WordNamesBelow (length state.memory) (given.word value)
+    within number holder place edge at same sized there =
+        whole_below (length state.memory) edge.size (given.word value) sized
+        (subst (λ (key : ℕ). All (NamesBelow (length state.memory)) (take edge.size (word_bytes (given.word key)))) same
+        (subst (All (NamesBelow (length state.memory))) (edge-at there.block.bytes given.word holder.edges place edge at there.node.edges)
+        (All-take (NamesBelow (length state.memory)) edge.size (drop edge.at there.block.bytes)
+        (All-drop (NamesBelow (length state.memory)) edge.at there.block.bytes
+        (All-at (λ (block : Block). All (NamesBelow (length state.memory)) block.bytes) state.memory number there.block there.there is.memory.named)))))
+
+    by_shape : (shape : Shape) (holder : Object) (place : ℕ) (edge : HasValue) → slice_get holder.edges place ≡ Some edge → edge.value ≡ value → 8 ≡ edge.size →
+        (blocks : List ℕ) → HasShape shape state.memory holder given.word blocks → WordNamesBelow (length state.memory) (given.word value)
+    by_shape RegionShape holder place edge at same sized blocks has = within has.0 holder place edge at same sized has.2
+
+    has_size : (holds : ℕ) (holder : Object) (place : ℕ) (edge : HasValue) → object_at parts.objects holds ≡ Some holder → slice_get holder.edges place ≡ Some edge →
+        edge.value ≡ value → 8 ≡ edge.size
+    has_size holds holder place edge holder_stands at same =
+        eqb-true 8 edge.size
+        (subst (λ (found : Option Value). option_map_or (λ one. nat_eq (value_size one) edge.size) found false ≡ true)
+        (ap (value_at parts.values) same ∙ leads)
+        (passes-at (edge_has_size parts) holder.edges place edge at
+        (found-all (λ (entry : KeyedObject). entry.key) (λ entry. entry.object) (λ (one : Object). list_all (edge_has_size parts) one.edges)
+        parts.objects holds holder well.edges_have_their_sizes holder_stands)))
+
+    by_held : IsHeld parts value → WordNamesBelow (length state.memory) (given.word value)
+    by_held (InRegister register there) =
+        (is.registers register (given.word value) (meets.registers register ∙ ap (option_map given.word) there)).named
+    by_held (InPort place there) =
+        (mapped-at (IsWordBelow (length state.memory)) given.word parts.ports place value there
+        (subst (All (IsWordBelow (length state.memory))) meets.ports is.ports)).named
+    by_held (InObject holds holder place edge holder_stands live at same) =
+        by_shape holder.shape holder place edge at same (has_size holds holder place edge holder_stands at same) (given.blocks holds)
+        (subst (λ (one : Bool). HasBlocksAs one state.memory holder given.word (given.blocks holds)) live (meets.objects holds holder holder_stands))
