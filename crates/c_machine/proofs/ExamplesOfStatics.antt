@@ -1,10 +1,9 @@
 -- The whole programs with static objects come to what they should: their layers are put in by their equations, and the rest computes.
 use Rattle.std.proofs.Common.{◌≡◌, ◌∙◌, ℕ, suc, List, [], ◌∷◌, Option, Some, refl, ap}
-use Rattle.std.specs.Prelude.{codes, pos}
+use Rattle.std.specs.Prelude.{pos}
 use Rattle.cbase.specs.declared.ctype.CType.TheViews.{outs-Void, outs-Int, outs-Pointer, outs-Struct as outs-StructType}
-use Rattle.cbase.specs.declared.tree.expr.ExprForm.TheViews.{outs-Name, outs-Constant, outs-Unary, outs-Assign, outs-SizeOf, outs-ExprForm::Member, outs-Call, outs-Inner, outs-Declare, outs-Eval, outs-Return, outs-Value, outs-Braces, outs-Basic, outs-Struct, out-roll-Decl, out-roll-Declared, out-roll-FieldDecl, out-roll-FieldName, out-roll-InitPart}
+use Rattle.cbase.specs.declared.tree.expr.ExprForm.TheViews.{outs-Name, outs-Constant, outs-Unary, outs-Assign, outs-SizeOf, outs-ExprForm::Member, outs-Call, outs-Inner, outs-Declare, outs-Eval, outs-Return, outs-Value, outs-Braces, outs-Basic, outs-Struct, out-roll-Decl, out-roll-Declared, out-roll-FieldDecl, out-roll-FieldName}
 use Rattle.cbase.proofs.Types.{type_layout-Int, type_layout-Pointer, type_layout-Struct}
-use Rattle.cbase.specs.declared.tree.init.Init.{Init}
 use Rattle.cbase.specs.declared.tree.stmt.Stmt.{Stmt}
 use Rattle.bytes_core.specs.declared.block.Block.{Block}
 use Rattle.bytes_core.specs.declared.block.BlockKind.TheVariants as storage

@@ -1,5 +1,5 @@
 -- How many parts a tree has, form by form.
-use Rattle.std.proofs.Common.{◌≡◌, ℕ, Bool, ◌+◌, ◌∙◌, ap, sym, refl, map, List, [], ◌∷◌, Option, Some, None}
+use Rattle.std.proofs.Common.{◌≡◌, ℕ, Bool, ◌+◌, ◌∙◌, ap, sym, map, List, [], Option, Some, None}
 use Rattle.cbase.specs.declared.place.Place.{Place}
 use Rattle.cbase.specs.declared.tree.decl.Decl.{Decl}
 use Rattle.cbase.specs.declared.tree.decl.Declared.{Declared}

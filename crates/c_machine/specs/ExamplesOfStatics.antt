@@ -51,16 +51,16 @@ abbrev pub holding : Program
 holding = record {
   items = DeclareItem (declare Static (Basic Void) (declarator (codes "k") 3 1 [] None ∷ [])) ∷ main_at 6 [] holding_body 20 ∷ [];
   handed =
-    linked 3 3
-    ∷ object 3 pointer true
-    ∷ function_row 6
-    ∷ named 0 pointer 3 true
-    ∷ called 1 pointer (size_type ∷ []) false
-    ∷ valued 2 8
-    ∷ typed 3 pointer
-    ∷ typed 4 pointer
-    ∷ valued 5 0
-    ∷ [];
+      linked 3 3
+      ∷ object 3 pointer true
+      ∷ function_row 6
+      ∷ named 0 pointer 3 true
+      ∷ called 1 pointer (size_type ∷ []) false
+      ∷ valued 2 8
+      ∷ typed 3 pointer
+      ∷ typed 4 pointer
+      ∷ valued 5 0
+      ∷ [];
   structs = [];
   abi = Lp64;
   strict = true;
@@ -80,14 +80,14 @@ abbrev pub declaring : Program
 declaring = record {
   items = main_at 1 [] declaring_body 12 ∷ DeclareItem (declare Plain (Basic (Integer Int true)) (declarator (codes "y") 14 0 [] (Some three) ∷ [])) ∷ [];
   handed =
-    function_row 1
-    ∷ linked 7 7
-    ∷ named 0 int_type 7 true
-    ∷ linked 14 7
-    ∷ valued 1 3
-    ∷ set 14 0 int_type 1
-    ∷ object 14 int_type true
-    ∷ [];
+      function_row 1
+      ∷ linked 7 7
+      ∷ named 0 int_type 7 true
+      ∷ linked 14 7
+      ∷ valued 1 3
+      ∷ set 14 0 int_type 1
+      ∷ object 14 int_type true
+      ∷ [];
   structs = [];
   abi = Lp64;
   strict = false;
@@ -113,15 +113,15 @@ abbrev pub nesting : Program
 nesting = record {
   items = main_at 1 [] nesting_body 27 ∷ [];
   handed =
-    function_row 1
-    ∷ object 16 char_type true
-    ∷ valued 0 1
-    ∷ typed 1 int_type
-    ∷ ExpressionHanded (record { number = 2; ctype = size_type; stands = None; value = Some 4 })
-    ∷ set 8 0 int_type 2
-    ∷ object 8 int_type true
-    ∷ named 3 int_type 8 true
-    ∷ [];
+      function_row 1
+      ∷ object 16 char_type true
+      ∷ valued 0 1
+      ∷ typed 1 int_type
+      ∷ ExpressionHanded (record { number = 2; ctype = size_type; stands = None; value = Some 4 })
+      ∷ set 8 0 int_type 2
+      ∷ object 8 int_type true
+      ∷ named 3 int_type 8 true
+      ∷ [];
   structs = [];
   abi = Lp64;
   strict = false;
@@ -142,9 +142,9 @@ node_struct = record {
   name = codes "n";
   complete = true;
   fields =
-    record { name = codes "next"; ctype = PointerType node_type }
-    ∷ record { name = codes "v"; ctype = int_type }
-    ∷ [];
+      record { name = codes "next"; ctype = PointerType node_type }
+      ∷ record { name = codes "v"; ctype = int_type }
+      ∷ [];
 }
 
 abbrev pub first : Init
@@ -169,17 +169,17 @@ abbrev pub leading : Program
 leading = record {
   items = node_item ∷ main_at 14 [] leading_body 38 ∷ [];
   handed =
-    function_row 14
-    ∷ named 0 node_type 22 true
-    ∷ typed 1 (PointerType node_type)
-    ∷ set 22 0 (PointerType node_type) 1
-    ∷ valued 2 2
-    ∷ set 22 8 int_type 2
-    ∷ ObjectHanded (record { token = 22; ctype = node_type; fixed = true; zeroed = true })
-    ∷ named 3 node_type 22 true
-    ∷ typed 4 (PointerType node_type)
-    ∷ typed 5 int_type
-    ∷ [];
+      function_row 14
+      ∷ named 0 node_type 22 true
+      ∷ typed 1 (PointerType node_type)
+      ∷ set 22 0 (PointerType node_type) 1
+      ∷ valued 2 2
+      ∷ set 22 8 int_type 2
+      ∷ ObjectHanded (record { token = 22; ctype = node_type; fixed = true; zeroed = true })
+      ∷ named 3 node_type 22 true
+      ∷ typed 4 (PointerType node_type)
+      ∷ typed 5 int_type
+      ∷ [];
   structs = node_struct ∷ [];
   abi = Lp64;
   strict = false;

@@ -122,14 +122,14 @@ abbrev pub passing : Program
 passing = record {
   items = main_at 4 [] passing_body 21 ∷ [];
   handed =
-    function_row 4
-    ∷ object 10 int_type false
-    ∷ called 0 VoidType (pointer ∷ []) true
-    ∷ named 1 int_type 10 false
-    ∷ typed 2 (PointerType int_type)
-    ∷ typed 3 VoidType
-    ∷ valued 4 0
-    ∷ [];
+      function_row 4
+      ∷ object 10 int_type false
+      ∷ called 0 VoidType (pointer ∷ []) true
+      ∷ named 1 int_type 10 false
+      ∷ typed 2 (PointerType int_type)
+      ∷ typed 3 VoidType
+      ∷ valued 4 0
+      ∷ [];
   structs = [];
   abi = Lp64;
   strict = false;
@@ -155,14 +155,14 @@ abbrev pub taking : Program
 taking = record {
   items = main_at 1 taking_params taking_body 20 ∷ [];
   handed =
-    function_row 1
-    ∷ ParameterHanded (record { token = Some 4; ctype = int_type })
-    ∷ ParameterHanded (record { token = Some 9; ctype = texts })
-    ∷ named 0 texts 9 false
-    ∷ valued 1 0
-    ∷ typed 2 (PointerType char_type)
-    ∷ valued 3 0
-    ∷ [];
+      function_row 1
+      ∷ ParameterHanded (record { token = Some 4; ctype = int_type })
+      ∷ ParameterHanded (record { token = Some 9; ctype = texts })
+      ∷ named 0 texts 9 false
+      ∷ valued 1 0
+      ∷ typed 2 (PointerType char_type)
+      ∷ valued 3 0
+      ∷ [];
   structs = [];
   abi = Lp64;
   strict = false;
