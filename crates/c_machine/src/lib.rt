@@ -10,6 +10,7 @@ mod kind;
 pub mod laws;
 mod object;
 mod rows;
+mod task;
 mod variable;
 mod whole_type;
 
@@ -21,5 +22,6 @@ pub use rows::{
     losses_come_out, programs_with_static_objects_come_out, rows_are_found, statements_come_out,
     steps_come_out, whole_programs_come_out,
 };
+pub use task::Task;
 pub use variable::Variable;
 pub use whole_type::WholeType;

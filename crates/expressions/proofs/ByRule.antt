@@ -1,6 +1,6 @@
 -- What is settled at a form is what its rule says.
 use Rattle.std.proofs.Common.{◌≡◌, ℕ, Bool, true, false, List, [], ◌∷◌, ◌++◌, Option, None, Some, refl, sym, subst, Result, Ok, Err, IfOk}
-use Rattle.std.specs.Prelude.{map, ◌&&◌, if◌then◌else◌}
+use Rattle.std.specs.Prelude.{map, option_map, ◌&&◌, if◌then◌else◌}
 use Rattle.cbase.specs.declared.abi.Abi.{Abi}
 use Rattle.cbase.specs.declared.ctype.CType.TheVariants.{Void as VoidType}
 use Rattle.cbase.specs.declared.no_memory.NoMemory.{NoMemory}
@@ -17,6 +17,7 @@ use Rattle.cbase.specs.declared.tree.operators.UnaryOp.TheVariants.{Address, Fol
 use Rattle.constants.specs.declared.meaning.Meaning.{Meaning}
 use Rattle.constants.specs.declared.meaning.Meaning.TheVariants.{NoConstant, FitsNoType, Known as KnownConstant}
 use Rattle.constants.specs.Meanings.{Means}
+use Rattle.environment.specs.Environment.{name_found}
 use Rattle.operators.specs.declared.found.Broken.TheVariants.{Construct, Rule}
 use Rattle.operators.specs.Binary.{binary}
 use Rattle.operators.specs.Kinds.{Kind, Integer, Pointer, Array, Struct, Void}
@@ -41,12 +42,12 @@ use Rattle.expressions.specs.Constants.{constant_faults, constant_told}
 use Rattle.expressions.specs.Context.{Context, declared, Agrees}
 use Rattle.expressions.specs.Found.{an_expression, one_operand, no_parts, a_type_and_indices}
 use Rattle.expressions.specs.Names.{name_faults, name_told}
-use Rattle.expressions.specs.Numbers.{Numbering}
+use Rattle.expressions.specs.Numbers.{Numbering, entity_at}
 use Rattle.expressions.specs.Language.{language}
 use Rattle.expressions.specs.Settled.{Settled}
 use Rattle.expressions.specs.Walked.{Passed, Walked, Says, SaysForm}
 use Rattle.expressions.proofs.Firsts.{first_alone}
-use Rattle.expressions.proofs.Walking.{settled_form, nothing_walked}
+use Rattle.expressions.proofs.Walking.{settled_result, settled_form, nothing_walked}
 
 none_behind : (faults : List Fault) (last : Fault) → faults ++ last ∷ [] ≡ [] → ⊥
 none_behind [] last is = cc is
@@ -173,6 +174,14 @@ offset_form abi number place to path words given old mid new named (Ok found) sa
     settled_form abi number place (OffsetOf to path) (a_type_and_indices words) old mid new named (λ n. all_at place named.found ++ way_faults (settled.0 n)) (λ n. offset_known (way_offset (settled.0 n))) found passed
     (λ n handed outcome agrees rule. OffsetOfMember refl (subst (λ (indices : List ℕ). LeadsFrom abi mid.structs place (n.ctype named.ctype) (map out-Part path) indices (settled.0 n)) same (settled.1 n agrees)) rule) settled.2
 offset_form abi number place to path words given old mid new named (Err error) same settled passed = tt
+
+-- a name by what it stands for
+pub name_form : (abi : Abi) (number : ℕ) (place : Place) (name : List ℕ) (old new : Context) (r : Result (Found KnownByNumber) NoMemory)
+    → IfOk r (λ found. Settled (λ n. name_faults old.structs place (option_map (entity_at n) (name_found name old.environment))) (λ n. name_told (option_map (entity_at n) (name_found name old.environment))) number old new found)
+    → IfOk r (λ found. Walked (SaysForm abi number place (Name name)) an_expression old new found)
+name_form abi number place name old new r settled =
+    settled_result abi number place (Name name) no_parts old old new tt _ _ r settled (nothing_walked abi old)
+    (λ n handed outcome agrees rule. name_rule (language abi n) (declared old) number place handed name (option_map (entity_at n) (name_found name old.environment)) outcome refl rule)
 
 -- a constant by its meaning
 pub constant_form : (abi : Abi) (number : ℕ) (place : Place) (spelling : List ℕ) (old new : Context) (r : Result (Found KnownByNumber) NoMemory)

@@ -27,6 +27,7 @@ pub mod SoFar
 pub mod SpecLevels
 pub mod Stepping
 pub mod StructMembers
+pub mod Telling
 pub mod TypeNames
 pub mod TypeWords
 pub mod Walking

@@ -15,7 +15,7 @@ use Rattle.cbase.specs.declared.tree.spec.Enumerator.{Enumerator}
 use Rattle.cbase.specs.declared.tree.spec.FieldDecl.{FieldDecl}
 use Rattle.cbase.specs.declared.tree.spec.TypeSpec.{TypeSpec}
 use Rattle.cbase.specs.Completing.{fieldless}
-use Rattle.cbase.specs.declared.tree.spec.TypeSpec.TheVariants.{Struct as StructSpec, Enum as EnumSpec, OfType as TypeofSpec, rolls-Struct, rolls-Enum, rolls-OfType}
+use Rattle.cbase.specs.declared.tree.spec.TypeSpec.TheVariants.{Basic as BasicSpec, Named as NamedSpec, Struct as StructSpec, Enum as EnumSpec, OfExpr as TypeofExprSpec, OfType as TypeofSpec, rolls-Basic, rolls-Named, rolls-Struct, rolls-Enum, rolls-OfExpr, rolls-OfType}
 use Rattle.environment.specs.declared.entity.DeclaredType.TheVariants.{Whole}
 use Rattle.environment.specs.declared.entity.Entity.{Entity}
 use Rattle.environment.specs.declared.entity.Entity.TheVariants.{Typedef}
@@ -109,6 +109,25 @@ pub enum_layer : (spec : TypeSpec) (name : Option Identifier) (values : Option (
     → spec ≡ EnumSpec name values → values ≡ Some listed → out-TypeSpec spec ≡ EnumWords name (Some listed)
 enum_layer spec name values listed is braced =
     ap out-TypeSpec (is ∙ sym (rolls-Enum name values)) ∙ (out-roll-TypeSpec (EnumWords name values) ∙ ap (λ (there : Option (List Enumerator)). EnumWords name there) braced)
+
+pub struct_alone_layer : (spec : TypeSpec) (name tag : Option Identifier) (fields : Option (List FieldDecl)) → spec ≡ StructSpec name fields → fields ≡ None → name ≡ tag
+    → out-TypeSpec spec ≡ StructWords tag None
+struct_alone_layer spec name tag fields is bare named =
+    ap out-TypeSpec (is ∙ sym (rolls-Struct name fields)) ∙ (out-roll-TypeSpec (StructWords name fields) ∙ (λ i. StructWords (named i) (bare i)))
+
+pub enum_alone_layer : (spec : TypeSpec) (name tag : Option Identifier) (values : Option (List Enumerator)) → spec ≡ EnumSpec name values → values ≡ None → name ≡ tag
+    → out-TypeSpec spec ≡ EnumWords tag None
+enum_alone_layer spec name tag values is bare named =
+    ap out-TypeSpec (is ∙ sym (rolls-Enum name values)) ∙ (out-roll-TypeSpec (EnumWords name values) ∙ (λ i. EnumWords (named i) (bare i)))
+
+pub basic_layer : (spec : TypeSpec) (basic : BasicType) → spec ≡ BasicSpec basic → out-TypeSpec spec ≡ Basic basic
+basic_layer spec basic is = ap out-TypeSpec (is ∙ sym (rolls-Basic basic)) ∙ out-roll-TypeSpec (Basic basic)
+
+pub named_layer : (spec : TypeSpec) (name read : List ℕ) → spec ≡ NamedSpec name → read ≡ name → out-TypeSpec spec ≡ Named read
+named_layer spec name read is same = ap out-TypeSpec (is ∙ sym (rolls-Named name)) ∙ (out-roll-TypeSpec (Named name) ∙ ap Named (sym same))
+
+pub typeof_expr_layer : (spec : TypeSpec) (expr read : Expr) → spec ≡ TypeofExprSpec expr → read ≡ expr → out-TypeSpec spec ≡ OfExpr read
+typeof_expr_layer spec expr read is same = ap out-TypeSpec (is ∙ sym (rolls-OfExpr expr)) ∙ (out-roll-TypeSpec (OfExpr expr) ∙ ap OfExpr (sym same))
 
 pub typeof_layer : (spec : TypeSpec) (to : TypeName) → spec ≡ TypeofSpec to → out-TypeSpec spec ≡ OfTypeWords to
 typeof_layer spec to is = ap out-TypeSpec (is ∙ sym (rolls-OfType to)) ∙ out-roll-TypeSpec (OfTypeWords to)

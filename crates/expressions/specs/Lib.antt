@@ -18,6 +18,7 @@ pub mod Operated
 pub mod Pointers
 pub mod Settled
 pub mod Taken
+pub mod Telling
 pub mod Types
 pub mod Walked
 pub mod Ways

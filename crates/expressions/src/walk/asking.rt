@@ -5,6 +5,7 @@ ghost use Rattle.ctrees.specs.Levels.{expr_levels, type_name_levels, stmt_levels
 ghost use Rattle.typing.specs.Typing.{ExpressionIs, NameOfTypeIs, WordsAre, StatementIs, InitialiserIs, SurplusIs};
 ghost use Rattle.expressions.specs.Found.{an_expression, a_type, nothing};
 ghost use Rattle.expressions.specs.Nests.{Nests, subject_of, slot_at};
+ghost use Rattle.expressions.specs.Telling.{IsOfExpression, IsOfType, IsOfNothing, expression_told, type_told, nothing_told};
 ghost use Rattle.expressions.specs.Walked.{Walked, Says, SaysBy};
 
 use crate::checker::{Checker, Within};
@@ -36,11 +37,7 @@ impl<F: Fn(&mut Context, Within, Part<'_>) -> Result<Found<Told>, NoMemory>> Che
         requires deep { expr_levels expr.now ≤ self.now.depth }
         ensures { IfOk result (λ found. Walked (Says self.now.abi (λ o. ExpressionIs expr.now o)) an_expression context.old context.new found) }
     {
-        match (self.inner)(context, self.within(), Part::Expression(expr))? {
-            Found::Passes(Told::Expression(known)) => Ok(Found::Passes(known)),
-            Found::Passes(_) => unreachable!(),
-            Found::Refused(fault) => Ok(Found::Refused(fault)),
-        }
+        expression_in((self.inner)(context, self.within(), Part::Expression(expr)))
     }
 
     /// What is found of a type name that lies in a tree.
@@ -53,11 +50,7 @@ impl<F: Fn(&mut Context, Within, Part<'_>) -> Result<Found<Told>, NoMemory>> Che
         requires deep { type_name_levels name.now + 1 ≤ self.now.depth }
         ensures { IfOk result (λ found. Walked (Says self.now.abi (λ o. NameOfTypeIs name.now o)) a_type context.old context.new found) }
     {
-        match (self.inner)(context, self.within(), Part::TypeName(name))? {
-            Found::Passes(Told::TypeName(named)) => Ok(Found::Passes(named)),
-            Found::Passes(_) => unreachable!(),
-            Found::Refused(fault) => Ok(Found::Refused(fault)),
-        }
+        type_in((self.inner)(context, self.within(), Part::TypeName(name)))
     }
 
     /// What is found of a struct with its members in braces.
@@ -71,11 +64,7 @@ impl<F: Fn(&mut Context, Within, Part<'_>) -> Result<Found<Told>, NoMemory>> Che
         requires deep { spec_levels (StructSpec name.now (Some fields.now)) ≤ self.now.depth }
         ensures { IfOk result (λ found. Walked (Says self.now.abi (λ o. WordsAre (Struct name.now (Some fields.now)) o)) a_type context.old context.new found) }
     {
-        match (self.inner)(context, self.within(), Part::Members(name, fields))? {
-            Found::Passes(Told::TypeName(named)) => Ok(Found::Passes(named)),
-            Found::Passes(_) => unreachable!(),
-            Found::Refused(fault) => Ok(Found::Refused(fault)),
-        }
+        type_in((self.inner)(context, self.within(), Part::Members(name, fields)))
     }
 
     /// What is found of an enum with its constants in braces.
@@ -89,11 +78,7 @@ impl<F: Fn(&mut Context, Within, Part<'_>) -> Result<Found<Told>, NoMemory>> Che
         requires deep { spec_levels (EnumSpec name.now (Some values.now)) ≤ self.now.depth }
         ensures { IfOk result (λ found. Walked (Says self.now.abi (λ o. WordsAre (Enum name.now (Some values.now)) o)) a_type context.old context.new found) }
     {
-        match (self.inner)(context, self.within(), Part::Enumerators(name, values))? {
-            Found::Passes(Told::TypeName(named)) => Ok(Found::Passes(named)),
-            Found::Passes(_) => unreachable!(),
-            Found::Refused(fault) => Ok(Found::Refused(fault)),
-        }
+        type_in((self.inner)(context, self.within(), Part::Enumerators(name, values)))
     }
 
     /// What is found of a statement or a declaration in a block.
@@ -102,11 +87,7 @@ impl<F: Fn(&mut Context, Within, Part<'_>) -> Result<Found<Told>, NoMemory>> Che
         requires deep { stmt_levels stmt.now ≤ self.now.depth }
         ensures { IfOk result (λ found. Walked (Says self.now.abi (λ o. StatementIs stmt.now o)) nothing context.old context.new found) }
     {
-        match (self.inner)(context, self.within(), Part::Statement(stmt))? {
-            Found::Passes(Told::Nothing) => Ok(Found::Passes(())),
-            Found::Passes(_) => unreachable!(),
-            Found::Refused(fault) => Ok(Found::Refused(fault)),
-        }
+        nothing_in((self.inner)(context, self.within(), Part::Statement(stmt)))
     }
 
     /// What is found of an initialiser of what is set in an object.
@@ -122,15 +103,13 @@ impl<F: Fn(&mut Context, Within, Part<'_>) -> Result<Found<Told>, NoMemory>> Che
         requires slot { slot.ctype < length context.old.types }
         ensures { IfOk result (λ found. Walked (SaysBy self.now.abi (λ n o. InitialiserIs (subject_of subject) (slot_at n slot) init.now o)) nothing context.old context.new found) }
     {
-        match (self.inner)(
-            context,
-            self.within(),
-            Part::Initialiser(subject, Some(slot), init),
-        )? {
-            Found::Passes(Told::Nothing) => Ok(Found::Passes(())),
-            Found::Passes(_) => unreachable!(),
-            Found::Refused(fault) => Ok(Found::Refused(fault)),
-        }
+        nothing_in(
+            (self.inner)(
+                context,
+                self.within(),
+                Part::Initialiser(subject, Some(slot), init),
+            ),
+        )
     }
 
     /// What is found of an initialiser for which there is no place.
@@ -144,14 +123,51 @@ impl<F: Fn(&mut Context, Within, Part<'_>) -> Result<Found<Told>, NoMemory>> Che
         requires deep { init_levels init.now ≤ self.now.depth }
         ensures { IfOk result (λ found. Walked (Says self.now.abi (λ o. SurplusIs subject.place init.now o)) nothing context.old context.new found) }
     {
-        match (self.inner)(
-            context,
-            self.within(),
-            Part::Initialiser(subject, None, init),
-        )? {
-            Found::Passes(Told::Nothing) => Ok(Found::Passes(())),
-            Found::Passes(_) => unreachable!(),
-            Found::Refused(fault) => Ok(Found::Refused(fault)),
-        }
+        nothing_in(
+            (self.inner)(
+                context,
+                self.within(),
+                Part::Initialiser(subject, None, init),
+            ),
+        )
+    }
+}
+
+/// What is told of an expression.
+fn expression_in(told: Result<Found<Told>, NoMemory>) -> Result<Found<Known>, NoMemory>
+    requires { IfOk told IsOfExpression }
+    ensures { told ≡ expression_told result }
+{
+    match told {
+        Ok(Found::Passes(Told::Expression(known))) => Ok(Found::Passes(known)),
+        Ok(Found::Passes(_)) => unreachable!(),
+        Ok(Found::Refused(fault)) => Ok(Found::Refused(fault)),
+        Err(error) => Err(error),
+    }
+}
+
+/// What is told of a type name, and of a struct or an enum with braces.
+fn type_in(told: Result<Found<Told>, NoMemory>) -> Result<Found<NamedType>, NoMemory>
+    requires { IfOk told IsOfType }
+    ensures { told ≡ type_told result }
+{
+    match told {
+        Ok(Found::Passes(Told::TypeName(named))) => Ok(Found::Passes(named)),
+        Ok(Found::Passes(_)) => unreachable!(),
+        Ok(Found::Refused(fault)) => Ok(Found::Refused(fault)),
+        Err(error) => Err(error),
+    }
+}
+
+/// That a statement or an initialiser passes.
+fn nothing_in(told: Result<Found<Told>, NoMemory>) -> Result<Found<()>, NoMemory>
+    requires { IfOk told IsOfNothing }
+    ensures { told ≡ nothing_told result }
+{
+    match told {
+        Ok(Found::Passes(Told::Nothing)) => Ok(Found::Passes(())),
+        Ok(Found::Passes(_)) => unreachable!(),
+        Ok(Found::Refused(fault)) => Ok(Found::Refused(fault)),
+        Err(error) => Err(error),
     }
 }

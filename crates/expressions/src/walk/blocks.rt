@@ -35,9 +35,10 @@ impl<F: Fn(&mut Context, Within, Part<'_>) -> Result<Found<Told>, NoMemory>> Che
         requires deep { All (λ stmt. stmt_levels stmt ≤ self.now.depth) body.now }
         ensures { (close : Place) → IfOk result (λ found. Walked (SaysForm self.now.abi node.number node.place (Inner body.now close)) an_expression context.old context.new found) }
     {
-        match self.block(alloc, context, body)? {
-            Found::Passes(ctype) => pass(context, node.number, Known::plain(ctype)),
-            Found::Refused(fault) => Ok(Found::Refused(fault)),
+        match self.block(alloc, context, body) {
+            Ok(Found::Passes(ctype)) => pass(context, node.number, Known::plain(ctype)),
+            Ok(Found::Refused(fault)) => Ok(Found::Refused(fault)),
+            Err(error) => Err(error),
         }
     }
 
@@ -70,9 +71,10 @@ impl<F: Fn(&mut Context, Within, Part<'_>) -> Result<Found<Told>, NoMemory>> Che
             if let Some(expr) = value_of(last, stmt) {
                 return self.last_value(context, expr);
             }
-            match self.ask_statement(context, stmt)? {
-                Found::Passes(()) => {}
-                Found::Refused(fault) => return Ok(Found::Refused(fault)),
+            match self.ask_statement(context, stmt) {
+                Ok(Found::Passes(())) => {}
+                Ok(Found::Refused(fault)) => return Ok(Found::Refused(fault)),
+                Err(error) => return Err(error),
             }
         }
         Ok(Found::Passes(context.void()?))
@@ -84,8 +86,8 @@ impl<F: Fn(&mut Context, Within, Part<'_>) -> Result<Found<Told>, NoMemory>> Che
         requires deep { expr_levels expr.now ≤ self.now.depth }
         ensures { (stmt : StmtTree) → value_in (out-StmtForm stmt.form) ≡ Some expr.now → IfOk result (λ found. Walked (Says self.now.abi (λ o. StatementsAre (stmt ∷ []) o)) a_value_type context.old context.new found) }
     {
-        match self.loaded(context, expr)? {
-            Found::Passes(known) => {
+        match self.loaded(context, expr) {
+            Ok(Found::Passes(known)) => {
                 if context.is_struct(known.ctype) {
                     return Ok(Found::Refused(Fault {
                         place: expr.place,
@@ -94,7 +96,8 @@ impl<F: Fn(&mut Context, Within, Part<'_>) -> Result<Found<Told>, NoMemory>> Che
                 }
                 Ok(Found::Passes(context.value_type(known.ctype)?))
             }
-            Found::Refused(fault) => Ok(Found::Refused(fault)),
+            Ok(Found::Refused(fault)) => Ok(Found::Refused(fault)),
+            Err(error) => Err(error),
         }
     }
 }

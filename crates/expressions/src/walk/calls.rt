@@ -80,12 +80,13 @@ impl<F: Fn(&mut Context, Within, Part<'_>) -> Result<Found<Told>, NoMemory>> Che
         requires empty { known.old.items ≡ [] }
         ensures { IfOk result (λ found. Walked (SaysForm self.now.abi node.number node.place (Call callee.now args.now)) an_expression context.old context.new found) }
     {
-        match called_function(context, callee, function)? {
-            Found::Passes(_) => {}
-            Found::Refused(fault) => return Ok(Found::Refused(fault)),
+        match called_function(context, callee, function) {
+            Ok(Found::Passes(_)) => {}
+            Ok(Found::Refused(fault)) => return Ok(Found::Refused(fault)),
+            Err(error) => return Err(error),
         }
-        match self.arguments(context, args, known)? {
-            Found::Passes(()) => call_node(
+        match self.arguments(context, args, known) {
+            Ok(Found::Passes(())) => call_node(
                 context,
                 node,
                 Callee {
@@ -97,7 +98,8 @@ impl<F: Fn(&mut Context, Within, Part<'_>) -> Result<Found<Told>, NoMemory>> Che
                 args,
                 known,
             ),
-            Found::Refused(fault) => Ok(Found::Refused(fault)),
+            Ok(Found::Refused(fault)) => Ok(Found::Refused(fault)),
+            Err(error) => Err(error),
         }
     }
 
@@ -117,16 +119,18 @@ impl<F: Fn(&mut Context, Within, Part<'_>) -> Result<Found<Told>, NoMemory>> Che
         requires empty { known.old.items ≡ [] }
         ensures { IfOk result (λ found. Walked (SaysForm self.now.abi node.number node.place (Call callee.now args.now)) an_expression context.old context.new found) }
     {
-        match self.loaded(context, callee)? {
-            Found::Passes(_) => {}
-            Found::Refused(fault) => return Ok(Found::Refused(fault)),
+        match self.loaded(context, callee) {
+            Ok(Found::Passes(_)) => {}
+            Ok(Found::Refused(fault)) => return Ok(Found::Refused(fault)),
+            Err(error) => return Err(error),
         }
-        match self.arguments(context, args, known)? {
-            Found::Passes(()) => Ok(Found::Refused(Fault {
+        match self.arguments(context, args, known) {
+            Ok(Found::Passes(())) => Ok(Found::Refused(Fault {
                 place: node.place,
                 broken: Broken::Construct(11),
             })),
-            Found::Refused(fault) => Ok(Found::Refused(fault)),
+            Ok(Found::Refused(fault)) => Ok(Found::Refused(fault)),
+            Err(error) => Err(error),
         }
     }
 }

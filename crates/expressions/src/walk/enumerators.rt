@@ -39,9 +39,10 @@ impl<F: Fn(&mut Context, Within, Part<'_>) -> Result<Found<Told>, NoMemory>> Che
         requires deep { spec_levels (EnumSpec name.now (Some values.now)) ≤ self.now.depth + 1 }
         ensures { IfOk result (λ found. Walked (Says self.now.abi (λ o. WordsAre (Enum name.now (Some values.now)) o)) a_type context.old context.new found) }
     {
-        match context.open_enum(alloc, name)? {
-            Some(fault) => Ok(Found::Refused(fault)),
-            None => self.listed(alloc, context, values.as_slice()),
+        match context.open_enum(alloc, name) {
+            Ok(Some(fault)) => Ok(Found::Refused(fault)),
+            Ok(None) => self.listed(alloc, context, values.as_slice()),
+            Err(error) => Err(error),
         }
     }
 
@@ -58,9 +59,10 @@ impl<F: Fn(&mut Context, Within, Part<'_>) -> Result<Found<Told>, NoMemory>> Che
     {
         let mut next = Some(0);
         for constant in values {
-            match self.enumerator(alloc, context, next, constant)? {
-                Found::Passes(bits) => next = next_value(bits),
-                Found::Refused(fault) => return Ok(Found::Refused(fault)),
+            match self.enumerator(alloc, context, next, constant) {
+                Ok(Found::Passes(bits)) => next = next_value(bits),
+                Ok(Found::Refused(fault)) => return Ok(Found::Refused(fault)),
+                Err(error) => return Err(error),
             }
         }
         Ok(Found::Passes(NamedType {
@@ -85,9 +87,10 @@ impl<F: Fn(&mut Context, Within, Part<'_>) -> Result<Found<Told>, NoMemory>> Che
         if context.is_declared_here(constant.name.as_slice()) {
             return Ok(Found::Refused(twice(constant.place)));
         }
-        let bits = match self.enumerator_value(context, constant.place, next, &constant.value)? {
-            Found::Passes(bits) => bits,
-            Found::Refused(fault) => return Ok(Found::Refused(fault)),
+        let bits = match self.enumerator_value(context, constant.place, next, &constant.value) {
+            Ok(Found::Passes(bits)) => bits,
+            Ok(Found::Refused(fault)) => return Ok(Found::Refused(fault)),
+            Err(error) => return Err(error),
         };
         if context.is_declared_here(constant.name.as_slice()) {
             return Ok(Found::Refused(twice(constant.place)));
@@ -111,9 +114,10 @@ impl<F: Fn(&mut Context, Within, Part<'_>) -> Result<Found<Told>, NoMemory>> Che
     {
         match value {
             None => Ok(int_or_refused(place, next)),
-            Some(expr) => match self.loaded(context, expr)? {
-                Found::Passes(known) => Ok(int_in(context, expr.place, known)),
-                Found::Refused(fault) => Ok(Found::Refused(fault)),
+            Some(expr) => match self.loaded(context, expr) {
+                Ok(Found::Passes(known)) => Ok(int_in(context, expr.place, known)),
+                Ok(Found::Refused(fault)) => Ok(Found::Refused(fault)),
+                Err(error) => Err(error),
             },
         }
     }

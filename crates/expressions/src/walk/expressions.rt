@@ -11,8 +11,11 @@ use crate::checker::{Checker, Within};
 use crate::context::Context;
 use crate::found::Found;
 use crate::known::Known;
+use crate::nodes::constant::constant_node;
 use crate::nodes::finishing::Node;
+use crate::nodes::names::name_node;
 use crate::part::{Part, Told};
+use crate::walk::forms::failed_assertion;
 use cbase::{Expr, ExprForm, NoMemory};
 use std::alloc::Global;
 
@@ -52,8 +55,10 @@ impl<F: Fn(&mut Context, Within, Part<'_>) -> Result<Found<Told>, NoMemory>> Che
         ensures { IfOk result (λ found. Walked (SaysForm self.now.abi node.number node.place (out-ExprForm form.now)) an_expression context.old context.new found) }
     {
         match form {
-            ExprForm::Name(name) => self.name(context, node, name.as_slice()),
-            ExprForm::Constant(spelling) => self.constant(context, node, spelling.as_slice()),
+            ExprForm::Name(name) => name_node(context, node, name.as_slice()),
+            ExprForm::Constant(spelling) => {
+                constant_node(context, node, self.abi, spelling.as_slice())
+            }
             ExprForm::Unary { op, arg } => self.unary(context, node, *op, arg.get()),
             ExprForm::Binary { op, left, right } => {
                 self.binary(context, node, *op, left.get(), right.get())
@@ -97,7 +102,7 @@ impl<F: Fn(&mut Context, Within, Part<'_>) -> Result<Found<Told>, NoMemory>> Che
             ExprForm::Inner { body, .. } => {
                 self.statement_expression(alloc, context, node, body.as_slice())
             }
-            ExprForm::AssertFail => self.failed_assertion(context, node),
+            ExprForm::AssertFail => failed_assertion(context, node),
         }
     }
 }

@@ -1,5 +1,6 @@
 ghost use Rattle.std.specs.Prelude.{◌≡◌, ◌≤◌, [], ℕ, Bool, true, false, None, Some, All, IfOk};
-ghost use Rattle.cbase.specs.declared.tree.expr.ExprForm.TheOpen.{Name, Constant, Unary, Binary, Assign, Count, Choose, Cast, SizeOf, SizeOfType, OffsetOf, Index, ExprForm::Member, AssertFail};
+ghost use Rattle.cbase.specs.declared.tree.expr.ExprForm.TheOpen.{Unary, Binary, Assign, Count, Choose, Cast, SizeOf, SizeOfType, OffsetOf, Index, ExprForm::Member, AssertFail};
+ghost use Rattle.cbase.specs.declared.abi.Abi.{Abi};
 ghost use Rattle.ctrees.specs.Levels.{expr_levels, type_name_levels, part_levels};
 ghost use Rattle.cbase.specs.declared.tree.operators.UnaryOp.TheVariants.{Address, Follow};
 ghost use Rattle.typing.specs.Nodes.{is_arithmetic};
@@ -14,10 +15,8 @@ use crate::known::Known;
 use crate::nodes::assigning::{assignment_node, update_node};
 use crate::nodes::casting::cast_node;
 use crate::nodes::choosing::choice_node;
-use crate::nodes::constant::constant_node;
 use crate::nodes::finishing::{Node, pass};
 use crate::nodes::members::{index_node, member_node, pointed_member_node};
-use crate::nodes::names::name_node;
 use crate::nodes::offsets::offset_node;
 use crate::nodes::operations::{
     address_node, binary_node, counting_node, indirection_node, unary_node,
@@ -28,32 +27,6 @@ use cbase::{BinaryOp, Expr, Identifier, NoMemory, TypeName, UnaryOp};
 use std::alloc::Global;
 
 impl<F: Fn(&mut Context, Within, Part<'_>) -> Result<Found<Told>, NoMemory>> Checker<F> {
-    /// A name (C11 6.5.1).
-    pub(crate) fn name(
-        &self,
-        context: &mut Context,
-        node: Node,
-        name: &[u8],
-    ) -> Result<Found<Known>, NoMemory>
-        requires nests { Nests self.now.abi self.now.depth (F.pre self.now.inner) (F.post self.now.inner) }
-        ensures { IfOk result (λ found. Walked (SaysForm self.now.abi node.number node.place (Name name.now)) an_expression context.old context.new found) }
-    {
-        name_node(context, node, name)
-    }
-
-    /// A constant (C11 6.4.4).
-    pub(crate) fn constant(
-        &self,
-        context: &mut Context,
-        node: Node,
-        spelling: &[u8],
-    ) -> Result<Found<Known>, NoMemory>
-        requires nests { Nests self.now.abi self.now.depth (F.pre self.now.inner) (F.post self.now.inner) }
-        ensures { IfOk result (λ found. Walked (SaysForm self.now.abi node.number node.place (Constant spelling.now)) an_expression context.old context.new found) }
-    {
-        constant_node(context, node, self.abi, spelling)
-    }
-
     /// A unary operator (C11 6.5.3.2, 6.5.3.3). The operand of `&` is not loaded.
     pub(crate) fn unary(
         &self,
@@ -86,9 +59,10 @@ impl<F: Fn(&mut Context, Within, Part<'_>) -> Result<Found<Told>, NoMemory>> Che
         requires arg { expr_levels arg.now ≤ self.now.depth }
         ensures { IfOk result (λ found. Walked (SaysForm self.now.abi node.number node.place (Unary Address arg.now)) an_expression context.old context.new found) }
     {
-        match self.unloaded(context, arg)? {
-            Found::Passes(a) => address_node(context, node, a),
-            Found::Refused(fault) => Ok(Found::Refused(fault)),
+        match self.unloaded(context, arg) {
+            Ok(Found::Passes(a)) => address_node(context, node, a),
+            Ok(Found::Refused(fault)) => Ok(Found::Refused(fault)),
+            Err(error) => Err(error),
         }
     }
 
@@ -103,9 +77,10 @@ impl<F: Fn(&mut Context, Within, Part<'_>) -> Result<Found<Told>, NoMemory>> Che
         requires arg { expr_levels arg.now ≤ self.now.depth }
         ensures { IfOk result (λ found. Walked (SaysForm self.now.abi node.number node.place (Unary Follow arg.now)) an_expression context.old context.new found) }
     {
-        match self.loaded(context, arg)? {
-            Found::Passes(a) => indirection_node(context, node, a),
-            Found::Refused(fault) => Ok(Found::Refused(fault)),
+        match self.loaded(context, arg) {
+            Ok(Found::Passes(a)) => indirection_node(context, node, a),
+            Ok(Found::Refused(fault)) => Ok(Found::Refused(fault)),
+            Err(error) => Err(error),
         }
     }
 
@@ -122,9 +97,10 @@ impl<F: Fn(&mut Context, Within, Part<'_>) -> Result<Found<Told>, NoMemory>> Che
         requires arg { expr_levels arg.now ≤ self.now.depth }
         ensures { IfOk result (λ found. Walked (SaysForm self.now.abi node.number node.place (Unary op arg.now)) an_expression context.old context.new found) }
     {
-        match self.loaded(context, arg)? {
-            Found::Passes(a) => unary_node(context, node, op, a),
-            Found::Refused(fault) => Ok(Found::Refused(fault)),
+        match self.loaded(context, arg) {
+            Ok(Found::Passes(a)) => unary_node(context, node, op, a),
+            Ok(Found::Refused(fault)) => Ok(Found::Refused(fault)),
+            Err(error) => Err(error),
         }
     }
 
@@ -142,9 +118,10 @@ impl<F: Fn(&mut Context, Within, Part<'_>) -> Result<Found<Told>, NoMemory>> Che
         requires right { expr_levels right.now ≤ self.now.depth }
         ensures { IfOk result (λ found. Walked (SaysForm self.now.abi node.number node.place (Binary op left.now right.now)) an_expression context.old context.new found) }
     {
-        match self.two(context, left, right)? {
-            Found::Passes((a, b)) => binary_node(context, node, op, a, b),
-            Found::Refused(fault) => Ok(Found::Refused(fault)),
+        match self.two(context, left, right) {
+            Ok(Found::Passes((a, b))) => binary_node(context, node, op, a, b),
+            Ok(Found::Refused(fault)) => Ok(Found::Refused(fault)),
+            Err(error) => Err(error),
         }
     }
 
@@ -161,9 +138,10 @@ impl<F: Fn(&mut Context, Within, Part<'_>) -> Result<Found<Told>, NoMemory>> Che
         requires right { expr_levels right.now ≤ self.now.depth }
         ensures { IfOk result (λ found. Walked (SaysForm self.now.abi node.number node.place (Assign None left.now right.now)) an_expression context.old context.new found) }
     {
-        match self.two(context, left, right)? {
-            Found::Passes((a, b)) => assignment_node(context, node, a, b, right.place),
-            Found::Refused(fault) => Ok(Found::Refused(fault)),
+        match self.two(context, left, right) {
+            Ok(Found::Passes((a, b))) => assignment_node(context, node, a, b, right.place),
+            Ok(Found::Refused(fault)) => Ok(Found::Refused(fault)),
+            Err(error) => Err(error),
         }
     }
 
@@ -181,9 +159,10 @@ impl<F: Fn(&mut Context, Within, Part<'_>) -> Result<Found<Told>, NoMemory>> Che
         requires right { expr_levels right.now ≤ self.now.depth }
         ensures { IfOk result (λ found. Walked (SaysForm self.now.abi node.number node.place (Assign (Some op) left.now right.now)) an_expression context.old context.new found) }
     {
-        match self.two(context, left, right)? {
-            Found::Passes((a, b)) => update_node(context, node, op, a, b),
-            Found::Refused(fault) => Ok(Found::Refused(fault)),
+        match self.two(context, left, right) {
+            Ok(Found::Passes((a, b))) => update_node(context, node, op, a, b),
+            Ok(Found::Refused(fault)) => Ok(Found::Refused(fault)),
+            Err(error) => Err(error),
         }
     }
 
@@ -198,9 +177,10 @@ impl<F: Fn(&mut Context, Within, Part<'_>) -> Result<Found<Told>, NoMemory>> Che
         requires arg { expr_levels arg.now ≤ self.now.depth }
         ensures { (up after : Bool) → IfOk result (λ found. Walked (SaysForm self.now.abi node.number node.place (Count up after arg.now)) an_expression context.old context.new found) }
     {
-        match self.loaded(context, arg)? {
-            Found::Passes(a) => counting_node(context, node, a),
-            Found::Refused(fault) => Ok(Found::Refused(fault)),
+        match self.loaded(context, arg) {
+            Ok(Found::Passes(a)) => counting_node(context, node, a),
+            Ok(Found::Refused(fault)) => Ok(Found::Refused(fault)),
+            Err(error) => Err(error),
         }
     }
 
@@ -219,9 +199,10 @@ impl<F: Fn(&mut Context, Within, Part<'_>) -> Result<Found<Told>, NoMemory>> Che
         requires other { expr_levels other.now ≤ self.now.depth }
         ensures { IfOk result (λ found. Walked (SaysForm self.now.abi node.number node.place (Choose test.now one.now other.now)) an_expression context.old context.new found) }
     {
-        match self.three(context, test, one, other)? {
-            Found::Passes((t, a, b)) => choice_node(context, node, t, a, b),
-            Found::Refused(fault) => Ok(Found::Refused(fault)),
+        match self.three(context, test, one, other) {
+            Ok(Found::Passes((t, a, b))) => choice_node(context, node, t, a, b),
+            Ok(Found::Refused(fault)) => Ok(Found::Refused(fault)),
+            Err(error) => Err(error),
         }
     }
 
@@ -239,9 +220,10 @@ impl<F: Fn(&mut Context, Within, Part<'_>) -> Result<Found<Told>, NoMemory>> Che
         requires arg { expr_levels arg.now ≤ self.now.depth }
         ensures { IfOk result (λ found. Walked (SaysForm self.now.abi node.number node.place (Cast to.now arg.now)) an_expression context.old context.new found) }
     {
-        match self.type_and_operand(alloc, context, to, arg)? {
-            Found::Passes((named, a)) => cast_node(context, node, named, a),
-            Found::Refused(fault) => Ok(Found::Refused(fault)),
+        match self.type_and_operand(alloc, context, to, arg) {
+            Ok(Found::Passes((named, a))) => cast_node(context, node, named, a),
+            Ok(Found::Refused(fault)) => Ok(Found::Refused(fault)),
+            Err(error) => Err(error),
         }
     }
 
@@ -256,9 +238,10 @@ impl<F: Fn(&mut Context, Within, Part<'_>) -> Result<Found<Told>, NoMemory>> Che
         requires arg { expr_levels arg.now ≤ self.now.depth }
         ensures { IfOk result (λ found. Walked (SaysForm self.now.abi node.number node.place (SizeOf arg.now)) an_expression context.old context.new found) }
     {
-        match self.unloaded(context, arg)? {
-            Found::Passes(a) => size_node(context, node, a),
-            Found::Refused(fault) => Ok(Found::Refused(fault)),
+        match self.unloaded(context, arg) {
+            Ok(Found::Passes(a)) => size_node(context, node, a),
+            Ok(Found::Refused(fault)) => Ok(Found::Refused(fault)),
+            Err(error) => Err(error),
         }
     }
 
@@ -274,9 +257,10 @@ impl<F: Fn(&mut Context, Within, Part<'_>) -> Result<Found<Told>, NoMemory>> Che
         requires to { type_name_levels to.now ≤ self.now.depth }
         ensures { IfOk result (λ found. Walked (SaysForm self.now.abi node.number node.place (SizeOfType to.now)) an_expression context.old context.new found) }
     {
-        match self.type_name(alloc, context, to)? {
-            Found::Passes(named) => type_size_node(context, node, named),
-            Found::Refused(fault) => Ok(Found::Refused(fault)),
+        match self.type_name(alloc, context, to) {
+            Ok(Found::Passes(named)) => type_size_node(context, node, named),
+            Ok(Found::Refused(fault)) => Ok(Found::Refused(fault)),
+            Err(error) => Err(error),
         }
     }
 
@@ -314,9 +298,10 @@ impl<F: Fn(&mut Context, Within, Part<'_>) -> Result<Found<Told>, NoMemory>> Che
         requires empty { words.old.items ≡ [] }
         ensures { IfOk result (λ found. Walked (SaysForm self.now.abi node.number node.place (OffsetOf to.now path.now)) an_expression context.old context.new found) }
     {
-        match self.type_and_indices(alloc, context, to, path, words)? {
-            Found::Passes(named) => offset_node(context, node, named, path, words),
-            Found::Refused(fault) => Ok(Found::Refused(fault)),
+        match self.type_and_indices(alloc, context, to, path, words) {
+            Ok(Found::Passes(named)) => offset_node(context, node, named, path, words),
+            Ok(Found::Refused(fault)) => Ok(Found::Refused(fault)),
+            Err(error) => Err(error),
         }
     }
 
@@ -333,9 +318,10 @@ impl<F: Fn(&mut Context, Within, Part<'_>) -> Result<Found<Told>, NoMemory>> Che
         requires index { expr_levels index.now ≤ self.now.depth }
         ensures { IfOk result (λ found. Walked (SaysForm self.now.abi node.number node.place (Index base.now index.now)) an_expression context.old context.new found) }
     {
-        match self.two(context, base, index)? {
-            Found::Passes((a, b)) => index_node(context, node, a, b),
-            Found::Refused(fault) => Ok(Found::Refused(fault)),
+        match self.two(context, base, index) {
+            Ok(Found::Passes((a, b))) => index_node(context, node, a, b),
+            Ok(Found::Refused(fault)) => Ok(Found::Refused(fault)),
+            Err(error) => Err(error),
         }
     }
 
@@ -351,9 +337,10 @@ impl<F: Fn(&mut Context, Within, Part<'_>) -> Result<Found<Told>, NoMemory>> Che
         requires base { expr_levels base.now ≤ self.now.depth }
         ensures { IfOk result (λ found. Walked (SaysForm self.now.abi node.number node.place (ExprForm::Member base.now name.now false)) an_expression context.old context.new found) }
     {
-        match self.unloaded(context, base)? {
-            Found::Passes(a) => member_node(context, node, a, name),
-            Found::Refused(fault) => Ok(Found::Refused(fault)),
+        match self.unloaded(context, base) {
+            Ok(Found::Passes(a)) => member_node(context, node, a, name),
+            Ok(Found::Refused(fault)) => Ok(Found::Refused(fault)),
+            Err(error) => Err(error),
         }
     }
 
@@ -369,22 +356,18 @@ impl<F: Fn(&mut Context, Within, Part<'_>) -> Result<Found<Told>, NoMemory>> Che
         requires base { expr_levels base.now ≤ self.now.depth }
         ensures { IfOk result (λ found. Walked (SaysForm self.now.abi node.number node.place (ExprForm::Member base.now name.now true)) an_expression context.old context.new found) }
     {
-        match self.loaded(context, base)? {
-            Found::Passes(a) => pointed_member_node(context, node, a, name),
-            Found::Refused(fault) => Ok(Found::Refused(fault)),
+        match self.loaded(context, base) {
+            Ok(Found::Passes(a)) => pointed_member_node(context, node, a, name),
+            Ok(Found::Refused(fault)) => Ok(Found::Refused(fault)),
+            Err(error) => Err(error),
         }
     }
+}
 
-    /// `__assert_fail`, whose arguments are not read: it has no value.
-    pub(crate) fn failed_assertion(
-        &self,
-        context: &mut Context,
-        node: Node,
-    ) -> Result<Found<Known>, NoMemory>
-        requires nests { Nests self.now.abi self.now.depth (F.pre self.now.inner) (F.post self.now.inner) }
-        ensures { IfOk result (λ found. Walked (SaysForm self.now.abi node.number node.place (AssertFail)) an_expression context.old context.new found) }
-    {
-        let ctype = context.void()?;
-        pass(context, node.number, Known::plain(ctype))
-    }
+/// `__assert_fail`, whose arguments are not read: it has no value.
+pub(crate) fn failed_assertion(context: &mut Context, node: Node) -> Result<Found<Known>, NoMemory>
+    ensures { (abi : Abi) → IfOk result (λ found. Walked (SaysForm abi node.number node.place AssertFail) an_expression context.old context.new found) }
+{
+    let ctype = context.void()?;
+    pass(context, node.number, Known::plain(ctype))
 }

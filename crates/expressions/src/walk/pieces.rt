@@ -24,9 +24,10 @@ impl<F: Fn(&mut Context, Within, Part<'_>) -> Result<Found<Told>, NoMemory>> Che
         requires deep { expr_levels expr.now ≤ self.now.depth }
         ensures { IfOk result (λ found. Walked (Says self.now.abi (λ o. PieceIs (Loaded expr.now) o)) an_operand context.old context.new found) }
     {
-        match self.ask_expression(context, expr)? {
-            Found::Passes(known) => Ok(load(context, expr.place, known)),
-            Found::Refused(fault) => Ok(Found::Refused(fault)),
+        match self.ask_expression(context, expr) {
+            Ok(Found::Passes(known)) => Ok(load(context, expr.place, known)),
+            Ok(Found::Refused(fault)) => Ok(Found::Refused(fault)),
+            Err(error) => Err(error),
         }
     }
 
@@ -45,9 +46,10 @@ impl<F: Fn(&mut Context, Within, Part<'_>) -> Result<Found<Told>, NoMemory>> Che
         requires deep { expr_levels expr.now ≤ self.now.depth }
         ensures { IfOk result (λ found. Walked (Says self.now.abi (λ o. PieceIs (ConstantIndex expr.now) o)) an_index context.old context.new found) }
     {
-        match self.loaded(context, expr)? {
-            Found::Passes(known) => Ok(index_in(context, expr.place, known)),
-            Found::Refused(fault) => Ok(Found::Refused(fault)),
+        match self.loaded(context, expr) {
+            Ok(Found::Passes(known)) => Ok(index_in(context, expr.place, known)),
+            Ok(Found::Refused(fault)) => Ok(Found::Refused(fault)),
+            Err(error) => Err(error),
         }
     }
 
@@ -57,9 +59,10 @@ impl<F: Fn(&mut Context, Within, Part<'_>) -> Result<Found<Told>, NoMemory>> Che
         requires deep { expr_levels expr.now ≤ self.now.depth }
         ensures { IfOk result (λ found. Walked (Says self.now.abi (λ o. PieceIs (SizeOfArray expr.now) o)) a_size context.old context.new found) }
     {
-        match self.loaded(context, expr)? {
-            Found::Passes(known) => Ok(size_in(context, expr.place, known)),
-            Found::Refused(fault) => Ok(Found::Refused(fault)),
+        match self.loaded(context, expr) {
+            Ok(Found::Passes(known)) => Ok(size_in(context, expr.place, known)),
+            Ok(Found::Refused(fault)) => Ok(Found::Refused(fault)),
+            Err(error) => Err(error),
         }
     }
 }

@@ -29,13 +29,15 @@ impl<F: Fn(&mut Context, Within, Part<'_>) -> Result<Found<Told>, NoMemory>> Che
         requires right { expr_levels right.now ≤ self.now.depth }
         ensures { IfOk result (λ found. Walked (Says self.now.abi (λ o. PiecesAre (Loaded left.now ∷ Loaded right.now ∷ []) o)) two_operands context.old context.new found) }
     {
-        let a = match self.loaded(context, left)? {
-            Found::Passes(known) => known,
-            Found::Refused(fault) => return Ok(Found::Refused(fault)),
+        let a = match self.loaded(context, left) {
+            Ok(Found::Passes(known)) => known,
+            Ok(Found::Refused(fault)) => return Ok(Found::Refused(fault)),
+            Err(error) => return Err(error),
         };
-        match self.loaded(context, right)? {
-            Found::Passes(b) => Ok(Found::Passes((a, b))),
-            Found::Refused(fault) => Ok(Found::Refused(fault)),
+        match self.loaded(context, right) {
+            Ok(Found::Passes(b)) => Ok(Found::Passes((a, b))),
+            Ok(Found::Refused(fault)) => Ok(Found::Refused(fault)),
+            Err(error) => Err(error),
         }
     }
 
@@ -53,13 +55,15 @@ impl<F: Fn(&mut Context, Within, Part<'_>) -> Result<Found<Told>, NoMemory>> Che
         requires other { expr_levels other.now ≤ self.now.depth }
         ensures { IfOk result (λ found. Walked (Says self.now.abi (λ o. PiecesAre (Loaded test.now ∷ Loaded one.now ∷ Loaded other.now ∷ []) o)) three_operands context.old context.new found) }
     {
-        let t = match self.loaded(context, test)? {
-            Found::Passes(known) => known,
-            Found::Refused(fault) => return Ok(Found::Refused(fault)),
+        let t = match self.loaded(context, test) {
+            Ok(Found::Passes(known)) => known,
+            Ok(Found::Refused(fault)) => return Ok(Found::Refused(fault)),
+            Err(error) => return Err(error),
         };
-        match self.two(context, one, other)? {
-            Found::Passes((a, b)) => Ok(Found::Passes((t, a, b))),
-            Found::Refused(fault) => Ok(Found::Refused(fault)),
+        match self.two(context, one, other) {
+            Ok(Found::Passes((a, b))) => Ok(Found::Passes((t, a, b))),
+            Ok(Found::Refused(fault)) => Ok(Found::Refused(fault)),
+            Err(error) => Err(error),
         }
     }
 
@@ -77,9 +81,10 @@ impl<F: Fn(&mut Context, Within, Part<'_>) -> Result<Found<Told>, NoMemory>> Che
         ensures count { IfOk result (λ found. IsCounted found (length known.new.items) (length args.now)) }
     {
         for arg in args {
-            match self.loaded(context, arg)? {
-                Found::Passes(one) => known.push(one)?,
-                Found::Refused(fault) => return Ok(Found::Refused(fault)),
+            match self.loaded(context, arg) {
+                Ok(Found::Passes(one)) => known.push(one)?,
+                Ok(Found::Refused(fault)) => return Ok(Found::Refused(fault)),
+                Err(error) => return Err(error),
             }
         }
         Ok(Found::Passes(()))
@@ -98,13 +103,15 @@ impl<F: Fn(&mut Context, Within, Part<'_>) -> Result<Found<Told>, NoMemory>> Che
         requires arg { expr_levels arg.now ≤ self.now.depth }
         ensures { IfOk result (λ found. Walked (Says self.now.abi (λ o. PiecesAre (OfType to.now ∷ Loaded arg.now ∷ []) o)) a_type_and_operand context.old context.new found) }
     {
-        let named = match self.type_name(alloc, context, to)? {
-            Found::Passes(named) => named,
-            Found::Refused(fault) => return Ok(Found::Refused(fault)),
+        let named = match self.type_name(alloc, context, to) {
+            Ok(Found::Passes(named)) => named,
+            Ok(Found::Refused(fault)) => return Ok(Found::Refused(fault)),
+            Err(error) => return Err(error),
         };
-        match self.loaded(context, arg)? {
-            Found::Passes(known) => Ok(Found::Passes((named, known))),
-            Found::Refused(fault) => Ok(Found::Refused(fault)),
+        match self.loaded(context, arg) {
+            Ok(Found::Passes(known)) => Ok(Found::Passes((named, known))),
+            Ok(Found::Refused(fault)) => Ok(Found::Refused(fault)),
+            Err(error) => Err(error),
         }
     }
 
@@ -124,9 +131,10 @@ impl<F: Fn(&mut Context, Within, Part<'_>) -> Result<Found<Told>, NoMemory>> Che
         for part in path {
             match part {
                 cbase::Part::Member(_) => {}
-                cbase::Part::At(expr) => match self.index(context, expr)? {
-                    Found::Passes(word) => words.push(word)?,
-                    Found::Refused(fault) => return Ok(Found::Refused(fault)),
+                cbase::Part::At(expr) => match self.index(context, expr) {
+                    Ok(Found::Passes(word)) => words.push(word)?,
+                    Ok(Found::Refused(fault)) => return Ok(Found::Refused(fault)),
+                    Err(error) => return Err(error),
                 },
             }
         }
@@ -149,13 +157,15 @@ impl<F: Fn(&mut Context, Within, Part<'_>) -> Result<Found<Told>, NoMemory>> Che
         ensures walk { IfOk result (λ found. Walked (Says self.now.abi (λ o. PiecesAre (OfType to.now ∷ indices_in path.now) o)) (a_type_and_indices words.new.items) context.old context.new found) }
         ensures count { IfOk result (λ found. IsCounted found (length words.new.items) (length (indices_in path.now))) }
     {
-        let named = match self.type_name(alloc, context, to)? {
-            Found::Passes(named) => named,
-            Found::Refused(fault) => return Ok(Found::Refused(fault)),
+        let named = match self.type_name(alloc, context, to) {
+            Ok(Found::Passes(named)) => named,
+            Ok(Found::Refused(fault)) => return Ok(Found::Refused(fault)),
+            Err(error) => return Err(error),
         };
-        match self.indices(context, path, words)? {
-            Found::Passes(()) => Ok(Found::Passes(named)),
-            Found::Refused(fault) => Ok(Found::Refused(fault)),
+        match self.indices(context, path, words) {
+            Ok(Found::Passes(())) => Ok(Found::Passes(named)),
+            Ok(Found::Refused(fault)) => Ok(Found::Refused(fault)),
+            Err(error) => Err(error),
         }
     }
 }

@@ -44,14 +44,16 @@ impl<F: Fn(&mut Context, Within, Part<'_>) -> Result<Found<Told>, NoMemory>> Che
         requires deep { spec_levels (StructSpec name.now (Some fields.now)) ≤ self.now.depth + 1 }
         ensures { IfOk result (λ found. Walked (Says self.now.abi (λ o. WordsAre (Struct name.now (Some fields.now)) o)) a_type context.old context.new found) }
     {
-        let number = match context.open_struct(alloc, name)? {
-            Found::Passes(number) => number,
-            Found::Refused(fault) => return Ok(Found::Refused(fault)),
+        let number = match context.open_struct(alloc, name) {
+            Ok(Found::Passes(number)) => number,
+            Ok(Found::Refused(fault)) => return Ok(Found::Refused(fault)),
+            Err(error) => return Err(error),
         };
         let mut members = Members::new(alloc);
-        match self.declarations(alloc, context, fields.as_slice(), &mut members)? {
-            Found::Passes(()) => close(alloc, context, name, number, members.into_list()),
-            Found::Refused(fault) => Ok(Found::Refused(fault)),
+        match self.declarations(alloc, context, fields.as_slice(), &mut members) {
+            Ok(Found::Passes(())) => close(alloc, context, name, number, members.into_list()),
+            Ok(Found::Refused(fault)) => Ok(Found::Refused(fault)),
+            Err(error) => Err(error),
         }
     }
 
@@ -70,9 +72,10 @@ impl<F: Fn(&mut Context, Within, Part<'_>) -> Result<Found<Told>, NoMemory>> Che
         ensures members { IfOk result (λ found. WherePasses found (AreMembers context.new members.new.list members.new.names members.new.layout)) }
     {
         for field in fields {
-            match self.declaration(alloc, context, field, members)? {
-                Found::Passes(()) => {}
-                Found::Refused(fault) => return Ok(Found::Refused(fault)),
+            match self.declaration(alloc, context, field, members) {
+                Ok(Found::Passes(())) => {}
+                Ok(Found::Refused(fault)) => return Ok(Found::Refused(fault)),
+                Err(error) => return Err(error),
             }
         }
         Ok(Found::Passes(()))
@@ -92,11 +95,12 @@ impl<F: Fn(&mut Context, Within, Part<'_>) -> Result<Found<Told>, NoMemory>> Che
         ensures found { IfOk result (λ found. Walked (SaysBy self.now.abi (λ n o. DeclarationIs (fields_at n members.old.list) field.now o)) (some_members members.new.list) context.old context.new found) }
         ensures members { IfOk result (λ found. WherePasses found (AreMembers context.new members.new.list members.new.names members.new.layout)) }
     {
-        match self.words(alloc, context, &field.spec)? {
-            Found::Passes(base) => {
+        match self.words(alloc, context, &field.spec) {
+            Ok(Found::Passes(base)) => {
                 self.member_names(alloc, context, base, field.names.as_slice(), members)
             }
-            Found::Refused(fault) => Ok(Found::Refused(fault)),
+            Ok(Found::Refused(fault)) => Ok(Found::Refused(fault)),
+            Err(error) => Err(error),
         }
     }
 
@@ -117,9 +121,10 @@ impl<F: Fn(&mut Context, Within, Part<'_>) -> Result<Found<Told>, NoMemory>> Che
         ensures members { IfOk result (λ found. WherePasses found (AreMembers context.new members.new.list members.new.names members.new.layout)) }
     {
         for name in names {
-            match self.declared_member(alloc, context, base, name, members)? {
-                Found::Passes(()) => {}
-                Found::Refused(fault) => return Ok(Found::Refused(fault)),
+            match self.declared_member(alloc, context, base, name, members) {
+                Ok(Found::Passes(())) => {}
+                Ok(Found::Refused(fault)) => return Ok(Found::Refused(fault)),
+                Err(error) => return Err(error),
             }
         }
         Ok(Found::Passes(()))
@@ -142,13 +147,15 @@ impl<F: Fn(&mut Context, Within, Part<'_>) -> Result<Found<Told>, NoMemory>> Che
         ensures members { IfOk result (λ found. WherePasses found (AreMembers context.new members.new.list members.new.names members.new.layout)) }
     {
         let mut sizes = Vec::new(alloc);
-        match self.member_sizes(context, name.sizes.as_slice(), &mut sizes)? {
-            Found::Passes(()) => {}
-            Found::Refused(fault) => return Ok(Found::Refused(fault)),
+        match self.member_sizes(context, name.sizes.as_slice(), &mut sizes) {
+            Ok(Found::Passes(())) => {}
+            Ok(Found::Refused(fault)) => return Ok(Found::Refused(fault)),
+            Err(error) => return Err(error),
         }
-        match self.width(context, &name.bits)? {
-            Found::Passes(()) => {}
-            Found::Refused(fault) => return Ok(Found::Refused(fault)),
+        match self.width(context, &name.bits) {
+            Ok(Found::Passes(())) => {}
+            Ok(Found::Refused(fault)) => return Ok(Found::Refused(fault)),
+            Err(error) => return Err(error),
         }
         let named = declare(context, base, name.stars, &sizes)?;
         take_member(alloc, context, members, name, named)
@@ -167,9 +174,10 @@ impl<F: Fn(&mut Context, Within, Part<'_>) -> Result<Found<Told>, NoMemory>> Che
         ensures { IfOk result (λ told. Walked (Says self.now.abi (λ o. MemberSizesAre sizes.now o)) (some_sizes found.new.items) context.old context.new told) }
     {
         for size in sizes {
-            match self.member_size(context, size)? {
-                Found::Passes(one) => found.push(one)?,
-                Found::Refused(fault) => return Ok(Found::Refused(fault)),
+            match self.member_size(context, size) {
+                Ok(Found::Passes(one)) => found.push(one)?,
+                Ok(Found::Refused(fault)) => return Ok(Found::Refused(fault)),
+                Err(error) => return Err(error),
             }
         }
         Ok(Found::Passes(()))
@@ -187,9 +195,10 @@ impl<F: Fn(&mut Context, Within, Part<'_>) -> Result<Found<Told>, NoMemory>> Che
     {
         match size {
             None => Ok(Found::Passes(Size::LeftOut)),
-            Some(expr) => match self.array_size(context, expr)? {
-                Found::Passes(size) => Ok(fixed(expr.place, size)),
-                Found::Refused(fault) => Ok(Found::Refused(fault)),
+            Some(expr) => match self.array_size(context, expr) {
+                Ok(Found::Passes(size)) => Ok(fixed(expr.place, size)),
+                Ok(Found::Refused(fault)) => Ok(Found::Refused(fault)),
+                Err(error) => Err(error),
             },
         }
     }
@@ -202,9 +211,10 @@ impl<F: Fn(&mut Context, Within, Part<'_>) -> Result<Found<Told>, NoMemory>> Che
     {
         match bits {
             None => Ok(Found::Passes(())),
-            Some(expr) => match self.loaded(context, expr)? {
-                Found::Passes(_) => Ok(Found::Passes(())),
-                Found::Refused(fault) => Ok(Found::Refused(fault)),
+            Some(expr) => match self.loaded(context, expr) {
+                Ok(Found::Passes(_)) => Ok(Found::Passes(())),
+                Ok(Found::Refused(fault)) => Ok(Found::Refused(fault)),
+                Err(error) => Err(error),
             },
         }
     }

@@ -35,14 +35,16 @@ impl<F: Fn(&mut Context, Within, Part<'_>) -> Result<Found<Told>, NoMemory>> Che
         requires deep { type_name_levels to.now ≤ self.now.depth }
         ensures { IfOk result (λ found. Walked (Says self.now.abi (λ o. NameOfTypeIs to.now o)) a_type context.old context.new found) }
     {
-        let base = match self.words(alloc, context, &to.spec)? {
-            Found::Passes(base) => base,
-            Found::Refused(fault) => return Ok(Found::Refused(fault)),
+        let base = match self.words(alloc, context, &to.spec) {
+            Ok(Found::Passes(base)) => base,
+            Ok(Found::Refused(fault)) => return Ok(Found::Refused(fault)),
+            Err(error) => return Err(error),
         };
         let mut sizes = Vec::new(alloc);
-        match self.sizes(context, to.sizes.as_slice(), &mut sizes)? {
-            Found::Passes(()) => Ok(Found::Passes(declare(context, base, to.stars, &sizes)?)),
-            Found::Refused(fault) => Ok(Found::Refused(fault)),
+        match self.sizes(context, to.sizes.as_slice(), &mut sizes) {
+            Ok(Found::Passes(())) => Ok(Found::Passes(declare(context, base, to.stars, &sizes)?)),
+            Ok(Found::Refused(fault)) => Ok(Found::Refused(fault)),
+            Err(error) => Err(error),
         }
     }
 
@@ -61,9 +63,10 @@ impl<F: Fn(&mut Context, Within, Part<'_>) -> Result<Found<Told>, NoMemory>> Che
         for size in sizes {
             match size {
                 None => found.push(Size::LeftOut)?,
-                Some(expr) => match self.array_size(context, expr)? {
-                    Found::Passes(one) => found.push(one)?,
-                    Found::Refused(fault) => return Ok(Found::Refused(fault)),
+                Some(expr) => match self.array_size(context, expr) {
+                    Ok(Found::Passes(one)) => found.push(one)?,
+                    Ok(Found::Refused(fault)) => return Ok(Found::Refused(fault)),
+                    Err(error) => return Err(error),
                 },
             }
         }

@@ -1,6 +1,7 @@
 ghost use Rattle.std.specs.Prelude.{◌≡◌, ◌≤◌, Some, None, IfOk};
 ghost use Rattle.cbase.specs.declared.tree.expr.ExprForm.TheOpen.{Basic, Named, Struct, Enum, OfExpr};
 ghost use Rattle.cbase.specs.declared.tree.expr.ExprForm.TheViews.{out-TypeSpec};
+ghost use Rattle.cbase.specs.declared.abi.Abi.{Abi};
 ghost use Rattle.ctrees.specs.Levels.{expr_levels, spec_levels};
 ghost use Rattle.operators.specs.declared.found.Broken.TheVariants.{Rule};
 ghost use Rattle.typing.specs.Faults.{fault};
@@ -15,7 +16,7 @@ use crate::context::Context;
 use crate::found::Found;
 use crate::named_type::NamedType;
 use crate::part::{Part, Told};
-use cbase::{BasicType, Expr, Identifier, NoMemory, TypeSpec, bytes_of_rank};
+use cbase::{Abi, BasicType, Expr, Identifier, NoMemory, TypeSpec, bytes_of_rank};
 use environment::{DeclaredType, Entity, Tag};
 use operators::Broken;
 use std::alloc::Global;
@@ -34,36 +35,25 @@ impl<F: Fn(&mut Context, Within, Part<'_>) -> Result<Found<Told>, NoMemory>> Che
         ensures { IfOk result (λ found. Walked (Says self.now.abi (λ o. WordsAre (out-TypeSpec spec.now) o)) a_type context.old context.new found) }
     {
         match spec {
-            TypeSpec::Basic(basic) => self.basic(context, *basic),
-            TypeSpec::Named(name) => self.typedef(context, name.as_slice()),
+            TypeSpec::Basic(basic_type) => basic(context, self.abi, *basic_type),
+            TypeSpec::Named(name) => typedef(context, name.as_slice()),
             TypeSpec::Struct { name, fields } => match fields {
                 Some(fields) => self.ask_members(context, name, fields),
                 None => match name {
-                    Some(tag) => self.structure(alloc, context, tag),
-                    None => self.nothing(context),
+                    Some(tag) => structure(alloc, context, tag),
+                    None => nothing(context),
                 },
             },
             TypeSpec::Enum { name, values } => match values {
                 Some(values) => self.ask_enumerators(context, name, values),
                 None => match name {
-                    Some(tag) => self.enumeration(alloc, context, tag),
-                    None => self.nothing(context),
+                    Some(tag) => enumeration(alloc, context, tag),
+                    None => nothing(context),
                 },
             },
             TypeSpec::OfExpr(expr) => self.type_of(context, expr.get()),
             TypeSpec::OfType(to) => self.ask_type_name(context, to.get()),
         }
-    }
-
-    /// Neither a tag nor braces: they name no type, rule 1 where it is held. The grammar reads none.
-    fn nothing(&self, context: &mut Context) -> Result<Found<NamedType>, NoMemory>
-        ensures of_struct { IfOk result (λ found. Walked (Says self.now.abi (λ o. WordsAre (Struct None None) o)) a_type context.old context.new found) }
-        ensures of_enum { IfOk result (λ found. Walked (Says self.now.abi (λ o. WordsAre (Enum None None) o)) a_type context.old context.new found) }
-    {
-        Ok(Found::Passes(NamedType {
-            ctype: context.void()?,
-            found: Some(Broken::Rule(1)),
-        }))
     }
 
     /// `typeof` of an expression, in which an array stays one. C11 has none.
@@ -72,85 +62,95 @@ impl<F: Fn(&mut Context, Within, Part<'_>) -> Result<Found<Told>, NoMemory>> Che
         requires deep { expr_levels expr.now ≤ self.now.depth }
         ensures { IfOk result (λ found. Walked (Says self.now.abi (λ o. WordsAre (OfExpr expr.now) o)) a_type context.old context.new found) }
     {
-        match self.unloaded(context, expr)? {
-            Found::Passes(known) => Ok(whole(known.ctype)),
-            Found::Refused(fault) => Ok(Found::Refused(fault)),
+        match self.unloaded(context, expr) {
+            Ok(Found::Passes(known)) => Ok(whole(known.ctype)),
+            Ok(Found::Refused(fault)) => Ok(Found::Refused(fault)),
+            Err(error) => Err(error),
         }
     }
+}
 
-    /// A type of keywords alone (C11 6.7.2p5).
-    fn basic(&self, context: &mut Context, basic: BasicType) -> Result<Found<NamedType>, NoMemory>
-        ensures { IfOk result (λ found. Walked (Says self.now.abi (λ o. WordsAre (Basic basic) o)) a_type context.old context.new found) }
-    {
-        let ctype = match basic {
-            BasicType::Void => context.void()?,
-            BasicType::Bool => context.boolean()?,
-            BasicType::Integer { rank, signed } => {
-                context.integer(bytes_of_rank(rank, self.abi), signed)?
-            }
-        };
-        Ok(whole(ctype))
-    }
+/// Neither a tag nor braces: they name no type, rule 1 where it is held. The grammar reads none.
+fn nothing(context: &mut Context) -> Result<Found<NamedType>, NoMemory>
+    ensures of_struct { (abi : Abi) → IfOk result (λ found. Walked (Says abi (λ o. WordsAre (Struct None None) o)) a_type context.old context.new found) }
+    ensures of_enum { (abi : Abi) → IfOk result (λ found. Walked (Says abi (λ o. WordsAre (Enum None None) o)) a_type context.old context.new found) }
+{
+    Ok(Found::Passes(NamedType {
+        ctype: context.void()?,
+        found: Some(Broken::Rule(1)),
+    }))
+}
 
-    /// The name of a type (C11 6.7.8). A typedef of an array whose size is not known is rule 3 where it is held, and a name of no type rule 1.
-    fn typedef(&self, context: &mut Context, name: &[u8]) -> Result<Found<NamedType>, NoMemory>
-        ensures { IfOk result (λ found. Walked (Says self.now.abi (λ o. WordsAre (Named name.now) o)) a_type context.old context.new found) }
-    {
-        let rule = match context.look_up(name) {
-            Some(
-                Entity::Typedef {
-                    ctype: DeclaredType::Whole(number),
-                },
-            ) => return Ok(whole(number)),
-            Some(
-                Entity::Typedef {
-                    ctype: DeclaredType::UnsizedArray(_),
-                },
-            ) => Broken::Rule(3),
-            Some(Entity::Object { .. }) => Broken::Rule(1),
-            Some(Entity::Enumerator { .. }) => Broken::Rule(1),
-            Some(Entity::Function { .. }) => Broken::Rule(1),
-            None => Broken::Rule(1),
-        };
-        Ok(Found::Passes(NamedType {
-            ctype: context.void()?,
-            found: Some(rule),
-        }))
-    }
-
-    /// The tag of a struct (C11 6.7.2.3p8): one that is not visible is declared here, and that of an enum is rule 2.
-    fn structure(
-        &self,
-        alloc: Global,
-        context: &mut Context,
-        tag: &Identifier,
-    ) -> Result<Found<NamedType>, NoMemory>
-        ensures { IfOk result (λ found. Walked (Says self.now.abi (λ o. WordsAre (Struct (Some tag.now) None) o)) a_type context.old context.new found) }
-    {
-        let number = match context.tag(tag.name.as_slice()) {
-            Some(Tag::Struct(number)) => number,
-            Some(Tag::Enum { .. }) => return Ok(other_kind(tag)),
-            None => context.declare_struct(alloc, tag.name.as_slice())?,
-        };
-        Ok(whole(context.structure(number)?))
-    }
-
-    /// The tag of an enum (C11 6.7.2.3).
-    fn enumeration(
-        &self,
-        alloc: Global,
-        context: &mut Context,
-        tag: &Identifier,
-    ) -> Result<Found<NamedType>, NoMemory>
-        ensures { IfOk result (λ found. Walked (Says self.now.abi (λ o. WordsAre (Enum (Some tag.now) None) o)) a_type context.old context.new found) }
-    {
-        match context.tag(tag.name.as_slice()) {
-            Some(Tag::Enum { .. }) => {}
-            Some(Tag::Struct(_)) => return Ok(other_kind(tag)),
-            None => context.declare_enum(alloc, tag.name.as_slice())?,
+/// A type of keywords alone (C11 6.7.2p5).
+fn basic(context: &mut Context, abi: Abi, basic: BasicType) -> Result<Found<NamedType>, NoMemory>
+    ensures { IfOk result (λ found. Walked (Says abi (λ o. WordsAre (Basic basic) o)) a_type context.old context.new found) }
+{
+    let ctype = match basic {
+        BasicType::Void => context.void()?,
+        BasicType::Bool => context.boolean()?,
+        BasicType::Integer { rank, signed } => {
+            context.integer(bytes_of_rank(rank, abi), signed)?
         }
-        Ok(whole(context.integer(4, true)?))
+    };
+    Ok(whole(ctype))
+}
+
+/// The name of a type (C11 6.7.8). A typedef of an array whose size is not known is rule 3 where it is held, and a name of no type rule 1.
+fn typedef(context: &mut Context, name: &[u8]) -> Result<Found<NamedType>, NoMemory>
+    ensures { (abi : Abi) → IfOk result (λ found. Walked (Says abi (λ o. WordsAre (Named name.now) o)) a_type context.old context.new found) }
+{
+    let rule = match context.look_up(name) {
+        Some(
+            Entity::Typedef {
+                ctype: DeclaredType::Whole(number),
+            },
+        ) => return Ok(whole(number)),
+        Some(
+            Entity::Typedef {
+                ctype: DeclaredType::UnsizedArray(_),
+            },
+        ) => Broken::Rule(3),
+        Some(Entity::Object { .. }) => Broken::Rule(1),
+        Some(Entity::Enumerator { .. }) => Broken::Rule(1),
+        Some(Entity::Function { .. }) => Broken::Rule(1),
+        None => Broken::Rule(1),
+    };
+    Ok(Found::Passes(NamedType {
+        ctype: context.void()?,
+        found: Some(rule),
+    }))
+}
+
+/// The tag of a struct (C11 6.7.2.3p8): one that is not visible is declared here, and that of an enum is rule 2.
+fn structure(
+    alloc: Global,
+    context: &mut Context,
+    tag: &Identifier,
+) -> Result<Found<NamedType>, NoMemory>
+    ensures { (abi : Abi) → IfOk result (λ found. Walked (Says abi (λ o. WordsAre (Struct (Some tag.now) None) o)) a_type context.old context.new found) }
+{
+    let number = match context.tag(tag.name.as_slice()) {
+        Some(Tag::Struct(number)) => number,
+        Some(Tag::Enum { .. }) => return Ok(other_kind(tag)),
+        None => context.declare_struct(alloc, tag.name.as_slice())?,
+    };
+    Ok(whole(context.structure(number)?))
+}
+
+/// The tag of an enum (C11 6.7.2.3).
+fn enumeration(
+    alloc: Global,
+    context: &mut Context,
+    tag: &Identifier,
+) -> Result<Found<NamedType>, NoMemory>
+    ensures { (abi : Abi) → IfOk result (λ found. Walked (Says abi (λ o. WordsAre (Enum (Some tag.now) None) o)) a_type context.old context.new found) }
+{
+    match context.tag(tag.name.as_slice()) {
+        Some(Tag::Enum { .. }) => {}
+        Some(Tag::Struct(_)) => return Ok(other_kind(tag)),
+        None => context.declare_enum(alloc, tag.name.as_slice())?,
     }
+    Ok(whole(context.integer(4, true)?))
 }
 
 /// A type of which nothing is found.

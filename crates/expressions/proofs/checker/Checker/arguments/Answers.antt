@@ -5,16 +5,19 @@ use Rattle.expressions.proofs.checker.Checker.arguments.Goals as goal
 pub loop-arg-init : goal.loop-arg-init
 loop-arg-init g c = arguments_start c.args.self.now.abi c.args.args.now _ c.args.context.now c.requires.empty
 
-pub returns-in-Refused-clause-walk : goal.returns-in-Refused-clause-walk
-returns-in-Refused-clause-walk g c = arguments_refused c.args.self.now.abi c.args.args.now c.loop-arg.known.items c.args.context.now c.loop-arg.context c.loaded.new.context c.loop-arg.arg-index c.arg-item.result c.in-Refused.fault c.in_ok-one.field-0
-    c.loop-arg-test.true c.arg-item.is c.in-Refused.is c.in_ok-one.ensures c.loop-arg.invariant
+pub returns-in-Ok-Refused-clause-walk : goal.returns-in-Ok-Refused-clause-walk
+returns-in-Ok-Refused-clause-walk g c = arguments_refused c.args.self.now.abi c.args.args.now c.loop-arg.known.items c.args.context.now c.loop-arg.context c.loaded.new.context c.loop-arg.arg-index c.arg-item.result c.in-Ok-Refused.fault c.in-Ok-Refused.field-0
+    c.loop-arg-test.true c.arg-item.is c.in-Ok-Refused.field-0-is c.in-Ok-Refused.ensures c.loop-arg.invariant
 
 pub loop-arg-preserved : goal.loop-arg-preserved
-loop-arg-preserved g c = arguments_next c.args.self.now.abi c.args.args.now c.loop-arg.known.items _ c.args.context.now c.loop-arg.context c.loaded.new.context c.loop-arg.arg-index c.arg-item.result c.in-Passes.one c.in_ok-one.field-0
-    c.loop-arg-test.true c.arg-item.is c.in_ok-push-in-Passes.ensures.items c.in-Passes.is c.in_ok-one.ensures c.loop-arg.invariant
+loop-arg-preserved g c = arguments_next c.args.self.now.abi c.args.args.now c.loop-arg.known.items _ c.args.context.now c.loop-arg.context c.loaded.new.context c.loop-arg.arg-index c.arg-item.result c.in-Ok-Passes.one c.in-Ok-Passes.field-0
+    c.loop-arg-test.true c.arg-item.is c.in_ok-push-in-Ok-Passes.ensures.items c.in-Ok-Passes.field-0-is c.in-Ok-Passes.ensures c.loop-arg.invariant
 
 pub returns-clause-walk : goal.returns-clause-walk
 returns-clause-walk g c = arguments_end c.args.self.now.abi c.args.args.now c.loop-arg.known.items c.args.context.now c.loop-arg.context c.loop-arg.arg-index (omega arith) c.loop-arg.invariant
 
 pub returns-clause-count : goal.returns-clause-count
 returns-clause-count g c = arguments_counted c.args.self.now.abi c.args.args.now c.loop-arg.known.items c.args.context.now c.loop-arg.context c.loop-arg.arg-index (omega arith) c.loop-arg.invariant
+
+pub loaded-requires-clause-nests : goal.loaded-requires-clause-nests
+loaded-requires-clause-nests g c = c.requires.nests

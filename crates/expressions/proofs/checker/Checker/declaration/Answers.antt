@@ -9,12 +9,18 @@ member_names-requires-clause-deep g c = names_within c.args.field.now c.as_slice
 
 pub member_names-requires-clause-members : goal.member_names-requires-clause-members
 member_names-requires-clause-members g c = are_members_grow c.args.context.now c.words.new.context
-    (words_grow c.args.self.now.abi c.args.field.now c.args.members.now.list c.args.context.now c.words.new.context c.in-Passes.base c.in_ok-base.field-0 c.in-Passes.is c.in_ok-base.ensures)
+    (words_grow c.args.self.now.abi c.args.field.now c.args.members.now.list c.args.context.now c.words.new.context c.in-Ok-Passes.base c.in-Ok-Passes.field-0 c.in-Ok-Passes.field-0-is c.in-Ok-Passes.ensures)
     c.args.members.now.list c.args.members.now.names c.args.members.now.layout c.requires.members
 
-pub returns-in-Passes-clause-found : goal.returns-in-Passes-clause-found
-returns-in-Passes-clause-found g c = declaration_found c.args.self.now.abi c.args.field.now c.args.members.now.list c.args.context.now c.words.new.context c.member_names.new.context c.in-Passes.base c.member_names.new.members.list c.as_slice.result.now
-    c.in_ok-base.field-0 c.member_names.result c.as_slice.ensures c.in-Passes.is c.in_ok-base.ensures c.member_names.ensures.found
+pub returns-in-Ok-Passes-clause-found : goal.returns-in-Ok-Passes-clause-found
+returns-in-Ok-Passes-clause-found g c = declaration_found c.args.self.now.abi c.args.field.now c.args.members.now.list c.args.context.now c.words.new.context c.member_names.new.context c.in-Ok-Passes.base c.member_names.new.members.list c.as_slice.result.now
+    c.in-Ok-Passes.field-0 c.member_names.result c.as_slice.ensures c.in-Ok-Passes.field-0-is c.in-Ok-Passes.ensures c.member_names.ensures.found
 
-pub returns-in-Refused-clause-found : goal.returns-in-Refused-clause-found
-returns-in-Refused-clause-found g c = words_stop c.args.self.now.abi c.args.field.now c.args.members.now.list c.args.context.now c.words.new.context c.in-Refused.fault c.in_ok-base.field-0 c.in-Refused.is c.in_ok-base.ensures
+pub returns-in-Ok-Refused-clause-found : goal.returns-in-Ok-Refused-clause-found
+returns-in-Ok-Refused-clause-found g c = words_stop c.args.self.now.abi c.args.field.now c.args.members.now.list c.args.context.now c.words.new.context c.in-Ok-Refused.fault c.in-Ok-Refused.field-0 c.in-Ok-Refused.field-0-is c.in-Ok-Refused.ensures
+
+pub words-requires-clause-nests : goal.words-requires-clause-nests
+words-requires-clause-nests g c = c.requires.nests
+
+pub member_names-requires-clause-nests : goal.member_names-requires-clause-nests
+member_names-requires-clause-nests g c = c.requires.nests

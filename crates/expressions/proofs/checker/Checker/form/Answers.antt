@@ -2,26 +2,21 @@
 use Rattle.std.proofs.Common.{ap, sym, ◌∙◌, refl}
 use Rattle.cbase.specs.declared.tree.expr.ExprForm.TheOpen.{Name, Constant, Unary, Binary, Count, Choose, Cast, SizeOf, SizeOfType, OffsetOf, Index, Call, Inner, AssertFail}
 use Rattle.cbase.specs.declared.tree.expr.ExprForm.TheViews.{out-ExprForm, outs-Name, outs-Constant, outs-Unary, outs-Binary, outs-Count, outs-Choose, outs-Cast, outs-SizeOf, outs-SizeOfType, outs-OffsetOf, outs-Index, outs-Call, outs-Inner, outs-AssertFail}
-use Rattle.ctrees.specs.Levels.{expr_levels}
+use Rattle.ctrees.specs.Levels.{expr_levels, type_name_levels}
 use Rattle.expressions.proofs.Levels.{one_within, first_within, second_within, middle_within, third_within, unary_levels, binary_levels, assign_levels, count_levels, choose_levels, cast_levels, size_levels, type_size_levels, offset_levels, index_levels, member_levels, call_levels, path_within, arguments_within, body_within}
+use Rattle.expressions.proofs.ByRule.{name_form, constant_form}
 use Rattle.expressions.proofs.Walking.{form_alike}
 use Rattle.expressions.proofs.checker.Checker.form.Goals as goal
 
-pub name-requires : goal.name-requires
-name-requires g c = record { nests = c.requires.nests }
-
 pub returns-in-Name : goal.returns-in-Name
 returns-in-Name g c =
-    form_alike c.args.self.now.abi c.args.node.number c.args.node.place (Name c.as_slice.result.now) (out-ExprForm c.args.form.now) c.args.context.now _ c.name.result
-    (ap Name c.as_slice.ensures ∙ sym (ap out-ExprForm c.in-Name.is ∙ outs-Name c.in-Name.name)) c.name.ensures
-
-pub constant-requires : goal.constant-requires
-constant-requires g c = record { nests = c.requires.nests }
+    form_alike c.args.self.now.abi c.args.node.number c.args.node.place (Name c.as_slice.result.now) (out-ExprForm c.args.form.now) c.args.context.now _ c.name_node.result
+    (ap Name c.as_slice.ensures ∙ sym (ap out-ExprForm c.in-Name.is ∙ outs-Name c.in-Name.name)) (name_form c.args.self.now.abi c.args.node.number c.args.node.place c.as_slice.result.now c.args.context.now _ c.name_node.result c.name_node.ensures)
 
 pub returns-in-Constant : goal.returns-in-Constant
 returns-in-Constant g c =
-    form_alike c.args.self.now.abi c.args.node.number c.args.node.place (Constant c.as_slice-in-Constant.result.now) (out-ExprForm c.args.form.now) c.args.context.now _ c.constant.result
-    (ap Constant c.as_slice-in-Constant.ensures ∙ sym (ap out-ExprForm c.in-Constant.is ∙ outs-Constant c.in-Constant.spelling)) c.constant.ensures
+    form_alike c.args.self.now.abi c.args.node.number c.args.node.place (Constant c.as_slice-in-Constant.result.now) (out-ExprForm c.args.form.now) c.args.context.now _ c.constant_node.result
+    (ap Constant c.as_slice-in-Constant.ensures ∙ sym (ap out-ExprForm c.in-Constant.is ∙ outs-Constant c.in-Constant.spelling)) (constant_form c.args.self.now.abi c.args.node.number c.args.node.place c.as_slice-in-Constant.result.now c.args.context.now _ c.constant_node.result c.constant_node.ensures)
 
 pub unary-requires-clause-nests : goal.unary-requires-clause-nests
 unary-requires-clause-nests g c = c.requires.nests
@@ -97,15 +92,15 @@ pub cast-requires-clause-nests : goal.cast-requires-clause-nests
 cast-requires-clause-nests g c = c.requires.nests
 
 pub cast-requires-clause-to : goal.cast-requires-clause-to
-cast-requires-clause-to g c = first_within c.args.form.now _ _ _ _ c.args.self.now.depth c.in-Cast.is (cast_levels c.in-Cast.to c.in-Cast.arg) refl c.requires.deep
+cast-requires-clause-to g c = first_within c.args.form.now _ _ _ _ c.args.self.now.depth c.in-Cast.is (cast_levels c.in-Cast.to c.in-Cast.arg) (ap type_name_levels c.get-in-Cast.ensures) c.requires.deep
 
 pub cast-requires-clause-arg : goal.cast-requires-clause-arg
-cast-requires-clause-arg g c = second_within c.args.form.now _ _ _ _ c.args.self.now.depth c.in-Cast.is (cast_levels c.in-Cast.to c.in-Cast.arg) (ap expr_levels c.get-in-Cast.ensures) c.requires.deep
+cast-requires-clause-arg g c = second_within c.args.form.now _ _ _ _ c.args.self.now.depth c.in-Cast.is (cast_levels c.in-Cast.to c.in-Cast.arg) (ap expr_levels c.get-in-Cast-2.ensures) c.requires.deep
 
 pub returns-in-Cast : goal.returns-in-Cast
 returns-in-Cast g c =
-    form_alike c.args.self.now.abi c.args.node.number c.args.node.place (Cast c.in-Cast.to c.get-in-Cast.result.now) (out-ExprForm c.args.form.now) c.args.context.now _ c.cast.result
-    (ap (Cast c.in-Cast.to) c.get-in-Cast.ensures ∙ sym (ap out-ExprForm c.in-Cast.is ∙ outs-Cast c.in-Cast.to c.in-Cast.arg)) c.cast.ensures
+    form_alike c.args.self.now.abi c.args.node.number c.args.node.place (Cast c.get-in-Cast.result.now c.get-in-Cast-2.result.now) (out-ExprForm c.args.form.now) c.args.context.now _ c.cast.result
+    ((λ i. Cast (c.get-in-Cast.ensures i) (c.get-in-Cast-2.ensures i)) ∙ sym (ap out-ExprForm c.in-Cast.is ∙ outs-Cast c.in-Cast.to c.in-Cast.arg)) c.cast.ensures
 
 pub size-requires-clause-nests : goal.size-requires-clause-nests
 size-requires-clause-nests g c = c.requires.nests
@@ -122,26 +117,26 @@ pub type_size-requires-clause-nests : goal.type_size-requires-clause-nests
 type_size-requires-clause-nests g c = c.requires.nests
 
 pub type_size-requires-clause-to : goal.type_size-requires-clause-to
-type_size-requires-clause-to g c = one_within c.args.form.now _ _ _ c.args.self.now.depth c.in-SizeOfType.is (type_size_levels c.in-SizeOfType.to) refl c.requires.deep
+type_size-requires-clause-to g c = one_within c.args.form.now _ _ _ c.args.self.now.depth c.in-SizeOfType.is (type_size_levels c.in-SizeOfType.to) (ap type_name_levels c.get-in-SizeOfType.ensures) c.requires.deep
 
 pub returns-in-SizeOfType : goal.returns-in-SizeOfType
 returns-in-SizeOfType g c =
-    form_alike c.args.self.now.abi c.args.node.number c.args.node.place (SizeOfType c.in-SizeOfType.to) (out-ExprForm c.args.form.now) c.args.context.now _ c.type_size.result
-    (sym (ap out-ExprForm c.in-SizeOfType.is ∙ outs-SizeOfType c.in-SizeOfType.to)) c.type_size.ensures
+    form_alike c.args.self.now.abi c.args.node.number c.args.node.place (SizeOfType c.get-in-SizeOfType.result.now) (out-ExprForm c.args.form.now) c.args.context.now _ c.type_size.result
+    (ap SizeOfType c.get-in-SizeOfType.ensures ∙ sym (ap out-ExprForm c.in-SizeOfType.is ∙ outs-SizeOfType c.in-SizeOfType.to)) c.type_size.ensures
 
 pub offset-requires-clause-nests : goal.offset-requires-clause-nests
 offset-requires-clause-nests g c = c.requires.nests
 
 pub offset-requires-clause-to : goal.offset-requires-clause-to
-offset-requires-clause-to g c = first_within c.args.form.now _ _ _ _ c.args.self.now.depth c.in-OffsetOf.is (offset_levels c.in-OffsetOf.to c.in-OffsetOf.path) refl c.requires.deep
+offset-requires-clause-to g c = first_within c.args.form.now _ _ _ _ c.args.self.now.depth c.in-OffsetOf.is (offset_levels c.in-OffsetOf.to c.in-OffsetOf.path) (ap type_name_levels c.get-in-OffsetOf.ensures) c.requires.deep
 
 pub offset-requires-clause-path : goal.offset-requires-clause-path
 offset-requires-clause-path g c = path_within c.args.form.now c.in-OffsetOf.to c.in-OffsetOf.path c.as_slice-in-OffsetOf.result.now c.args.self.now.depth c.in-OffsetOf.is c.as_slice-in-OffsetOf.ensures c.requires.deep
 
 pub returns-in-OffsetOf : goal.returns-in-OffsetOf
 returns-in-OffsetOf g c =
-    form_alike c.args.self.now.abi c.args.node.number c.args.node.place (OffsetOf c.in-OffsetOf.to c.as_slice-in-OffsetOf.result.now) (out-ExprForm c.args.form.now) c.args.context.now _ c.offset.result
-    (ap (OffsetOf c.in-OffsetOf.to) c.as_slice-in-OffsetOf.ensures ∙ sym (ap out-ExprForm c.in-OffsetOf.is ∙ outs-OffsetOf c.in-OffsetOf.to c.in-OffsetOf.path)) c.offset.ensures
+    form_alike c.args.self.now.abi c.args.node.number c.args.node.place (OffsetOf c.get-in-OffsetOf.result.now c.as_slice-in-OffsetOf.result.now) (out-ExprForm c.args.form.now) c.args.context.now _ c.offset.result
+    ((λ i. OffsetOf (c.get-in-OffsetOf.ensures i) (c.as_slice-in-OffsetOf.ensures i)) ∙ sym (ap out-ExprForm c.in-OffsetOf.is ∙ outs-OffsetOf c.in-OffsetOf.to c.in-OffsetOf.path)) c.offset.ensures
 
 pub subscript-requires-clause-nests : goal.subscript-requires-clause-nests
 subscript-requires-clause-nests g c = c.requires.nests
@@ -193,10 +188,7 @@ pub returns-in-Inner : goal.returns-in-Inner
 returns-in-Inner g c = form_alike c.args.self.now.abi c.args.node.number c.args.node.place (Inner c.as_slice-in-Inner.result.now c.in-Inner.close) (out-ExprForm c.args.form.now) c.args.context.now _ c.statement_expression.result
     (ap (λ body. Inner body c.in-Inner.close) c.as_slice-in-Inner.ensures ∙ sym (ap out-ExprForm c.in-Inner.is ∙ outs-Inner c.in-Inner.body c.in-Inner.close)) (c.statement_expression.ensures c.in-Inner.close)
 
-pub failed_assertion-requires : goal.failed_assertion-requires
-failed_assertion-requires g c = record { nests = c.requires.nests }
-
 pub returns-in-AssertFail : goal.returns-in-AssertFail
 returns-in-AssertFail g c =
     form_alike c.args.self.now.abi c.args.node.number c.args.node.place (AssertFail) (out-ExprForm c.args.form.now) c.args.context.now _ c.failed_assertion.result
-    (sym (ap out-ExprForm c.in-AssertFail.is ∙ outs-AssertFail)) c.failed_assertion.ensures
+    (sym (ap out-ExprForm c.in-AssertFail.is ∙ outs-AssertFail)) (c.failed_assertion.ensures c.args.self.now.abi)

@@ -7,13 +7,16 @@ pub loop-constant-init : goal.loop-constant-init
 loop-constant-init g c = enumerators_start c.args.self.now.abi c.args.values.now c.args.context.now
 
 pub loop-constant-preserved : goal.loop-constant-preserved
-loop-constant-preserved g c = rw c.next_value-next.ensures (enumerators_next c.args.self.now.abi c.args.values.now c.loop-constant.next c.args.context.now c.loop-constant.context c.enumerator.new.context c.loop-constant.constant-index c.constant-item.result c.in-Passes.bits c.in_ok-bits.field-0
-    c.loop-constant-test.true c.constant-item.is c.in-Passes.is c.in_ok-bits.ensures c.loop-constant.invariant)
+loop-constant-preserved g c = rw c.next_value-next.ensures (enumerators_next c.args.self.now.abi c.args.values.now c.loop-constant.next c.args.context.now c.loop-constant.context c.enumerator.new.context c.loop-constant.constant-index c.constant-item.result c.in-Ok-Passes.bits c.in-Ok-Passes.field-0
+    c.loop-constant-test.true c.constant-item.is c.in-Ok-Passes.field-0-is c.in-Ok-Passes.ensures c.loop-constant.invariant)
 
-pub returns-in-Refused : goal.returns-in-Refused
-returns-in-Refused g c = enumerators_refused c.args.self.now.abi c.args.values.now c.loop-constant.next c.args.context.now c.loop-constant.context c.enumerator.new.context c.loop-constant.constant-index c.constant-item.result c.in-Refused.fault c.in_ok-bits.field-0
-    c.loop-constant-test.true c.constant-item.is c.in-Refused.is c.in_ok-bits.ensures c.loop-constant.invariant
+pub returns-in-Ok-Refused : goal.returns-in-Ok-Refused
+returns-in-Ok-Refused g c = enumerators_refused c.args.self.now.abi c.args.values.now c.loop-constant.next c.args.context.now c.loop-constant.context c.enumerator.new.context c.loop-constant.constant-index c.constant-item.result c.in-Ok-Refused.fault c.in-Ok-Refused.field-0
+    c.loop-constant-test.true c.constant-item.is c.in-Ok-Refused.field-0-is c.in-Ok-Refused.ensures c.loop-constant.invariant
 
 pub returns : goal.returns
 returns g c = enumerators_end c.args.self.now.abi c.args.values.now c.loop-constant.next c.args.context.now c.loop-constant.context c.integer.new.self c.loop-constant.constant-index c.in_ok-integer.field-0
     (omega arith) c.loop-constant.invariant c.in_ok-integer.ensures
+
+pub enumerator-requires-clause-nests : goal.enumerator-requires-clause-nests
+enumerator-requires-clause-nests g c = c.requires.nests

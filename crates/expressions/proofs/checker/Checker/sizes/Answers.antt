@@ -1,7 +1,7 @@
 -- Sizes, one behind the other.
 use Rattle.std.proofs.Common.{ap, arith, ◌+◌}
 use Rattle.expressions.proofs.checker.Checker.sizes.Goals as goal
-use Rattle.expressions.proofs.checker.Checker.sizes.Goals.{in-None+in_ok-push-in-None, in-Some+in_ok-one-in-Some+in-Passes+in_ok-push-in-Passes}
+use Rattle.expressions.proofs.checker.Checker.sizes.Goals.{in-None+in_ok-push-in-None, in-Some+in-Ok-Passes+in_ok-push-in-Ok-Passes}
 use Rattle.expressions.proofs.TypeNames.{sizes_start, sizes_kept, sizes_skip, sizes_next, sizes_refused, sizes_end}
 
 pub loop-size-init : goal.loop-size-init
@@ -15,11 +15,14 @@ loop-size-preserved g c = elim c.match-size.branch [
   | in-None+in_ok-push-in-None w ↦ sizes_kept c.args.self.now.abi c.args.sizes.now w.push.new.self.items _ c.args.context.now c.loop-size.context c.match-size.context (c.loop-size.size-index + 1) (ap (λ found. found.items) w.found-is) w.context-is
       (sizes_skip c.args.self.now.abi c.args.sizes.now c.loop-size.found.items w.push.new.self.items c.args.context.now c.loop-size.context c.loop-size.size-index c.size-item.result
       c.loop-size-test.true c.size-item.is w.in-None.is w.in_ok-push-in-None.ensures.items c.loop-size.invariant)
-  | in-Some+in_ok-one-in-Some+in-Passes+in_ok-push-in-Passes w ↦ sizes_kept c.args.self.now.abi c.args.sizes.now w.push-in-Passes.new.self.items _ c.args.context.now w.array_size.new.context c.match-size.context (c.loop-size.size-index + 1) (ap (λ found. found.items) w.found-is) w.context-is
-      (sizes_next c.args.self.now.abi c.args.sizes.now c.loop-size.found.items w.push-in-Passes.new.self.items c.args.context.now c.loop-size.context w.array_size.new.context c.loop-size.size-index c.size-item.result w.in-Some.expr w.in-Passes.one w.in_ok-one-in-Some.field-0
-      c.loop-size-test.true c.size-item.is w.in-Some.is w.in_ok-push-in-Passes.ensures.items w.in-Passes.is w.in_ok-one-in-Some.ensures c.loop-size.invariant)
+  | in-Some+in-Ok-Passes+in_ok-push-in-Ok-Passes w ↦ sizes_kept c.args.self.now.abi c.args.sizes.now w.push-in-Ok-Passes.new.self.items _ c.args.context.now w.array_size.new.context c.match-size.context (c.loop-size.size-index + 1) (ap (λ found. found.items) w.found-is) w.context-is
+      (sizes_next c.args.self.now.abi c.args.sizes.now c.loop-size.found.items w.push-in-Ok-Passes.new.self.items c.args.context.now c.loop-size.context w.array_size.new.context c.loop-size.size-index c.size-item.result w.in-Some.expr w.in-Ok-Passes.one w.in-Ok-Passes.field-0
+      c.loop-size-test.true c.size-item.is w.in-Some.is w.in_ok-push-in-Ok-Passes.ensures.items w.in-Ok-Passes.field-0-is w.in-Ok-Passes.ensures c.loop-size.invariant)
 ]
 
-pub returns-in-Refused : goal.returns-in-Refused
-returns-in-Refused g c = sizes_refused c.args.self.now.abi c.args.sizes.now c.loop-size.found.items c.args.context.now c.loop-size.context c.array_size.new.context c.loop-size.size-index c.size-item.result c.in-Some.expr c.in-Refused.fault c.in_ok-one-in-Some.field-0
-    c.loop-size-test.true c.size-item.is c.in-Some.is c.in-Refused.is c.in_ok-one-in-Some.ensures c.loop-size.invariant
+pub returns-in-Ok-Refused : goal.returns-in-Ok-Refused
+returns-in-Ok-Refused g c = sizes_refused c.args.self.now.abi c.args.sizes.now c.loop-size.found.items c.args.context.now c.loop-size.context c.array_size.new.context c.loop-size.size-index c.size-item.result c.in-Some.expr c.in-Ok-Refused.fault c.in-Ok-Refused.field-0
+    c.loop-size-test.true c.size-item.is c.in-Some.is c.in-Ok-Refused.field-0-is c.in-Ok-Refused.ensures c.loop-size.invariant
+
+pub array_size-requires-clause-nests : goal.array_size-requires-clause-nests
+array_size-requires-clause-nests g c = c.requires.nests

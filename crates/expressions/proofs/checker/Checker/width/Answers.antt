@@ -5,10 +5,13 @@ use Rattle.expressions.proofs.MemberSizes.{no_width, width_passes, width_refused
 pub returns-in-None : goal.returns-in-None
 returns-in-None g c = no_width c.args.self.now.abi c.args.context.now c.args.context.now c.args.bits.now c.in-None.is
 
-pub returns-in-Passes : goal.returns-in-Passes
-returns-in-Passes g c = width_passes c.args.self.now.abi c.args.context.now c.loaded.new.context c.args.bits.now c.in-Some.expr c.in-Passes.field-0 c.in_ok-loaded-in-Some.field-0
-    c.in-Some.is c.in-Passes.is c.in_ok-loaded-in-Some.ensures
+pub returns-in-Ok-Passes : goal.returns-in-Ok-Passes
+returns-in-Ok-Passes g c = width_passes c.args.self.now.abi c.args.context.now c.loaded.new.context c.args.bits.now c.in-Some.expr c.in-Ok-Passes.field-0-0 c.in-Ok-Passes.field-0
+    c.in-Some.is c.in-Ok-Passes.field-0-is c.in-Ok-Passes.ensures
 
-pub returns-in-Refused : goal.returns-in-Refused
-returns-in-Refused g c = width_refused c.args.self.now.abi c.args.context.now c.loaded.new.context c.args.bits.now c.in-Some.expr c.in-Refused.fault c.in_ok-loaded-in-Some.field-0
-    c.in-Some.is c.in-Refused.is c.in_ok-loaded-in-Some.ensures
+pub returns-in-Ok-Refused : goal.returns-in-Ok-Refused
+returns-in-Ok-Refused g c = width_refused c.args.self.now.abi c.args.context.now c.loaded.new.context c.args.bits.now c.in-Some.expr c.in-Ok-Refused.fault c.in-Ok-Refused.field-0
+    c.in-Some.is c.in-Ok-Refused.field-0-is c.in-Ok-Refused.ensures
+
+pub loaded-requires-clause-nests : goal.loaded-requires-clause-nests
+loaded-requires-clause-nests g c = c.requires.nests

@@ -1,8 +1,8 @@
 -- The words of a type, by what they are.
-use Rattle.cbase.specs.declared.tree.expr.ExprForm.TheOpen.{Struct, Enum}
-use Rattle.std.proofs.Common.{Some}
+use Rattle.cbase.specs.declared.tree.expr.ExprForm.TheOpen.{Basic, Named, Struct, Enum, OfExpr}
+use Rattle.std.proofs.Common.{Some, None, ap, ◌∙◌}
 use Rattle.expressions.proofs.checker.Checker.words.Goals as goal
-use Rattle.expressions.proofs.TypeWords.{layered, typeof_type, struct_layer, enum_layer, typeof_layer}
+use Rattle.expressions.proofs.TypeWords.{layered, typeof_type, struct_layer, enum_layer, struct_alone_layer, enum_alone_layer, basic_layer, named_layer, typeof_expr_layer, typeof_layer}
 
 pub returns-in-Some : goal.returns-in-Some
 returns-in-Some g c = layered c.args.self.now.abi c.args.context.now c.ask_members.new.context c.args.spec.now (Struct c.in-Struct.name (Some c.in-Some.fields)) c.ask_members.result
@@ -15,3 +15,43 @@ returns-in-Some-values g c = layered c.args.self.now.abi c.args.context.now c.as
 pub returns-in-OfType : goal.returns-in-OfType
 returns-in-OfType g c = typeof_type c.args.self.now.abi c.args.context.now c.ask_type_name.new.context c.args.spec.now c.in-OfType.to c.ask_type_name.result
     (typeof_layer c.args.spec.now c.in-OfType.to c.in-OfType.is) (rw c.get-in-OfType.ensures at c.ask_type_name.ensures)
+
+pub returns-in-Basic : goal.returns-in-Basic
+returns-in-Basic g c = layered c.args.self.now.abi c.args.context.now c.basic.new.context c.args.spec.now (Basic c.in-Basic.basic_type) c.basic.result
+    (basic_layer c.args.spec.now c.in-Basic.basic_type c.in-Basic.is) (c.basic.ensures)
+
+pub returns-in-Named : goal.returns-in-Named
+returns-in-Named g c = layered c.args.self.now.abi c.args.context.now c.typedef.new.context c.args.spec.now (Named c.as_slice.result.now) c.typedef.result
+    (named_layer c.args.spec.now c.in-Named.name c.as_slice.result.now c.in-Named.is c.as_slice.ensures) (c.typedef.ensures c.args.self.now.abi)
+
+pub returns-in-Some-name : goal.returns-in-Some-name
+returns-in-Some-name g c = layered c.args.self.now.abi c.args.context.now c.structure.new.context c.args.spec.now (Struct (Some c.in-Some-name.tag) None) c.structure.result
+    (struct_alone_layer c.args.spec.now c.in-Struct.name _ c.in-Struct.fields c.in-Struct.is c.in-None.is c.in-Some-name.is) (c.structure.ensures c.args.self.now.abi)
+
+pub returns-in-None-name : goal.returns-in-None-name
+returns-in-None-name g c = layered c.args.self.now.abi c.args.context.now c.nothing.new.context c.args.spec.now (Struct None None) c.nothing.result
+    (struct_alone_layer c.args.spec.now c.in-Struct.name _ c.in-Struct.fields c.in-Struct.is c.in-None.is c.in-None-name.is) (c.nothing.ensures.of_struct c.args.self.now.abi)
+
+pub returns-in-Some-name-2 : goal.returns-in-Some-name-2
+returns-in-Some-name-2 g c = layered c.args.self.now.abi c.args.context.now c.enumeration.new.context c.args.spec.now (Enum (Some c.in-Some-name-2.tag) None) c.enumeration.result
+    (enum_alone_layer c.args.spec.now c.in-Enum.name _ c.in-Enum.values c.in-Enum.is c.in-None-values.is c.in-Some-name-2.is) (c.enumeration.ensures c.args.self.now.abi)
+
+pub returns-in-None-name-2 : goal.returns-in-None-name-2
+returns-in-None-name-2 g c = layered c.args.self.now.abi c.args.context.now c.nothing-in-None-name-2.new.context c.args.spec.now (Enum None None) c.nothing-in-None-name-2.result
+    (enum_alone_layer c.args.spec.now c.in-Enum.name _ c.in-Enum.values c.in-Enum.is c.in-None-values.is c.in-None-name-2.is) (c.nothing-in-None-name-2.ensures.of_enum c.args.self.now.abi)
+
+pub returns-in-OfExpr : goal.returns-in-OfExpr
+returns-in-OfExpr g c = layered c.args.self.now.abi c.args.context.now c.type_of.new.context c.args.spec.now (OfExpr c.get.result.now) c.type_of.result
+    (typeof_expr_layer c.args.spec.now c.in-OfExpr.expr c.get.result.now c.in-OfExpr.is c.get.ensures) (c.type_of.ensures)
+
+pub ask_members-requires-clause-nests : goal.ask_members-requires-clause-nests
+ask_members-requires-clause-nests g c = c.requires.nests
+
+pub ask_enumerators-requires-clause-nests : goal.ask_enumerators-requires-clause-nests
+ask_enumerators-requires-clause-nests g c = c.requires.nests
+
+pub ask_type_name-requires-clause-nests : goal.ask_type_name-requires-clause-nests
+ask_type_name-requires-clause-nests g c = c.requires.nests
+
+pub type_of-requires-clause-nests : goal.type_of-requires-clause-nests
+type_of-requires-clause-nests g c = c.requires.nests
