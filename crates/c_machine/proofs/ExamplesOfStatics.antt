@@ -19,7 +19,8 @@ use Rattle.c_machine.specs.ExamplesOfStatics.{holding_body, holding, three, decl
 use Rattle.c_machine.specs.Run.{then_go, run, run_of, start, start_main, main_tasks, blank, static_tasks, done_within}
 use Rattle.c_machine.specs.Program.{Program}
 use Rattle.c_machine.specs.Sheet.{zeros}
-use Rattle.c_machine.specs.State.{TaskIn, Scope, StateIn, OutcomeIn, MakeStatic, Initialise, Went, Waits, Ended, Faulted}
+use Rattle.c_machine.specs.declared.task.Task.TheVariants.{MakeStatic, Initialise}
+use Rattle.c_machine.specs.State.{TaskIn, Scope, StateIn, OutcomeIn, Went, Waits, Ended, Faulted}
 use Rattle.c_machine.specs.Text.{Main}
 use Rattle.c_machine.specs.Trees.{text_of}
 use Rattle.c_machine.proofs.Parts.{parts_of_expr, parts_of_stmt, parts_of_name, parts_of_constant, parts_of_unary, parts_of_assign, parts_of_size, parts_of_member, parts_of_call, parts_of_inner, parts_of_value, parts_of_braces, parts_of_basic, parts_of_tag, parts_of_struct, parts_of_declare, parts_of_eval, parts_of_return, parts_of_decl, parts_of_object, parts_of_initialised, parts_of_function, parts_of_part, parts_of_fields, parts_of_field}
