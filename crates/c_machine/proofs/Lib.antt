@@ -13,3 +13,4 @@ pub mod ExamplesOfRows
 pub mod ExamplesOfTrees
 pub mod ExamplesOfStatics
 pub mod Parts
+pub mod OwnTypes
