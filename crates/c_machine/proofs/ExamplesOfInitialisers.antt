@@ -27,4 +27,7 @@ are_initialisers = record {
   static_inside_comes_behind = refl;
   static_inside_an_operand = refl;
   declared_inside = refl;
+  truth_from_truth = refl;
+  long_of_8_bytes = refl;
+  long_of_4_bytes = refl;
 }

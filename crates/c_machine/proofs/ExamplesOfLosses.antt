@@ -58,4 +58,9 @@ are_losses = record {
   at_inner_block_first = refl;
   overwritten = refl;
   still_held_elsewhere = refl;
+  inner_allocation_goes = refl;
+  outer_allocation_stays = refl;
+  no_allocation_stays = refl;
+  never_freed_out_of_a_loop = refl;
+  nothing_to_free_out_of_a_loop = refl;
 }

@@ -19,6 +19,7 @@ are_steps = record {
   object_dies = refl;
   value_is_held = refl;
   value_is_converted = refl;
+  truth_stays_as_it_is = refl;
   held_value_goes = refl;
   over = refl;
   no_operand = refl;

@@ -11,3 +11,6 @@ pub mod ExamplesOfSteps
 pub mod MoreOfRuns
 pub mod ExamplesOfRows
 pub mod ExamplesOfTrees
+pub mod ExamplesOfStatics
+pub mod Parts
+pub mod OwnTypes

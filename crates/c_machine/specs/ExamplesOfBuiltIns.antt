@@ -8,7 +8,7 @@ use Rattle.typing.specs.Sample.{token}
 use Rattle.c_machine.specs.declared.kind.Kind.TheVariants.{Pointer, Array, Void}
 use Rattle.c_machine.specs.Text.{ObjectStands, BuiltInStands, Known, Unary, Binary, Assign, Cast, Index, Call, AssertFail, Value, Declare, Eval, Block, If, Return}
 use Rattle.c_machine.specs.State.{Waits, Ended, Faulted}
-use Rattle.c_machine.specs.Sheet.{Sheet, is, names, does, sets_at, an_int, a_char, a_long, a_size, a_truth, zeros, ComesTo}
+use Rattle.c_machine.specs.Sheet.{Sheet, is, names, does, sets_at, object, an_int, an_unsigned, a_char, a_byte, a_short, an_unsigned_short, a_long, a_size, a_truth, zeros, ComesTo}
 
 -- void *p = malloc(8); free(p); «5»free(p);
 abbrev pub free_twice_text : Sheet
@@ -1222,6 +1222,530 @@ copy_to_dead_text = record {
   strict = false;
 }
 
+-- char c = __VERIFIER_nondet_char(); if (c == -1) «1»*(int *)0 = 1;
+abbrev pub largest_char_text : Sheet
+largest_char_text = record {
+  exprs = names a_char 9 (BuiltInStands (codes "__VERIFIER_nondet_char") [] a_char) ∷
+      is a_char 9 (Call 0 []) ∷
+      names a_char 15 (ObjectStands 7) ∷
+      is an_int 18 (Known (Some 1)) ∷
+      is an_int 17 (Unary Minus 3) ∷
+      is an_int 16 (Binary Equal 2 4) ∷
+      is an_int 25 (Known (Some 0)) ∷
+      is (Pointer 4) 21 (Cast 6) ∷
+      is an_int 20 (Unary Follow 7) ∷
+      is an_int 27 (Known (Some 1)) ∷
+      is an_int 26 (Assign None 8 9) ∷
+      is an_int 30 (Known (Some 0)) ∷ [];
+  stmts = does 6 12 (Declare ((record { place = token 7; init = Some 0 } ∷ []))) ∷
+      does 20 28 (Eval (Some 10)) ∷
+      does 13 28 (If 5 (token 19) 1 None) ∷
+      does 29 31 (Return (Some 11)) ∷ [];
+  inits = Value 1 (token 12) ∷ [];
+  automatic = ((7, 1) ∷ []);
+  stores = sets_at 7 1 0 a_char ∷ [];
+  linked = [];
+  statics = [];
+  sets = [];
+  params = [];
+  body = (0 ∷ 2 ∷ 3 ∷ []);
+  close = 32;
+  strict = false;
+}
+
+-- char c = __VERIFIER_nondet_char(); *(int *)0 = 1;
+abbrev pub char_too_large_text : Sheet
+char_too_large_text = record {
+  exprs = names a_char 9 (BuiltInStands (codes "__VERIFIER_nondet_char") [] a_char) ∷
+      is a_char 9 (Call 0 []) ∷
+      is an_int 18 (Known (Some 0)) ∷
+      is (Pointer 4) 14 (Cast 2) ∷
+      is an_int 13 (Unary Follow 3) ∷
+      is an_int 20 (Known (Some 1)) ∷
+      is an_int 19 (Assign None 4 5) ∷
+      is an_int 23 (Known (Some 0)) ∷ [];
+  stmts = does 6 12 (Declare ((record { place = token 7; init = Some 0 } ∷ []))) ∷
+      does 13 21 (Eval (Some 6)) ∷
+      does 22 24 (Return (Some 7)) ∷ [];
+  inits = Value 1 (token 12) ∷ [];
+  automatic = ((7, 1) ∷ []);
+  stores = sets_at 7 1 0 a_char ∷ [];
+  linked = [];
+  statics = [];
+  sets = [];
+  params = [];
+  body = (0 ∷ 1 ∷ 2 ∷ []);
+  close = 25;
+  strict = false;
+}
+
+-- unsigned char c = __VERIFIER_nondet_uchar(); if (c == 255) «1»*(int *)0 = 1;
+abbrev pub largest_unsigned_char_text : Sheet
+largest_unsigned_char_text = record {
+  exprs = names a_byte 10 (BuiltInStands (codes "__VERIFIER_nondet_uchar") [] a_byte) ∷
+      is a_byte 10 (Call 0 []) ∷
+      names a_byte 16 (ObjectStands 8) ∷
+      is an_int 18 (Known (Some 255)) ∷
+      is an_int 17 (Binary Equal 2 3) ∷
+      is an_int 25 (Known (Some 0)) ∷
+      is (Pointer 4) 21 (Cast 5) ∷
+      is an_int 20 (Unary Follow 6) ∷
+      is an_int 27 (Known (Some 1)) ∷
+      is an_int 26 (Assign None 7 8) ∷
+      is an_int 30 (Known (Some 0)) ∷ [];
+  stmts = does 6 13 (Declare ((record { place = token 8; init = Some 0 } ∷ []))) ∷
+      does 20 28 (Eval (Some 9)) ∷
+      does 14 28 (If 4 (token 19) 1 None) ∷
+      does 29 31 (Return (Some 10)) ∷ [];
+  inits = Value 1 (token 13) ∷ [];
+  automatic = ((8, 1) ∷ []);
+  stores = sets_at 8 1 0 a_byte ∷ [];
+  linked = [];
+  statics = [];
+  sets = [];
+  params = [];
+  body = (0 ∷ 2 ∷ 3 ∷ []);
+  close = 32;
+  strict = false;
+}
+
+-- unsigned char c = __VERIFIER_nondet_uchar(); *(int *)0 = 1;
+abbrev pub unsigned_char_too_large_text : Sheet
+unsigned_char_too_large_text = record {
+  exprs = names a_byte 10 (BuiltInStands (codes "__VERIFIER_nondet_uchar") [] a_byte) ∷
+      is a_byte 10 (Call 0 []) ∷
+      is an_int 19 (Known (Some 0)) ∷
+      is (Pointer 4) 15 (Cast 2) ∷
+      is an_int 14 (Unary Follow 3) ∷
+      is an_int 21 (Known (Some 1)) ∷
+      is an_int 20 (Assign None 4 5) ∷
+      is an_int 24 (Known (Some 0)) ∷ [];
+  stmts = does 6 13 (Declare ((record { place = token 8; init = Some 0 } ∷ []))) ∷
+      does 14 22 (Eval (Some 6)) ∷
+      does 23 25 (Return (Some 7)) ∷ [];
+  inits = Value 1 (token 13) ∷ [];
+  automatic = ((8, 1) ∷ []);
+  stores = sets_at 8 1 0 a_byte ∷ [];
+  linked = [];
+  statics = [];
+  sets = [];
+  params = [];
+  body = (0 ∷ 1 ∷ 2 ∷ []);
+  close = 26;
+  strict = false;
+}
+
+-- short s = __VERIFIER_nondet_short(); if (s == -1) «1»*(int *)0 = 1;
+abbrev pub largest_short_text : Sheet
+largest_short_text = record {
+  exprs = names a_short 9 (BuiltInStands (codes "__VERIFIER_nondet_short") [] a_short) ∷
+      is a_short 9 (Call 0 []) ∷
+      names a_short 15 (ObjectStands 7) ∷
+      is an_int 18 (Known (Some 1)) ∷
+      is an_int 17 (Unary Minus 3) ∷
+      is an_int 16 (Binary Equal 2 4) ∷
+      is an_int 25 (Known (Some 0)) ∷
+      is (Pointer 4) 21 (Cast 6) ∷
+      is an_int 20 (Unary Follow 7) ∷
+      is an_int 27 (Known (Some 1)) ∷
+      is an_int 26 (Assign None 8 9) ∷
+      is an_int 30 (Known (Some 0)) ∷ [];
+  stmts = does 6 12 (Declare ((record { place = token 7; init = Some 0 } ∷ []))) ∷
+      does 20 28 (Eval (Some 10)) ∷
+      does 13 28 (If 5 (token 19) 1 None) ∷
+      does 29 31 (Return (Some 11)) ∷ [];
+  inits = Value 1 (token 12) ∷ [];
+  automatic = ((7, 2) ∷ []);
+  stores = sets_at 7 1 0 a_short ∷ [];
+  linked = [];
+  statics = [];
+  sets = [];
+  params = [];
+  body = (0 ∷ 2 ∷ 3 ∷ []);
+  close = 32;
+  strict = false;
+}
+
+-- short s = __VERIFIER_nondet_short(); *(int *)0 = 1;
+abbrev pub short_too_large_text : Sheet
+short_too_large_text = record {
+  exprs = names a_short 9 (BuiltInStands (codes "__VERIFIER_nondet_short") [] a_short) ∷
+      is a_short 9 (Call 0 []) ∷
+      is an_int 18 (Known (Some 0)) ∷
+      is (Pointer 4) 14 (Cast 2) ∷
+      is an_int 13 (Unary Follow 3) ∷
+      is an_int 20 (Known (Some 1)) ∷
+      is an_int 19 (Assign None 4 5) ∷
+      is an_int 23 (Known (Some 0)) ∷ [];
+  stmts = does 6 12 (Declare ((record { place = token 7; init = Some 0 } ∷ []))) ∷
+      does 13 21 (Eval (Some 6)) ∷
+      does 22 24 (Return (Some 7)) ∷ [];
+  inits = Value 1 (token 12) ∷ [];
+  automatic = ((7, 2) ∷ []);
+  stores = sets_at 7 1 0 a_short ∷ [];
+  linked = [];
+  statics = [];
+  sets = [];
+  params = [];
+  body = (0 ∷ 1 ∷ 2 ∷ []);
+  close = 25;
+  strict = false;
+}
+
+-- unsigned short s = __VERIFIER_nondet_ushort(); if (s == 65535) «1»*(int *)0 = 1;
+abbrev pub largest_unsigned_short_text : Sheet
+largest_unsigned_short_text = record {
+  exprs = names an_unsigned_short 10 (BuiltInStands (codes "__VERIFIER_nondet_ushort") [] an_unsigned_short) ∷
+      is an_unsigned_short 10 (Call 0 []) ∷
+      names an_unsigned_short 16 (ObjectStands 8) ∷
+      is an_int 18 (Known (Some 65535)) ∷
+      is an_int 17 (Binary Equal 2 3) ∷
+      is an_int 25 (Known (Some 0)) ∷
+      is (Pointer 4) 21 (Cast 5) ∷
+      is an_int 20 (Unary Follow 6) ∷
+      is an_int 27 (Known (Some 1)) ∷
+      is an_int 26 (Assign None 7 8) ∷
+      is an_int 30 (Known (Some 0)) ∷ [];
+  stmts = does 6 13 (Declare ((record { place = token 8; init = Some 0 } ∷ []))) ∷
+      does 20 28 (Eval (Some 9)) ∷
+      does 14 28 (If 4 (token 19) 1 None) ∷
+      does 29 31 (Return (Some 10)) ∷ [];
+  inits = Value 1 (token 13) ∷ [];
+  automatic = ((8, 2) ∷ []);
+  stores = sets_at 8 1 0 an_unsigned_short ∷ [];
+  linked = [];
+  statics = [];
+  sets = [];
+  params = [];
+  body = (0 ∷ 2 ∷ 3 ∷ []);
+  close = 32;
+  strict = false;
+}
+
+-- unsigned short s = __VERIFIER_nondet_ushort(); *(int *)0 = 1;
+abbrev pub unsigned_short_too_large_text : Sheet
+unsigned_short_too_large_text = record {
+  exprs = names an_unsigned_short 10 (BuiltInStands (codes "__VERIFIER_nondet_ushort") [] an_unsigned_short) ∷
+      is an_unsigned_short 10 (Call 0 []) ∷
+      is an_int 19 (Known (Some 0)) ∷
+      is (Pointer 4) 15 (Cast 2) ∷
+      is an_int 14 (Unary Follow 3) ∷
+      is an_int 21 (Known (Some 1)) ∷
+      is an_int 20 (Assign None 4 5) ∷
+      is an_int 24 (Known (Some 0)) ∷ [];
+  stmts = does 6 13 (Declare ((record { place = token 8; init = Some 0 } ∷ []))) ∷
+      does 14 22 (Eval (Some 6)) ∷
+      does 23 25 (Return (Some 7)) ∷ [];
+  inits = Value 1 (token 13) ∷ [];
+  automatic = ((8, 2) ∷ []);
+  stores = sets_at 8 1 0 an_unsigned_short ∷ [];
+  linked = [];
+  statics = [];
+  sets = [];
+  params = [];
+  body = (0 ∷ 1 ∷ 2 ∷ []);
+  close = 26;
+  strict = false;
+}
+
+-- unsigned u = __VERIFIER_nondet_uint(); if (u == 4294967295U) «1»*(int *)0 = 1;
+abbrev pub largest_unsigned_text : Sheet
+largest_unsigned_text = record {
+  exprs = names an_unsigned 9 (BuiltInStands (codes "__VERIFIER_nondet_uint") [] an_unsigned) ∷
+      is an_unsigned 9 (Call 0 []) ∷
+      names an_unsigned 15 (ObjectStands 7) ∷
+      is an_unsigned 17 (Known (Some 4294967295)) ∷
+      is an_int 16 (Binary Equal 2 3) ∷
+      is an_int 24 (Known (Some 0)) ∷
+      is (Pointer 4) 20 (Cast 5) ∷
+      is an_int 19 (Unary Follow 6) ∷
+      is an_int 26 (Known (Some 1)) ∷
+      is an_int 25 (Assign None 7 8) ∷
+      is an_int 29 (Known (Some 0)) ∷ [];
+  stmts = does 6 12 (Declare ((record { place = token 7; init = Some 0 } ∷ []))) ∷
+      does 19 27 (Eval (Some 9)) ∷
+      does 13 27 (If 4 (token 18) 1 None) ∷
+      does 28 30 (Return (Some 10)) ∷ [];
+  inits = Value 1 (token 12) ∷ [];
+  automatic = ((7, 4) ∷ []);
+  stores = sets_at 7 1 0 an_unsigned ∷ [];
+  linked = [];
+  statics = [];
+  sets = [];
+  params = [];
+  body = (0 ∷ 2 ∷ 3 ∷ []);
+  close = 31;
+  strict = false;
+}
+
+-- unsigned u = __VERIFIER_nondet_uint(); *(int *)0 = 1;
+abbrev pub unsigned_too_large_text : Sheet
+unsigned_too_large_text = record {
+  exprs = names an_unsigned 9 (BuiltInStands (codes "__VERIFIER_nondet_uint") [] an_unsigned) ∷
+      is an_unsigned 9 (Call 0 []) ∷
+      is an_int 18 (Known (Some 0)) ∷
+      is (Pointer 4) 14 (Cast 2) ∷
+      is an_int 13 (Unary Follow 3) ∷
+      is an_int 20 (Known (Some 1)) ∷
+      is an_int 19 (Assign None 4 5) ∷
+      is an_int 23 (Known (Some 0)) ∷ [];
+  stmts = does 6 12 (Declare ((record { place = token 7; init = Some 0 } ∷ []))) ∷
+      does 13 21 (Eval (Some 6)) ∷
+      does 22 24 (Return (Some 7)) ∷ [];
+  inits = Value 1 (token 12) ∷ [];
+  automatic = ((7, 4) ∷ []);
+  stores = sets_at 7 1 0 an_unsigned ∷ [];
+  linked = [];
+  statics = [];
+  sets = [];
+  params = [];
+  body = (0 ∷ 1 ∷ 2 ∷ []);
+  close = 25;
+  strict = false;
+}
+
+-- long w = __VERIFIER_nondet_long(); if (w == -1) «1»*(int *)0 = 1;
+abbrev pub largest_long_text : Sheet
+largest_long_text = record {
+  exprs = names a_long 9 (BuiltInStands (codes "__VERIFIER_nondet_long") [] a_long) ∷
+      is a_long 9 (Call 0 []) ∷
+      names a_long 15 (ObjectStands 7) ∷
+      is an_int 18 (Known (Some 1)) ∷
+      is an_int 17 (Unary Minus 3) ∷
+      is an_int 16 (Binary Equal 2 4) ∷
+      is an_int 25 (Known (Some 0)) ∷
+      is (Pointer 4) 21 (Cast 6) ∷
+      is an_int 20 (Unary Follow 7) ∷
+      is an_int 27 (Known (Some 1)) ∷
+      is an_int 26 (Assign None 8 9) ∷
+      is an_int 30 (Known (Some 0)) ∷ [];
+  stmts = does 6 12 (Declare ((record { place = token 7; init = Some 0 } ∷ []))) ∷
+      does 20 28 (Eval (Some 10)) ∷
+      does 13 28 (If 5 (token 19) 1 None) ∷
+      does 29 31 (Return (Some 11)) ∷ [];
+  inits = Value 1 (token 12) ∷ [];
+  automatic = ((7, 8) ∷ []);
+  stores = sets_at 7 1 0 a_long ∷ [];
+  linked = [];
+  statics = [];
+  sets = [];
+  params = [];
+  body = (0 ∷ 2 ∷ 3 ∷ []);
+  close = 32;
+  strict = false;
+}
+
+-- unsigned long w = __VERIFIER_nondet_ulong(); if (w == 18446744073709551615UL) «1»*(int *)0 = 1;
+abbrev pub largest_unsigned_long_text : Sheet
+largest_unsigned_long_text = record {
+  exprs = names a_size 10 (BuiltInStands (codes "__VERIFIER_nondet_ulong") [] a_size) ∷
+      is a_size 10 (Call 0 []) ∷
+      names a_size 16 (ObjectStands 8) ∷
+      is a_size 18 (Known (Some 18446744073709551615)) ∷
+      is an_int 17 (Binary Equal 2 3) ∷
+      is an_int 25 (Known (Some 0)) ∷
+      is (Pointer 4) 21 (Cast 5) ∷
+      is an_int 20 (Unary Follow 6) ∷
+      is an_int 27 (Known (Some 1)) ∷
+      is an_int 26 (Assign None 7 8) ∷
+      is an_int 30 (Known (Some 0)) ∷ [];
+  stmts = does 6 13 (Declare ((record { place = token 8; init = Some 0 } ∷ []))) ∷
+      does 20 28 (Eval (Some 9)) ∷
+      does 14 28 (If 4 (token 19) 1 None) ∷
+      does 29 31 (Return (Some 10)) ∷ [];
+  inits = Value 1 (token 13) ∷ [];
+  automatic = ((8, 8) ∷ []);
+  stores = sets_at 8 1 0 a_size ∷ [];
+  linked = [];
+  statics = [];
+  sets = [];
+  params = [];
+  body = (0 ∷ 2 ∷ 3 ∷ []);
+  close = 32;
+  strict = false;
+}
+
+-- unsigned long w = __VERIFIER_nondet_ulong(); *(int *)0 = 1;
+abbrev pub unsigned_long_too_large_text : Sheet
+unsigned_long_too_large_text = record {
+  exprs = names a_size 10 (BuiltInStands (codes "__VERIFIER_nondet_ulong") [] a_size) ∷
+      is a_size 10 (Call 0 []) ∷
+      is an_int 19 (Known (Some 0)) ∷
+      is (Pointer 4) 15 (Cast 2) ∷
+      is an_int 14 (Unary Follow 3) ∷
+      is an_int 21 (Known (Some 1)) ∷
+      is an_int 20 (Assign None 4 5) ∷
+      is an_int 24 (Known (Some 0)) ∷ [];
+  stmts = does 6 13 (Declare ((record { place = token 8; init = Some 0 } ∷ []))) ∷
+      does 14 22 (Eval (Some 6)) ∷
+      does 23 25 (Return (Some 7)) ∷ [];
+  inits = Value 1 (token 13) ∷ [];
+  automatic = ((8, 8) ∷ []);
+  stores = sets_at 8 1 0 a_size ∷ [];
+  linked = [];
+  statics = [];
+  sets = [];
+  params = [];
+  body = (0 ∷ 1 ∷ 2 ∷ []);
+  close = 26;
+  strict = false;
+}
+
+-- unsigned long w = __VERIFIER_nondet_ulong(); *(int *)0 = 1;    (where a long has 4 bytes)
+abbrev pub unsigned_long_of_4_bytes_text : Sheet
+unsigned_long_of_4_bytes_text = record {
+  exprs = names an_unsigned 10 (BuiltInStands (codes "__VERIFIER_nondet_ulong") [] an_unsigned) ∷
+      is an_unsigned 10 (Call 0 []) ∷
+      is an_int 19 (Known (Some 0)) ∷
+      is (Pointer 4) 15 (Cast 2) ∷
+      is an_int 14 (Unary Follow 3) ∷
+      is an_int 21 (Known (Some 1)) ∷
+      is an_int 20 (Assign None 4 5) ∷
+      is an_int 24 (Known (Some 0)) ∷ [];
+  stmts = does 6 13 (Declare ((record { place = token 8; init = Some 0 } ∷ []))) ∷
+      does 14 22 (Eval (Some 6)) ∷
+      does 23 25 (Return (Some 7)) ∷ [];
+  inits = Value 1 (token 13) ∷ [];
+  automatic = ((8, 4) ∷ []);
+  stores = sets_at 8 1 0 an_unsigned ∷ [];
+  linked = [];
+  statics = [];
+  sets = [];
+  params = [];
+  body = (0 ∷ 1 ∷ 2 ∷ []);
+  close = 26;
+  strict = false;
+}
+
+-- __VERIFIER_error(); *(int *)0 = 1;
+abbrev pub verifier_error_text : Sheet
+verifier_error_text = record {
+  exprs = names Void 6 (BuiltInStands (codes "__VERIFIER_error") [] Void) ∷
+      is Void 6 (Call 0 []) ∷
+      is an_int 15 (Known (Some 0)) ∷
+      is (Pointer 4) 11 (Cast 2) ∷
+      is an_int 10 (Unary Follow 3) ∷
+      is an_int 17 (Known (Some 1)) ∷
+      is an_int 16 (Assign None 4 5) ∷
+      is an_int 20 (Known (Some 0)) ∷ [];
+  stmts = does 6 9 (Eval (Some 1)) ∷
+      does 10 18 (Eval (Some 6)) ∷
+      does 19 21 (Return (Some 7)) ∷ [];
+  inits = [];
+  automatic = [];
+  stores = [];
+  linked = [];
+  statics = [];
+  sets = [];
+  params = [];
+  body = (0 ∷ 1 ∷ 2 ∷ []);
+  close = 22;
+  strict = false;
+}
+
+-- int *q; { int x; q = &x; } «6»free(q);
+abbrev pub free_of_dead_object_text : Sheet
+free_of_dead_object_text = record {
+  exprs = names (Pointer 4) 14 (ObjectStands 8) ∷
+      names an_int 17 (ObjectStands 12) ∷
+      is (Pointer 4) 16 (Unary Address 1) ∷
+      is (Pointer 4) 15 (Assign None 0 2) ∷
+      names Void 20 (BuiltInStands (codes "free") ((Pointer 1) ∷ []) Void) ∷
+      names (Pointer 4) 22 (ObjectStands 8) ∷
+      is Void 20 (Call 4 (5 ∷ [])) ∷
+      is an_int 26 (Known (Some 0)) ∷ [];
+  stmts = does 6 9 (Declare ((record { place = token 8; init = None } ∷ []))) ∷
+      does 11 13 (Declare ((record { place = token 12; init = None } ∷ []))) ∷
+      does 14 18 (Eval (Some 3)) ∷
+      does 10 19 (Block (1 ∷ 2 ∷ [])) ∷
+      does 20 24 (Eval (Some 6)) ∷
+      does 25 27 (Return (Some 7)) ∷ [];
+  inits = [];
+  automatic = ((8, 8) ∷ (12, 4) ∷ []);
+  stores = [];
+  linked = [];
+  statics = [];
+  sets = [];
+  params = [];
+  body = (0 ∷ 3 ∷ 4 ∷ 5 ∷ []);
+  close = 28;
+  strict = false;
+}
+
+-- static int k; «6»free(&k);
+abbrev pub free_of_static_text : Sheet
+free_of_static_text = record {
+  exprs = names Void 10 (BuiltInStands (codes "free") ((Pointer 1) ∷ []) Void) ∷
+      names an_int 13 (ObjectStands 8) ∷
+      is (Pointer 4) 12 (Unary Address 1) ∷
+      is Void 10 (Call 0 (2 ∷ [])) ∷
+      is an_int 17 (Known (Some 0)) ∷ [];
+  stmts = does 6 9 (Declare ((record { place = token 8; init = None } ∷ []))) ∷
+      does 10 15 (Eval (Some 3)) ∷
+      does 16 18 (Return (Some 4)) ∷ [];
+  inits = [];
+  automatic = [];
+  stores = [];
+  linked = [];
+  statics = (object 8 4 ∷ []);
+  sets = [];
+  params = [];
+  body = (0 ∷ 1 ∷ 2 ∷ []);
+  close = 19;
+  strict = false;
+}
+
+-- char a[8]; memset(a, 0, 8); a[0] = 3; memcpy(a + 4, a, 4); if (a[4] == 3) «1»*(int *)0 = 1;
+abbrev pub side_by_side_text : Sheet
+side_by_side_text = record {
+  exprs = is an_int 9 (Known (Some 8)) ∷
+      names (Pointer 1) 12 (BuiltInStands (codes "memset") ((Pointer 1) ∷ an_int ∷ a_size ∷ []) (Pointer 1)) ∷
+      names (Array 1) 14 (ObjectStands 7) ∷
+      is an_int 16 (Known (Some 0)) ∷
+      is an_int 18 (Known (Some 8)) ∷
+      is (Pointer 1) 12 (Call 1 (2 ∷ 3 ∷ 4 ∷ [])) ∷
+      names (Array 1) 21 (ObjectStands 7) ∷
+      is an_int 23 (Known (Some 0)) ∷
+      is a_char 22 (Index 6 7) ∷
+      is an_int 26 (Known (Some 3)) ∷
+      is a_char 25 (Assign None 8 9) ∷
+      names (Pointer 1) 28 (BuiltInStands (codes "memcpy") ((Pointer 1) ∷ (Pointer 1) ∷ a_size ∷ []) (Pointer 1)) ∷
+      names (Array 1) 30 (ObjectStands 7) ∷
+      is an_int 32 (Known (Some 4)) ∷
+      is (Pointer 1) 31 (Binary Add 12 13) ∷
+      names (Array 1) 34 (ObjectStands 7) ∷
+      is an_int 36 (Known (Some 4)) ∷
+      is (Pointer 1) 28 (Call 11 (14 ∷ 15 ∷ 16 ∷ [])) ∷
+      names (Array 1) 41 (ObjectStands 7) ∷
+      is an_int 43 (Known (Some 4)) ∷
+      is a_char 42 (Index 18 19) ∷
+      is an_int 46 (Known (Some 3)) ∷
+      is an_int 45 (Binary Equal 20 21) ∷
+      is an_int 53 (Known (Some 0)) ∷
+      is (Pointer 4) 49 (Cast 23) ∷
+      is an_int 48 (Unary Follow 24) ∷
+      is an_int 55 (Known (Some 1)) ∷
+      is an_int 54 (Assign None 25 26) ∷
+      is an_int 58 (Known (Some 0)) ∷ [];
+  stmts = does 6 11 (Declare ((record { place = token 7; init = None } ∷ []))) ∷
+      does 12 20 (Eval (Some 5)) ∷
+      does 21 27 (Eval (Some 10)) ∷
+      does 28 38 (Eval (Some 17)) ∷
+      does 48 56 (Eval (Some 27)) ∷
+      does 39 56 (If 22 (token 47) 4 None) ∷
+      does 57 59 (Return (Some 28)) ∷ [];
+  inits = [];
+  automatic = ((7, 8) ∷ []);
+  stores = [];
+  linked = [];
+  statics = [];
+  sets = [];
+  params = [];
+  body = (0 ∷ 1 ∷ 2 ∷ 3 ∷ 5 ∷ 6 ∷ []);
+  close = 60;
+  strict = false;
+}
+
 -- functions that are built in (C11 7.22.3, 7.24), and the choices that are asked for
 pub record AreBuiltIns : Type 0 where
   -- void *p = malloc(8); free(p); «5»free(p);
@@ -1310,3 +1834,39 @@ pub record AreBuiltIns : Type 0 where
   pub read_after_free : ComesTo read_after_free_text (NewBlock 16 (zeros 8) ∷ NewBlock 32 (zeros 4) ∷ []) (Faulted 3 (token 28))
   -- char *p = malloc(4); if (!p) return 0; free(p); char a[4]; «3»memcpy(p, a, 4);
   pub copy_to_dead : ComesTo copy_to_dead_text (NewBlock 16 (zeros 8) ∷ NewBlock 32 (zeros 4) ∷ NewBlock 48 (zeros 4) ∷ []) (Faulted 3 (token 34))
+  -- char c = __VERIFIER_nondet_char(); if (c == -1) «1»*(int *)0 = 1;
+  pub largest_char : ComesTo largest_char_text (NewBlock 16 (zeros 1) ∷ Input 255 ∷ []) (Faulted 1 (token 20))
+  -- char c = __VERIFIER_nondet_char(); *(int *)0 = 1;
+  pub char_too_large : ComesTo char_too_large_text (NewBlock 16 (zeros 1) ∷ Input 256 ∷ []) Ended
+  -- unsigned char c = __VERIFIER_nondet_uchar(); if (c == 255) «1»*(int *)0 = 1;
+  pub largest_unsigned_char : ComesTo largest_unsigned_char_text (NewBlock 16 (zeros 1) ∷ Input 255 ∷ []) (Faulted 1 (token 20))
+  -- unsigned char c = __VERIFIER_nondet_uchar(); *(int *)0 = 1;
+  pub unsigned_char_too_large : ComesTo unsigned_char_too_large_text (NewBlock 16 (zeros 1) ∷ Input 256 ∷ []) Ended
+  -- short s = __VERIFIER_nondet_short(); if (s == -1) «1»*(int *)0 = 1;
+  pub largest_short : ComesTo largest_short_text (NewBlock 16 (zeros 2) ∷ Input 65535 ∷ []) (Faulted 1 (token 20))
+  -- short s = __VERIFIER_nondet_short(); *(int *)0 = 1;
+  pub short_too_large : ComesTo short_too_large_text (NewBlock 16 (zeros 2) ∷ Input 65536 ∷ []) Ended
+  -- unsigned short s = __VERIFIER_nondet_ushort(); if (s == 65535) «1»*(int *)0 = 1;
+  pub largest_unsigned_short : ComesTo largest_unsigned_short_text (NewBlock 16 (zeros 2) ∷ Input 65535 ∷ []) (Faulted 1 (token 20))
+  -- unsigned short s = __VERIFIER_nondet_ushort(); *(int *)0 = 1;
+  pub unsigned_short_too_large : ComesTo unsigned_short_too_large_text (NewBlock 16 (zeros 2) ∷ Input 65536 ∷ []) Ended
+  -- unsigned u = __VERIFIER_nondet_uint(); if (u == 4294967295U) «1»*(int *)0 = 1;
+  pub largest_unsigned : ComesTo largest_unsigned_text (NewBlock 16 (zeros 4) ∷ Input 4294967295 ∷ []) (Faulted 1 (token 19))
+  -- unsigned u = __VERIFIER_nondet_uint(); *(int *)0 = 1;
+  pub unsigned_too_large : ComesTo unsigned_too_large_text (NewBlock 16 (zeros 4) ∷ Input 4294967296 ∷ []) Ended
+  -- long w = __VERIFIER_nondet_long(); if (w == -1) «1»*(int *)0 = 1;
+  pub largest_long : ComesTo largest_long_text (NewBlock 16 (zeros 8) ∷ Input 18446744073709551615 ∷ []) (Faulted 1 (token 20))
+  -- unsigned long w = __VERIFIER_nondet_ulong(); if (w == 18446744073709551615UL) «1»*(int *)0 = 1;
+  pub largest_unsigned_long : ComesTo largest_unsigned_long_text (NewBlock 16 (zeros 8) ∷ Input 18446744073709551615 ∷ []) (Faulted 1 (token 20))
+  -- unsigned long w = __VERIFIER_nondet_ulong(); *(int *)0 = 1;
+  pub unsigned_long_too_large : ComesTo unsigned_long_too_large_text (NewBlock 16 (zeros 8) ∷ Input 18446744073709551616 ∷ []) Ended
+  -- unsigned long w = __VERIFIER_nondet_ulong(); *(int *)0 = 1;    (where a long has 4 bytes)
+  pub unsigned_long_of_4_bytes : ComesTo unsigned_long_of_4_bytes_text (NewBlock 16 (zeros 4) ∷ Input 4294967296 ∷ []) Ended
+  -- __VERIFIER_error(); *(int *)0 = 1;
+  pub verifier_error : ComesTo verifier_error_text [] Ended
+  -- int *q; { int x; q = &x; } «6»free(q);
+  pub free_of_dead_object : ComesTo free_of_dead_object_text (NewBlock 16 (zeros 8) ∷ NewBlock 32 (zeros 4) ∷ []) (Faulted 6 (token 20))
+  -- static int k; «6»free(&k);
+  pub free_of_static : ComesTo free_of_static_text (NewBlock 16 (zeros 4) ∷ []) (Faulted 6 (token 10))
+  -- char a[8]; memset(a, 0, 8); a[0] = 3; memcpy(a + 4, a, 4); if (a[4] == 3) «1»*(int *)0 = 1;
+  pub side_by_side : ComesTo side_by_side_text (NewBlock 16 (zeros 8) ∷ []) (Faulted 1 (token 48))

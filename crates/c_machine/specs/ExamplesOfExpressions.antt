@@ -2117,6 +2117,605 @@ remainder_assigned_text = record {
   strict = false;
 }
 
+-- _Bool b; _Bool c; c = b; if (c == 5) «1»*(int *)0 = 1;
+abbrev pub truth_copied_text : Sheet
+truth_copied_text = record {
+  exprs = names a_truth 12 (ObjectStands 10) ∷
+      names a_truth 14 (ObjectStands 7) ∷
+      is a_truth 13 (Assign None 0 1) ∷
+      names a_truth 18 (ObjectStands 10) ∷
+      is an_int 20 (Known (Some 5)) ∷
+      is an_int 19 (Binary Equal 3 4) ∷
+      is an_int 27 (Known (Some 0)) ∷
+      is (Pointer 4) 23 (Cast 6) ∷
+      is an_int 22 (Unary Follow 7) ∷
+      is an_int 29 (Known (Some 1)) ∷
+      is an_int 28 (Assign None 8 9) ∷
+      is an_int 32 (Known (Some 0)) ∷ [];
+  stmts = does 6 8 (Declare ((record { place = token 7; init = None } ∷ []))) ∷
+      does 9 11 (Declare ((record { place = token 10; init = None } ∷ []))) ∷
+      does 12 15 (Eval (Some 2)) ∷
+      does 22 30 (Eval (Some 10)) ∷
+      does 16 30 (If 5 (token 21) 3 None) ∷
+      does 31 33 (Return (Some 11)) ∷ [];
+  inits = [];
+  automatic = ((7, 1) ∷ (10, 1) ∷ []);
+  stores = [];
+  linked = [];
+  statics = [];
+  sets = [];
+  params = [];
+  body = (0 ∷ 1 ∷ 2 ∷ 4 ∷ 5 ∷ []);
+  close = 34;
+  strict = false;
+}
+
+-- _Bool b; if ((_Bool)b == 5) «1»*(int *)0 = 1;
+abbrev pub truth_cast_to_itself_text : Sheet
+truth_cast_to_itself_text = record {
+  exprs = names a_truth 14 (ObjectStands 7) ∷
+      is a_truth 11 (Cast 0) ∷
+      is an_int 16 (Known (Some 5)) ∷
+      is an_int 15 (Binary Equal 1 2) ∷
+      is an_int 23 (Known (Some 0)) ∷
+      is (Pointer 4) 19 (Cast 4) ∷
+      is an_int 18 (Unary Follow 5) ∷
+      is an_int 25 (Known (Some 1)) ∷
+      is an_int 24 (Assign None 6 7) ∷
+      is an_int 28 (Known (Some 0)) ∷ [];
+  stmts = does 6 8 (Declare ((record { place = token 7; init = None } ∷ []))) ∷
+      does 18 26 (Eval (Some 8)) ∷
+      does 9 26 (If 3 (token 17) 1 None) ∷
+      does 27 29 (Return (Some 9)) ∷ [];
+  inits = [];
+  automatic = ((7, 1) ∷ []);
+  stores = [];
+  linked = [];
+  statics = [];
+  sets = [];
+  params = [];
+  body = (0 ∷ 2 ∷ 3 ∷ []);
+  close = 30;
+  strict = false;
+}
+
+-- _Bool b; b += 0; if (b == 1) «1»*(int *)0 = 1;
+abbrev pub truth_computed_text : Sheet
+truth_computed_text = record {
+  exprs = names a_truth 9 (ObjectStands 7) ∷
+      is an_int 11 (Known (Some 0)) ∷
+      is a_truth 10 (Assign (Some Add) 0 1) ∷
+      names a_truth 15 (ObjectStands 7) ∷
+      is an_int 17 (Known (Some 1)) ∷
+      is an_int 16 (Binary Equal 3 4) ∷
+      is an_int 24 (Known (Some 0)) ∷
+      is (Pointer 4) 20 (Cast 6) ∷
+      is an_int 19 (Unary Follow 7) ∷
+      is an_int 26 (Known (Some 1)) ∷
+      is an_int 25 (Assign None 8 9) ∷
+      is an_int 29 (Known (Some 0)) ∷ [];
+  stmts = does 6 8 (Declare ((record { place = token 7; init = None } ∷ []))) ∷
+      does 9 12 (Eval (Some 2)) ∷
+      does 19 27 (Eval (Some 10)) ∷
+      does 13 27 (If 5 (token 18) 2 None) ∷
+      does 28 30 (Return (Some 11)) ∷ [];
+  inits = [];
+  automatic = ((7, 1) ∷ []);
+  stores = [];
+  linked = [];
+  statics = [];
+  sets = [];
+  params = [];
+  body = (0 ∷ 1 ∷ 3 ∷ 4 ∷ []);
+  close = 31;
+  strict = false;
+}
+
+-- _Bool b; _Bool c; c = 1 ? b : b; if (c == 1) «1»*(int *)0 = 1;
+abbrev pub truth_of_an_int_text : Sheet
+truth_of_an_int_text = record {
+  exprs = names a_truth 12 (ObjectStands 10) ∷
+      is an_int 14 (Known (Some 1)) ∷
+      names a_truth 16 (ObjectStands 7) ∷
+      names a_truth 18 (ObjectStands 7) ∷
+      is an_int 15 (Choose 1 2 3) ∷
+      is a_truth 13 (Assign None 0 4) ∷
+      names a_truth 22 (ObjectStands 10) ∷
+      is an_int 24 (Known (Some 1)) ∷
+      is an_int 23 (Binary Equal 6 7) ∷
+      is an_int 31 (Known (Some 0)) ∷
+      is (Pointer 4) 27 (Cast 9) ∷
+      is an_int 26 (Unary Follow 10) ∷
+      is an_int 33 (Known (Some 1)) ∷
+      is an_int 32 (Assign None 11 12) ∷
+      is an_int 36 (Known (Some 0)) ∷ [];
+  stmts = does 6 8 (Declare ((record { place = token 7; init = None } ∷ []))) ∷
+      does 9 11 (Declare ((record { place = token 10; init = None } ∷ []))) ∷
+      does 12 19 (Eval (Some 5)) ∷
+      does 26 34 (Eval (Some 13)) ∷
+      does 20 34 (If 8 (token 25) 3 None) ∷
+      does 35 37 (Return (Some 14)) ∷ [];
+  inits = [];
+  automatic = ((7, 1) ∷ (10, 1) ∷ []);
+  stores = [];
+  linked = [];
+  statics = [];
+  sets = [];
+  params = [];
+  body = (0 ∷ 1 ∷ 2 ∷ 4 ∷ 5 ∷ []);
+  close = 38;
+  strict = false;
+}
+
+-- struct n { struct n *next; int v; }; int main(void) { struct n x; struct n *q = malloc(16); if (!q) return 0; free(q); x «3»= *q; return 0; }
+abbrev pub struct_from_dead_text : Sheet
+struct_from_dead_text = record {
+  exprs = names (Pointer 1) 28 (BuiltInStands (codes "malloc") (a_size ∷ []) (Pointer 1)) ∷
+      is an_int 30 (Known (Some 16)) ∷
+      is (Pointer 1) 28 (Call 0 (1 ∷ [])) ∷
+      names (Pointer 16) 36 (ObjectStands 26) ∷
+      is an_int 35 (Unary Not 3) ∷
+      is an_int 39 (Known (Some 0)) ∷
+      names Void 41 (BuiltInStands (codes "free") ((Pointer 1) ∷ []) Void) ∷
+      names (Pointer 16) 43 (ObjectStands 26) ∷
+      is Void 41 (Call 6 (7 ∷ [])) ∷
+      names (Struct 16) 46 (ObjectStands 21) ∷
+      names (Pointer 16) 49 (ObjectStands 26) ∷
+      is (Struct 16) 48 (Unary Follow 10) ∷
+      is Void 47 (Assign None 9 11) ∷
+      is an_int 52 (Known (Some 0)) ∷ [];
+  stmts = does 19 22 (Declare ((record { place = token 21; init = None } ∷ []))) ∷
+      does 23 32 (Declare ((record { place = token 26; init = Some 0 } ∷ []))) ∷
+      does 38 40 (Return (Some 5)) ∷
+      does 33 40 (If 4 (token 37) 2 None) ∷
+      does 41 45 (Eval (Some 8)) ∷
+      does 46 50 (Eval (Some 12)) ∷
+      does 51 53 (Return (Some 13)) ∷ [];
+  inits = Value 2 (token 32) ∷ [];
+  automatic = ((21, 16) ∷ (26, 8) ∷ []);
+  stores = sets_at 26 2 0 (Pointer 16) ∷ [];
+  linked = [];
+  statics = [];
+  sets = [];
+  params = [];
+  body = (0 ∷ 1 ∷ 3 ∷ 4 ∷ 5 ∷ 6 ∷ []);
+  close = 54;
+  strict = false;
+}
+
+-- struct n { struct n *next; int v; }; int main(void) { struct n x; x.v = 4; x = x; if (x.v == 4) «1»*(int *)0 = 1; return 0; }
+abbrev pub struct_copied_to_itself_text : Sheet
+struct_copied_to_itself_text = record {
+  exprs = names (Struct 16) 23 (ObjectStands 21) ∷
+      is an_int 24 (Member 0 8 false) ∷
+      is an_int 27 (Known (Some 4)) ∷
+      is an_int 26 (Assign None 1 2) ∷
+      names (Struct 16) 29 (ObjectStands 21) ∷
+      names (Struct 16) 31 (ObjectStands 21) ∷
+      is Void 30 (Assign None 4 5) ∷
+      names (Struct 16) 35 (ObjectStands 21) ∷
+      is an_int 36 (Member 7 8 false) ∷
+      is an_int 39 (Known (Some 4)) ∷
+      is an_int 38 (Binary Equal 8 9) ∷
+      is an_int 46 (Known (Some 0)) ∷
+      is (Pointer 4) 42 (Cast 11) ∷
+      is an_int 41 (Unary Follow 12) ∷
+      is an_int 48 (Known (Some 1)) ∷
+      is an_int 47 (Assign None 13 14) ∷
+      is an_int 51 (Known (Some 0)) ∷ [];
+  stmts = does 19 22 (Declare ((record { place = token 21; init = None } ∷ []))) ∷
+      does 23 28 (Eval (Some 3)) ∷
+      does 29 32 (Eval (Some 6)) ∷
+      does 41 49 (Eval (Some 15)) ∷
+      does 33 49 (If 10 (token 40) 3 None) ∷
+      does 50 52 (Return (Some 16)) ∷ [];
+  inits = [];
+  automatic = ((21, 16) ∷ []);
+  stores = [];
+  linked = [];
+  statics = [];
+  sets = [];
+  params = [];
+  body = (0 ∷ 1 ∷ 2 ∷ 4 ∷ 5 ∷ []);
+  close = 53;
+  strict = false;
+}
+
+-- struct n { struct n *next; int v; }; int main(void) { struct n *q = 0; (*q)«1».v; return 0; }
+abbrev pub member_of_followed_text : Sheet
+member_of_followed_text = record {
+  exprs = is an_int 24 (Known (Some 0)) ∷
+      names (Pointer 16) 28 (ObjectStands 22) ∷
+      is (Struct 16) 27 (Unary Follow 1) ∷
+      is an_int 30 (Member 2 8 false) ∷
+      is an_int 34 (Known (Some 0)) ∷ [];
+  stmts = does 19 25 (Declare ((record { place = token 22; init = Some 0 } ∷ []))) ∷
+      does 26 32 (Eval (Some 3)) ∷
+      does 33 35 (Return (Some 4)) ∷ [];
+  inits = Value 0 (token 25) ∷ [];
+  automatic = ((22, 8) ∷ []);
+  stores = sets_at 22 0 0 (Pointer 16) ∷ [];
+  linked = [];
+  statics = [];
+  sets = [];
+  params = [];
+  body = (0 ∷ 1 ∷ 2 ∷ []);
+  close = 36;
+  strict = false;
+}
+
+-- struct i { int u, v; }; struct o { long a; struct i in; }; int main(void) { struct o *q = 0; q->in«1».v = 1; return 0; }
+abbrev pub member_of_member_text : Sheet
+member_of_member_text = record {
+  exprs = is an_int 33 (Known (Some 0)) ∷
+      names (Pointer 16) 35 (ObjectStands 31) ∷
+      is (Struct 8) 36 (Member 1 8 true) ∷
+      is an_int 38 (Member 2 4 false) ∷
+      is an_int 41 (Known (Some 1)) ∷
+      is an_int 40 (Assign None 3 4) ∷
+      is an_int 44 (Known (Some 0)) ∷ [];
+  stmts = does 28 34 (Declare ((record { place = token 31; init = Some 0 } ∷ []))) ∷
+      does 35 42 (Eval (Some 5)) ∷
+      does 43 45 (Return (Some 6)) ∷ [];
+  inits = Value 0 (token 34) ∷ [];
+  automatic = ((31, 8) ∷ []);
+  stores = sets_at 31 0 0 (Pointer 16) ∷ [];
+  linked = [];
+  statics = [];
+  sets = [];
+  params = [];
+  body = (0 ∷ 1 ∷ 2 ∷ []);
+  close = 46;
+  strict = false;
+}
+
+-- struct i { int u, v; }; struct o { long a; struct i in; }; int main(void) { struct o x; struct o *q = &x; q->in.v = 1; if (((char *)q)[12] == 1) «1»*(int *)0 = 1; return 0; }
+abbrev pub member_is_set_text : Sheet
+member_is_set_text = record {
+  exprs = names (Struct 16) 38 (ObjectStands 30) ∷
+      is (Pointer 16) 37 (Unary Address 0) ∷
+      names (Pointer 16) 40 (ObjectStands 35) ∷
+      is (Struct 8) 41 (Member 2 8 true) ∷
+      is an_int 43 (Member 3 4 false) ∷
+      is an_int 46 (Known (Some 1)) ∷
+      is an_int 45 (Assign None 4 5) ∷
+      names (Pointer 16) 55 (ObjectStands 35) ∷
+      is (Pointer 1) 51 (Cast 7) ∷
+      is an_int 58 (Known (Some 12)) ∷
+      is a_char 57 (Index 8 9) ∷
+      is an_int 61 (Known (Some 1)) ∷
+      is an_int 60 (Binary Equal 10 11) ∷
+      is an_int 68 (Known (Some 0)) ∷
+      is (Pointer 4) 64 (Cast 13) ∷
+      is an_int 63 (Unary Follow 14) ∷
+      is an_int 70 (Known (Some 1)) ∷
+      is an_int 69 (Assign None 15 16) ∷
+      is an_int 73 (Known (Some 0)) ∷ [];
+  stmts = does 28 31 (Declare ((record { place = token 30; init = None } ∷ []))) ∷
+      does 32 39 (Declare ((record { place = token 35; init = Some 0 } ∷ []))) ∷
+      does 40 47 (Eval (Some 6)) ∷
+      does 63 71 (Eval (Some 17)) ∷
+      does 48 71 (If 12 (token 62) 3 None) ∷
+      does 72 74 (Return (Some 18)) ∷ [];
+  inits = Value 1 (token 39) ∷ [];
+  automatic = ((30, 16) ∷ (35, 8) ∷ []);
+  stores = sets_at 35 1 0 (Pointer 16) ∷ [];
+  linked = [];
+  statics = [];
+  sets = [];
+  params = [];
+  body = (0 ∷ 1 ∷ 2 ∷ 4 ∷ 5 ∷ []);
+  close = 75;
+  strict = false;
+}
+
+-- int a[2][3]; a[1]«2»[3] = 1;
+abbrev pub row_outside_text : Sheet
+row_outside_text = record {
+  exprs = is an_int 9 (Known (Some 2)) ∷
+      is an_int 12 (Known (Some 3)) ∷
+      names (Array 12) 15 (ObjectStands 7) ∷
+      is an_int 17 (Known (Some 1)) ∷
+      is (Array 4) 16 (Index 2 3) ∷
+      is an_int 20 (Known (Some 3)) ∷
+      is an_int 19 (Index 4 5) ∷
+      is an_int 23 (Known (Some 1)) ∷
+      is an_int 22 (Assign None 6 7) ∷
+      is an_int 26 (Known (Some 0)) ∷ [];
+  stmts = does 6 14 (Declare ((record { place = token 7; init = None } ∷ []))) ∷
+      does 15 24 (Eval (Some 8)) ∷
+      does 25 27 (Return (Some 9)) ∷ [];
+  inits = [];
+  automatic = ((7, 24) ∷ []);
+  stores = [];
+  linked = [];
+  statics = [];
+  sets = [];
+  params = [];
+  body = (0 ∷ 1 ∷ 2 ∷ []);
+  close = 28;
+  strict = false;
+}
+
+-- int a[2]; int *p = a + 1; p--; *p = 5; if (a[0] == 5) «1»*(int *)0 = 1;
+abbrev pub counted_down_pointer_text : Sheet
+counted_down_pointer_text = record {
+  exprs = is an_int 9 (Known (Some 2)) ∷
+      names (Array 4) 16 (ObjectStands 7) ∷
+      is an_int 18 (Known (Some 1)) ∷
+      is (Pointer 4) 17 (Binary Add 1 2) ∷
+      names (Pointer 4) 20 (ObjectStands 14) ∷
+      is (Pointer 4) 21 (Count false true 4) ∷
+      names (Pointer 4) 24 (ObjectStands 14) ∷
+      is an_int 23 (Unary Follow 6) ∷
+      is an_int 26 (Known (Some 5)) ∷
+      is an_int 25 (Assign None 7 8) ∷
+      names (Array 4) 30 (ObjectStands 7) ∷
+      is an_int 32 (Known (Some 0)) ∷
+      is an_int 31 (Index 10 11) ∷
+      is an_int 35 (Known (Some 5)) ∷
+      is an_int 34 (Binary Equal 12 13) ∷
+      is an_int 42 (Known (Some 0)) ∷
+      is (Pointer 4) 38 (Cast 15) ∷
+      is an_int 37 (Unary Follow 16) ∷
+      is an_int 44 (Known (Some 1)) ∷
+      is an_int 43 (Assign None 17 18) ∷
+      is an_int 47 (Known (Some 0)) ∷ [];
+  stmts = does 6 11 (Declare ((record { place = token 7; init = None } ∷ []))) ∷
+      does 12 19 (Declare ((record { place = token 14; init = Some 0 } ∷ []))) ∷
+      does 20 22 (Eval (Some 5)) ∷
+      does 23 27 (Eval (Some 9)) ∷
+      does 37 45 (Eval (Some 19)) ∷
+      does 28 45 (If 14 (token 36) 4 None) ∷
+      does 46 48 (Return (Some 20)) ∷ [];
+  inits = Value 3 (token 19) ∷ [];
+  automatic = ((7, 8) ∷ (14, 8) ∷ []);
+  stores = sets_at 14 3 0 (Pointer 4) ∷ [];
+  linked = [];
+  statics = [];
+  sets = [];
+  params = [];
+  body = (0 ∷ 1 ∷ 2 ∷ 3 ∷ 5 ∷ 6 ∷ []);
+  close = 49;
+  strict = false;
+}
+
+-- int a[2]; int *p = a + 1; p -= 1; *p = 5; if (a[0] == 5) «1»*(int *)0 = 1;
+abbrev pub compound_minus_text : Sheet
+compound_minus_text = record {
+  exprs = is an_int 9 (Known (Some 2)) ∷
+      names (Array 4) 16 (ObjectStands 7) ∷
+      is an_int 18 (Known (Some 1)) ∷
+      is (Pointer 4) 17 (Binary Add 1 2) ∷
+      names (Pointer 4) 20 (ObjectStands 14) ∷
+      is an_int 22 (Known (Some 1)) ∷
+      is (Pointer 4) 21 (Assign (Some Sub) 4 5) ∷
+      names (Pointer 4) 25 (ObjectStands 14) ∷
+      is an_int 24 (Unary Follow 7) ∷
+      is an_int 27 (Known (Some 5)) ∷
+      is an_int 26 (Assign None 8 9) ∷
+      names (Array 4) 31 (ObjectStands 7) ∷
+      is an_int 33 (Known (Some 0)) ∷
+      is an_int 32 (Index 11 12) ∷
+      is an_int 36 (Known (Some 5)) ∷
+      is an_int 35 (Binary Equal 13 14) ∷
+      is an_int 43 (Known (Some 0)) ∷
+      is (Pointer 4) 39 (Cast 16) ∷
+      is an_int 38 (Unary Follow 17) ∷
+      is an_int 45 (Known (Some 1)) ∷
+      is an_int 44 (Assign None 18 19) ∷
+      is an_int 48 (Known (Some 0)) ∷ [];
+  stmts = does 6 11 (Declare ((record { place = token 7; init = None } ∷ []))) ∷
+      does 12 19 (Declare ((record { place = token 14; init = Some 0 } ∷ []))) ∷
+      does 20 23 (Eval (Some 6)) ∷
+      does 24 28 (Eval (Some 10)) ∷
+      does 38 46 (Eval (Some 20)) ∷
+      does 29 46 (If 15 (token 37) 4 None) ∷
+      does 47 49 (Return (Some 21)) ∷ [];
+  inits = Value 3 (token 19) ∷ [];
+  automatic = ((7, 8) ∷ (14, 8) ∷ []);
+  stores = sets_at 14 3 0 (Pointer 4) ∷ [];
+  linked = [];
+  statics = [];
+  sets = [];
+  params = [];
+  body = (0 ∷ 1 ∷ 2 ∷ 3 ∷ 5 ∷ 6 ∷ []);
+  close = 50;
+  strict = false;
+}
+
+-- int a[2]; int *p = a; if (p++ == a && p == a + 1) «1»*(int *)0 = 1;
+abbrev pub old_pointer_text : Sheet
+old_pointer_text = record {
+  exprs = is an_int 9 (Known (Some 2)) ∷
+      names (Array 4) 16 (ObjectStands 7) ∷
+      names (Pointer 4) 20 (ObjectStands 14) ∷
+      is (Pointer 4) 21 (Count true true 2) ∷
+      names (Array 4) 23 (ObjectStands 7) ∷
+      is an_int 22 (Binary Equal 3 4) ∷
+      names (Pointer 4) 25 (ObjectStands 14) ∷
+      names (Array 4) 27 (ObjectStands 7) ∷
+      is an_int 29 (Known (Some 1)) ∷
+      is (Pointer 4) 28 (Binary Add 7 8) ∷
+      is an_int 26 (Binary Equal 6 9) ∷
+      is an_int 24 (Binary Both 5 10) ∷
+      is an_int 36 (Known (Some 0)) ∷
+      is (Pointer 4) 32 (Cast 12) ∷
+      is an_int 31 (Unary Follow 13) ∷
+      is an_int 38 (Known (Some 1)) ∷
+      is an_int 37 (Assign None 14 15) ∷
+      is an_int 41 (Known (Some 0)) ∷ [];
+  stmts = does 6 11 (Declare ((record { place = token 7; init = None } ∷ []))) ∷
+      does 12 17 (Declare ((record { place = token 14; init = Some 0 } ∷ []))) ∷
+      does 31 39 (Eval (Some 16)) ∷
+      does 18 39 (If 11 (token 30) 2 None) ∷
+      does 40 42 (Return (Some 17)) ∷ [];
+  inits = Value 1 (token 17) ∷ [];
+  automatic = ((7, 8) ∷ (14, 8) ∷ []);
+  stores = sets_at 14 1 0 (Pointer 4) ∷ [];
+  linked = [];
+  statics = [];
+  sets = [];
+  params = [];
+  body = (0 ∷ 1 ∷ 3 ∷ 4 ∷ []);
+  close = 43;
+  strict = false;
+}
+
+-- char a[2]; void *p = a; p++; *(char *)p = 7; if (a[1] == 7) «1»*(int *)0 = 1;
+abbrev pub counted_by_a_byte_text : Sheet
+counted_by_a_byte_text = record {
+  exprs = is an_int 9 (Known (Some 2)) ∷
+      names (Array 1) 16 (ObjectStands 7) ∷
+      names (Pointer 1) 18 (ObjectStands 14) ∷
+      is (Pointer 1) 19 (Count true true 2) ∷
+      names (Pointer 1) 26 (ObjectStands 14) ∷
+      is (Pointer 1) 22 (Cast 4) ∷
+      is a_char 21 (Unary Follow 5) ∷
+      is an_int 28 (Known (Some 7)) ∷
+      is a_char 27 (Assign None 6 7) ∷
+      names (Array 1) 32 (ObjectStands 7) ∷
+      is an_int 34 (Known (Some 1)) ∷
+      is a_char 33 (Index 9 10) ∷
+      is an_int 37 (Known (Some 7)) ∷
+      is an_int 36 (Binary Equal 11 12) ∷
+      is an_int 44 (Known (Some 0)) ∷
+      is (Pointer 4) 40 (Cast 14) ∷
+      is an_int 39 (Unary Follow 15) ∷
+      is an_int 46 (Known (Some 1)) ∷
+      is an_int 45 (Assign None 16 17) ∷
+      is an_int 49 (Known (Some 0)) ∷ [];
+  stmts = does 6 11 (Declare ((record { place = token 7; init = None } ∷ []))) ∷
+      does 12 17 (Declare ((record { place = token 14; init = Some 0 } ∷ []))) ∷
+      does 18 20 (Eval (Some 3)) ∷
+      does 21 29 (Eval (Some 8)) ∷
+      does 39 47 (Eval (Some 18)) ∷
+      does 30 47 (If 13 (token 38) 4 None) ∷
+      does 48 50 (Return (Some 19)) ∷ [];
+  inits = Value 1 (token 17) ∷ [];
+  automatic = ((7, 2) ∷ (14, 8) ∷ []);
+  stores = sets_at 14 1 0 (Pointer 1) ∷ [];
+  linked = [];
+  statics = [];
+  sets = [];
+  params = [];
+  body = (0 ∷ 1 ∷ 2 ∷ 3 ∷ 5 ∷ 6 ∷ []);
+  close = 51;
+  strict = false;
+}
+
+-- 1L << 32; «1»*(int *)0 = 1;
+abbrev pub long_shift_text : Sheet
+long_shift_text = record {
+  exprs = is a_long 6 (Known (Some 1)) ∷
+      is an_int 8 (Known (Some 32)) ∷
+      is a_long 7 (Binary Left 0 1) ∷
+      is an_int 15 (Known (Some 0)) ∷
+      is (Pointer 4) 11 (Cast 3) ∷
+      is an_int 10 (Unary Follow 4) ∷
+      is an_int 17 (Known (Some 1)) ∷
+      is an_int 16 (Assign None 5 6) ∷
+      is an_int 20 (Known (Some 0)) ∷ [];
+  stmts = does 6 9 (Eval (Some 2)) ∷
+      does 10 18 (Eval (Some 7)) ∷
+      does 19 21 (Return (Some 8)) ∷ [];
+  inits = [];
+  automatic = [];
+  stores = [];
+  linked = [];
+  statics = [];
+  sets = [];
+  params = [];
+  body = (0 ∷ 1 ∷ 2 ∷ []);
+  close = 22;
+  strict = false;
+}
+
+-- 1L << 32; *(int *)0 = 1;    (where a long has 4 bytes)
+abbrev pub shift_of_4_bytes_text : Sheet
+shift_of_4_bytes_text = record {
+  exprs = is an_int 6 (Known (Some 1)) ∷
+      is an_int 8 (Known (Some 32)) ∷
+      is an_int 7 (Binary Left 0 1) ∷
+      is an_int 15 (Known (Some 0)) ∷
+      is (Pointer 4) 11 (Cast 3) ∷
+      is an_int 10 (Unary Follow 4) ∷
+      is an_int 17 (Known (Some 1)) ∷
+      is an_int 16 (Assign None 5 6) ∷
+      is an_int 20 (Known (Some 0)) ∷ [];
+  stmts = does 6 9 (Eval (Some 2)) ∷
+      does 10 18 (Eval (Some 7)) ∷
+      does 19 21 (Return (Some 8)) ∷ [];
+  inits = [];
+  automatic = [];
+  stores = [];
+  linked = [];
+  statics = [];
+  sets = [];
+  params = [];
+  body = (0 ∷ 1 ∷ 2 ∷ []);
+  close = 22;
+  strict = false;
+}
+
+-- if (-1L < 0U) «1»*(int *)0 = 1;
+abbrev pub long_holds_unsigned_text : Sheet
+long_holds_unsigned_text = record {
+  exprs = is a_long 9 (Known (Some 1)) ∷
+      is a_long 8 (Unary Minus 0) ∷
+      is an_unsigned 11 (Known (Some 0)) ∷
+      is an_int 10 (Binary Less 1 2) ∷
+      is an_int 18 (Known (Some 0)) ∷
+      is (Pointer 4) 14 (Cast 4) ∷
+      is an_int 13 (Unary Follow 5) ∷
+      is an_int 20 (Known (Some 1)) ∷
+      is an_int 19 (Assign None 6 7) ∷
+      is an_int 23 (Known (Some 0)) ∷ [];
+  stmts = does 13 21 (Eval (Some 8)) ∷
+      does 6 21 (If 3 (token 12) 0 None) ∷
+      does 22 24 (Return (Some 9)) ∷ [];
+  inits = [];
+  automatic = [];
+  stores = [];
+  linked = [];
+  statics = [];
+  sets = [];
+  params = [];
+  body = (1 ∷ 2 ∷ []);
+  close = 25;
+  strict = false;
+}
+
+-- if ((-1L < 0U) == 0) «1»*(int *)0 = 1;    (where a long has 4 bytes)
+abbrev pub long_of_4_bytes_holds_less_text : Sheet
+long_of_4_bytes_holds_less_text = record {
+  exprs = is an_int 10 (Known (Some 1)) ∷
+      is an_int 9 (Unary Minus 0) ∷
+      is an_unsigned 12 (Known (Some 0)) ∷
+      is an_int 11 (Binary Less 1 2) ∷
+      is an_int 15 (Known (Some 0)) ∷
+      is an_int 14 (Binary Equal 3 4) ∷
+      is an_int 22 (Known (Some 0)) ∷
+      is (Pointer 4) 18 (Cast 6) ∷
+      is an_int 17 (Unary Follow 7) ∷
+      is an_int 24 (Known (Some 1)) ∷
+      is an_int 23 (Assign None 8 9) ∷
+      is an_int 27 (Known (Some 0)) ∷ [];
+  stmts = does 17 25 (Eval (Some 10)) ∷
+      does 6 25 (If 5 (token 16) 0 None) ∷
+      does 26 28 (Return (Some 11)) ∷ [];
+  inits = [];
+  automatic = [];
+  stores = [];
+  linked = [];
+  statics = [];
+  sets = [];
+  params = [];
+  body = (1 ∷ 2 ∷ []);
+  close = 29;
+  strict = false;
+}
+
 -- expressions, from left to right (C11 6.5)
 pub record AreExpressions : Type 0 where
   -- int x; x = 3; if (x == 3) «1»*(int *)0 = 1;
@@ -2245,3 +2844,39 @@ pub record AreExpressions : Type 0 where
   pub compound_narrows : ComesTo compound_narrows_text (NewBlock 16 (zeros 1) ∷ []) (Faulted 1 (token 22))
   -- int n = -7; n %= 3; if (n == -1) «1»*(int *)0 = 1;
   pub remainder_assigned : ComesTo remainder_assigned_text (NewBlock 16 (zeros 4) ∷ []) (Faulted 1 (token 23))
+  -- _Bool b; _Bool c; c = b; if (c == 5) «1»*(int *)0 = 1;
+  pub truth_copied : ComesTo truth_copied_text (NewBlock 16 (5 ∷ []) ∷ NewBlock 32 (zeros 1) ∷ []) (Faulted 1 (token 22))
+  -- _Bool b; if ((_Bool)b == 5) «1»*(int *)0 = 1;
+  pub truth_cast_to_itself : ComesTo truth_cast_to_itself_text (NewBlock 16 (5 ∷ []) ∷ []) (Faulted 1 (token 18))
+  -- _Bool b; b += 0; if (b == 1) «1»*(int *)0 = 1;
+  pub truth_computed : ComesTo truth_computed_text (NewBlock 16 (5 ∷ []) ∷ []) (Faulted 1 (token 19))
+  -- _Bool b; _Bool c; c = 1 ? b : b; if (c == 1) «1»*(int *)0 = 1;
+  pub truth_of_an_int : ComesTo truth_of_an_int_text (NewBlock 16 (5 ∷ []) ∷ NewBlock 32 (zeros 1) ∷ []) (Faulted 1 (token 26))
+  -- struct n { struct n *next; int v; }; int main(void) { struct n x; struct n *q = malloc(16); if (!q) return 0; free(q); x «3»= *q; return 0; }
+  pub struct_from_dead : ComesTo struct_from_dead_text (NewBlock 16 (zeros 16) ∷ NewBlock 32 (zeros 8) ∷ NewBlock 48 (zeros 16) ∷ []) (Faulted 3 (token 47))
+  -- struct n { struct n *next; int v; }; int main(void) { struct n x; x.v = 4; x = x; if (x.v == 4) «1»*(int *)0 = 1; return 0; }
+  pub struct_copied_to_itself : ComesTo struct_copied_to_itself_text (NewBlock 16 (zeros 16) ∷ []) (Faulted 1 (token 41))
+  -- struct n { struct n *next; int v; }; int main(void) { struct n *q = 0; (*q)«1».v; return 0; }
+  pub member_of_followed : ComesTo member_of_followed_text (NewBlock 16 (zeros 8) ∷ []) (Faulted 1 (token 30))
+  -- struct i { int u, v; }; struct o { long a; struct i in; }; int main(void) { struct o *q = 0; q->in«1».v = 1; return 0; }
+  pub member_of_member : ComesTo member_of_member_text (NewBlock 16 (zeros 8) ∷ []) (Faulted 1 (token 38))
+  -- struct i { int u, v; }; struct o { long a; struct i in; }; int main(void) { struct o x; struct o *q = &x; q->in.v = 1; if (((char *)q)[12] == 1) «1»*(int *)0 = 1; return 0; }
+  pub member_is_set : ComesTo member_is_set_text (NewBlock 16 (zeros 16) ∷ NewBlock 32 (zeros 8) ∷ []) (Faulted 1 (token 63))
+  -- int a[2][3]; a[1]«2»[3] = 1;
+  pub row_outside : ComesTo row_outside_text (NewBlock 16 (zeros 24) ∷ []) (Faulted 2 (token 19))
+  -- int a[2]; int *p = a + 1; p--; *p = 5; if (a[0] == 5) «1»*(int *)0 = 1;
+  pub counted_down_pointer : ComesTo counted_down_pointer_text (NewBlock 16 (zeros 8) ∷ NewBlock 32 (zeros 8) ∷ []) (Faulted 1 (token 37))
+  -- int a[2]; int *p = a + 1; p -= 1; *p = 5; if (a[0] == 5) «1»*(int *)0 = 1;
+  pub compound_minus : ComesTo compound_minus_text (NewBlock 16 (zeros 8) ∷ NewBlock 32 (zeros 8) ∷ []) (Faulted 1 (token 38))
+  -- int a[2]; int *p = a; if (p++ == a && p == a + 1) «1»*(int *)0 = 1;
+  pub old_pointer : ComesTo old_pointer_text (NewBlock 16 (zeros 8) ∷ NewBlock 32 (zeros 8) ∷ []) (Faulted 1 (token 31))
+  -- char a[2]; void *p = a; p++; *(char *)p = 7; if (a[1] == 7) «1»*(int *)0 = 1;
+  pub counted_by_a_byte : ComesTo counted_by_a_byte_text (NewBlock 16 (zeros 2) ∷ NewBlock 32 (zeros 8) ∷ []) (Faulted 1 (token 39))
+  -- 1L << 32; «1»*(int *)0 = 1;
+  pub long_shift : ComesTo long_shift_text [] (Faulted 1 (token 10))
+  -- 1L << 32; *(int *)0 = 1;    (where a long has 4 bytes)
+  pub shift_of_4_bytes : ComesTo shift_of_4_bytes_text [] Ended
+  -- if (-1L < 0U) «1»*(int *)0 = 1;
+  pub long_holds_unsigned : ComesTo long_holds_unsigned_text [] (Faulted 1 (token 13))
+  -- if ((-1L < 0U) == 0) «1»*(int *)0 = 1;    (where a long has 4 bytes)
+  pub long_of_4_bytes_holds_less : ComesTo long_of_4_bytes_holds_less_text [] (Faulted 1 (token 17))

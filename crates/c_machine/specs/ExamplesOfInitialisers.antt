@@ -719,6 +719,94 @@ declared_inside_text = record {
   strict = false;
 }
 
+-- _Bool b; _Bool c = b; if (c == 5) «1»*(int *)0 = 1;
+abbrev pub truth_from_truth_text : Sheet
+truth_from_truth_text = record {
+  exprs = names a_truth 12 (ObjectStands 7) ∷
+      names a_truth 16 (ObjectStands 10) ∷
+      is an_int 18 (Known (Some 5)) ∷
+      is an_int 17 (Binary Equal 1 2) ∷
+      is an_int 25 (Known (Some 0)) ∷
+      is (Pointer 4) 21 (Cast 4) ∷
+      is an_int 20 (Unary Follow 5) ∷
+      is an_int 27 (Known (Some 1)) ∷
+      is an_int 26 (Assign None 6 7) ∷
+      is an_int 30 (Known (Some 0)) ∷ [];
+  stmts = does 6 8 (Declare ((record { place = token 7; init = None } ∷ []))) ∷
+      does 9 13 (Declare ((record { place = token 10; init = Some 0 } ∷ []))) ∷
+      does 20 28 (Eval (Some 8)) ∷
+      does 14 28 (If 3 (token 19) 2 None) ∷
+      does 29 31 (Return (Some 9)) ∷ [];
+  inits = Value 0 (token 13) ∷ [];
+  automatic = ((7, 1) ∷ (10, 1) ∷ []);
+  stores = sets_at 10 0 0 a_truth ∷ [];
+  linked = [];
+  statics = [];
+  sets = [];
+  params = [];
+  body = (0 ∷ 1 ∷ 3 ∷ 4 ∷ []);
+  close = 32;
+  strict = false;
+}
+
+-- long w = 4294967296LL; if (w == 4294967296LL) «1»*(int *)0 = 1;
+abbrev pub long_of_8_bytes_text : Sheet
+long_of_8_bytes_text = record {
+  exprs = is a_long 9 (Known (Some 4294967296)) ∷
+      names a_long 13 (ObjectStands 7) ∷
+      is a_long 15 (Known (Some 4294967296)) ∷
+      is an_int 14 (Binary Equal 1 2) ∷
+      is an_int 22 (Known (Some 0)) ∷
+      is (Pointer 4) 18 (Cast 4) ∷
+      is an_int 17 (Unary Follow 5) ∷
+      is an_int 24 (Known (Some 1)) ∷
+      is an_int 23 (Assign None 6 7) ∷
+      is an_int 27 (Known (Some 0)) ∷ [];
+  stmts = does 6 10 (Declare ((record { place = token 7; init = Some 0 } ∷ []))) ∷
+      does 17 25 (Eval (Some 8)) ∷
+      does 11 25 (If 3 (token 16) 1 None) ∷
+      does 26 28 (Return (Some 9)) ∷ [];
+  inits = Value 0 (token 10) ∷ [];
+  automatic = ((7, 8) ∷ []);
+  stores = sets_at 7 0 0 a_long ∷ [];
+  linked = [];
+  statics = [];
+  sets = [];
+  params = [];
+  body = (0 ∷ 2 ∷ 3 ∷ []);
+  close = 29;
+  strict = false;
+}
+
+-- long w = 4294967296LL; if (w == 0) «1»*(int *)0 = 1;    (where a long has 4 bytes)
+abbrev pub long_of_4_bytes_text : Sheet
+long_of_4_bytes_text = record {
+  exprs = is a_long 9 (Known (Some 4294967296)) ∷
+      names an_int 13 (ObjectStands 7) ∷
+      is an_int 15 (Known (Some 0)) ∷
+      is an_int 14 (Binary Equal 1 2) ∷
+      is an_int 22 (Known (Some 0)) ∷
+      is (Pointer 4) 18 (Cast 4) ∷
+      is an_int 17 (Unary Follow 5) ∷
+      is an_int 24 (Known (Some 1)) ∷
+      is an_int 23 (Assign None 6 7) ∷
+      is an_int 27 (Known (Some 0)) ∷ [];
+  stmts = does 6 10 (Declare ((record { place = token 7; init = Some 0 } ∷ []))) ∷
+      does 17 25 (Eval (Some 8)) ∷
+      does 11 25 (If 3 (token 16) 1 None) ∷
+      does 26 28 (Return (Some 9)) ∷ [];
+  inits = Value 0 (token 10) ∷ [];
+  automatic = ((7, 4) ∷ []);
+  stores = sets_at 7 0 0 an_int ∷ [];
+  linked = [];
+  statics = [];
+  sets = [];
+  params = [];
+  body = (0 ∷ 2 ∷ 3 ∷ []);
+  close = 29;
+  strict = false;
+}
+
 -- initialisers, and objects that live as long as the program runs (C11 6.2.4, 6.7.9)
 pub record AreInitialisers : Type 0 where
   -- int a[2] = { 1 }; if (a[1] == 0) «1»*(int *)0 = 1;
@@ -763,3 +851,9 @@ pub record AreInitialisers : Type 0 where
   pub static_inside_an_operand : ComesTo static_inside_an_operand_text (NewBlock 16 (zeros 4) ∷ NewBlock 32 (zeros 4) ∷ []) (Faulted 1 (token 28))
   -- int main(void) { extern int y; if (y == 3) «1»*(int *)0 = 1; return 0; } int y = 3;
   pub declared_inside : ComesTo declared_inside_text (NewBlock 16 (zeros 4) ∷ []) (Faulted 1 (token 16))
+  -- _Bool b; _Bool c = b; if (c == 5) «1»*(int *)0 = 1;
+  pub truth_from_truth : ComesTo truth_from_truth_text (NewBlock 16 (5 ∷ []) ∷ NewBlock 32 (zeros 1) ∷ []) (Faulted 1 (token 20))
+  -- long w = 4294967296LL; if (w == 4294967296LL) «1»*(int *)0 = 1;
+  pub long_of_8_bytes : ComesTo long_of_8_bytes_text (NewBlock 16 (zeros 8) ∷ []) (Faulted 1 (token 17))
+  -- long w = 4294967296LL; if (w == 0) «1»*(int *)0 = 1;    (where a long has 4 bytes)
+  pub long_of_4_bytes : ComesTo long_of_4_bytes_text (NewBlock 16 (1 ∷ 1 ∷ 1 ∷ 1 ∷ []) ∷ []) (Faulted 1 (token 17))

@@ -1429,6 +1429,170 @@ still_held_elsewhere_text = record {
   strict = false;
 }
 
+-- malloc(8) == ({ while (1) malloc(8) == ({ «7»break; (void *)0; }); (void *)0; });
+abbrev pub inner_allocation_goes_text : Sheet
+inner_allocation_goes_text = record {
+  exprs = names (Pointer 1) 6 (BuiltInStands (codes "malloc") (a_size ∷ []) (Pointer 1)) ∷
+      is an_int 8 (Known (Some 8)) ∷
+      is (Pointer 1) 6 (Call 0 (1 ∷ [])) ∷
+      is an_int 15 (Known (Some 1)) ∷
+      names (Pointer 1) 17 (BuiltInStands (codes "malloc") (a_size ∷ []) (Pointer 1)) ∷
+      is an_int 19 (Known (Some 8)) ∷
+      is (Pointer 1) 17 (Call 4 (5 ∷ [])) ∷
+      is an_int 30 (Known (Some 0)) ∷
+      is (Pointer 1) 26 (Cast 7) ∷
+      is (Pointer 1) 22 (Inner (0 ∷ 1 ∷ []) (token 32)) ∷
+      is an_int 21 (Binary Equal 6 9) ∷
+      is an_int 39 (Known (Some 0)) ∷
+      is (Pointer 1) 35 (Cast 11) ∷
+      is (Pointer 1) 11 (Inner (3 ∷ 4 ∷ []) (token 41)) ∷
+      is an_int 10 (Binary Equal 2 13) ∷
+      is an_int 45 (Known (Some 0)) ∷ [];
+  stmts = does 24 25 Break ∷
+      does 26 31 (Eval (Some 8)) ∷
+      does 17 34 (Eval (Some 10)) ∷
+      does 13 34 (While 3 (token 16) 2) ∷
+      does 35 40 (Eval (Some 12)) ∷
+      does 6 43 (Eval (Some 14)) ∷
+      does 44 46 (Return (Some 15)) ∷ [];
+  inits = [];
+  automatic = [];
+  stores = [];
+  linked = [];
+  statics = [];
+  sets = [];
+  params = [];
+  body = (5 ∷ 6 ∷ []);
+  close = 47;
+  strict = false;
+}
+
+-- malloc(8) == ({ while (1) malloc(8) == ({ break; (void *)0; }); (void *)0; })«7»;
+abbrev pub outer_allocation_stays_text : Sheet
+outer_allocation_stays_text = record {
+  exprs = names (Pointer 1) 6 (BuiltInStands (codes "malloc") (a_size ∷ []) (Pointer 1)) ∷
+      is an_int 8 (Known (Some 8)) ∷
+      is (Pointer 1) 6 (Call 0 (1 ∷ [])) ∷
+      is an_int 15 (Known (Some 1)) ∷
+      names (Pointer 1) 17 (BuiltInStands (codes "malloc") (a_size ∷ []) (Pointer 1)) ∷
+      is an_int 19 (Known (Some 8)) ∷
+      is (Pointer 1) 17 (Call 4 (5 ∷ [])) ∷
+      is an_int 30 (Known (Some 0)) ∷
+      is (Pointer 1) 26 (Cast 7) ∷
+      is (Pointer 1) 22 (Inner (0 ∷ 1 ∷ []) (token 32)) ∷
+      is an_int 21 (Binary Equal 6 9) ∷
+      is an_int 39 (Known (Some 0)) ∷
+      is (Pointer 1) 35 (Cast 11) ∷
+      is (Pointer 1) 11 (Inner (3 ∷ 4 ∷ []) (token 41)) ∷
+      is an_int 10 (Binary Equal 2 13) ∷
+      is an_int 45 (Known (Some 0)) ∷ [];
+  stmts = does 24 25 Break ∷
+      does 26 31 (Eval (Some 8)) ∷
+      does 17 34 (Eval (Some 10)) ∷
+      does 13 34 (While 3 (token 16) 2) ∷
+      does 35 40 (Eval (Some 12)) ∷
+      does 6 43 (Eval (Some 14)) ∷
+      does 44 46 (Return (Some 15)) ∷ [];
+  inits = [];
+  automatic = [];
+  stores = [];
+  linked = [];
+  statics = [];
+  sets = [];
+  params = [];
+  body = (5 ∷ 6 ∷ []);
+  close = 47;
+  strict = false;
+}
+
+-- malloc(8) == ({ while (1) malloc(8) == ({ break; (void *)0; }); (void *)0; });
+abbrev pub no_allocation_stays_text : Sheet
+no_allocation_stays_text = record {
+  exprs = names (Pointer 1) 6 (BuiltInStands (codes "malloc") (a_size ∷ []) (Pointer 1)) ∷
+      is an_int 8 (Known (Some 8)) ∷
+      is (Pointer 1) 6 (Call 0 (1 ∷ [])) ∷
+      is an_int 15 (Known (Some 1)) ∷
+      names (Pointer 1) 17 (BuiltInStands (codes "malloc") (a_size ∷ []) (Pointer 1)) ∷
+      is an_int 19 (Known (Some 8)) ∷
+      is (Pointer 1) 17 (Call 4 (5 ∷ [])) ∷
+      is an_int 30 (Known (Some 0)) ∷
+      is (Pointer 1) 26 (Cast 7) ∷
+      is (Pointer 1) 22 (Inner (0 ∷ 1 ∷ []) (token 32)) ∷
+      is an_int 21 (Binary Equal 6 9) ∷
+      is an_int 39 (Known (Some 0)) ∷
+      is (Pointer 1) 35 (Cast 11) ∷
+      is (Pointer 1) 11 (Inner (3 ∷ 4 ∷ []) (token 41)) ∷
+      is an_int 10 (Binary Equal 2 13) ∷
+      is an_int 45 (Known (Some 0)) ∷ [];
+  stmts = does 24 25 Break ∷
+      does 26 31 (Eval (Some 8)) ∷
+      does 17 34 (Eval (Some 10)) ∷
+      does 13 34 (While 3 (token 16) 2) ∷
+      does 35 40 (Eval (Some 12)) ∷
+      does 6 43 (Eval (Some 14)) ∷
+      does 44 46 (Return (Some 15)) ∷ [];
+  inits = [];
+  automatic = [];
+  stores = [];
+  linked = [];
+  statics = [];
+  sets = [];
+  params = [];
+  body = (5 ∷ 6 ∷ []);
+  close = 47;
+  strict = false;
+}
+
+-- static void *k; int main(void) { k = malloc(8); for (;;) «9»return 0; }    (where no allocated block may live when main returns)
+abbrev pub never_freed_out_of_a_loop_text : Sheet
+never_freed_out_of_a_loop_text = record {
+  exprs = names (Pointer 1) 11 (ObjectStands 3) ∷
+      names (Pointer 1) 13 (BuiltInStands (codes "malloc") (a_size ∷ []) (Pointer 1)) ∷
+      is an_int 15 (Known (Some 8)) ∷
+      is (Pointer 1) 13 (Call 1 (2 ∷ [])) ∷
+      is (Pointer 1) 12 (Assign None 0 3) ∷
+      is an_int 24 (Known (Some 0)) ∷ [];
+  stmts = does 11 17 (Eval (Some 4)) ∷
+      does 20 20 (Eval None) ∷
+      does 23 25 (Return (Some 5)) ∷
+      does 18 25 (For 1 None (token 21) None (token 22) 2) ∷ [];
+  inits = [];
+  automatic = [];
+  stores = [];
+  linked = [];
+  statics = (object 3 8 ∷ []);
+  sets = [];
+  params = [];
+  body = (0 ∷ 3 ∷ []);
+  close = 26;
+  strict = true;
+}
+
+-- static void *k; int main(void) { k = malloc(8); for (;;) return 0; }    (where no allocated block may live when main returns)
+abbrev pub nothing_to_free_out_of_a_loop_text : Sheet
+nothing_to_free_out_of_a_loop_text = record {
+  exprs = names (Pointer 1) 11 (ObjectStands 3) ∷
+      names (Pointer 1) 13 (BuiltInStands (codes "malloc") (a_size ∷ []) (Pointer 1)) ∷
+      is an_int 15 (Known (Some 8)) ∷
+      is (Pointer 1) 13 (Call 1 (2 ∷ [])) ∷
+      is (Pointer 1) 12 (Assign None 0 3) ∷
+      is an_int 24 (Known (Some 0)) ∷ [];
+  stmts = does 11 17 (Eval (Some 4)) ∷
+      does 20 20 (Eval None) ∷
+      does 23 25 (Return (Some 5)) ∷
+      does 18 25 (For 1 None (token 21) None (token 22) 2) ∷ [];
+  inits = [];
+  automatic = [];
+  stores = [];
+  linked = [];
+  statics = (object 3 8 ∷ []);
+  sets = [];
+  params = [];
+  body = (0 ∷ 3 ∷ []);
+  close = 26;
+  strict = true;
+}
+
 -- where lost memory is looked for
 pub record AreLosses : Type 0 where
   -- void *p = malloc(8); «7»return 0;
@@ -1535,3 +1699,13 @@ pub record AreLosses : Type 0 where
   pub overwritten : ComesTo overwritten_text (NewBlock 16 (zeros 8) ∷ NewBlock 32 (zeros 8) ∷ NewBlock 48 (zeros 8) ∷ []) (Faulted 7 (token 21))
   -- void *q = malloc(8); void *r = q; q = 0; free(r); if (1) «1»*(int *)0 = 1;
   pub still_held_elsewhere : ComesTo still_held_elsewhere_text (NewBlock 16 (zeros 8) ∷ NewBlock 32 (zeros 8) ∷ NewBlock 48 (zeros 8) ∷ []) (Faulted 1 (token 34))
+  -- malloc(8) == ({ while (1) malloc(8) == ({ «7»break; (void *)0; }); (void *)0; });
+  pub inner_allocation_goes : ComesTo inner_allocation_goes_text (NewBlock 16 (zeros 8) ∷ NewBlock 32 (zeros 8) ∷ []) (Faulted 7 (token 24))
+  -- malloc(8) == ({ while (1) malloc(8) == ({ break; (void *)0; }); (void *)0; })«7»;
+  pub outer_allocation_stays : ComesTo outer_allocation_stays_text (NewBlock 16 (zeros 8) ∷ NoBlock ∷ []) (Faulted 7 (token 43))
+  -- malloc(8) == ({ while (1) malloc(8) == ({ break; (void *)0; }); (void *)0; });
+  pub no_allocation_stays : ComesTo no_allocation_stays_text (NoBlock ∷ NoBlock ∷ []) Ended
+  -- static void *k; int main(void) { k = malloc(8); for (;;) «9»return 0; }    (where no allocated block may live when main returns)
+  pub never_freed_out_of_a_loop : ComesTo never_freed_out_of_a_loop_text (NewBlock 16 (zeros 8) ∷ NewBlock 32 (zeros 8) ∷ []) (Faulted 9 (token 23))
+  -- static void *k; int main(void) { k = malloc(8); for (;;) return 0; }    (where no allocated block may live when main returns)
+  pub nothing_to_free_out_of_a_loop : ComesTo nothing_to_free_out_of_a_loop_text (NewBlock 16 (zeros 8) ∷ NoBlock ∷ []) Ended

@@ -41,6 +41,19 @@ rows =
     ∷ ObjectHanded (object 45 int_type)
     ∷ []
 
+-- int main(void) { static int i = sizeof(({ static char k; 1; })); .. } static int d; int e;
+abbrev pub inner_rows : List Handed
+inner_rows =
+    FunctionHanded (record { token = 1; result = int_type })
+    ∷ ObjectHanded (object 16 char_type)
+    ∷ StoreHanded (value 8 int_type 1)
+    ∷ ObjectHanded (object 8 int_type)
+    ∷ linked 29 29
+    ∷ ObjectHanded (object 29 int_type)
+    ∷ linked 32 32
+    ∷ ObjectHanded (object 32 int_type)
+    ∷ []
+
 pub record AreFoundInRows : Type 0 where
   -- a later declaration leads to the first one, and any other name to itself (C11 6.2.2p2)
   pub first_declaration : first_in rows 2 ≡ 2
@@ -58,6 +71,9 @@ pub record AreFoundInRows : Type 0 where
   -- those of the file come first, in order of the text, then those inside functions
   pub of_the_file : fixed_in rows true rows ≡ object 40 long_type ∷ object 45 int_type ∷ []
   pub of_functions : fixed_in rows false rows ≡ object 23 char_type ∷ []
+  -- an object comes before one that is declared in its initialiser
+  pub inside_an_initialiser : fixed_in inner_rows false inner_rows ≡ object 8 int_type ∷ object 16 char_type ∷ []
+  pub outside_of_it : fixed_in inner_rows true inner_rows ≡ object 29 int_type ∷ object 32 int_type ∷ []
   -- what values of initialisers set (6.7.9)
   pub set_value : store_in rows 28 1 ≡ Some (value 28 int_type 1)
   pub value_of_another : store_in rows 28 0 ≡ None

@@ -65,6 +65,8 @@ pub record AreSteps : Type 0 where
   -- a return converts its value and lets go of what unfinished expressions hold, but for those around the call
   pub value_is_converted : after (GiveBack (token 3) an_int ∷ Push 0 ∷ EndOfBody false a_truth (token 9) 1 ∷ Unknown ∷ []) (Plain 5 ∷ Plain 8 ∷ Plain 4 ∷ []) holder [] []
       ≡ Went (doing (LeaveFunction (token 3) ∷ Unknown ∷ []) (Plain 1 ∷ Plain 4 ∷ []) holder []) []
+  pub truth_stays_as_it_is : after (GiveBack (token 3) a_truth ∷ EndOfBody false a_truth (token 9) 0 ∷ []) (Plain 5 ∷ []) holder [] []
+      ≡ Went (doing (LeaveFunction (token 3) ∷ []) (Plain 5 ∷ []) holder []) []
   pub held_value_goes : after (GiveBack (token 3) an_int ∷ EndOfBody false an_int (token 9) 0 ∷ []) (Plain 5 ∷ To 1 (pos 0) ∷ []) [] [] [] ≡ Faulted 7 (token 3)
   -- a run that is over stays over; no program comes to the others
   pub over : after [] [] holder [] (NoBlock ∷ []) ≡ Ended

@@ -1,11 +1,14 @@
 -- Laws of the machine.
-use Rattle.std.specs.Prelude.{◌≡◌, ℕ, ◌⊎◌, List, [], ◌∷◌, ◌++◌}
+use Rattle.std.specs.Prelude.{◌≡◌, ℕ, ◌^◌, ◌<◌, false, ◌⊎◌, List, [], ◌∷◌, ◌++◌}
 use Rattle.choices.specs.declared.choice.Choice.{Choice}
+use Rattle.operators.specs.declared.kind.IntegerType.{IntegerType}
+use Rattle.values.specs.Values.{as_type}
 use Rattle.c_machine.specs.Program.{Program}
 use Rattle.c_machine.specs.State.{StateIn, Outcome, Went, Waits, Ended, Faulted, NotYet, Stuck}
 use Rattle.c_machine.specs.Run.{run, run_of}
 use Rattle.c_machine.specs.Step.{step}
 use Rattle.c_machine.specs.Trees.{text_of}
+use Rattle.c_machine.specs.Words.{integer_as}
 
 -- what a step that goes on leaves of the choices is all of them, or all but the first; and one that waits has none to take
 abbrev pub TakesOne : {E S I : Type 0} → List Choice → Outcome E S I → Type 0
@@ -44,3 +47,7 @@ abbrev pub DoProgramsLeaveMore : Type 0
 DoProgramsLeaveMore =
     (p : Program) (steps : ℕ) (choices more : List Choice)
     → LeavesMore more (run_of (text_of p) choices steps) (run_of (text_of p) (choices ++ more) steps)
+
+-- where integers become ones of another type than `_Bool`, that a type is its own makes no difference to the rules between types (C11 6.3p2, 6.3.1.3)
+abbrev pub DoConversionsAgree : Type 0
+DoConversionsAgree = (from to : IntegerType) (bits : ℕ) → to.truth ≡ false → bits < 256 ^ from.bytes → integer_as from to bits ≡ as_type from to bits

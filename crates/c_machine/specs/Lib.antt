@@ -1,6 +1,7 @@
 pub mod Blocks
 pub mod Choosing
 pub mod ExamplesOfTrees
+pub mod ExamplesOfStatics
 pub mod ExamplesOfAccesses
 pub mod ExamplesOfBuiltIns
 pub mod ExamplesOfExpressions

@@ -1,7 +1,7 @@
 -- Programs of C: the items of a text that typing passes, and what typing hands on of them, with what is found there.
 --
 -- An expression leads to its row by its number, and an object is known by how many tokens stand before the name that declared it first.
-use Rattle.std.specs.Prelude.{ℕ, Bool, false, not, ◌&&◌, ◌||◌, List, [], ◌∷◌, nat_eq, Option, None, Some, option_and_then, if◌then◌else◌}
+use Rattle.std.specs.Prelude.{ℕ, Bool, false, not, ◌&&◌, ◌||◌, List, [], ◌∷◌, nat_eq, nat_lt, Option, None, Some, option_and_then, if◌then◌else◌}
 use Rattle.std.specs.Option.{option_map_or}
 use Rattle.cbase.specs.declared.abi.Abi.{Abi}
 use Rattle.cbase.specs.declared.ctype.CType.{CType}
@@ -78,11 +78,16 @@ is_fixed_row (Some row) = row.fixed
 abbrev pub is_static : Program → ℕ → Bool
 is_static p token = is_linked_in p.handed token || is_fixed_row (object_in p.handed token)
 
+-- a row before those of names that stand behind its own in the text
+abbrev pub put_in_order : ObjectRow → List ObjectRow → List ObjectRow
+put_in_order row [] = row ∷ []
+put_in_order row (next ∷ rest) = if nat_lt next.token row.token then next ∷ put_in_order row rest else row ∷ next ∷ rest
+
 -- the objects that live as long as the program runs: those of the file, or those inside functions, in order of the text
 abbrev pub fixed_in : List Handed → Bool → List Handed → List ObjectRow
 fixed_in all outside [] = []
 fixed_in all outside (ObjectHanded row ∷ rest) =
-    if row.fixed && (if outside then is_linked_in all row.token else not (is_linked_in all row.token)) then row ∷ fixed_in all outside rest
+    if row.fixed && (if outside then is_linked_in all row.token else not (is_linked_in all row.token)) then put_in_order row (fixed_in all outside rest)
     else fixed_in all outside rest
 fixed_in all outside (other ∷ rest) = fixed_in all outside rest
 

@@ -61,10 +61,16 @@ start t choices = start_main t t.enough t.main choices
 abbrev pub run_of : (t : Text) → List Choice → ℕ → OutcomeIn t
 run_of t choices steps = then_go (start t choices) (run steps t)
 
--- with these choices the run meets this fault
-abbrev pub Leads : Text → List Choice → ℕ → Place → Type 0
-Leads t choices kind place = (steps : ℕ) × (run_of t choices steps ≡ Faulted kind place)
+-- with these choices the run comes to that; and it meets this fault
+abbrev pub Comes : (t : Text) → List Choice → OutcomeIn t → Type 0
+Comes t choices outcome = (steps : ℕ) × (run_of t choices steps ≡ outcome)
 
--- a program is sound where no choices and no number of steps reach a fault
-abbrev pub IsSound : Text → Type 0
-IsSound t = (choices : List Choice) (kind : ℕ) (place : Place) → Leads t choices kind place → ⊥
+abbrev pub Leads : Text → List Choice → ℕ → Place → Type 0
+Leads t choices kind place = Comes t choices (Faulted kind place)
+
+-- a program is sound where no choices lead to a fault, to a call of a function that it defines, behind which nothing is described yet, or to what no
+-- program of C does
+pub record IsSound (t : Text) : Type 0 where
+  pub meets_no_fault : (choices : List Choice) (kind : ℕ) (place : Place) → Leads t choices kind place → ⊥
+  pub calls_no_body : (choices : List Choice) → Comes t choices NotYet → ⊥
+  pub stays_in_c : (choices : List Choice) → Comes t choices Stuck → ⊥

@@ -117,6 +117,12 @@ a_char = Integer (integer 1 true)
 abbrev pub a_byte : Kind
 a_byte = Integer (integer 1 false)
 
+abbrev pub a_short : Kind
+a_short = Integer (integer 2 true)
+
+abbrev pub an_unsigned_short : Kind
+an_unsigned_short = Integer (integer 2 false)
+
 abbrev pub a_long : Kind
 a_long = Integer (integer 8 true)
 

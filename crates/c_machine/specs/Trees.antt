@@ -41,11 +41,12 @@ kind_as p t type.Void = Void
 abbrev pub kind_in : Program → CType → Kind
 kind_in p t = kind_as p t (kind_of p.structs t)
 
--- what a name stands for
+-- what a name stands for. A function that is built in has no body in the text, also where an object of its name is passed over there
 abbrev pub function_stands : Program → Option (List ℕ) → FunctionEntity → Standing
 function_stands p None function = NothingStands
 function_stands p (Some name) function =
-    if function.defined then BodyStands else BuiltInStands name (map (kind_in p) function.params) (kind_in p function.result)
+    if function.built_in then BuiltInStands name (map (kind_in p) function.params) (kind_in p function.result)
+    else (if function.defined then BodyStands else NothingStands)
 
 abbrev pub standing : Program → Option (List ℕ) → Option Entity → Standing
 standing p name (Some (ObjectIs object)) = ObjectStands object.token

@@ -1,5 +1,5 @@
 -- What operators and conversions make of words (C11 6.3, 6.5). An integer is a plain number, the bits of its type.
-use Rattle.std.specs.Prelude.{ℕ, Bool, true, false, not, List, nat_eq, pos, neg_ℤ, ◌*ℤ◌, Option, None, Some, option_map}
+use Rattle.std.specs.Prelude.{ℕ, Bool, true, false, not, ◌&&◌, List, nat_eq, pos, neg_ℤ, ◌*ℤ◌, Option, None, Some, option_map, if◌then◌else◌}
 use Rattle.cbase.specs.declared.tree.operators.BinaryOp.{BinaryOp}
 use Rattle.cbase.specs.declared.tree.operators.BinaryOp.TheVariants.{Add, Sub, Left, Right, Equal, NotEqual}
 use Rattle.cbase.specs.declared.tree.operators.UnaryOp.{UnaryOp}
@@ -25,10 +25,22 @@ abbrev pub told : Bool → Bool → Word
 told true holds = Plain (answer holds)
 told false holds = Plain (answer (not holds))
 
--- a value of one kind as one of another (6.3.1.2, 6.3.1.3, 6.3.2.3). Pointers convert as they are. What becomes `void` is let go of
+-- whether two types of integers are one
+abbrev pub are_alike : Bool → Bool → Bool
+are_alike true other = other
+are_alike false other = not other
+
+abbrev pub is_same : IntegerType → IntegerType → Bool
+is_same from to = nat_eq from.bytes to.bytes && (are_alike from.signed to.signed && are_alike from.truth to.truth)
+
+-- an integer of one type as one of another (6.3.1.2, 6.3.1.3). To its own type it stays as it is, also a byte of `_Bool` that is neither 0 nor 1 (6.3p2)
+abbrev pub integer_as : IntegerType → IntegerType → ℕ → ℕ
+integer_as from to bits = if is_same from to then bits else as_type from to bits
+
+-- a value of one kind as one of another (6.3.2.3). Pointers convert as they are. What becomes `void` is let go of
 abbrev pub as_kind : List Block → Kind → Kind → Word → Word
 as_kind memory from Void word = Plain 0
-as_kind memory (Integer from) (Integer to) word = Plain (as_type from to (address_number memory word))
+as_kind memory (Integer from) (Integer to) word = Plain (integer_as from to (address_number memory word))
 as_kind memory (Integer from) (Pointer bytes) word = Plain (converted from.bytes from.signed 8 (address_number memory word))
 as_kind memory from (Integer to) word = Plain (offset_as to (address_number memory word))
 as_kind memory from to word = word

@@ -1,5 +1,5 @@
 //! Laws of the machine. Each is the contract of a function that does nothing.
-ghost use Rattle.c_machine.specs.Laws.{DoProgramsLeaveMore, DoRunsLeaveMore, DoStepsLeaveMore, DoStepsTakeOne};
+ghost use Rattle.c_machine.specs.Laws.{DoConversionsAgree, DoProgramsLeaveMore, DoRunsLeaveMore, DoStepsLeaveMore, DoStepsTakeOne};
 ghost use Rattle.c_machine.specs.Reading.{AreRead};
 
 /// A step takes at most one choice, and waits only where there is none.
@@ -24,4 +24,10 @@ pub fn a_run_is_determined_by_its_choices()
 /// The machine is told of each form of expression, of each form of statement, of initialisers and of each type what stands in the tree.
 pub fn trees_are_read_form_by_form()
     ensures { AreRead }
+{}
+
+/// Where integers become ones of another type than `_Bool`, it makes no difference that a type is its own.
+#[tactic(auto, using(crate::proofs::OwnTypes::conversions_agree))]
+pub fn only_bool_tells_its_own_type_from_others()
+    ensures { DoConversionsAgree }
 {}

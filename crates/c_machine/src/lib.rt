@@ -19,7 +19,8 @@ pub use kind::Kind;
 pub use object::Object;
 pub use rows::{
     accesses_come_out, built_in_functions_come_out, expressions_come_out, initialisers_come_out,
-    losses_come_out, rows_are_found, statements_come_out, steps_come_out, whole_programs_come_out,
+    losses_come_out, programs_with_static_objects_come_out, rows_are_found, statements_come_out,
+    steps_come_out, whole_programs_come_out,
 };
 pub use task::Task;
 pub use variable::Variable;

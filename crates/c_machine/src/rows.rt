@@ -5,6 +5,7 @@ ghost use Rattle.c_machine.specs.ExamplesOfExpressions.{AreExpressions};
 ghost use Rattle.c_machine.specs.ExamplesOfInitialisers.{AreInitialisers};
 ghost use Rattle.c_machine.specs.ExamplesOfLosses.{AreLosses};
 ghost use Rattle.c_machine.specs.ExamplesOfRows.{AreFoundInRows};
+ghost use Rattle.c_machine.specs.ExamplesOfStatics.{AreStaticPrograms};
 ghost use Rattle.c_machine.specs.ExamplesOfStatements.{AreStatements};
 ghost use Rattle.c_machine.specs.ExamplesOfSteps.{AreSteps};
 ghost use Rattle.c_machine.specs.ExamplesOfTrees.{AreWholePrograms};
@@ -13,6 +14,12 @@ ghost use Rattle.c_machine.specs.ExamplesOfTrees.{AreWholePrograms};
 #[tactic(auto, using(crate::proofs::ExamplesOfTrees::are_whole_programs))]
 pub fn whole_programs_come_out()
     ensures { AreWholePrograms }
+{}
+
+/// Whole programs with static objects, as trees (C11 5.1.2p1, 6.2.4p3).
+#[tactic(auto, using(crate::proofs::ExamplesOfStatics::are_static_programs))]
+pub fn programs_with_static_objects_come_out()
+    ensures { AreStaticPrograms }
 {}
 
 /// Expressions, from left to right (C11 6.5).

@@ -3,14 +3,14 @@ ghost use Rattle.std.specs.Prelude.{◌≡◌, ℕ};
 ghost use Rattle.arithmetic.specs.Conversion.{converted};
 ghost use Rattle.bytes_core.specs.Value.{address_number};
 ghost use Rattle.values.specs.Values.{as_type, offset_as};
-ghost use Rattle.c_machine.specs.Words.{as_kind};
+ghost use Rattle.c_machine.specs.Words.{as_kind, integer_as, is_same};
 ghost use Rattle.c_words.specs.Integers.{integer_from};
 
 use arithmetic::{Size, convert, convert_to_truth};
 use bytes_core::{Memory, Word};
 use c_machine::{Kind, WholeType};
 
-/// A value of one type as one of another (C11 6.3.1.2, 6.3.1.3, 6.3.2.3).
+/// A value of one type as one of another (C11 6.3p2, 6.3.1.2, 6.3.1.3, 6.3.2.3).
 ///
 /// Pointers convert as they are; as an integer a pointer is its address number. What becomes `void` is let go of, and 0 stands for it.
 pub fn as_kind(memory: &Memory, from: Kind, to: Kind, word: Word) -> Word
@@ -29,9 +29,28 @@ fn as_integer(from: Kind, to: WholeType, bits: u64) -> u64
     ensures { result ≡ integer_from from to bits }
 {
     match from {
-        Kind::Integer(from) => as_type(from, to, bits),
+        Kind::Integer(from) => integer_as(from, to, bits),
         Kind::Pointer(_) | Kind::Array(_) | Kind::Struct(_) | Kind::Void => offset_as(to, bits),
     }
+}
+
+/// An integer of one type as one of another. To its own type it stays as it is, also a byte of `_Bool` that is neither 0 nor 1 (C11 6.3p2).
+fn integer_as(from: WholeType, to: WholeType, bits: u64) -> u64
+    ensures { result ≡ integer_as from to bits }
+{
+    if is_same(from, to) {
+        bits
+    } else {
+        as_type(from, to, bits)
+    }
+}
+
+/// Whether two types of integers are one.
+fn is_same(from: WholeType, to: WholeType) -> bool
+    ensures { result ≡ is_same from to }
+{
+    let (from, to) = (from.get(), to.get());
+    from.bytes == to.bytes && from.signed == to.signed && from.truth == to.truth
 }
 
 /// An integer of one type as one of another (C11 6.3.1.2, 6.3.1.3).
