@@ -5,17 +5,18 @@ use Rattle.std.proofs.lemmas.Bool.{cases_eq}
 use Rattle.std.proofs.lemmas.List.{length-set, set-get_or, take-append-drop, get_or-set_same, get_or-set_other, get_or_default}
 use Rattle.std.proofs.lemmas.List.Elements.{All-nil, All-append, All-set, All-take, All-drop, All-from_recursion}
 use Rattle.std.proofs.lemmas.Option.{slice_get_read, slice_get_within, get_or_from_slice_get}
-use Rattle.std.specs.Prelude.{IsTrue, IfSome, All, slice_get}
+use Rattle.std.specs.Prelude.{Bool, true, false, ◌∷◌, if◌then◌else◌, IsTrue, IfSome, All, slice_get}
 use Rattle.std.specs.List.{AllPairs}
 use Rattle.bytes_core.specs.declared.byte.Byte.{Byte}
+use Rattle.bytes_core.specs.declared.byte.Byte.TheVariants.{Num, Part}
 use Rattle.bytes_core.specs.declared.word.Word.{Word}
 use Rattle.bytes_core.specs.declared.word.Word.TheVariants.{Plain, To}
 use Rattle.bytes_core.specs.declared.block.Block.{Block}
-use Rattle.bytes_core.specs.Access.{overwritten, filled, written_at, with_bytes, block_bytes, bytes_at}
+use Rattle.bytes_core.specs.Access.{overwritten, filled, written_at, with_bytes, block_bytes, bytes_at, loaded}
 use Rattle.bytes_core.specs.Copying.{copied}
 use Rattle.bytes_core.specs.Placement.{is_placed, are_compatible}
 use Rattle.bytes_core.specs.Valid.{NamesBelow, WordNamesBelow, IsMemory}
-use Rattle.bytes_core.specs.Value.{word_bytes}
+use Rattle.bytes_core.specs.Value.{word_bytes, are_parts, number_read, pointer_read}
 use Rattle.bytes_core.proofs.Written.{block_after, KeepsOtherBytes-overwritten}
 
 -- a relation of each two items of a list holds still, where a new item has it to all to which the old one had it
@@ -105,6 +106,24 @@ names_in_block memory number (Some block) (negsuc before) count valid stands = A
 pub names_of_bytes : (memory : List Block) (at : Word) (count : ℕ) → IsMemory memory → All (NamesBelow (length memory)) (bytes_at memory at count)
 names_of_bytes memory (Plain number) count valid = All-nil (NamesBelow (length memory))
 names_of_bytes memory (To block offset) count valid = names_in_block memory block (slice_get memory block) offset count valid refl
+
+-- a pointer that is read from bytes names a block that one of them names
+names_of_read : (count : ℕ) (memory : List Block) (bytes : List Byte) → All (NamesBelow count) bytes → WordNamesBelow count (pointer_read memory bytes)
+names_of_read count memory [] names = tt
+names_of_read count memory (Num number ∷ rest) names = tt
+names_of_read count memory (Part block offset k ∷ rest) names = by_test (are_parts block offset 0 (Part block offset k ∷ rest))
+  where
+    first : block < count
+    first = (names 0 (Num 0) (omega arith)).0
+
+    by_test : (whole : Bool) → WordNamesBelow count (if whole then To block offset else number_read memory (Part block offset k ∷ rest))
+    by_test true = first
+    by_test false = tt
+
+-- a word that is loaded names a block of the memory, if it is a pointer
+pub names_of_loaded : (memory : List Block) (at : Word) (size : ℕ) (pointer : Bool) → IsMemory memory → WordNamesBelow (length memory) (loaded memory at size pointer)
+names_of_loaded memory at size true valid = names_of_read (length memory) memory (bytes_at memory at size) (names_of_bytes memory at size valid)
+names_of_loaded memory at size false valid = tt
 
 -- a write of nothing changes nothing
 pub written_nothing : (memory : List Block) (at : Word) → written_at memory at [] ≡ memory

@@ -3,6 +3,7 @@ ghost use Rattle.std.specs.Option.{option_copied};
 ghost use Rattle.bytes_core.specs.declared.word.Word.TheVariants.{Plain, To};
 ghost use Rattle.bytes_core.specs.Access.{is_within, block_fault, access_fault, bytes_at, loaded};
 ghost use Rattle.bytes_core.specs.Answer.{answer};
+ghost use Rattle.bytes_core.specs.Valid.{WordNamesBelow, IsMemory};
 
 use crate::block::Block;
 use crate::byte::Byte;
@@ -118,8 +119,10 @@ pub(crate) fn bytes_at(blocks: &[Block], at: Word, count: usize) -> Result<&[Byt
 }
 
 /// Loads a word of so many bytes from where another leads, or gives the fault that the access meets.
+#[tactic(auto, using(crate::proofs::Kept::names_of_loaded))]
 pub(crate) fn load_at(blocks: &[Block], at: Word, size: usize, pointer: bool) -> Result<Word, u8>
-    ensures { result ≡ answer (access_fault blocks.now at size) (loaded blocks.now at size pointer) }
+    ensures answer { result ≡ answer (access_fault blocks.now at size) (loaded blocks.now at size pointer) }
+    ensures names { IsMemory blocks.now → IfOk result (λ word. WordNamesBelow (length blocks.now) word) }
 {
     let bytes = bytes_at(blocks, at, size)?;
     Ok(word_read(blocks, bytes, pointer))

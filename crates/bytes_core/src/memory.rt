@@ -88,7 +88,8 @@ impl Memory {
     /// a pointer type it is the pointer whose eight parts in order the bytes are, and otherwise a number. The faults
     /// are those of an access: 1 to 4. It takes no memory.
     pub fn load(&self, at: Word, size: u8, pointer: bool) -> Result<Word, u8>
-        ensures { result ≡ answer (access_fault self.now at size) (loaded self.now at size pointer) }
+        ensures answer { result ≡ answer (access_fault self.now at size) (loaded self.now at size pointer) }
+        ensures names { IfOk result (λ word. WordNamesBelow (length self.now) word) }
     {
         load_at(&self.blocks, at, size as usize, pointer)
     }
@@ -109,12 +110,12 @@ impl Memory {
     /// Writes a number over `count` bytes where `at` leads, as `memset` does (C11 7.24.6.1).
     ///
     /// A fill of no bytes is no access; the faults of any other are those of an access: 1 to 4. It takes no memory.
-    pub fn fill(&mut self, at: Word, value: u8, count: u32) -> Result<(), u8>
+    pub fn fill(&mut self, at: Word, value: u8, count: usize) -> Result<(), u8>
         ensures answer { result ≡ answer (range_fault self.old at count) tt }
         ensures filled { OnOk result (self.new ≡ filled self.old at value count) }
         ensures err { OnErr result (self.new ≡ self.old) }
     {
-        fill_at(&mut self.blocks, at, value, count as usize)
+        fill_at(&mut self.blocks, at, value, count)
     }
 
     /// Copies `count` bytes from where one word leads to where another does, parts of pointers as they are: as
@@ -127,7 +128,7 @@ impl Memory {
         alloc: Global,
         to: Word,
         from: Word,
-        count: u32,
+        count: usize,
         disjoint: bool,
     ) -> Result<Result<(), u8>, NoMemory>
         ensures answer { IfOk result (λ copy. copy ≡ answer (copy_fault self.old to from count disjoint) tt) }
@@ -135,7 +136,7 @@ impl Memory {
         ensures fault { IfOk result (λ copy. OnErr copy (self.new ≡ self.old)) }
         ensures err { OnErr result (self.new ≡ self.old) }
     {
-        copy_at(alloc, &mut self.blocks, to, from, count as usize, disjoint)
+        copy_at(alloc, &mut self.blocks, to, from, count, disjoint)
     }
 
     /// Frees what `at` leads to, as `free` does (C11 7.22.3.3): the block is dead from then on. Null changes nothing.

@@ -15,7 +15,8 @@ use Rattle.c_machine.specs.ExamplesOfTrees.{returning_body, returning, losing_bo
 use Rattle.c_machine.specs.Program.{Program, is_static, is_fixed_row}
 use Rattle.c_machine.specs.Run.{then_go, run, run_of, start, start_main, main_tasks, blank, static_tasks, done_within}
 use Rattle.c_machine.specs.Sheet.{zeros}
-use Rattle.c_machine.specs.State.{StateIn, OutcomeIn, TaskIn, Initialise, Went, Waits, Ended, Faulted}
+use Rattle.c_machine.specs.declared.task.Task.TheVariants.{Initialise}
+use Rattle.c_machine.specs.State.{StateIn, OutcomeIn, TaskIn, Went, Waits, Ended, Faulted}
 use Rattle.c_machine.specs.Statics.{static_sets, sets_of}
 use Rattle.c_machine.specs.Text.{Main, Set}
 use Rattle.c_machine.specs.Trees.{text_of}

@@ -3,7 +3,8 @@ use Rattle.std.proofs.Common.{◌≡◌, ℕ, zero, suc, List, [], ◌∷◌, �
 use Rattle.choices.specs.declared.choice.Choice.{Choice}
 use Rattle.c_machine.specs.Laws.{LeavesMore, DoRunsLeaveMore, DoProgramsLeaveMore}
 use Rattle.c_machine.specs.Run.{then_go, run, blank, static_tasks, main_tasks, finished, done_within, start_main}
-use Rattle.c_machine.specs.State.{Task, State, StateIn, Outcome, Went, Waits, Ended, Faulted, NotYet, Stuck}
+use Rattle.c_machine.specs.declared.task.Task.{Task}
+use Rattle.c_machine.specs.State.{State, StateIn, Outcome, Went, Waits, Ended, Faulted, NotYet, Stuck}
 use Rattle.c_machine.specs.Step.{step}
 use Rattle.c_machine.specs.Text.{Main, Text}
 use Rattle.c_machine.specs.Trees.{text_of}

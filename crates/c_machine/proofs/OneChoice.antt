@@ -17,10 +17,16 @@ use Rattle.choices.specs.declared.choice.Choice.{Choice}
 use Rattle.choices.specs.declared.choice.Choice.TheVariants.{None, Block as NewBlock, Input}
 use Rattle.c_machine.specs.Choosing.{with_block, allocated, received, count_of, with_object, with_static}
 use Rattle.c_machine.specs.Laws.{TakesOne, DoStepsTakeOne}
-use Rattle.c_machine.specs.State.{BuiltIn, Malloc, Calloc, Free, Memset, Memcpy, Memmove, EndsRun, Assume, Expect, GivesInput, Task, TaskIn, ValueOf, AddressOf, Push, ObjectAt, Shift, Load, Convert, Apply, Operate, Answer, AndThen, OrElse, Pick, Drop, Store, Update, CountBy, CopyStruct, RunBuiltIn, CallDefined, EndRun, Finish, Keep, Execute, Branch, Test, Again, OpenBlock, MakeObject, MakeStatic, LeaveBlock, Zero, Initialise, BreakAt, ContinueAt, GiveBack, LeaveFunction, EndOfBody, Unknown, Frame, State, StateIn, Outcome, Went, doing, with_operand, popped_of, unless_fault, block_of, blocks_of, objects_of, roots}
+use Rattle.c_machine.specs.declared.built_in.BuiltIn.TheVariants.{Malloc, Calloc, Free, Memset, Memcpy, Memmove, EndsRun, Assume, Expect, GivesInput}
+use Rattle.c_machine.specs.declared.built_in.BuiltIn.{BuiltIn}
+use Rattle.c_machine.specs.declared.task.Task.{Task}
+use Rattle.c_machine.specs.declared.task.Task.TheVariants.{ValueOf, AddressOf, Push, ObjectAt, Shift, Load, Convert, Apply, Operate, Answer, AndThen, OrElse, Pick, Drop, Store, Update, CountBy, CopyStruct, RunBuiltIn, CallDefined, EndRun, Finish, Keep, Execute, Branch, Test, Again, OpenBlock, MakeObject, MakeStatic, LeaveBlock, Zero, Initialise, BreakAt, ContinueAt, GiveBack, LeaveFunction, EndOfBody, Unknown}
+use Rattle.c_machine.specs.State.{TaskIn, Frame, State, StateIn, Outcome, Went, doing, with_operand, popped_of, unless_fault, block_of, blocks_of, objects_of, roots}
 use Rattle.c_machine.specs.Statements.{LoopLeft, loop_left, after_break, after_continue, BodyLeft, body_left, oldest, branch_place, branch_tasks}
 use Rattle.c_machine.specs.Step.{unless_lost, or_ended, or_stuck, object_at, load_step, store_step, stored_result, updated, and_then, or_else, assumed, built_in_step, leave_block, leave_loop, give_back, end_of_body, returned, leave_function, without_objects, counting, counted, step_of, step_on}
-use Rattle.c_machine.specs.Text.{Kind, Integer, Pointer, Array, Struct, Void, Text}
+use Rattle.c_machine.specs.declared.kind.Kind.TheVariants.{Integer, Pointer, Array, Struct, Void}
+use Rattle.c_machine.specs.declared.kind.Kind.{Kind}
+use Rattle.c_machine.specs.Text.{Text}
 use Rattle.c_machine.specs.Trees.{text_of}
 use Rattle.c_machine.specs.Words.{is_true, as_kind, applied, operated, kind_after, scalar_bytes, is_pointer}
 use Rattle.operators.specs.Integers.{int}
@@ -165,7 +171,7 @@ leaves_function t place state choices = by_test _ _ choices (is_lost state.memor
 takes : (t : Text) (task : TaskIn t) (state : StateIn t) (choices : List Choice) → TakesOne choices (step_of t task state choices)
 takes t (ValueOf expr) state choices = inl refl
 takes t (AddressOf expr) state choices = inl refl
-takes t (Push word) state choices = inl refl
+takes t (Push number) state choices = inl refl
 takes t (ObjectAt token) state choices = object_or (block_of state token) state choices
 takes t (Shift bytes) state choices = popping state.operands state choices _ (λ word after. inl refl)
 takes t (Load place kind) state choices = popping state.operands state choices _ (λ at after. loads place kind (scalar_bytes kind) at after choices)

@@ -2,9 +2,12 @@
 use Rattle.std.specs.Prelude.{List, [], ◌∷◌, ◌++◌, map, Option, None, Some}
 use Rattle.std.specs.List.{flat_map}
 use Rattle.cbase.specs.declared.place.Place.{Place}
-use Rattle.bytes_core.specs.declared.word.Word.TheVariants.{Plain}
-use Rattle.c_machine.specs.Text.{Kind, Struct, Clause, Declare, Eval, Initialiser, Value, Braces, Declared, Object, Store as Stored, Text}
-use Rattle.c_machine.specs.State.{TaskIn, ValueOf, AddressOf, Push, ObjectAt, Shift, Convert, Store, CopyStruct, Finish, Keep, Execute, OpenBlock, MakeObject, LeaveBlock, Zero, Initialise, Unknown}
+use Rattle.c_machine.specs.declared.kind.Kind.TheVariants.{Struct}
+use Rattle.c_machine.specs.declared.kind.Kind.{Kind}
+use Rattle.c_machine.specs.declared.object.Object.{Object}
+use Rattle.c_machine.specs.Text.{Clause, Declare, Eval, Initialiser, Value, Braces, Declared, Store as Stored, Text}
+use Rattle.c_machine.specs.declared.task.Task.TheVariants.{ValueOf, AddressOf, Push, ObjectAt, Shift, Convert, Store, CopyStruct, Finish, Keep, Execute, OpenBlock, MakeObject, LeaveBlock, Zero, Initialise, Unknown}
+use Rattle.c_machine.specs.State.{TaskIn}
 use Rattle.c_machine.specs.Words.{decayed}
 
 -- the names of a declaration, where a statement is one
@@ -32,10 +35,10 @@ in_block t body close = OpenBlock ∷ (entered t body ++ (map Execute body ++ Le
 -- statement is none, it has no value
 abbrev pub last_tasks : (t : Text) → t.Stmt → Clause t.Expr t.Stmt t.Init → List (TaskIn t)
 last_tasks t stmt (Eval (Some expr)) = ValueOf expr ∷ Keep (t.last stmt) ∷ []
-last_tasks t stmt other = Execute stmt ∷ Push (Plain 0) ∷ []
+last_tasks t stmt other = Execute stmt ∷ Push 0 ∷ []
 
 abbrev pub valued : (t : Text) → List t.Stmt → List (TaskIn t)
-valued t [] = Push (Plain 0) ∷ []
+valued t [] = Push 0 ∷ []
 valued t (stmt ∷ []) = last_tasks t stmt (t.clause stmt)
 valued t (stmt ∷ (next ∷ body)) = Execute stmt ∷ valued t (next ∷ body)
 

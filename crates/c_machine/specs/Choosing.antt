@@ -7,8 +7,11 @@ use Rattle.bytes_core.specs.declared.word.Word.TheVariants.{Plain, To}
 use Rattle.bytes_core.specs.Placement.{new_block, is_new_block, placed}
 use Rattle.choices.specs.declared.choice.Choice.{Choice}
 use Rattle.choices.specs.declared.choice.Choice.TheVariants.{None, Block as NewBlock, Input}
-use Rattle.c_machine.specs.Text.{Kind, Integer, Pointer, Object}
-use Rattle.c_machine.specs.State.{State, Frame, Variable, Outcome, Went, Waits, Ended, with_operand, with_memory}
+use Rattle.c_machine.specs.declared.kind.Kind.TheVariants.{Integer, Pointer}
+use Rattle.c_machine.specs.declared.kind.Kind.{Kind}
+use Rattle.c_machine.specs.declared.object.Object.{Object}
+use Rattle.c_machine.specs.declared.variable.Variable.{Variable}
+use Rattle.c_machine.specs.State.{State, Frame, Outcome, Went, Waits, Ended, with_operand, with_memory}
 
 -- a new block of a kind and size, and what is done with it: its base and its contents are a choice, of zeros alone where that is asked
 abbrev pub with_block : {E S I : Type 0} → BlockKind → ℕ → Bool → State E S I → List Choice →

@@ -5,7 +5,8 @@ use Rattle.cbase.specs.declared.tree.operators.BinaryOp.TheVariants.{Add, Equal}
 use Rattle.cbase.specs.declared.tree.operators.UnaryOp.TheVariants.{Address, Follow, Minus, Not}
 use Rattle.choices.specs.declared.choice.Choice.TheVariants.{Block as NewBlock}
 use Rattle.typing.specs.Sample.{token}
-use Rattle.c_machine.specs.Text.{Pointer, Array, Struct, Void, ObjectStands, BuiltInStands, Known, Unary, Binary, Assign, Cast, Index, Member, Call, Value, Declare, Eval, Block, If, Return}
+use Rattle.c_machine.specs.declared.kind.Kind.TheVariants.{Pointer, Array, Struct, Void}
+use Rattle.c_machine.specs.Text.{ObjectStands, BuiltInStands, Known, Unary, Binary, Assign, Cast, Index, Member, Call, Value, Declare, Eval, Block, If, Return}
 use Rattle.c_machine.specs.State.{Faulted}
 use Rattle.c_machine.specs.Sheet.{Sheet, is, names, does, sets_at, an_int, a_char, a_byte, a_long, a_size, a_truth, zeros, ComesTo}
 

@@ -5,7 +5,8 @@ use Rattle.cbase.specs.declared.tree.operators.BinaryOp.TheVariants.{Div, Rem, A
 use Rattle.cbase.specs.declared.tree.operators.UnaryOp.TheVariants.{Address, Follow, Plus, Minus, Flip, Not}
 use Rattle.choices.specs.declared.choice.Choice.TheVariants.{Block as NewBlock}
 use Rattle.typing.specs.Sample.{token}
-use Rattle.c_machine.specs.Text.{Pointer, Array, Struct, Void, ObjectStands, ConstantStands, BuiltInStands, Known, Unary, Binary, Assign, Count, Choose, Cast, Index, Member, Call, Inner, Value, Braces, Declare, Eval, If, Return}
+use Rattle.c_machine.specs.declared.kind.Kind.TheVariants.{Pointer, Array, Struct, Void}
+use Rattle.c_machine.specs.Text.{ObjectStands, ConstantStands, BuiltInStands, Known, Unary, Binary, Assign, Count, Choose, Cast, Index, Member, Call, Inner, Value, Braces, Declare, Eval, If, Return}
 use Rattle.c_machine.specs.State.{Ended, Faulted}
 use Rattle.c_machine.specs.Sheet.{Sheet, is, names, does, sets_at, an_int, an_unsigned, a_char, a_byte, a_long, a_size, a_truth, zeros, ComesTo}
 

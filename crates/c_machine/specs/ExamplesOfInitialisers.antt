@@ -5,7 +5,8 @@ use Rattle.cbase.specs.declared.tree.operators.BinaryOp.TheVariants.{Add, Less, 
 use Rattle.cbase.specs.declared.tree.operators.UnaryOp.TheVariants.{Address, Follow}
 use Rattle.choices.specs.declared.choice.Choice.TheVariants.{Block as NewBlock}
 use Rattle.typing.specs.Sample.{token}
-use Rattle.c_machine.specs.Text.{Pointer, Array, Struct, ObjectStands, Known, Unary, Binary, Assign, Count, Cast, Index, Member, Inner, Value, Braces, Declare, Eval, Block, If, While, Return}
+use Rattle.c_machine.specs.declared.kind.Kind.TheVariants.{Pointer, Array, Struct}
+use Rattle.c_machine.specs.Text.{ObjectStands, Known, Unary, Binary, Assign, Count, Cast, Index, Member, Inner, Value, Braces, Declare, Eval, Block, If, While, Return}
 use Rattle.c_machine.specs.State.{Waits, Ended, Faulted}
 use Rattle.c_machine.specs.Sheet.{Sheet, is, names, does, sets_at, object, written, an_int, a_char, a_long, a_truth, zeros, ComesTo}
 

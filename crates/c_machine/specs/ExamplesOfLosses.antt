@@ -5,7 +5,8 @@ use Rattle.cbase.specs.declared.tree.operators.BinaryOp.TheVariants.{Less, Equal
 use Rattle.cbase.specs.declared.tree.operators.UnaryOp.TheVariants.{Address, Follow, Not}
 use Rattle.choices.specs.declared.choice.Choice.TheVariants.{None as NoBlock, Block as NewBlock}
 use Rattle.typing.specs.Sample.{token}
-use Rattle.c_machine.specs.Text.{Pointer, Struct, Void, ObjectStands, BuiltInStands, Known, Unary, Binary, Assign, Count, Choose, Cast, Index, Member, Call, Inner, Value, Braces, Declare, Eval, Block, If, While, Do, For, Break, Continue, Return}
+use Rattle.c_machine.specs.declared.kind.Kind.TheVariants.{Pointer, Struct, Void}
+use Rattle.c_machine.specs.Text.{ObjectStands, BuiltInStands, Known, Unary, Binary, Assign, Count, Choose, Cast, Index, Member, Call, Inner, Value, Braces, Declare, Eval, Block, If, While, Do, For, Break, Continue, Return}
 use Rattle.c_machine.specs.State.{Ended, Faulted}
 use Rattle.c_machine.specs.Sheet.{Sheet, is, names, does, sets_at, object, an_int, a_long, a_size, zeros, ComesTo}
 

@@ -5,7 +5,8 @@ use Rattle.cbase.specs.declared.tree.operators.BinaryOp.TheVariants.{Add, Less, 
 use Rattle.cbase.specs.declared.tree.operators.UnaryOp.TheVariants.{Address, Follow}
 use Rattle.choices.specs.declared.choice.Choice.TheVariants.{Block as NewBlock}
 use Rattle.typing.specs.Sample.{token}
-use Rattle.c_machine.specs.Text.{Pointer, Void, ObjectStands, BuiltInStands, BodyStands, Known, Unary, Binary, Assign, Count, Cast, Call, Inner, Value, Declare, Eval, Block, If, While, Do, For, Break, Continue, Return}
+use Rattle.c_machine.specs.declared.kind.Kind.TheVariants.{Pointer, Void}
+use Rattle.c_machine.specs.Text.{ObjectStands, BuiltInStands, BodyStands, Known, Unary, Binary, Assign, Count, Cast, Call, Inner, Value, Declare, Eval, Block, If, While, Do, For, Break, Continue, Return}
 use Rattle.c_machine.specs.State.{Waits, Ended, Faulted, NotYet}
 use Rattle.c_machine.specs.Sheet.{Sheet, is, names, does, sets_at, object, an_int, a_size, zeros, ComesTo, GoesOn}
 

@@ -9,9 +9,11 @@ use Rattle.choices.specs.declared.choice.Choice.{Choice}
 use Rattle.choices.specs.declared.choice.Choice.TheVariants.{None as NoBlock, Input}
 use Rattle.typing.specs.Sample.{token}
 use Rattle.c_machine.specs.Sheet.{Sheet, text_in, an_int, a_truth}
-use Rattle.c_machine.specs.State.{Task, Push, Finish, LeaveFunction, EndOfBody, BreakAt, GiveBack, Unknown, Frame, State, Outcome, Went, Waits, Ended, Faulted, Stuck, with_memory}
+use Rattle.c_machine.specs.declared.task.Task.{Task}
+use Rattle.c_machine.specs.declared.task.Task.TheVariants.{Push, Finish, LeaveFunction, EndOfBody, BreakAt, GiveBack, Unknown}
+use Rattle.c_machine.specs.State.{Frame, State, Outcome, Went, Waits, Ended, Faulted, Stuck, with_memory}
 use Rattle.c_machine.specs.Step.{step}
-use Rattle.c_machine.specs.Text.{Pointer, Void}
+use Rattle.c_machine.specs.declared.kind.Kind.TheVariants.{Pointer, Void}
 
 -- a program of which nothing is asked
 abbrev pub blank : Sheet
@@ -61,7 +63,7 @@ pub record AreSteps : Type 0 where
   pub value_is_held : after (LeaveFunction (token 3) ∷ []) (To 1 (pos 0) ∷ []) holder ([] ∷ []) []
       ≡ Went (with_memory (without example 0 (slice_get example 0)) (doing [] (To 1 (pos 0) ∷ []) [] [])) []
   -- a return converts its value and lets go of what unfinished expressions hold, but for those around the call
-  pub value_is_converted : after (GiveBack (token 3) an_int ∷ Push (Plain 0) ∷ EndOfBody false a_truth (token 9) 1 ∷ Unknown ∷ []) (Plain 5 ∷ Plain 8 ∷ Plain 4 ∷ []) holder [] []
+  pub value_is_converted : after (GiveBack (token 3) an_int ∷ Push 0 ∷ EndOfBody false a_truth (token 9) 1 ∷ Unknown ∷ []) (Plain 5 ∷ Plain 8 ∷ Plain 4 ∷ []) holder [] []
       ≡ Went (doing (LeaveFunction (token 3) ∷ Unknown ∷ []) (Plain 1 ∷ Plain 4 ∷ []) holder []) []
   pub held_value_goes : after (GiveBack (token 3) an_int ∷ EndOfBody false an_int (token 9) 0 ∷ []) (Plain 5 ∷ To 1 (pos 0) ∷ []) [] [] [] ≡ Faulted 7 (token 3)
   -- a run that is over stays over; no program comes to the others

@@ -5,9 +5,13 @@ use Rattle.cbase.specs.declared.place.Place.{Place}
 use Rattle.cbase.specs.declared.tree.operators.BinaryOp.{BinaryOp}
 use Rattle.cbase.specs.declared.tree.operators.BinaryOp.TheVariants.{Add, Both, Either, Comma}
 use Rattle.cbase.specs.declared.tree.operators.UnaryOp.TheVariants.{Address, Follow, Not}
-use Rattle.bytes_core.specs.declared.word.Word.TheVariants.{Plain}
-use Rattle.c_machine.specs.Text.{Kind, Struct, Standing, ObjectStands, ConstantStands, BuiltInStands, BodyStands, Form, Name, Known, Unary, Binary, Assign, Count, Choose, Cast, Index, Member, Call, Inner, AssertFail, Text}
-use Rattle.c_machine.specs.State.{BuiltIn, Malloc, Calloc, Free, Memset, Memcpy, Memmove, EndsRun, Assume, Expect, GivesInput, TaskIn, ValueOf, AddressOf, Push, ObjectAt, Shift, Load, Convert, Apply, Operate, Answer, AndThen, OrElse, Pick, Drop, Store, Update, CountBy, CopyStruct, RunBuiltIn, CallDefined, EndRun, Unknown}
+use Rattle.c_machine.specs.declared.kind.Kind.TheVariants.{Struct}
+use Rattle.c_machine.specs.declared.kind.Kind.{Kind}
+use Rattle.c_machine.specs.Text.{Standing, ObjectStands, ConstantStands, BuiltInStands, BodyStands, Form, Name, Known, Unary, Binary, Assign, Count, Choose, Cast, Index, Member, Call, Inner, AssertFail, Text}
+use Rattle.c_machine.specs.declared.built_in.BuiltIn.TheVariants.{Malloc, Calloc, Free, Memset, Memcpy, Memmove, EndsRun, Assume, Expect, GivesInput}
+use Rattle.c_machine.specs.declared.built_in.BuiltIn.{BuiltIn}
+use Rattle.c_machine.specs.declared.task.Task.TheVariants.{ValueOf, AddressOf, Push, ObjectAt, Shift, Load, Convert, Apply, Operate, Answer, AndThen, OrElse, Pick, Drop, Store, Update, CountBy, CopyStruct, RunBuiltIn, CallDefined, EndRun, Unknown}
+use Rattle.c_machine.specs.State.{TaskIn}
 use Rattle.c_machine.specs.Words.{decayed}
 use Rattle.c_machine.specs.Blocks.{in_inner_block}
 
@@ -38,12 +42,12 @@ loaded t expr = AddressOf expr ∷ Load (t.place expr) (t.kind expr) ∷ []
 
 -- the value of a name: a constant of an enum, or an object (6.4.4.3, 6.5.1)
 abbrev pub name_parts : (t : Text) → t.Expr → Standing → List (TaskIn t)
-name_parts t expr (ConstantStands bits) = Push (Plain bits) ∷ []
+name_parts t expr (ConstantStands bits) = Push bits ∷ []
 name_parts t expr other = loaded t expr
 
 abbrev pub known : (t : Text) → Option ℕ → List (TaskIn t)
 known t None = Unknown ∷ []
-known t (Some bits) = Push (Plain bits) ∷ []
+known t (Some bits) = Push bits ∷ []
 
 -- an assignment: the address of the left side, the value of the right one, its conversion, one store at the place of the left side. A struct is copied
 -- as a whole, at the `=`, and holds two addresses (6.5.16.1)

@@ -24,7 +24,8 @@ use Rattle.typing.specs.Forms.{NamesParts, DeclaratorParts}
 use Rattle.typing.specs.Idiom.{member_offset}
 use Rattle.typing.specs.Nodes.{pointed_offset}
 use Rattle.c_machine.specs.Program.{Program, type_of, constant_of, size_of}
-use Rattle.c_machine.specs.Text.{Integer, Pointer, Array, Struct, Void, Form, Name, Known, Unary, Binary, Assign, Count, Choose, Cast, Index, Member, Call, Inner, AssertFail, Initialiser, Value, Braces, Clause, Declare, Eval, Block, If, While, Do, For, Break, Continue, Return}
+use Rattle.c_machine.specs.declared.kind.Kind.TheVariants.{Integer, Pointer, Array, Struct, Void}
+use Rattle.c_machine.specs.Text.{Form, Name, Known, Unary, Binary, Assign, Count, Choose, Cast, Index, Member, Call, Inner, AssertFail, Initialiser, Value, Braces, Clause, Declare, Eval, Block, If, While, Do, For, Break, Continue, Return}
 use Rattle.c_machine.specs.Trees.{step_of, kind_in, offset, name_of, text_of}
 
 -- an expression of a number at a place, and a statement from one place to another; and what the machine is told of them

@@ -3,8 +3,11 @@ use Rattle.std.specs.Prelude.{◌≡◌, ℕ, zero, suc, true, List, [], ◌∷�
 use Rattle.cbase.specs.declared.place.Place.{Place}
 use Rattle.choices.specs.declared.choice.Choice.{Choice}
 use Rattle.operators.specs.Integers.{int}
-use Rattle.c_machine.specs.Text.{Integer, Main, Text}
-use Rattle.c_machine.specs.State.{Task, TaskIn, Execute, OpenBlock, MakeObject, MakeStatic, Initialise, EndOfBody, State, StateIn, Outcome, OutcomeIn, Went, Waits, Ended, Faulted, NotYet, Stuck}
+use Rattle.c_machine.specs.declared.kind.Kind.TheVariants.{Integer}
+use Rattle.c_machine.specs.Text.{Main, Text}
+use Rattle.c_machine.specs.declared.task.Task.{Task}
+use Rattle.c_machine.specs.declared.task.Task.TheVariants.{Execute, OpenBlock, MakeObject, MakeStatic, Initialise, EndOfBody}
+use Rattle.c_machine.specs.State.{TaskIn, State, StateIn, Outcome, OutcomeIn, Went, Waits, Ended, Faulted, NotYet, Stuck}
 use Rattle.c_machine.specs.Blocks.{entered}
 use Rattle.c_machine.specs.Step.{step}
 

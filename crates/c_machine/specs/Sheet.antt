@@ -5,7 +5,10 @@ use Rattle.std.specs.Option.{option_map_or}
 use Rattle.choices.specs.declared.choice.Choice.{Choice}
 use Rattle.operators.specs.Integers.{integer, truth}
 use Rattle.typing.specs.Sample.{token}
-use Rattle.c_machine.specs.Text.{Kind, Integer, Void, Standing, NothingStands, Form, Name, Known, Clause, Eval, Initialiser, Braces, Object, Store, Set, Text}
+use Rattle.c_machine.specs.declared.kind.Kind.TheVariants.{Integer, Void}
+use Rattle.c_machine.specs.declared.kind.Kind.{Kind}
+use Rattle.c_machine.specs.declared.object.Object.{Object}
+use Rattle.c_machine.specs.Text.{Standing, NothingStands, Form, Name, Known, Clause, Eval, Initialiser, Braces, Store, Set, Text}
 use Rattle.c_machine.specs.State.{State, Outcome, Went}
 use Rattle.c_machine.specs.Run.{run_of}
 

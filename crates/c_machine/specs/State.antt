@@ -7,98 +7,17 @@
 use Rattle.std.specs.Prelude.{ℕ, Bool, false, List, [], ◌∷◌, ◌++◌, map, nat_eq, Option, None, Some, if◌then◌else◌}
 use Rattle.std.specs.List.{flat_map}
 use Rattle.cbase.specs.declared.place.Place.{Place}
-use Rattle.cbase.specs.declared.tree.operators.BinaryOp.{BinaryOp}
-use Rattle.cbase.specs.declared.tree.operators.UnaryOp.{UnaryOp}
 use Rattle.bytes_core.specs.declared.block.Block.{Block}
 use Rattle.bytes_core.specs.declared.word.Word.{Word}
 use Rattle.bytes_core.specs.declared.word.Word.TheVariants.{Plain, To}
 use Rattle.choices.specs.declared.choice.Choice.{Choice}
-use Rattle.c_machine.specs.Text.{Kind, Object, Text}
-
--- the functions that are built in, by what they do. The last one gives an input of its result
-pub data BuiltIn : Type 0 where
-  Malloc : BuiltIn
-  Calloc : BuiltIn
-  Free : BuiltIn
-  Memset : BuiltIn
-  Memcpy : BuiltIn
-  Memmove : BuiltIn
-  EndsRun : BuiltIn
-  Assume : BuiltIn
-  Expect : BuiltIn
-  GivesInput : BuiltIn
-
--- what is to be done. A place is that of a fault, if one is met
-pub data Task (E S I : Type 0) : Type 0 where
-  -- an expression: its value, or the address of the lvalue that it is
-  ValueOf : E → Task E S I
-  AddressOf : E → Task E S I
-  -- a value that is known, and the address of the object that the name behind so many tokens declared first
-  Push : Word → Task E S I
-  ObjectAt : ℕ → Task E S I
-  -- an address is moved by so many bytes; the value of an lvalue of a type is loaded
-  Shift : ℕ → Task E S I
-  Load : Place → Kind → Task E S I
-  -- a value of one kind becomes one of another
-  Convert : Kind → Kind → Task E S I
-  -- a unary and a binary operator on values of these kinds; whether a value is not 0, or whether it is
-  Apply : UnaryOp → Kind → Task E S I
-  Operate : BinaryOp → Kind → Kind → Task E S I
-  Answer : Bool → Task E S I
-  -- `&&` and `||` behind their left side, `?:` behind its test, which gives a value of that kind
-  AndThen : E → Task E S I
-  OrElse : E → Task E S I
-  Pick : Kind → E → E → Task E S I
-  -- a value is let go of
-  Drop : Task E S I
-  -- a value is stored at an address as a value of that type; `+=` and its like, with a value of that kind on the right; `++` and `--`, and whether they
-  -- stand behind their operand; a struct of so many bytes is copied
-  Store : Place → Kind → Task E S I
-  Update : BinaryOp → Place → Kind → Kind → Task E S I
-  CountBy : (up after : Bool) → Place → Kind → Task E S I
-  CopyStruct : Place → ℕ → Task E S I
-  -- a built-in function with a result of that type, behind its arguments; a function that the program defines
-  RunBuiltIn : BuiltIn → Place → Kind → Task E S I
-  CallDefined : Task E S I
-  -- the run ends
-  EndRun : Task E S I
-  -- the end of a full expression, whose value goes, or is kept
-  Finish : Place → Task E S I
-  Keep : Place → Task E S I
-  -- a statement; an `if` or a loop behind its condition; the condition of a loop; what a loop does behind its body, where unfinished expressions
-  -- around it hold so many operands
-  Execute : S → Task E S I
-  Branch : S → Task E S I
-  Test : S → Task E S I
-  Again : S → ℕ → Task E S I
-  -- a block begins; an object of it is made; one is made that lives as long as the program
-  -- runs; the block ends
-  OpenBlock : Task E S I
-  MakeObject : Object → Task E S I
-  MakeStatic : Object → Task E S I
-  LeaveBlock : Place → Task E S I
-  -- so many bytes at an address become 0; an object is initialised, whose name stands there
-  Zero : Place → ℕ → Task E S I
-  Initialise : Place → I → Task E S I
-  -- `break` and `continue`; `return` behind its value of that kind; the blocks of a function are left
-  BreakAt : Place → Task E S I
-  ContinueAt : Place → Task E S I
-  GiveBack : Place → Kind → Task E S I
-  LeaveFunction : Place → Task E S I
-  -- the `}` of the body of a function, of main or of another one, with a result of that kind, where unfinished expressions around the call hold so many
-  -- operands
-  EndOfBody : Bool → Kind → Place → ℕ → Task E S I
-  -- nothing that a program of C does
-  Unknown : Task E S I
+use Rattle.c_machine.specs.declared.task.Task.{Task}
+use Rattle.c_machine.specs.declared.variable.Variable.{Variable}
+use Rattle.c_machine.specs.Text.{Text}
 
 -- what is to be done in a program
 abbrev pub TaskIn : Text → Type 0
 TaskIn t = Task t.Expr t.Stmt t.Init
-
--- an object by how many tokens stand before the name that declared it first, if it has one, and its block
-pub record Variable : Type 0 where
-  pub token : Option ℕ
-  pub block : ℕ
 
 -- the objects of a block, in the order in which they were made; and those of a function, those of the innermost block first
 abbrev pub Scope : Type 0

@@ -3,15 +3,18 @@ use Rattle.std.specs.Prelude.{ℕ, suc, ◌-◌, Bool, true, false, List, [], �
 use Rattle.std.specs.List.{flat_map}
 use Rattle.cbase.specs.declared.place.Place.{Place}
 use Rattle.bytes_core.specs.declared.word.Word.{Word}
-use Rattle.bytes_core.specs.declared.word.Word.TheVariants.{Plain}
-use Rattle.c_machine.specs.Text.{Kind, Void, Clause, Declare, Eval, Block, If, While, Do, For, Break, Continue, Return, Text}
-use Rattle.c_machine.specs.State.{Task, TaskIn, ValueOf, Push, Finish, Execute, Branch, Test, Again, OpenBlock, LeaveBlock, BreakAt, ContinueAt, GiveBack, EndOfBody, Unknown}
+use Rattle.c_machine.specs.declared.kind.Kind.TheVariants.{Void}
+use Rattle.c_machine.specs.declared.kind.Kind.{Kind}
+use Rattle.c_machine.specs.Text.{Clause, Declare, Eval, Block, If, While, Do, For, Break, Continue, Return, Text}
+use Rattle.c_machine.specs.declared.task.Task.{Task}
+use Rattle.c_machine.specs.declared.task.Task.TheVariants.{ValueOf, Push, Finish, Execute, Branch, Test, Again, OpenBlock, LeaveBlock, BreakAt, ContinueAt, GiveBack, EndOfBody, Unknown}
+use Rattle.c_machine.specs.State.{TaskIn}
 use Rattle.c_machine.specs.Blocks.{objects_in, in_block, declared_tasks}
 use Rattle.c_machine.specs.Expressions.{value_kind}
 
 -- `return` with a value or without one (6.8.6.4)
 abbrev pub return_tasks : (t : Text) → Place → Option t.Expr → List (TaskIn t)
-return_tasks t word None = Push (Plain 0) ∷ GiveBack word Void ∷ []
+return_tasks t word None = Push 0 ∷ GiveBack word Void ∷ []
 return_tasks t word (Some expr) = ValueOf expr ∷ GiveBack word (value_kind t expr) ∷ []
 
 -- an expression statement is a full expression, and its place is the `;` (6.8.3)

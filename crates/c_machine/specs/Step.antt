@@ -14,8 +14,14 @@ use Rattle.bytes_core.specs.Release.{free_fault, freed, without}
 use Rattle.bytes_core.specs.Value.{address_number, moved}
 use Rattle.choices.specs.declared.choice.Choice.{Choice}
 use Rattle.operators.specs.Integers.{int}
-use Rattle.c_machine.specs.Text.{Kind, Integer, Void, Text}
-use Rattle.c_machine.specs.State.{BuiltIn, Malloc, Calloc, Free, Memset, Memcpy, Memmove, EndsRun, Assume, Expect, GivesInput, Task, TaskIn, ValueOf, AddressOf, Push, ObjectAt, Shift, Load, Convert, Apply, Operate, Answer, AndThen, OrElse, Pick, Drop, Store, Update, CountBy, CopyStruct, RunBuiltIn, CallDefined, EndRun, Finish, Keep, Execute, Branch, Test, Again, OpenBlock, MakeObject, MakeStatic, LeaveBlock, Zero, Initialise, BreakAt, ContinueAt, GiveBack, LeaveFunction, EndOfBody, Unknown, Frame, State, StateIn, Outcome, OutcomeIn, Went, Ended, Faulted, NotYet, Stuck, doing, with_operand, with_memory, popped, unless_fault, block_of, blocks_of, objects_of, roots}
+use Rattle.c_machine.specs.declared.kind.Kind.TheVariants.{Integer, Void}
+use Rattle.c_machine.specs.declared.kind.Kind.{Kind}
+use Rattle.c_machine.specs.Text.{Text}
+use Rattle.c_machine.specs.declared.built_in.BuiltIn.TheVariants.{Malloc, Calloc, Free, Memset, Memcpy, Memmove, EndsRun, Assume, Expect, GivesInput}
+use Rattle.c_machine.specs.declared.built_in.BuiltIn.{BuiltIn}
+use Rattle.c_machine.specs.declared.task.Task.{Task}
+use Rattle.c_machine.specs.declared.task.Task.TheVariants.{ValueOf, AddressOf, Push, ObjectAt, Shift, Load, Convert, Apply, Operate, Answer, AndThen, OrElse, Pick, Drop, Store, Update, CountBy, CopyStruct, RunBuiltIn, CallDefined, EndRun, Finish, Keep, Execute, Branch, Test, Again, OpenBlock, MakeObject, MakeStatic, LeaveBlock, Zero, Initialise, BreakAt, ContinueAt, GiveBack, LeaveFunction, EndOfBody, Unknown}
+use Rattle.c_machine.specs.State.{TaskIn, Frame, State, StateIn, Outcome, OutcomeIn, Went, Ended, Faulted, NotYet, Stuck, doing, with_operand, with_memory, popped, unless_fault, block_of, blocks_of, objects_of, roots}
 use Rattle.c_machine.specs.Words.{is_true, told, as_kind, applied, operated, kind_after, scalar_bytes, is_pointer}
 use Rattle.c_machine.specs.Blocks.{initialiser_tasks}
 use Rattle.c_machine.specs.Expressions.{value_kind, address_tasks, value_tasks}
@@ -186,7 +192,7 @@ leave_function t place state choices =
 abbrev pub step_of : (t : Text) → TaskIn t → StateIn t → List Choice → OutcomeIn t
 step_of t (ValueOf expr) state choices = Went (doing (value_tasks t expr) state) choices
 step_of t (AddressOf expr) state choices = Went (doing (address_tasks t expr) state) choices
-step_of t (Push word) state choices = Went (with_operand word state) choices
+step_of t (Push number) state choices = Went (with_operand (Plain number) state) choices
 step_of t (ObjectAt token) state choices = object_at (block_of state token) state choices
 step_of t (Shift bytes) state choices = popped state (λ word after. Went (with_operand (moved word (pos bytes)) after) choices)
 step_of t (Load place kind) state choices =

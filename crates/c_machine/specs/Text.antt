@@ -6,16 +6,8 @@ use Rattle.std.specs.Prelude.{ℕ, Bool, List, Option}
 use Rattle.cbase.specs.declared.place.Place.{Place}
 use Rattle.cbase.specs.declared.tree.operators.BinaryOp.{BinaryOp}
 use Rattle.cbase.specs.declared.tree.operators.UnaryOp.{UnaryOp}
-use Rattle.operators.specs.declared.kind.IntegerType.{IntegerType}
-
--- a type: integers of a type; pointers to items of so many bytes, where `void` counts as one byte; arrays of items of so many bytes; structs of so many
--- bytes; and `void` (C11 6.2.5)
-pub data Kind : Type 0 where
-  Integer : IntegerType → Kind
-  Pointer : ℕ → Kind
-  Array : ℕ → Kind
-  Struct : ℕ → Kind
-  Void : Kind
+use Rattle.c_machine.specs.declared.kind.Kind.{Kind}
+use Rattle.c_machine.specs.declared.object.Object.{Object}
 
 -- what a name stands for: an object, a constant of an enum with its bits, a function that is built in, with its name, its parameters and its result, or one
 -- that has a body in the text
@@ -64,11 +56,6 @@ pub data Clause (E S I : Type 0) : Type 0 where
   Break : Clause E S I
   Continue : Clause E S I
   Return : Option E → Clause E S I
-
--- an object by how many tokens stand before the name that declared it first, if it has a name, and how many bytes it has
-pub record Object : Type 0 where
-  pub token : Option ℕ
-  pub bytes : ℕ
 
 -- what a value of an initialiser sets: so many bytes behind the front of its object, as a value of that kind
 pub record Store : Type 0 where

@@ -21,7 +21,10 @@ use Rattle.typing.specs.Nodes.{pointed_offset}
 use Rattle.typing.specs.Outcomes.{Store as StoreRow, ObjectRow}
 use Rattle.c_machine.specs.Program.{Program, type_of, entity_of, constant_of, size_of, first_token, automatic, fixed_in, store_in, parameters_in, MainItem, main_in}
 use Rattle.c_machine.specs.Statics.{nodes_of, sets_of, static_sets}
-use Rattle.c_machine.specs.Text.{Kind, Integer, Pointer, Array, Struct, Void, Standing, ObjectStands, ConstantStands, BuiltInStands, BodyStands, NothingStands, Form, Name, Known, Unary, Binary, Assign, Count, Choose, Cast, Index, Member, Call, Inner, AssertFail, Declared as DeclaredName, Initialiser, Value, Braces, Clause, Declare, Eval, Block, If, While, Do, For, Break, Continue, Return, Object, Store, Main, Text}
+use Rattle.c_machine.specs.declared.kind.Kind.TheVariants.{Integer, Pointer, Array, Struct, Void}
+use Rattle.c_machine.specs.declared.kind.Kind.{Kind}
+use Rattle.c_machine.specs.declared.object.Object.{Object}
+use Rattle.c_machine.specs.Text.{Standing, ObjectStands, ConstantStands, BuiltInStands, BodyStands, NothingStands, Form, Name, Known, Unary, Binary, Assign, Count, Choose, Cast, Index, Member, Call, Inner, AssertFail, Declared as DeclaredName, Initialiser, Value, Braces, Clause, Declare, Eval, Block, If, While, Do, For, Break, Continue, Return, Store, Main, Text}
 
 -- a type, by what the machine asks of it
 abbrev pub step_of : Program → CType → Target → ℕ

@@ -13,7 +13,8 @@ use Rattle.bytes_core.specs.Value.{address_number, is_same_address, moved}
 use Rattle.operators.specs.declared.kind.IntegerType.{IntegerType}
 use Rattle.operators.specs.Integers.{promoted, common}
 use Rattle.values.specs.Values.{as_type, offset_as, of_unary, of_binary}
-use Rattle.c_machine.specs.Text.{Kind, Integer, Pointer, Array, Void}
+use Rattle.c_machine.specs.declared.kind.Kind.TheVariants.{Integer, Pointer, Array, Void}
+use Rattle.c_machine.specs.declared.kind.Kind.{Kind}
 
 -- a value is true where it is not 0, which is asked of it as it is; a pointer is asked by its address number (6.5.3.3p5, 6.5.9)
 abbrev pub is_true : List Block → Word → Bool

@@ -12,7 +12,7 @@ use crate::operators::{
 };
 use crate::scope::Scope;
 use cbase::{BinaryOp, Place, Storage, UnaryOp};
-use ctokens::{Token, TokenKind, is_identifier, read_as};
+use ctokens::{Token, TokenKind, is_identifier, read_as, same_bytes};
 use std::marker::Model;
 
 /// A token as the grammar sees it: what it is, its bytes as it is read, and where it stands.
@@ -68,7 +68,7 @@ impl<'a> Terminal<'a> {
     pub fn is_word(&self, bytes: &[u8]) -> bool
         ensures { result ≡ is_word bytes.now self.now }
     {
-        matches!(self.kind, TokenKind::Word) && self.bytes == bytes
+        matches!(self.kind, TokenKind::Word) && same_bytes(self.bytes, bytes)
     }
 
     /// Whether it is an identifier (C11 6.4.2): a word that is no keyword, and none of those of GNU C that no rule speaks
@@ -183,7 +183,7 @@ impl<'a> Terminal<'a> {
     pub fn is_mark(&self, bytes: &[u8]) -> bool
         ensures { result ≡ is_mark bytes.now self.now }
     {
-        matches!(self.kind, TokenKind::Mark) && self.bytes == bytes
+        matches!(self.kind, TokenKind::Mark) && same_bytes(self.bytes, bytes)
     }
 }
 

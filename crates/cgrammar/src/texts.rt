@@ -5,12 +5,14 @@ ghost use Rattle.ctokens.specs.SymbolRows.{row_read};
 ghost use Rattle.cgrammar.specs.CodeTables.{text_read};
 ghost use Rattle.cgrammar.specs.Operators.{row_of};
 
+use ctokens::same_bytes;
+
 /// Whether bytes are one of the texts.
 pub fn is_one_of(texts: &[&str], bytes: &[u8]) -> bool
     ensures { result ≡ list_any (bytes_eq bytes.now) (map text_read texts.now) }
 {
     for text in texts {
-        if bytes == text.as_bytes() {
+        if same_bytes(bytes, text.as_bytes()) {
             return true;
         }
     }
@@ -22,7 +24,7 @@ pub fn entry_of<T: Copy>(rows: &[(&str, T)], bytes: &[u8]) -> Option<T>
     ensures { result ≡ row_of bytes.now (map row_read rows.now) }
 {
     for row in rows {
-        if row.0.as_bytes() == bytes {
+        if same_bytes(row.0.as_bytes(), bytes) {
             return Some(row.1);
         }
     }

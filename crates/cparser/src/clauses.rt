@@ -1,7 +1,10 @@
-ghost use Rattle.std.specs.Prelude.{◌≡◌, OnOk};
+ghost use Rattle.std.specs.Prelude.{◌≡◌, false, OnOk};
+ghost use Rattle.cgrammar.specs.Firsts.{begins_declaration};
+ghost use Rattle.cgrammar.specs.Outcomes.{has_first};
 ghost use Rattle.cgrammar.specs.Terminals.{is_mark};
 ghost use Rattle.cparser.specs.Nests.{Nests};
 ghost use Rattle.cparser.specs.ReadingSteps.{inner_at};
+ghost use Rattle.cparser.specs.State.{rest};
 ghost use Rattle.cparser.specs.StatementSteps.{maybe, declared_statement, expression_statement, clause, untyped, tested};
 
 use crate::grammar::Grammar;
@@ -62,6 +65,19 @@ impl<F: Fn(&mut Reader<'_>, u32, Wanted) -> Result<(), NoMemory>> Grammar<F> {
         }
         if reader.has_declaration() {
             return self.declared_statement(reader);
+        }
+        self.undeclared_clause(reader)
+    }
+
+    /// Reads an expression that may be left out with its `;`, where no declaration begins (C11 6.8.3).
+    #[tactic(auto, unfolding(crate::specs::StatementSteps::clause))]
+    pub fn undeclared_clause(&self, reader: &mut Reader<'_>) -> Result<(), NoMemory>
+        requires nests { Nests self.now.depth (F.pre self.now.inner) (F.post self.now.inner) }
+        requires none { has_first (begins_declaration reader.old.scope) (rest reader.old) ≡ false }
+        ensures { OnOk result (reader.new ≡ clause (inner_at self.now.depth) reader.old) }
+    {
+        if !reader.goes() {
+            return Ok(());
         }
         if reader.has_mark(b";") {
             return reader.empty_statement();

@@ -1,4 +1,6 @@
-ghost use Rattle.std.specs.Prelude.{◌≡◌, ◌≤◌, IsSome, OnOk, length};
+ghost use Rattle.std.specs.Prelude.{◌≡◌, ◌≤◌, true, false, IsSome, OnOk, length};
+ghost use Rattle.cgrammar.specs.Firsts.{begins_declaration};
+ghost use Rattle.cgrammar.specs.Outcomes.{has_first};
 ghost use Rattle.cparser.specs.Nests.{Nests};
 ghost use Rattle.cparser.specs.ReadingSteps.{inner_at};
 ghost use Rattle.cparser.specs.State.{rest};
@@ -25,23 +27,31 @@ impl<'a> Reader<'a> {
 }
 
 impl<F: Fn(&mut Reader<'_>, u32, Wanted) -> Result<(), NoMemory>> Grammar<F> {
-    /// Reads a statement that begins with none of the words and brackets that statements begin with.
+    /// Reads a statement that begins with none of the words and brackets that statements begin with. It is not asked whether a declaration
+    /// begins there where that is known.
     #[tactic(auto, unfolding(crate::specs::StatementSteps::other_statement))]
-    fn other_statement(&self, reader: &mut Reader<'_>) -> Result<(), NoMemory>
-        requires { Nests self.now.depth (F.pre self.now.inner) (F.post self.now.inner) }
+    fn other_statement(&self, reader: &mut Reader<'_>, undeclared: bool) -> Result<(), NoMemory>
+        requires nests { Nests self.now.depth (F.pre self.now.inner) (F.post self.now.inner) }
+        requires known { undeclared ≡ true → has_first (begins_declaration reader.old.scope) (rest reader.old) ≡ false }
         ensures { OnOk result (reader.new ≡ other_statement (inner_at self.now.depth) reader.old) }
     {
-        if reader.has_declaration() {
+        if !undeclared && reader.has_declaration() {
             reader.lose();
             return Ok(());
         }
-        self.clause(reader)
+        self.undeclared_clause(reader)
     }
 
     /// Reads a statement that begins so.
-    fn statement_with(&self, reader: &mut Reader<'_>, start: StatementStart) -> Result<(), NoMemory>
+    fn statement_with(
+        &self,
+        reader: &mut Reader<'_>,
+        start: StatementStart,
+        undeclared: bool,
+    ) -> Result<(), NoMemory>
         requires nests { Nests self.now.depth (F.pre self.now.inner) (F.post self.now.inner) }
         requires there { 1 ≤ length (rest reader.old) }
+        requires known { undeclared ≡ true → has_first (begins_declaration reader.old.scope) (rest reader.old) ≡ false }
         ensures { OnOk result (reader.new ≡ statement_with (inner_at self.now.depth) reader.old start) }
     {
         let first = reader.at;
@@ -75,14 +85,15 @@ impl<F: Fn(&mut Reader<'_>, u32, Wanted) -> Result<(), NoMemory>> Grammar<F> {
                 reader.skip(1);
                 self.return_behind(reader, first)
             }
-            StatementStart::Other => self.other_statement(reader),
+            StatementStart::Other => self.other_statement(reader, undeclared),
         }
     }
 
     /// Reads a statement without its labels.
     #[tactic(auto, unfolding(crate::specs::StatementSteps::unlabeled))]
-    fn unlabeled(&self, reader: &mut Reader<'_>) -> Result<(), NoMemory>
-        requires { Nests self.now.depth (F.pre self.now.inner) (F.post self.now.inner) }
+    fn unlabeled(&self, reader: &mut Reader<'_>, undeclared: bool) -> Result<(), NoMemory>
+        requires nests { Nests self.now.depth (F.pre self.now.inner) (F.post self.now.inner) }
+        requires known { undeclared ≡ true → has_first (begins_declaration reader.old.scope) (rest reader.old) ≡ false }
         ensures { OnOk result (reader.new ≡ unlabeled (inner_at self.now.depth) reader.old) }
     {
         if !reader.goes() {
@@ -93,7 +104,7 @@ impl<F: Fn(&mut Reader<'_>, u32, Wanted) -> Result<(), NoMemory>> Grammar<F> {
                 reader.lose();
                 Ok(())
             }
-            Some(start) => self.statement_with(reader, start),
+            Some(start) => self.statement_with(reader, start, undeclared),
         }
     }
 
@@ -108,11 +119,26 @@ impl<F: Fn(&mut Reader<'_>, u32, Wanted) -> Result<(), NoMemory>> Grammar<F> {
         }
         let labels = labels_length(&reader.scope, reader.rest());
         reader.skip(labels);
-        self.unlabeled(reader)
+        self.unlabeled(reader, false)
+    }
+
+    /// Reads a statement where no declaration begins (C11 6.8.1).
+    #[tactic(auto, unfolding(crate::specs::StatementSteps::statement))]
+    fn undeclared_statement(&self, reader: &mut Reader<'_>) -> Result<(), NoMemory>
+        requires nests { Nests self.now.depth (F.pre self.now.inner) (F.post self.now.inner) }
+        requires none { has_first (begins_declaration reader.old.scope) (rest reader.old) ≡ false }
+        ensures { OnOk result (reader.new ≡ statement (inner_at self.now.depth) reader.old) }
+    {
+        if !reader.goes() {
+            return Ok(());
+        }
+        let labels = labels_length(&reader.scope, reader.rest());
+        reader.skip(labels);
+        self.unlabeled(reader, labels == 0)
     }
 
     /// Reads what stands in a block: a statement that begins with a type or a storage word is a declaration.
-    #[tactic(auto, unfolding(crate::specs::StatementSteps::item))]
+    #[tactic(auto, unfolding(crate::specs::StatementSteps::item, crate::specs::StatementSteps::clause))]
     pub fn item(&self, reader: &mut Reader<'_>) -> Result<(), NoMemory>
         requires { Nests self.now.depth (F.pre self.now.inner) (F.post self.now.inner) }
         ensures { OnOk result (reader.new ≡ item (inner_at self.now.depth) reader.old) }
@@ -121,8 +147,8 @@ impl<F: Fn(&mut Reader<'_>, u32, Wanted) -> Result<(), NoMemory>> Grammar<F> {
             return Ok(());
         }
         if reader.has_declaration() {
-            return self.clause(reader);
+            return self.declared_statement(reader);
         }
-        self.statement(reader)
+        self.undeclared_statement(reader)
     }
 }

@@ -9,6 +9,7 @@
 mod blanks;
 mod byte;
 mod closing;
+mod comparing;
 mod directive;
 mod entry;
 mod item_span;
@@ -33,6 +34,7 @@ mod symbols;
 mod token;
 mod token_list;
 
+pub use comparing::same_bytes;
 pub use item_span::{Deep, ItemSpan};
 pub use item_spans::items;
 pub use need::needed;

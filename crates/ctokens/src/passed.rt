@@ -4,7 +4,7 @@ ghost use Rattle.ctokens.specs.InText.{LieInText, most_bytes};
 ghost use Rattle.ctokens.specs.Symbol.{is_passed_over};
 
 use crate::symbol::Symbol;
-use crate::symbols::symbols;
+use crate::symbol_of::token_symbol;
 use crate::token::Tokens;
 use cbase::{List, NoMemory};
 use std::alloc::Global;
@@ -54,17 +54,33 @@ pub(crate) fn read_symbols(alloc: Global, symbols: &[Symbol]) -> Result<Vec<Symb
 
 /// For each token of the text, whether it is passed over: qualifiers and the like, and attributes with their
 /// bracketed part.
-#[tactic(auto, using(crate::proofs::ItemsInside::length_passed))]
+#[tactic(auto, using(crate::proofs::PassedSteps::read_inside))]
 pub fn passed_over(alloc: Global, t: &Tokens) -> Result<List<bool>, NoMemory>
     requires { LieInText t.now }
     ensures value { IfOk result (λ passed. passed ≡ passed_tokens t.now) }
     ensures len { IfOk result (λ passed. length passed ≡ length t.now.list) }
 {
-    let symbols = symbols(alloc, t)?;
-    let read = read_symbols(alloc, symbols.as_slice())?;
-    let mut passed = Vec::with_capacity(alloc, read.len())?;
-    for symbol in &read {
-        passed.push(symbol.is_passed_over())?;
+    let text = t.text.as_slice();
+    let list = t.list.as_slice();
+    let mut passed = Vec::with_capacity(alloc, list.len())?;
+    let mut behind = false;
+    let mut unclosed: u32 = 0;
+    for token in list {
+        let symbol = token_symbol(text, *token);
+        if unclosed > 0 {
+            passed.push(true)?;
+            behind = false;
+            unclosed = depth_after(unclosed, symbol);
+            continue;
+        }
+        if behind && symbol.is_opening() {
+            passed.push(true)?;
+            behind = false;
+            unclosed = 1;
+            continue;
+        }
+        behind = symbol.is_attribute();
+        passed.push(behind || symbol.is_passed_over())?;
     }
     Ok(List::from_vec(passed))
 }

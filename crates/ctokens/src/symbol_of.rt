@@ -1,9 +1,10 @@
-ghost use Rattle.std.specs.Prelude.{◌≡◌, ◌<◌, ◌≤◌, length, map};
+ghost use Rattle.std.specs.Prelude.{◌≡◌, ◌<◌, ◌≤◌, ◌∷◌, [], length, map};
 ghost use Rattle.ctokens.specs.Symbol.{is_identifier};
 ghost use Rattle.ctokens.specs.TokenSymbols.{token_symbol, token_word, word_of};
 ghost use Rattle.ctokens.specs.SymbolTables.{keyword_symbol, mark_symbol, name_symbol, passed_symbol, read_as, symbol_in, symbol_of, word_symbol};
 ghost use Rattle.ctokens.specs.SymbolRows.{row_read};
 
+use crate::comparing::same_bytes;
 use crate::short_words::{
     symbol_of_eight, symbol_of_five, symbol_of_four, symbol_of_seven, symbol_of_six,
     symbol_of_three, symbol_of_two,
@@ -127,7 +128,7 @@ pub(crate) fn symbol_in(rows: &[(&str, Symbol)], otherwise: Symbol, bytes: &[u8]
     ensures { result ≡ symbol_in (map row_read rows.now) otherwise bytes.now }
 {
     for row in rows {
-        if row.0.as_bytes() == bytes {
+        if same_bytes(row.0.as_bytes(), bytes) {
             return row.1;
         }
     }
@@ -139,13 +140,13 @@ pub(crate) fn symbol_in(rows: &[(&str, Symbol)], otherwise: Symbol, bytes: &[u8]
 pub fn read_as(bytes: &[u8]) -> &[u8]
     ensures { result.now ≡ read_as bytes.now }
 {
-    if bytes == b"__signed__".as_slice() {
+    if same_bytes(bytes, b"__signed__") {
         return b"signed";
     }
-    if bytes == b"__typeof__".as_slice() {
+    if same_bytes(bytes, b"__typeof__") {
         return b"typeof";
     }
-    if bytes == b"__typeof".as_slice() {
+    if same_bytes(bytes, b"__typeof") {
         return b"typeof";
     }
     bytes
@@ -175,12 +176,36 @@ fn passed_symbol(otherwise: Symbol, bytes: &[u8]) -> Symbol
     symbol_in(PASSED.as_slice(), otherwise, bytes)
 }
 
-/// The symbol of a mark.
+/// The symbol of a mark of one byte.
+#[tactic(auto, unfolding(crate::specs::SymbolTables::mark_symbol))]
+fn byte_symbol(byte: u8) -> Symbol
+    ensures { result ≡ mark_symbol (byte ∷ []) }
+{
+    match byte {
+        b'(' => Symbol::LeftParenthesis,
+        b')' => Symbol::RightParenthesis,
+        b'[' => Symbol::LeftBracket,
+        b']' => Symbol::RightBracket,
+        b'{' => Symbol::LeftBrace,
+        b'}' => Symbol::RightBrace,
+        b';' => Symbol::Semicolon,
+        b',' => Symbol::Comma,
+        b'=' => Symbol::Equals,
+        b'*' => Symbol::Star,
+        b'.' => Symbol::Selector,
+        _ => Symbol::Other,
+    }
+}
+
+/// The symbol of a mark. Most marks have one byte, and are looked for in no table.
 #[tactic(auto, unfolding(crate::specs::SymbolTables::mark_symbol))]
 fn mark_symbol(bytes: &[u8]) -> Symbol
     ensures { result ≡ mark_symbol bytes.now }
 {
-    symbol_in(MARKS.as_slice(), Symbol::Other, bytes)
+    match bytes {
+        [byte] => byte_symbol(*byte),
+        _ => symbol_in(MARKS.as_slice(), Symbol::Other, bytes),
+    }
 }
 
 /// The symbol of a word. A short one is looked for only among those of its length.

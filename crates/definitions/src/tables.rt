@@ -6,7 +6,7 @@ ghost use Rattle.ctokens.specs.TokenSymbols.{token_word, word_of};
 ghost use Rattle.definitions.specs.Roles.{mark_role, role_in, token_role, word_role};
 
 use crate::role::Role;
-use ctokens::{Token, TokenKind, is_identifier, read_as};
+use ctokens::{Token, TokenKind, is_identifier, read_as, same_bytes};
 
 /// The keywords that matter here.
 const WORDS: [(&'static str, Role); 8] = [
@@ -38,7 +38,7 @@ fn role_in(rows: &[(&str, Role)], bytes: &[u8]) -> Role
     ensures { result ≡ role_in (map row_read rows.now) bytes.now }
 {
     for row in rows {
-        if row.0.as_bytes() == bytes {
+        if same_bytes(row.0.as_bytes(), bytes) {
             return row.1;
         }
     }

@@ -1,6 +1,9 @@
 -- The parts of each form.
-use Rattle.std.proofs.Common.{◌∷◌, ◌++◌, [], ◌∙◌, ap, sym, Ok}
+use Rattle.std.proofs.Common.{◌≤◌, ◌∷◌, ◌++◌, [], ◌∙◌, ap, subst, sym, Ok}
+use Rattle.cbase.specs.declared.tree.decl.Decl.{Decl}
+use Rattle.cbase.specs.declared.tree.expr.Expr.{Expr}
 use Rattle.cbase.specs.declared.tree.expr.ExprForm.TheViews.{out-StmtForm, outs-Declare, outs-Eval, outs-Block, outs-If, outs-While, outs-Do, outs-For, outs-Break, outs-Continue, outs-Return}
+use Rattle.ctrees.specs.Levels.{decl_levels, expr_levels}
 use Rattle.typing.specs.Statements.{Condition, Dropped, ValueOf, Whole, Branch, LoopBody, other_branch, Declares, StatementsOf, LeavesLoop, parts_in, optional, returned}
 use Rattle.typing.specs.Typing.{DeclaredIs}
 use Rattle.expressions.specs.Found.{nothing}
@@ -17,7 +20,9 @@ pub declaration-requires-clause-nests : goal.declaration-requires-clause-nests
 declaration-requires-clause-nests g c = c.requires.nests
 
 pub declaration-requires-clause-deep : goal.declaration-requires-clause-deep
-declaration-requires-clause-deep g c = declaration_within c.args.form.now c.in-Declare.decl c.args.checker.now.depth c.in-Declare.is c.requires.deep
+declaration-requires-clause-deep g c =
+    subst (λ (decl : Decl). decl_levels decl ≤ c.args.checker.now.depth) (sym c.get.ensures)
+    (declaration_within c.args.form.now c.in-Declare.decl c.args.checker.now.depth c.in-Declare.is c.requires.deep)
 
 pub optional-requires-clause-nests : goal.optional-requires-clause-nests
 optional-requires-clause-nests g c = c.requires.nests
@@ -35,10 +40,12 @@ pub choose-requires-clause-nests : goal.choose-requires-clause-nests
 choose-requires-clause-nests g c = c.requires.nests
 
 pub choose-requires-clause-test : goal.choose-requires-clause-test
-choose-requires-clause-test g c = if_test_within c.args.form.now c.args.checker.now.depth c.requires.deep c.in-If.test c.in-If.close c.in-If.yes c.in-If.no c.in-If.is
+choose-requires-clause-test g c =
+    subst (λ (expr : Expr). expr_levels expr ≤ c.args.checker.now.depth) (sym c.get-in-If.ensures)
+    (if_test_within c.args.form.now c.args.checker.now.depth c.requires.deep c.in-If.test c.in-If.close c.in-If.yes c.in-If.no c.in-If.is)
 
 pub choose-requires-clause-yes : goal.choose-requires-clause-yes
-choose-requires-clause-yes g c = if_yes_within c.args.form.now c.args.checker.now.depth c.requires.deep c.in-If.test c.in-If.close c.in-If.yes c.in-If.no c.in-If.is c.get.result.now c.get.ensures
+choose-requires-clause-yes g c = if_yes_within c.args.form.now c.args.checker.now.depth c.requires.deep c.in-If.test c.in-If.close c.in-If.yes c.in-If.no c.in-If.is c.get-in-If-2.result.now c.get-in-If-2.ensures
 
 pub choose-requires-clause-no : goal.choose-requires-clause-no
 choose-requires-clause-no g c = if_other_within c.args.form.now c.args.checker.now.depth c.requires.deep c.in-If.test c.in-If.close c.in-If.yes c.in-If.no c.in-If.is
@@ -47,10 +54,12 @@ pub while_loop-requires-clause-nests : goal.while_loop-requires-clause-nests
 while_loop-requires-clause-nests g c = c.requires.nests
 
 pub while_loop-requires-clause-test : goal.while_loop-requires-clause-test
-while_loop-requires-clause-test g c = test_within c.args.form.now c.args.checker.now.depth c.requires.deep c.in-While.test c.in-While.body (levels_of_while c.args.form.now c.args.checker.now.depth c.requires.deep c.in-While.test c.in-While.close c.in-While.body c.in-While.is)
+while_loop-requires-clause-test g c =
+    subst (λ (expr : Expr). expr_levels expr ≤ c.args.checker.now.depth) (sym c.get-in-While.ensures)
+    (test_within c.args.form.now c.args.checker.now.depth c.requires.deep c.in-While.test c.in-While.body (levels_of_while c.args.form.now c.args.checker.now.depth c.requires.deep c.in-While.test c.in-While.close c.in-While.body c.in-While.is))
 
 pub while_loop-requires-clause-body : goal.while_loop-requires-clause-body
-while_loop-requires-clause-body g c = loop_within c.args.form.now c.args.checker.now.depth c.requires.deep c.in-While.test c.in-While.body (levels_of_while c.args.form.now c.args.checker.now.depth c.requires.deep c.in-While.test c.in-While.close c.in-While.body c.in-While.is) c.get-in-While.result.now c.get-in-While.ensures
+while_loop-requires-clause-body g c = loop_within c.args.form.now c.args.checker.now.depth c.requires.deep c.in-While.test c.in-While.body (levels_of_while c.args.form.now c.args.checker.now.depth c.requires.deep c.in-While.test c.in-While.close c.in-While.body c.in-While.is) c.get-in-While-2.result.now c.get-in-While-2.ensures
 
 pub do_loop-requires-clause-nests : goal.do_loop-requires-clause-nests
 do_loop-requires-clause-nests g c = c.requires.nests
@@ -59,7 +68,9 @@ pub do_loop-requires-clause-body : goal.do_loop-requires-clause-body
 do_loop-requires-clause-body g c = loop_within c.args.form.now c.args.checker.now.depth c.requires.deep c.in-Do.test c.in-Do.body (levels_of_do c.args.form.now c.args.checker.now.depth c.requires.deep c.in-Do.body c.in-Do.test c.in-Do.close c.in-Do.is) c.get-in-Do.result.now c.get-in-Do.ensures
 
 pub do_loop-requires-clause-test : goal.do_loop-requires-clause-test
-do_loop-requires-clause-test g c = test_within c.args.form.now c.args.checker.now.depth c.requires.deep c.in-Do.test c.in-Do.body (levels_of_do c.args.form.now c.args.checker.now.depth c.requires.deep c.in-Do.body c.in-Do.test c.in-Do.close c.in-Do.is)
+do_loop-requires-clause-test g c =
+    subst (λ (expr : Expr). expr_levels expr ≤ c.args.checker.now.depth) (sym c.get-in-Do-2.ensures)
+    (test_within c.args.form.now c.args.checker.now.depth c.requires.deep c.in-Do.test c.in-Do.body (levels_of_do c.args.form.now c.args.checker.now.depth c.requires.deep c.in-Do.body c.in-Do.test c.in-Do.close c.in-Do.is))
 
 pub for_loop-requires-clause-nests : goal.for_loop-requires-clause-nests
 for_loop-requires-clause-nests g c = c.requires.nests
@@ -86,11 +97,11 @@ pub returns-in-Declare : goal.returns-in-Declare
 returns-in-Declare g c =
     let abi = c.args.checker.now.abi in
     let new = c.declaration.new.context in
-    let parts = Declares c.args.place c.in-Declare.decl ∷ [] in
+    let parts = Declares c.args.place c.get.result.now ∷ [] in
     parts_alike abi parts (parts_in c.args.place (out-StmtForm c.args.form.now)) c.args.context.now new c.declaration.result
-    (sym (ap (parts_in c.args.place) (ap out-StmtForm c.in-Declare.is ∙ outs-Declare c.in-Declare.decl)))
-    (of_result (λ found. Walked (Says abi (λ o. DeclaredIs c.args.place c.in-Declare.decl o)) nothing c.args.context.now new found) (λ found. Walked (SaysParts abi parts) nothing c.args.context.now new found)
-    c.declaration.result (declaration_parts abi c.args.place c.in-Declare.decl c.args.context.now new) c.declaration.ensures)
+    (ap (λ decl. Declares c.args.place decl ∷ []) c.get.ensures ∙ sym (ap (parts_in c.args.place) (ap out-StmtForm c.in-Declare.is ∙ outs-Declare c.in-Declare.decl)))
+    (of_result (λ found. Walked (Says abi (λ o. DeclaredIs c.args.place c.get.result.now o)) nothing c.args.context.now new found) (λ found. Walked (SaysParts abi parts) nothing c.args.context.now new found)
+    c.declaration.result (declaration_parts abi c.args.place c.get.result.now c.args.context.now new) c.declaration.ensures)
 
 pub returns-in-Eval : goal.returns-in-Eval
 returns-in-Eval g c =
@@ -114,20 +125,20 @@ returns-in-Block g c =
 
 pub returns-in-If : goal.returns-in-If
 returns-in-If g c =
-    parts_alike c.args.checker.now.abi (ValueOf Condition c.in-If.test ∷ Branch c.get.result.now ∷ other_branch c.in-If.no) (parts_in c.args.place (out-StmtForm c.args.form.now)) c.args.context.now c.choose.new.context c.choose.result
-    (ap (λ stmt. ValueOf Condition c.in-If.test ∷ Branch stmt ∷ other_branch c.in-If.no) c.get.ensures
+    parts_alike c.args.checker.now.abi (ValueOf Condition c.get-in-If.result.now ∷ Branch c.get-in-If-2.result.now ∷ other_branch c.in-If.no) (parts_in c.args.place (out-StmtForm c.args.form.now)) c.args.context.now c.choose.new.context c.choose.result
+    ((λ i. ValueOf Condition (c.get-in-If.ensures i) ∷ Branch (c.get-in-If-2.ensures i) ∷ other_branch c.in-If.no)
     ∙ sym (ap (parts_in c.args.place) (ap out-StmtForm c.in-If.is ∙ outs-If c.in-If.test c.in-If.close c.in-If.yes c.in-If.no))) c.choose.ensures
 
 pub returns-in-While : goal.returns-in-While
 returns-in-While g c =
-    parts_alike c.args.checker.now.abi (ValueOf Condition c.in-While.test ∷ LoopBody c.get-in-While.result.now ∷ []) (parts_in c.args.place (out-StmtForm c.args.form.now)) c.args.context.now c.while_loop.new.context c.while_loop.result
-    (ap (λ stmt. ValueOf Condition c.in-While.test ∷ LoopBody stmt ∷ []) c.get-in-While.ensures
+    parts_alike c.args.checker.now.abi (ValueOf Condition c.get-in-While.result.now ∷ LoopBody c.get-in-While-2.result.now ∷ []) (parts_in c.args.place (out-StmtForm c.args.form.now)) c.args.context.now c.while_loop.new.context c.while_loop.result
+    ((λ i. ValueOf Condition (c.get-in-While.ensures i) ∷ LoopBody (c.get-in-While-2.ensures i) ∷ [])
     ∙ sym (ap (parts_in c.args.place) (ap out-StmtForm c.in-While.is ∙ outs-While c.in-While.test c.in-While.close c.in-While.body))) c.while_loop.ensures
 
 pub returns-in-Do : goal.returns-in-Do
 returns-in-Do g c =
-    parts_alike c.args.checker.now.abi (LoopBody c.get-in-Do.result.now ∷ ValueOf Condition c.in-Do.test ∷ []) (parts_in c.args.place (out-StmtForm c.args.form.now)) c.args.context.now c.do_loop.new.context c.do_loop.result
-    (ap (λ stmt. LoopBody stmt ∷ ValueOf Condition c.in-Do.test ∷ []) c.get-in-Do.ensures
+    parts_alike c.args.checker.now.abi (LoopBody c.get-in-Do.result.now ∷ ValueOf Condition c.get-in-Do-2.result.now ∷ []) (parts_in c.args.place (out-StmtForm c.args.form.now)) c.args.context.now c.do_loop.new.context c.do_loop.result
+    ((λ i. LoopBody (c.get-in-Do.ensures i) ∷ ValueOf Condition (c.get-in-Do-2.ensures i) ∷ [])
     ∙ sym (ap (parts_in c.args.place) (ap out-StmtForm c.in-Do.is ∙ outs-Do c.in-Do.body c.in-Do.test c.in-Do.close))) c.do_loop.ensures
 
 pub returns-in-For : goal.returns-in-For
