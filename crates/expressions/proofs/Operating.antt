@@ -5,7 +5,7 @@ use Rattle.std.proofs.lemmas.Option.{slice_get_within}
 use Rattle.cbase.specs.declared.ctype.CType.{CType}
 use Rattle.cbase.specs.declared.structs.StructDef.{StructDef}
 use Rattle.ctypes.specs.Structs.{TypeTable}
-use Rattle.ctypes.specs.Table.{type_at}
+use Rattle.ctypes.specs.Table.{type_at, Interns}
 use Rattle.environment.specs.declared.environment.Environment.{Environment}
 use Rattle.environment.specs.Bounds.{AreBelow}
 use Rattle.environment.proofs.Bounds.{bounds_grow}
@@ -17,7 +17,7 @@ use Rattle.operators.specs.Kinds.{kind_of}
 use Rattle.operators.specs.Operands.{Operand, Answers}
 use Rattle.expressions.specs.Context.{Context, Agrees, OnlyTypes}
 use Rattle.expressions.specs.Numbers.{Numbering}
-use Rattle.expressions.specs.Operated.{Operates}
+use Rattle.expressions.specs.Operated.{Operates, Numbers}
 use Rattle.expressions.proofs.Growth.{keeps_length, grows_keeps, agrees_before_types}
 use Rattle.expressions.proofs.Meanings.{of_one, of_two, of_three}
 
@@ -59,6 +59,19 @@ module _ (old : Context) (table : TypeTable) (structs : table.structs ≡ old.st
   all_operate before judge meant (Ok outcome) answers = operates before judge meant outcome answers
   all_operate before judge meant (Err error) answers = tt
 
+  -- a type that gets a number
+  numbered : {E : Type 0} (t : CType) (u : Numbering → CType) → ((n : Numbering) → Agrees n old → u n ≡ t)
+      → (result : Result ℕ E) → IfOk result (λ number. Interns old.types t table.types number)
+      → IfOk result (λ number. Numbers u old (with_table table old) number)
+  numbered t u meant (Ok number) interned =
+      let only : OnlyTypes old (with_table table old) = only_types_in (grows_keeps old.types t table.types interned.1) in
+      record {
+        only_types = only;
+        below = slice_get_within table.types number t interned.0;
+        meant = λ n agrees. agrees.types number t interned.0 ∙ sym (meant n (agrees_before_types old (with_table table old) n only agrees));
+      }
+  numbered t u meant (Err error) interned = tt
+
 module _ {view now : Context} (same : view ≡ now) (table : TypeTable) (structs : table.structs ≡ view.structs) where
   all_operate_now : {E : Type 0} (before : Judgement) (judge : Numbering → Judgement) → ((n : Numbering) → Agrees n now → judge n ≡ before)
       → (result : Result Outcome E) → IfOk result (λ outcome. Answers view.types before table.types outcome)
@@ -90,7 +103,23 @@ module _ {view now : Context} (same : view ≡ now) (table : TypeTable) (structs
       all_operate_now (judge view.structs (type_at view.types first) (type_at view.types second) (type_at view.types third))
       (λ n. judge now.structs (n.ctype first) (n.ctype second) (n.ctype third)) (of_three same judge first second third below second_below third_below) result answers
 
+  -- a type that gets a number
+  pub numbered_now : {E : Type 0} (t : CType) (u : Numbering → CType) → ((n : Numbering) → Agrees n now → u n ≡ t)
+      → (result : Result ℕ E) → IfOk result (λ number. Interns view.types t table.types number)
+      → IfOk result (λ number. Numbers u now (with_table table view) number)
+  numbered_now t u meant result interned =
+      subst (λ (at : Context). ((n : Numbering) → Agrees n at → u n ≡ t) → IfOk result (λ number. Numbers u at (with_table table view) number)) same
+      (λ m. numbered view table structs t u m result interned) meant
+
 -- the numbers of an environment stay below
+pub numbered_below : {E : Type 0} (old new : TypeTable) (env : Environment) (t : CType) (result : Result ℕ E)
+    → IfOk result (λ number. Interns old.types t new.types number) → OnErr result (new ≡ old) → AreBelow (length old.types) env → AreBelow (length new.types) env
+numbered_below old new env t (Ok number) interned stays below =
+    bounds_grow (length old.types) (length new.types) env (keeps_length old.types new.types (grows_keeps old.types t new.types interned.1)) below
+numbered_below old new env t (Err error) interned stays below =
+    let same : new ≡ old = stays in
+    rw same below
+
 answered_longer : (old new : List CType) (before : Judgement) (outcome : Outcome) → Answers old before new outcome → length old ≤ length new
 answered_longer old new (Typed t) (OutcomeTyped number) answers = keeps_length old new (grows_keeps old t new answers.1)
 answered_longer old new (Typed t) (OutcomeBroken told) answers = absurd answers

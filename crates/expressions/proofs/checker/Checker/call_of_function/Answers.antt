@@ -1,4 +1,5 @@
 use Rattle.expressions.proofs.Calling.{a_function, a_call, called_piece, callee_refused, argument_refused, parts_pass, signature_below, call_result, counted_of}
+use Rattle.expressions.proofs.Walking.{passed_of}
 use Rattle.expressions.proofs.checker.Checker.call_of_function.Goals as goal
 
 pub returns-in-Ok-Refused : goal.returns-in-Ok-Refused
@@ -34,3 +35,9 @@ arguments-requires-clause-empty g c = c.requires.empty
 
 pub called_function-requires : goal.called_function-requires
 called_function-requires g c = c.requires.signature
+
+pub call_node-requires-clause-known : goal.call_node-requires-clause-known
+call_node-requires-clause-known g c = rw c.deref.ensures.value (passed_of _ _ _ _ _ _ c.in-Ok-Passes-arguments.field-0-is c.in-Ok-Passes-arguments.ensures.walk).below
+
+pub call_node-requires-clause-count : goal.call_node-requires-clause-count
+call_node-requires-clause-count g c = rw c.deref.ensures.value (counted_of c.in-Ok-Passes-arguments.field-0 c.in-Ok-Passes-arguments.field-0-0 _ _ c.in-Ok-Passes-arguments.field-0-is c.in-Ok-Passes-arguments.ensures.count)

@@ -24,3 +24,9 @@ words-requires-clause-nests g c = c.requires.nests
 
 pub member_names-requires-clause-nests : goal.member_names-requires-clause-nests
 member_names-requires-clause-nests g c = c.requires.nests
+
+pub returns-in-Ok-Passes-clause-members : goal.returns-in-Ok-Passes-clause-members
+returns-in-Ok-Passes-clause-members g c = c.member_names.ensures.members
+
+pub returns-in-Ok-Refused-clause-members : goal.returns-in-Ok-Refused-clause-members
+returns-in-Ok-Refused-clause-members g c = tt

@@ -26,3 +26,12 @@ returns-clause-found g c = behind_end c.args.self.now.abi (λ n members fields o
 
 pub declaration-requires-clause-nests : goal.declaration-requires-clause-nests
 declaration-requires-clause-nests g c = c.requires.nests
+
+pub declaration-requires-clause-members : goal.declaration-requires-clause-members
+declaration-requires-clause-members g c = c.loop-field.invariant.1
+
+pub returns-clause-members : goal.returns-clause-members
+returns-clause-members g c = c.loop-field.invariant.1
+
+pub returns-in-Ok-Refused-clause-members : goal.returns-in-Ok-Refused-clause-members
+returns-in-Ok-Refused-clause-members g c = tt

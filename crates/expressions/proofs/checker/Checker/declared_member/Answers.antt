@@ -43,3 +43,15 @@ returns-clause-found g c = member_found c.args.self.now.abi c.args.base c.args.n
 
 pub member_sizes-requires-clause-nests : goal.member_sizes-requires-clause-nests
 member_sizes-requires-clause-nests g c = c.requires.nests
+
+pub returns-clause-members : goal.returns-clause-members
+returns-clause-members g c = c.take_member.ensures.members
+
+pub width-requires-clause-nests : goal.width-requires-clause-nests
+width-requires-clause-nests g c = c.requires.nests
+
+pub returns-in-Ok-Refused-clause-members : goal.returns-in-Ok-Refused-clause-members
+returns-in-Ok-Refused-clause-members g c = tt
+
+pub returns-in-Ok-Refused-width-clause-members : goal.returns-in-Ok-Refused-width-clause-members
+returns-in-Ok-Refused-width-clause-members g c = tt

@@ -1,5 +1,5 @@
 -- An expression by its form: its parts are no deeper than it, and what is found of it is found of one layer of it.
-use Rattle.std.proofs.Common.{ap, sym, ◌∙◌, refl}
+use Rattle.std.proofs.Common.{ap, sym, ◌∙◌}
 use Rattle.cbase.specs.declared.tree.expr.ExprForm.TheOpen.{Name, Constant, Unary, Binary, Count, Choose, Cast, SizeOf, SizeOfType, OffsetOf, Index, Call, Inner, AssertFail}
 use Rattle.cbase.specs.declared.tree.expr.ExprForm.TheViews.{out-ExprForm, outs-Name, outs-Constant, outs-Unary, outs-Binary, outs-Count, outs-Choose, outs-Cast, outs-SizeOf, outs-SizeOfType, outs-OffsetOf, outs-Index, outs-Call, outs-Inner, outs-AssertFail}
 use Rattle.ctrees.specs.Levels.{expr_levels, type_name_levels}

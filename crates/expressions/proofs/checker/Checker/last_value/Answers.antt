@@ -1,5 +1,6 @@
 -- The value of a block.
 use Rattle.std.proofs.Common.{◌∙◌, sym}
+use Rattle.expressions.proofs.Walking.{passed_of}
 use Rattle.expressions.proofs.checker.Checker.last_value.Goals as goal
 use Rattle.expressions.proofs.Blocks.{last_struct, last_passes, last_refused}
 
@@ -19,3 +20,9 @@ loaded-requires-clause-nests g c = c.requires.nests
 
 pub loaded-requires-clause-deep : goal.loaded-requires-clause-deep
 loaded-requires-clause-deep g c = c.requires.deep
+
+pub is_struct-requires : goal.is_struct-requires
+is_struct-requires g c = (passed_of _ _ _ _ _ _ c.in-Ok-Passes.field-0-is c.in-Ok-Passes.ensures).below
+
+pub value_type-requires : goal.value_type-requires
+value_type-requires g c = (passed_of _ _ _ _ _ _ c.in-Ok-Passes.field-0-is c.in-Ok-Passes.ensures).below

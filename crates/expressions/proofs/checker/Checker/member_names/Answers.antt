@@ -32,3 +32,12 @@ returns-clause-found g c = behind_end c.args.self.now.abi (λ n members names o.
 
 pub declared_member-requires-clause-nests : goal.declared_member-requires-clause-nests
 declared_member-requires-clause-nests g c = c.requires.nests
+
+pub declared_member-requires-clause-members : goal.declared_member-requires-clause-members
+declared_member-requires-clause-members g c = c.loop-name.invariant.1
+
+pub returns-clause-members : goal.returns-clause-members
+returns-clause-members g c = c.loop-name.invariant.1
+
+pub returns-in-Ok-Refused-clause-members : goal.returns-in-Ok-Refused-clause-members
+returns-in-Ok-Refused-clause-members g c = tt

@@ -11,3 +11,12 @@ indirection-requires-clause-nests g c = c.requires.nests
 
 pub indirection-requires-clause-arg : goal.indirection-requires-clause-arg
 indirection-requires-clause-arg g c = c.requires.arg
+
+pub returns-in-Address : goal.returns-in-Address
+returns-in-Address g c = rw c.in-Address.is c.address.ensures
+
+pub returns-in-Follow : goal.returns-in-Follow
+returns-in-Follow g c = rw c.in-Follow.is c.indirection.ensures
+
+pub returns-in-Plus : goal.returns-in-Plus
+returns-in-Plus g c = c.unary_value.ensures

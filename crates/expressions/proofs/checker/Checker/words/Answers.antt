@@ -1,6 +1,6 @@
 -- The words of a type, by what they are.
 use Rattle.cbase.specs.declared.tree.expr.ExprForm.TheOpen.{Basic, Named, Struct, Enum, OfExpr}
-use Rattle.std.proofs.Common.{Some, None, ap, ◌∙◌}
+use Rattle.std.proofs.Common.{Some, None}
 use Rattle.expressions.proofs.checker.Checker.words.Goals as goal
 use Rattle.expressions.proofs.TypeWords.{layered, typeof_type, struct_layer, enum_layer, struct_alone_layer, enum_alone_layer, basic_layer, named_layer, typeof_expr_layer, typeof_layer}
 

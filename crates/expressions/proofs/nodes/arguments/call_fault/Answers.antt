@@ -36,3 +36,21 @@ returns c n agrees =
     (subst (λ (same : Bool). IsFirstOf (unless same c.args.callee.place (Rule 7)) c.unless-counted.result) counts c.unless-counted.ensures)
     (subst (λ (calls : Bool). IsFirstOf (unless (not calls) c.args.callee.place (Rule 13)) c.unless-allowed.result)
     (c.calls_main.ensures ∙ ap (λ (strict : Bool). calls_main strict c.args.callee.name.now) c.is_strict.ensures) c.unless-allowed.ensures)))))
+
+pub has_struct-requires-clause-known : goal.has_struct-requires-clause-known
+has_struct-requires-clause-known c = c.requires.known
+
+pub length_fault-lengths-requires-clause-count : goal.length_fault-lengths-requires-clause-count
+length_fault-lengths-requires-clause-count c = c.requires.count
+
+pub length_fault-lengths-requires-clause-known : goal.length_fault-lengths-requires-clause-known
+length_fault-lengths-requires-clause-known c = c.requires.known
+
+pub unconverted-converted-requires-clause-count : goal.unconverted-converted-requires-clause-count
+unconverted-converted-requires-clause-count c = c.requires.count
+
+pub unconverted-converted-requires-clause-known : goal.unconverted-converted-requires-clause-known
+unconverted-converted-requires-clause-known c = c.requires.known
+
+pub signature-signature-requires : goal.signature-signature-requires
+signature-signature-requires c = c.requires.signature

@@ -29,3 +29,9 @@ returns c abi =
           found settled,
     ))
     c.settle.ensures
+
+pub way_to-way-requires-clause-ctype : goal.way_to-way-requires-clause-ctype
+way_to-way-requires-clause-ctype c = c.requires.named
+
+pub way_to-way-requires-clause-indices : goal.way_to-way-requires-clause-indices
+way_to-way-requires-clause-indices c = c.requires.indices

@@ -47,3 +47,12 @@ returns-in-At c abi n agrees =
     (FromItem
     (subst (λ (steps : List Step). Leads abi c.args.context.now.structs c.args.word (n.ctype c.args.ctype) 0 steps c.args.indices.now way) (sym whole)
     (c.leads-in-At.ensures abi n agrees)))
+
+pub first_step-requires : goal.first_step-requires
+first_step-requires c = c.requires.ctype
+
+pub leads-requires-in-At-clause-ctype : goal.leads-requires-in-At-clause-ctype
+leads-requires-in-At-clause-ctype c = c.requires.ctype
+
+pub leads-requires-in-At-clause-indices : goal.leads-requires-in-At-clause-indices
+leads-requires-in-At-clause-indices c = c.requires.indices
