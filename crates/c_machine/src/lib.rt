@@ -12,6 +12,7 @@ mod object;
 mod rows;
 mod task;
 mod variable;
+mod whole_type;
 
 pub use built_in::BuiltIn;
 pub use kind::Kind;
@@ -22,3 +23,4 @@ pub use rows::{
 };
 pub use task::Task;
 pub use variable::Variable;
+pub use whole_type::WholeType;

@@ -1,0 +1,61 @@
+ghost use Rattle.std.specs.Prelude.{◌≡◌, Some, true};
+ghost use Rattle.operators.specs.Integers.{int};
+ghost use Rattle.values.specs.Values.{is_whole, whole_in};
+
+use operators::IntegerType;
+use std::marker::Model;
+use values::is_whole;
+
+/// A type of integers that the data layouts have: one of 1, 2, 4 or 8 bytes (C11 6.2.5p4-8).
+#[derive(Clone, Copy)]
+pub struct WholeType {
+    of: IntegerType,
+}
+
+impl Model for WholeType {
+    ghost use Rattle.std.specs.Prelude.{◌≡◌, true};
+    ghost use Rattle.operators.specs.declared.kind.IntegerType.{IntegerType};
+    ghost use Rattle.values.specs.Values.{is_whole};
+
+    ghost Value = { IntegerType };
+
+    ghost view = { λ t. t.of };
+
+    ghost invariant = { λ t. is_whole t.of ≡ true };
+
+    ghost inverse = { λ t. record { of = t } };
+}
+
+impl WholeType {
+    /// A type of integers, where the data layouts have it.
+    pub fn of(of: IntegerType) -> Option<WholeType>
+        ensures { result ≡ whole_in (Some of) }
+    {
+        if is_whole(of) {
+            Some(WholeType { of })
+        } else {
+            None
+        }
+    }
+
+    /// `int` (C11 6.2.5p5).
+    pub fn int() -> WholeType
+        ensures { result ≡ int }
+    {
+        WholeType {
+            of: IntegerType {
+                bytes: 4,
+                signed: true,
+                truth: false,
+            },
+        }
+    }
+
+    /// How many bytes the integers have, whether they have a sign, and whether the type is `_Bool`.
+    pub fn get(self) -> IntegerType
+        ensures is { result ≡ self }
+        ensures whole { is_whole result ≡ true }
+    {
+        self.of
+    }
+}
