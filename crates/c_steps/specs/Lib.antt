@@ -1,0 +1,4 @@
+pub mod ComesTo
+pub mod Named
+pub mod Statics
+pub mod Leaving
