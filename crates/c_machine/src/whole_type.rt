@@ -1,7 +1,9 @@
 ghost use Rattle.std.specs.Prelude.{◌≡◌, Some, true};
-ghost use Rattle.operators.specs.Integers.{int};
+ghost use Rattle.arithmetic.specs.Size.{bytes};
+ghost use Rattle.operators.specs.Integers.{int, promoted, common};
 ghost use Rattle.values.specs.Values.{is_whole, whole_in};
 
+use arithmetic::Size;
 use operators::IntegerType;
 use std::marker::Model;
 use values::is_whole;
@@ -57,5 +59,35 @@ impl WholeType {
         ensures whole { is_whole result ≡ true }
     {
         self.of
+    }
+
+    /// The size of the integers.
+    pub fn size(self) -> Size
+        ensures { bytes result ≡ self.bytes }
+    {
+        match self.of.bytes {
+            1 => Size::One,
+            2 => Size::Two,
+            4 => Size::Four,
+            _ => Size::Eight,
+        }
+    }
+
+    /// The type of an integer of this one as an operand (C11 6.3.1.1p2).
+    pub fn promoted(self) -> WholeType
+        ensures { result ≡ promoted self }
+    {
+        WholeType {
+            of: self.of.promoted(),
+        }
+    }
+
+    /// The type of an operation on integers of this type and of another one (C11 6.3.1.8).
+    pub fn common(self, other: WholeType) -> WholeType
+        ensures { result ≡ common self other }
+    {
+        WholeType {
+            of: self.of.common(other.of),
+        }
     }
 }
