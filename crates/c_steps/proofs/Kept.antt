@@ -1,5 +1,6 @@
 -- Each block that a state names stays one of its memory.
-use Rattle.std.proofs.Common.{◌≡◌, ℕ, zero, suc, ◌<◌, List, [], ◌∷◌, ◌++◌, length, drop, replicate, take, Option, None, Some, Bool, true, false, sym, ap, ◌∙◌, subst}
+use Rattle.std.proofs.Common.{◌≡◌, ℕ, zero, suc, ◌<◌, List, [], ◌∷◌, ◌++◌, length, drop, replicate, take, Option, None, Some, Bool, true, false, sym, ap, ◌∙◌, subst, ◌≤◌, arith}
+use Rattle.std.proofs.lemmas.List.{length-append}
 use Rattle.std.specs.Prelude.{if◌then◌else◌}
 use Rattle.bytes_core.specs.declared.byte.Byte.TheVariants.{Num}
 use Rattle.bytes_core.specs.declared.block.Block.{Block}
@@ -7,16 +8,18 @@ use Rattle.bytes_core.specs.declared.word.Word.{Word}
 use Rattle.bytes_core.specs.declared.word.Word.TheVariants.{Plain, To}
 use Rattle.bytes_core.specs.Access.{stored, filled, bytes_at}
 use Rattle.bytes_core.specs.Copying.{copied}
+use Rattle.bytes_core.specs.Placement.{placed}
 use Rattle.bytes_core.specs.Release.{freed}
 use Rattle.bytes_core.specs.Valid.{WordNamesBelow}
 use Rattle.bytes_core.specs.Value.{word_bytes}
 use Rattle.c_machine.specs.declared.variable.Variable.{Variable}
 use Rattle.c_machine.specs.State.{Scope, Frame, is_named, block_in, blocks_of, objects_of, led_to}
-use Rattle.c_steps.specs.Named.{AreBelow, IsFrameBelow, NamesBlocks}
+use Rattle.c_machine.specs.Step.{without_objects}
+use Rattle.c_steps.specs.Named.{AreBelow, IsFrameBelow, AreFramesBelow, NamesBlocks}
 use Rattle.c_steps.specs.Statics.{or_else}
-use Rattle.c_steps.proofs.Lengths.{length_written, length_freed}
+use Rattle.c_steps.proofs.Lengths.{length_written, length_freed, length_without_objects}
 use Rattle.c_steps.proofs.Lookups.{found_behind_others}
-use Rattle.c_steps.proofs.Names.{below_scope}
+use Rattle.c_steps.proofs.Names.{below_scope, below_outer}
 
 -- operands
 pub one_more_operand : (count : ℕ) (operand : Word) (operands : List Word) (frame : Frame) (callers : List Frame) (statics : Scope) →
@@ -139,3 +142,49 @@ below_own count operands frame callers statics token block valid is = found_belo
 pub below_lasting : (count : ℕ) (operands : List Word) (frame : Frame) (callers : List Frame) (statics : Scope) (token block : ℕ) →
     NamesBlocks count operands frame callers statics → block_in statics token ≡ Some block → block < count
 below_lasting count operands frame callers statics token block valid is = found_below count statics token block valid.statics_named is
+
+-- one more block
+below_longer : (count other : ℕ) (blocks : List ℕ) → count ≤ other → AreBelow count blocks → AreBelow other blocks
+below_longer count other [] longer named = tt
+below_longer count other (block ∷ rest) longer named = (let first : block < count = named.0 in omega arith, below_longer count other rest longer named.1)
+
+frames_longer : (count other : ℕ) (frames : List Frame) → count ≤ other → AreFramesBelow count frames → AreFramesBelow other frames
+frames_longer count other [] longer named = tt
+frames_longer count other (frame ∷ rest) longer named =
+    (below_longer count other (blocks_of (objects_of frame)) longer named.0, frames_longer count other rest longer named.1)
+
+longer_count : (count other : ℕ) (operands : List Word) (frame : Frame) (callers : List Frame) (statics : Scope) →
+    count ≤ other → NamesBlocks count operands frame callers statics → NamesBlocks other operands frame callers statics
+longer_count count other operands frame callers statics longer valid = record {
+  operands_named = below_longer count other (led_to operands) longer valid.operands_named;
+  frame_named = below_longer count other (blocks_of (objects_of frame)) longer valid.frame_named;
+  callers_named = frames_longer count other callers longer valid.callers_named;
+  statics_named = below_longer count other (blocks_of statics) longer valid.statics_named;
+}
+
+pub one_more_block : (memory : List Block) (block : Block) (operands : List Word) (frame : Frame) (callers : List Frame) (statics : Scope) →
+    NamesBlocks (length memory) operands frame callers statics → NamesBlocks (length (placed memory block)) operands frame callers statics
+one_more_block memory block operands frame callers statics valid =
+    longer_count (length memory) (length (placed memory block)) operands frame callers statics (omega (arith, length-append memory (block ∷ []))) valid
+
+-- a memory that is known by what made it
+pub known_memory : (memory made : List Block) (operands : List Word) (frame : Frame) (callers : List Frame) (statics : Scope) →
+    memory ≡ made → NamesBlocks (length made) operands frame callers statics → NamesBlocks (length memory) operands frame callers statics
+known_memory memory made operands frame callers statics is valid = same_count _ _ operands frame callers statics (ap length is) valid
+
+-- a block or a function is left, or a caller goes on
+pub after_block : (memory : List Block) (scope : Scope) (operands : List Word) (frame : Frame) (callers : List Frame) (statics : Scope) →
+    NamesBlocks (length memory) operands (scope ∷ frame) callers statics → NamesBlocks (length (without_objects (blocks_of scope) memory)) operands frame callers statics
+after_block memory scope operands frame callers statics valid =
+    same_count _ _ operands frame callers statics (length_without_objects (blocks_of scope) memory)
+    (after_frame (length memory) operands (scope ∷ frame) frame callers statics valid (below_outer (length memory) scope frame valid.frame_named))
+
+pub after_function : (memory : List Block) (blocks : List ℕ) (operands : List Word) (frame : Frame) (callers : List Frame) (statics : Scope) →
+    NamesBlocks (length memory) operands frame callers statics → NamesBlocks (length (without_objects blocks memory)) operands [] callers statics
+after_function memory blocks operands frame callers statics valid =
+    same_count _ _ operands [] callers statics (length_without_objects blocks memory) (after_frame (length memory) operands frame [] callers statics valid tt)
+
+pub after_return : (count : ℕ) (operands : List Word) (frame next : Frame) (callers : List Frame) (statics : Scope) →
+    NamesBlocks count operands frame (next ∷ callers) statics → NamesBlocks count operands next callers statics
+after_return count operands frame next callers statics valid = record {
+  operands_named = valid.operands_named; frame_named = valid.callers_named.0; callers_named = valid.callers_named.1; statics_named = valid.statics_named }

@@ -5,3 +5,4 @@ pub mod Names
 pub mod RootsInOrder
 pub mod Lengths
 pub mod Kept
+pub mod NamedWords

@@ -5,7 +5,10 @@
 //! for is said by the layer above.
 #![tactic(auto)]
 
+mod fault;
 mod frames;
+mod losses;
+pub mod operands;
 mod outcome;
 mod pending;
 mod roots;
@@ -14,6 +17,7 @@ mod state;
 mod statics;
 mod tree;
 
+pub use losses::{finish, keep, leave_block};
 pub use outcome::Outcome;
 pub use pending::Choices;
 pub use stack::Stack;

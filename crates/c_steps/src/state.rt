@@ -145,6 +145,27 @@ impl<E: Drop, S: Drop, I: Drop> State<E, S, I> {
         Ok(())
     }
 
+    /// Copies `count` bytes from where one word leads to where another does (C11 7.24.2.1, 7.24.2.2), with faults 1 to 4, and 8 where the ranges have to be
+    /// disjoint and are not.
+    #[tactic(auto, using(crate::proofs::Kept::after_copy))]
+    pub fn copy(
+        &mut self,
+        alloc: Global,
+        to: Word,
+        from: Word,
+        count: usize,
+        disjoint: bool,
+    ) -> Result<Result<(), u8>, NoMemory>
+        ensures answer { IfOk result (λ copy. copy ≡ answer (copy_fault self.old.memory to from count disjoint) tt) }
+        ensures copied { IfOk result (λ copy. OnOk copy (self.new ≡ with_memory (copied self.old.memory to from count) self.old)) }
+        ensures fault { IfOk result (λ copy. OnErr copy (self.new ≡ self.old)) }
+    {
+        match self.memory.copy(alloc, to, from, count, disjoint)? {
+            Err(kind) => Ok(Err(kind)),
+            Ok(()) => Ok(Ok(())),
+        }
+    }
+
     /// Frees what a word leads to (C11 7.22.3.3), with faults 5 and 6. It takes no memory.
     #[tactic(auto, using(crate::proofs::Kept::after_free))]
     pub fn free(&mut self, at: Word) -> Result<(), u8>
@@ -210,5 +231,55 @@ impl<E: Drop, S: Drop, I: Drop> State<E, S, I> {
         ensures { OnOk result (self.new ≡ in_new_block self.old) }
     {
         self.frame.push(List::new(alloc))
+    }
+
+    /// Puts a block behind those of the memory, and gives its number. A memory has at most 2^32 blocks: where no number is left, memory is wanting.
+    #[tactic(auto, using(crate::proofs::Kept::one_more_block))]
+    pub fn place(&mut self, block: Block) -> Result<u32, NoMemory>
+        requires apart { IsTrue (can_be_placed self.old.memory block) }
+        requires names { All (NamesBelow (length self.old.memory + 1)) block.bytes }
+        ensures number { IfOk result (λ number. number ≡ length self.old.memory) }
+        ensures placed { OnOk result (self.new ≡ with_memory (placed self.old.memory block) self.old) }
+    {
+        let Some(number) = self.memory.place(block)? else {
+            return Err(NoMemory);
+        };
+        Ok(number)
+    }
+
+    /// The innermost block of the function that runs is left, and its objects die (C11 6.2.4p6): it says whether there is a block.
+    #[tactic(auto, using(crate::proofs::Kept::after_block))]
+    pub fn leave_block(&mut self) -> bool
+        ensures { MatchBool result (block_left self.old.frame self.old ≡ Some self.new) (self.old.frame ≡ []) }
+    {
+        match self.frame.pop() {
+            None => false,
+            Some(scope) => {
+                end_scope(&mut self.memory, scope.as_slice());
+                true
+            }
+        }
+    }
+
+    /// All blocks of the function that runs are left, and its objects die together (C11 6.8.6.4).
+    #[tactic(auto, using(crate::proofs::Kept::after_function))]
+    pub fn leave_function(&mut self)
+        ensures { self.new ≡ function_left self.old }
+    {
+        end_frame(&mut self.memory, &mut self.frame);
+    }
+
+    /// The latest caller goes on: it says whether there is one.
+    #[tactic(auto, using(crate::proofs::Kept::after_return))]
+    pub fn resume(&mut self) -> bool
+        ensures { MatchBool result (resumed self.old.callers self.old ≡ Some self.new) (self.old.callers ≡ []) }
+    {
+        match self.callers.pop() {
+            None => false,
+            Some(frame) => {
+                self.frame = frame;
+                true
+            }
+        }
     }
 }
