@@ -6,3 +6,5 @@ pub mod RootsInOrder
 pub mod Lengths
 pub mod Kept
 pub mod NamedWords
+pub mod Answered
+pub mod Accessed

@@ -5,6 +5,7 @@
 //! for is said by the layer above.
 #![tactic(auto)]
 
+pub mod accesses;
 mod fault;
 mod frames;
 mod losses;
