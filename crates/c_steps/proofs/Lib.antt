@@ -8,3 +8,4 @@ pub mod Kept
 pub mod NamedWords
 pub mod Answered
 pub mod Accessed
+pub mod Contents

@@ -2,3 +2,4 @@ pub mod ComesTo
 pub mod Named
 pub mod Statics
 pub mod Leaving
+pub mod Making

@@ -9,6 +9,7 @@ pub mod accesses;
 mod fault;
 mod frames;
 mod losses;
+mod new_block;
 pub mod operands;
 mod outcome;
 mod pending;
