@@ -9,3 +9,4 @@ pub mod NamedWords
 pub mod Answered
 pub mod Accessed
 pub mod Contents
+pub mod Making
