@@ -6,6 +6,7 @@
 #![tactic(auto)]
 
 pub mod accesses;
+pub mod built_ins;
 pub mod choosing;
 mod fault;
 mod frames;
