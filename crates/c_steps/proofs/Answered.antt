@@ -36,3 +36,7 @@ pub loaded_as : (fault : Option ℕ) (memory : List Block) (at : Word) (bytes : 
     Ok found ≡ answer fault (loaded memory at bytes pointer) → found ≡ loaded memory at bytes (is_pointer kind)
 loaded_as fault memory at bytes kind pointer found same is =
     answered fault (loaded memory at bytes pointer) found is ∙ ap (loaded memory at bytes) same
+
+pub never_answered : {T : Type 0} (fault : Option ℕ) (value : T) (kind : ℕ) → fault ≡ None → Err kind ≡ answer fault value → ⊥
+never_answered None value kind free is = absurd cc
+never_answered (Some other) value kind free is = absurd cc

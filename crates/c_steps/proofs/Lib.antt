@@ -10,3 +10,4 @@ pub mod Answered
 pub mod Accessed
 pub mod Contents
 pub mod Making
+pub mod Popping

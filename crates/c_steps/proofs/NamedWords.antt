@@ -12,6 +12,7 @@ use Rattle.operators.specs.declared.kind.IntegerType.{IntegerType}
 use Rattle.values.specs.Values.{of_unary, of_binary}
 use Rattle.c_machine.specs.declared.kind.Kind.{Kind}
 use Rattle.c_machine.specs.declared.kind.Kind.TheVariants.{Integer, Pointer, Array, Struct, Void}
+use Rattle.c_machine.specs.Step.{counted}
 use Rattle.c_machine.specs.Words.{as_kind, applied, operated, told, moved_by}
 
 pub names_of_moved : (count : ℕ) (word : Word) (bytes : ℤ) → WordNamesBelow count word → WordNamesBelow count (moved word bytes)
@@ -93,3 +94,7 @@ pub names_of_operated : (count : ℕ) (memory : List Block) (what : BinaryOp) (l
     operated memory what left right one other ≡ Some value → WordNamesBelow count value
 names_of_operated count memory what left right one other value first second is =
     subst (OperatedNames count) is (operated_names count memory what left right one other first second)
+
+pub names_of_counted : (count : ℕ) (keeps_old : Bool) (old new : Word) → WordNamesBelow count old → WordNamesBelow count new → WordNamesBelow count (counted keeps_old old new)
+names_of_counted count true old new first second = first
+names_of_counted count false old new first second = second

@@ -22,7 +22,7 @@ use std::alloc::Global;
 
 /// The word in so many bytes at an address, as a value of a type, or the fault that the access meets.
 #[tactic(auto, using(crate::proofs::Answered::fault_met, crate::proofs::Answered::no_fault, crate::proofs::Answered::loaded_as))]
-fn load_at(memory: &Memory, at: Word, bytes: u8, kind: &Kind) -> Result<Word, u8>
+pub(crate) fn load_at(memory: &Memory, at: Word, bytes: u8, kind: &Kind) -> Result<Word, u8>
     ensures fault { MatchResult result (λ word. access_fault memory.now at bytes ≡ None) (λ found. access_fault memory.now at bytes ≡ Some found) }
     ensures word { IfOk result (λ word. word ≡ loaded memory.now at bytes (is_pointer kind.now)) }
     ensures names { IfOk result (λ word. WordNamesBelow (length memory.now) word) }

@@ -20,6 +20,7 @@ mod stack;
 mod state;
 mod statics;
 mod tree;
+pub mod updates;
 
 pub use losses::{finish, keep, leave_block};
 pub use outcome::Outcome;
