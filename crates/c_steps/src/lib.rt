@@ -6,10 +6,12 @@
 #![tactic(auto)]
 
 pub mod accesses;
+pub mod branches;
 pub mod built_ins;
 pub mod choosing;
 mod fault;
 mod frames;
+pub mod functions;
 mod losses;
 mod new_block;
 pub mod operands;

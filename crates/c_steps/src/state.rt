@@ -1,4 +1,5 @@
 ghost use Rattle.std.specs.Prelude.{◌≡◌, ◌+◌, ◌≤◌, ◌<◌, ℕ, [], ◌∷◌, All, IfNone, IfOk, IfSome, IsTrue, MatchBool, OnErr, OnOk, Some, length, slice_get};
+ghost use Rattle.std.specs.Bool.{OnFalse};
 ghost use Rattle.bytes_core.specs.Access.{access_fault, range_fault, stored, filled};
 ghost use Rattle.bytes_core.specs.Answer.{answer};
 ghost use Rattle.bytes_core.specs.Copying.{copy_fault, copied};
@@ -272,7 +273,8 @@ impl<E: Drop, S: Drop, I: Drop> State<E, S, I> {
     /// The latest caller goes on: it says whether there is one.
     #[tactic(auto, using(crate::proofs::Kept::after_return))]
     pub fn resume(&mut self) -> bool
-        ensures { MatchBool result (resumed self.old.callers self.old ≡ Some self.new) (self.old.callers ≡ []) }
+        ensures resumed { MatchBool result (resumed self.old.callers self.old ≡ Some self.new) (self.old.callers ≡ []) }
+        ensures same { OnFalse result (self.new ≡ self.old) }
     {
         match self.callers.pop() {
             None => false,
