@@ -3,3 +3,4 @@ pub mod Named
 pub mod Statics
 pub mod Leaving
 pub mod Making
+pub mod PlainStep
