@@ -1,12 +1,12 @@
 -- What accesses come to, from what their parts answer.
-use Rattle.std.proofs.Common.{◌≡◌, ℕ, Bool, List, Option, None, Some, refl, sym, ap, ◌∙◌}
+use Rattle.std.proofs.Common.{◌≡◌, ℕ, List, Option, None, Some, sym, ap, ◌∙◌}
 use Rattle.cbase.specs.declared.place.Place.{Place}
 use Rattle.bytes_core.specs.declared.block.Block.{Block}
 use Rattle.bytes_core.specs.declared.word.Word.{Word}
 use Rattle.bytes_core.specs.Access.{access_fault, loaded}
 use Rattle.choices.specs.declared.choice.Choice.{Choice}
 use Rattle.c_machine.specs.declared.kind.Kind.{Kind}
-use Rattle.c_machine.specs.State.{State, Outcome, Went, popped, unless_fault, with_operand}
+use Rattle.c_machine.specs.State.{State, Went, popped, unless_fault, with_operand}
 use Rattle.c_machine.specs.Step.{load_step}
 use Rattle.c_machine.specs.Words.{is_pointer, scalar_bytes}
 

@@ -187,4 +187,8 @@ after_function memory blocks operands frame callers statics valid =
 pub after_return : (count : ℕ) (operands : List Word) (frame next : Frame) (callers : List Frame) (statics : Scope) →
     NamesBlocks count operands frame (next ∷ callers) statics → NamesBlocks count operands next callers statics
 after_return count operands frame next callers statics valid = record {
-  operands_named = valid.operands_named; frame_named = valid.callers_named.0; callers_named = valid.callers_named.1; statics_named = valid.statics_named }
+  operands_named = valid.operands_named;
+  frame_named = valid.callers_named.0;
+  callers_named = valid.callers_named.1;
+  statics_named = valid.statics_named;
+}

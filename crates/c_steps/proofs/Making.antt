@@ -1,12 +1,11 @@
 -- What the first choice makes.
-use Rattle.std.proofs.Common.{◌≡◌, ℕ, Bool, true, false, List, [], ◌∷◌, length, drop, refl, sym, ap, ◌∙◌}
+use Rattle.std.proofs.Common.{◌≡◌, ℕ, Bool, true, List, ◌∷◌, length, ap, ◌∙◌}
 use Rattle.std.specs.Prelude.{if◌then◌else◌}
-use Rattle.bytes_core.specs.declared.block.Block.{Block}
 use Rattle.bytes_core.specs.declared.block.BlockKind.{BlockKind}
 use Rattle.bytes_core.specs.Placement.{new_block, placed}
 use Rattle.choices.specs.declared.choice.Choice.{Choice}
-use Rattle.choices.specs.declared.choice.Choice.TheVariants.{None, Block as NewBlock, Input}
-use Rattle.c_machine.specs.State.{State, Outcome, Ended, with_memory}
+use Rattle.choices.specs.declared.choice.Choice.TheVariants.{Block as NewBlock}
+use Rattle.c_machine.specs.State.{State, Ended, with_memory}
 use Rattle.c_machine.specs.Choosing.{with_block}
 use Rattle.c_steps.specs.Making.{is_choice, MakesBlock}
 

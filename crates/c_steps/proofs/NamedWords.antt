@@ -1,5 +1,5 @@
 -- What is made of words names no block but those that they name.
-use Rattle.std.proofs.Common.{◌≡◌, ℕ, List, Bool, true, false, Option, None, Some, option_map, pos, ℤ, subst, arith, nat_eq}
+use Rattle.std.proofs.Common.{◌≡◌, ℕ, List, Bool, true, false, Option, None, Some, option_map, ℤ, subst}
 use Rattle.cbase.specs.declared.tree.operators.BinaryOp.{BinaryOp}
 use Rattle.cbase.specs.declared.tree.operators.BinaryOp.TheVariants as op
 use Rattle.cbase.specs.declared.tree.operators.UnaryOp.{UnaryOp}

@@ -1,5 +1,5 @@
--- The steps that look at no tree, and those that are left.
-use Rattle.std.specs.Prelude.{◌≡◌, Bool, true, false, List, [], ◌∷◌, pos, Option, None, Some}
+-- The steps that look at no tree.
+use Rattle.std.specs.Prelude.{Bool, true, false, List, [], ◌∷◌, pos, Option, None, Some}
 use Rattle.bytes_core.specs.declared.word.Word.TheVariants.{Plain}
 use Rattle.bytes_core.specs.Access.{range_fault, filled}
 use Rattle.bytes_core.specs.Copying.{copy_fault, copied}
@@ -8,16 +8,11 @@ use Rattle.choices.specs.declared.choice.Choice.{Choice}
 use Rattle.operators.specs.Integers.{int}
 use Rattle.c_machine.specs.declared.kind.Kind.TheVariants.{Integer}
 use Rattle.c_machine.specs.declared.task.Task.{Task}
-use Rattle.c_machine.specs.declared.task.Task.TheVariants.{ValueOf, AddressOf, Push, ObjectAt, Shift, Load, Convert, Apply, Operate, Answer, AndThen, OrElse, Pick, Drop, Store, Update, CountBy, CopyStruct, RunBuiltIn, CallDefined, EndRun, Finish, Keep, Execute, Branch, Test, Again, OpenBlock, MakeObject, MakeStatic, LeaveBlock, Zero, Initialise, BreakAt, ContinueAt, GiveBack, LeaveFunction, EndOfBody, Unknown}
+use Rattle.c_machine.specs.declared.task.Task.TheVariants.{ValueOf, Push, ObjectAt, Shift, Load, Convert, Apply, Operate, Answer, AndThen, OrElse, Drop, Store, Update, CountBy, CopyStruct, RunBuiltIn, CallDefined, EndRun, Finish, Keep, OpenBlock, MakeObject, MakeStatic, LeaveBlock, Zero, LeaveFunction, EndOfBody, Unknown}
 use Rattle.c_machine.specs.State.{State, Outcome, Went, Ended, NotYet, Stuck, with_operand, with_memory, popped, unless_fault, block_of}
 use Rattle.c_machine.specs.Step.{unless_lost, or_ended, or_stuck, object_at, load_step, store_step, updated, counting, counted, and_then, or_else, built_in_step, leave_block, end_of_body, leave_function}
 use Rattle.c_machine.specs.Words.{is_true, told, as_kind, applied, operated, scalar_bytes}
 use Rattle.c_machine.specs.Choosing.{object_made, static_made}
-use Rattle.c_steps.specs.declared.step.Step.{Step}
-use Rattle.c_steps.specs.declared.step.Step.TheVariants.{Came, Asks}
-use Rattle.c_steps.specs.declared.step.TreeTask.{TreeTask}
-use Rattle.c_steps.specs.declared.step.TreeTask.TheVariants as tree
-use Rattle.c_steps.specs.ComesTo.{comes_to}
 use Rattle.c_steps.specs.Leaving.{in_new_block, function_left}
 
 -- what a step comes to that looks at no tree and at nothing else that is to be done, where `strict` says whether main may not return while an allocated
@@ -66,22 +61,3 @@ plain_step strict (LeaveFunction place) state choices = Some (leave_function str
 plain_step strict (EndOfBody is_main result close held) state choices = Some (end_of_body is_main result close state choices)
 plain_step strict Unknown state choices = Some Stuck
 plain_step strict other state choices = None
-
--- what is left to do is this
-abbrev pub task_of : {E S I : Type 0} → TreeTask E S I → Task E S I
-task_of (tree.ValueOf expr) = ValueOf expr
-task_of (tree.AddressOf expr) = AddressOf expr
-task_of (tree.Pick kind one other) = Pick kind one other
-task_of (tree.Execute stmt) = Execute stmt
-task_of (tree.Branch stmt) = Branch stmt
-task_of (tree.Test stmt) = Test stmt
-task_of (tree.Again stmt held) = Again stmt held
-task_of (tree.Initialise place init) = Initialise place init
-task_of (tree.BreakAt place) = BreakAt place
-task_of (tree.ContinueAt place) = ContinueAt place
-task_of (tree.GiveBack place kind) = GiveBack place kind
-
--- a step is done, or is left with all as it was
-abbrev pub IsStep : {E S I : Type 0} → Bool → Task E S I → State E S I → List Choice → Step E S I → State E S I → List Choice → Type 0
-IsStep strict task state choices (Came answer) next more = plain_step strict task state choices ≡ Some (comes_to answer next more)
-IsStep strict task state choices (Asks of_tree) next more = (task ≡ task_of of_tree) × (next ≡ state) × (more ≡ choices)

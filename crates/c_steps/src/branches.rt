@@ -15,10 +15,7 @@ use c_words::is_true;
 use cbase::NoMemory;
 
 /// The right side is to be done, and then whether it is true.
-fn do_right<E: Drop, S: Drop, I: Drop>(
-    state: &mut State<E, S, I>,
-    right: E,
-) -> Result<(), NoMemory>
+fn do_right<E: Drop, S: Drop, I: Drop>(state: &mut State<E, S, I>, right: E) -> Result<(), NoMemory>
     ensures { OnOk result (state.new ≡ doing (ValueOf right ∷ Answer true ∷ []) state.old) }
 {
     state.do_first(Task::Answer(true))?;

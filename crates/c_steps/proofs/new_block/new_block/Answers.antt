@@ -1,7 +1,6 @@
 -- What is tested makes a choice.
-use Rattle.std.proofs.Common.{◌≡◌, ◌∙◌, ℕ, ◌+◌, true, List, length, All, sym, ap, subst, arith}
+use Rattle.std.proofs.Common.{◌∙◌, ◌+◌, true, List, length, All, sym, ap, subst, arith}
 use Rattle.bytes_core.specs.declared.byte.Byte.{Byte}
-use Rattle.bytes_core.specs.declared.block.Block.{Block}
 use Rattle.bytes_core.specs.Placement.{can_be_placed}
 use Rattle.bytes_core.specs.Valid.{NamesBelow}
 use Rattle.c_steps.proofs.Contents.{choice_made, names_of_numbers}

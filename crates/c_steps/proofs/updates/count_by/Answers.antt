@@ -15,8 +15,8 @@ use Rattle.c_steps.proofs.updates.count_by.Goals as goal
 pub returns : goal.returns
 returns g c =
     let Comes : BinaryOp → IntegerType → Type 0 = λ op t.
-        IfOk c.updated.result (λ outcome. (choices : List Choice) → comes_to outcome c.updated.new.state choices
-        ≡ updated op c.args.place c.args.kind.now (scalar_bytes c.args.kind.now) (Integer t) c.in-Some.at (Plain 1) (counted c.args.after) c.pop.new.self choices) in
+    IfOk c.updated.result (λ outcome. (choices : List Choice) → comes_to outcome c.updated.new.state choices
+    ≡ updated op c.args.place c.args.kind.now (scalar_bytes c.args.kind.now) (Integer t) c.in-Some.at (Plain 1) (counted c.args.after) c.pop.new.self choices) in
     behind_one c.updated.result c.in-Some.at c.args.state.now c.pop.new.self c.updated.new.state
     (λ at next choices. updated (counting c.args.up) c.args.place c.args.kind.now (scalar_bytes c.args.kind.now) (Integer int) at (Plain 1) (counted c.args.after) next choices)
     c.in-Some.ensures.some

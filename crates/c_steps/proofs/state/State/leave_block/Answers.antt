@@ -1,8 +1,7 @@
 -- Blocks that die keep their numbers.
 use Rattle.std.proofs.Common.{length, subst, sym, ◌∙◌, ap, List, ◌∷◌}
 use Rattle.c_machine.specs.declared.variable.Variable.{Variable}
-use Rattle.c_machine.specs.State.{Frame, blocks_of}
-use Rattle.c_machine.specs.Step.{without_objects}
+use Rattle.c_machine.specs.State.{Frame}
 use Rattle.c_steps.specs.Named.{NamesBlocks}
 use Rattle.c_steps.proofs.Kept.{known_memory, after_block}
 use Rattle.c_steps.proofs.state.State.leave_block.Goals as goal
