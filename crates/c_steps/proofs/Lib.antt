@@ -11,3 +11,4 @@ pub mod Accessed
 pub mod Contents
 pub mod Making
 pub mod Popping
+pub mod PlainSteps

@@ -4,3 +4,4 @@ pub mod Statics
 pub mod Leaving
 pub mod Making
 pub mod PlainStep
+pub mod Laws

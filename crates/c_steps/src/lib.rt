@@ -12,6 +12,7 @@ pub mod choosing;
 mod fault;
 mod frames;
 pub mod functions;
+pub mod laws;
 mod losses;
 mod new_block;
 pub mod operands;
