@@ -1,0 +1,7 @@
+pub mod ComesTo
+pub mod Named
+pub mod Statics
+pub mod Leaving
+pub mod Making
+pub mod PlainStep
+pub mod Laws
