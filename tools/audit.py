@@ -203,17 +203,27 @@ def claim_list(sources, claim, top):
     return text + (f" Besides: {', '.join(beyond)}.\n" if beyond else " No other.\n")
 
 
+def rest_list(sources, claims):
+    """The files of definitions on which no claim rests."""
+    reached = {path for claim in claims for path in claim.paths}
+    text = "\n## Files of `specs/` on which no claim rests\n\nContracts of private functions and proofs use them, or tests.\n\n"
+    for crate in sources.crates:
+        files = sorted(str(path.relative_to(HOME)) for path in (HOME / "crates" / crate / "specs").glob("**/*.antt"))
+        left = [short(path).partition("/")[2] for path in files if path not in reached and sources.file(path).definitions]
+        if left:
+            text += f"- `{crate}`: {', '.join(f'`{name}`' for name in left)}\n"
+    return text + "\n"
+
+
 def page(sources):
     """The lists of docs/audit.md."""
     top = top_claim(sources)
     text = f"{sizes(sources, top)}.\n\n{group_list(top)}\n"
     text += "".join(crate_list(sources, top, crate) for crate in sources.crates)
     text += "## What each further claim rests on\n\n"
-    for crate in reversed(sources.crates):
-        for claim in claims_of(sources, crate):
-            if claim.names != top.names:
-                text += claim_list(sources, claim, top)
-    return text + "\n"
+    claims = [claim for crate in reversed(sources.crates) for claim in claims_of(sources, crate)]
+    text += "".join(claim_list(sources, claim, top) for claim in claims if claim.names != top.names)
+    return text + rest_list(sources, claims)
 
 
 def printed(sources, names):
