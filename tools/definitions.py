@@ -180,7 +180,7 @@ class SpecSource(Source):
         words = tokens_of(without_comments(rest))
         name = words[0][0]
         is_new = rest != line or (len(words) > 1 and (words[1][0] == ":" or name not in self.definitions))
-        if is_new and name not in self.definitions:
+        if is_new and name not in self.definitions and name not in CLOSING:
             current = self.definitions[name] = Definition(self, name, number - comment)
         else:
             current = self.definitions.get(name, current)
