@@ -1,9 +1,9 @@
 #!/usr/bin/env python3
-"""Runs the built program where files and outputs misbehave, and compares what it writes and its exit status.
+"""Runs the built program where files and outputs misbehave and where texts are deep or wide, and compares what it writes and its status.
 
-Usage, at the project's root: tests/edges.py
-Prints a line for each case, and ends with status 1 where one differs. Where it is run as root the case of a file without
-read permission runs as another user; elsewhere the permission is taken from the file's owner.
+Usage, at the project's root: tests/edges.py [PROGRAM]
+It runs ./predator, or the PROGRAM that is given. It prints a line for each case, and ends with status 1 where one differs. Where it is
+run as root the case of a file without read permission runs as another user; elsewhere the permission is taken from the file's owner.
 """
 import os
 import subprocess
@@ -13,10 +13,14 @@ import threading
 import time
 from pathlib import Path
 
-PROGRAM = str(Path(__file__).resolve().parent.parent / "predator")
+HOME = Path(__file__).resolve().parent.parent
+PROGRAM = str(Path(sys.argv[1]).resolve() if len(sys.argv) > 1 else HOME / "predator")
 SAFE = b"int main(void) {\n  void *p = malloc(8);\n  free(p);\n  return 0;\n}\n"
 USAGE = b"usage: predator [--budget N] [--int-limit K] FILE\n"
 MOST = 4_194_304
+# How many brackets may be open, and how many levels a tree may have (docs/language.md).
+BRACKETS = 256
+LEVELS = 1024
 # An answer that is not from the proved program takes a minute or two by itself.
 SECONDS = 300
 
@@ -155,9 +159,120 @@ def one_byte_too_many(folder):
     return ran(["longer.c"], folder), (3, b"longer.c: not read: over 4194304 bytes\n")
 
 
+def answer_to(folder, text, answer, status):
+    """What is answered of a text, beside what is wanted."""
+    Path(folder, "t.c").write_text(text)
+    return ran(["t.c"], folder), (status, f"t.c: {answer}\n".encode())
+
+
+def passes(folder, text):
+    """A text that breaks no rule, and is of no form that is judged."""
+    return answer_to(folder, text, "not read: not yet", 3)
+
+
+def is_too_large(folder, text):
+    """A text with more levels than are read."""
+    return answer_to(folder, text, "not read: syntax at t.c:1:1", 3)
+
+
+def main_of(statement):
+    return f"int main(void) {{ {statement} return 0; }}\n"
+
+
+def a_hundred_thousand_stars(folder):
+    return passes(folder, main_of(f"int {'*' * 100_000}p;"))
+
+
+def members(count):
+    return f"struct s {{ {' '.join(f'char m{number};' for number in range(count))} }};\n"
+
+
+def sixty_thousand_members(folder):
+    return passes(folder, members(60_000) + main_of("struct s v; v.m59999 = 1;"))
+
+
+def one_member_too_many(folder):
+    text = members(65_537)
+    return answer_to(folder, text + main_of("struct s v;"), f"gave up: large object at t.c:1:{text.index('m65536;') + 1}", 2)
+
+
+def braced(count):
+    return "{" * count + "1" + "}" * count
+
+
+def as_many_braces_as_may_be_open(folder):
+    return passes(folder, f"int a{'[1]' * BRACKETS} = {braced(BRACKETS)};\nint main(void) {{ return sizeof a; }}\n")
+
+
+def braces_around_a_number(folder):
+    text = f"int a = {braced(BRACKETS)};\n"
+    return answer_to(folder, text + "int main(void) { return a; }\n", f"not read: rule 5 at t.c:1:{text.index('1') + 1}", 3)
+
+
+def one_brace_too_many(folder):
+    text = f"int a = {braced(BRACKETS + 1)};\n"
+    return answer_to(folder, text + main_of(""), f"not read: too deep at t.c:1:{text.index('1')}", 3)
+
+
+def expressions(levels):
+    """A `return` with operators and a constant."""
+    return f"int main(void) {{ return {'~' * (levels - 2)}1; }}\n"
+
+
+def casts(levels):
+    """A `return` with casts and a constant."""
+    return f"int main(void) {{ return {'(int)' * (levels - 2)}1; }}\n"
+
+
+def statements(levels):
+    """Statements, one in the other, and an empty one."""
+    return main_of("if (1) " * (levels - 1) + ";")
+
+
+def blocks(levels):
+    """As many blocks as may be open around the brackets of a condition, statements in the innermost, and an empty one."""
+    count = BRACKETS - 2
+    return main_of("{ " * count + "if (1) " * (levels - count - 1) + ";" + " }" * count)
+
+
+def as_many_expressions_as_are_read(folder):
+    return passes(folder, expressions(LEVELS))
+
+
+def one_expression_too_many(folder):
+    return is_too_large(folder, expressions(LEVELS + 1))
+
+
+def as_many_casts_as_are_read(folder):
+    return passes(folder, casts(LEVELS))
+
+
+def one_cast_too_many(folder):
+    return is_too_large(folder, casts(LEVELS + 1))
+
+
+def as_many_statements_as_are_read(folder):
+    return passes(folder, statements(LEVELS))
+
+
+def one_statement_too_many(folder):
+    return is_too_large(folder, statements(LEVELS + 1))
+
+
+def as_many_blocks_as_are_read(folder):
+    return passes(folder, blocks(LEVELS))
+
+
+def one_block_too_many(folder):
+    return is_too_large(folder, blocks(LEVELS + 1))
+
+
 CASES = (a_folder, no_permission, a_missing_file, a_path_that_is_no_utf8, a_full_device, a_closed_output,
          a_pipe_that_nobody_reads, a_pipe_that_closes_after_ten_bytes, a_file_that_grows, a_named_pipe, an_empty_name,
-         no_words, ten_thousand_words, an_empty_file, the_longest_file, one_byte_too_many)
+         no_words, ten_thousand_words, an_empty_file, the_longest_file, one_byte_too_many, a_hundred_thousand_stars,
+         sixty_thousand_members, one_member_too_many, as_many_braces_as_may_be_open, braces_around_a_number, one_brace_too_many,
+         as_many_expressions_as_are_read, one_expression_too_many, as_many_casts_as_are_read, one_cast_too_many,
+         as_many_statements_as_are_read, one_statement_too_many, as_many_blocks_as_are_read, one_block_too_many)
 
 
 def main():

@@ -4,7 +4,8 @@
 Usage: tools/attack.py [--check] [LOG ..]
 An edit of crates/NAME/must-fail/ is one that the gate tries, one of tests/wrong_bodies/NAME/ was tried by hand. What refused an
 edit is taken from a LOG of the gate, of rt must-fail or of tests/wrong_bodies/try.py, else from the page as it stands. With --check
-nothing is written, and the status is 1 where the page would change or an edit has no record.
+nothing is written, and the status is 1 where the page would change, or where an edit has no record or no longer fits: a text that it
+replaces has to stand in its file, once. What is wrong is printed.
 """
 import re
 import sys
@@ -24,6 +25,28 @@ def crates():
 
 def edits(folder):
     return sorted(folder.glob("*.edit")) if folder.is_dir() else []
+
+
+def folders(crate):
+    """The folders of a crate's edits, each with the words above its table."""
+    return ("The gate tries:", HOME / "crates" / crate / "must-fail"), ("Tried by hand:", HOME / "tests" / "wrong_bodies" / crate)
+
+
+def fits(edit, crate):
+    """Whether each text that an edit replaces stands once in its file, as the replacements before it leave that."""
+    texts, file, old = {}, None, None
+    for line in edit.read_text().splitlines():
+        word, _, rest = line.partition(": ")
+        if word == "file":
+            file = HOME / "crates" / crate / rest.strip()
+        elif word == "old":
+            old = rest
+        elif word == "new":
+            text = texts.get(file) or (file.read_text() if file.is_file() else "")
+            if text.count(old) != 1:
+                return False
+            texts[file] = text.replace(old, rest)
+    return True
 
 
 def title(edit):
@@ -74,9 +97,22 @@ def table(crate, found, refused):
 
 
 def section(crate, refused):
-    parts = [("The gate tries:", HOME / "crates" / crate / "must-fail"), ("Tried by hand:", HOME / "tests" / "wrong_bodies" / crate)]
-    tables = [f"{words}\n\n{table(crate, edits(folder), refused)}" for words, folder in parts if edits(folder)]
+    tables = [f"{words}\n\n{table(crate, edits(folder), refused)}" for words, folder in folders(crate) if edits(folder)]
     return f"### `{crate}`\n\n" + "\n".join(tables) if tables else ""
+
+
+def wrong(new, text):
+    """What is wrong with the page and the edits."""
+    names = crates()
+    strays = sorted(folder.name for folder in (HOME / "tests" / "wrong_bodies").iterdir() if folder.is_dir() and folder.name not in names)
+    yield from (f"tests/wrong_bodies/{name} is no crate's folder" for name in strays)
+    for crate in names:
+        for _, folder in folders(crate):
+            yield from (f"{edit.relative_to(HOME)} no longer fits" for edit in edits(folder) if not fits(edit, crate))
+    if new != text:
+        yield "docs/attack.md is not what tools/attack.py makes"
+    if UNTRIED in new:
+        yield f"an edit is {UNTRIED}"
 
 
 def main():
@@ -86,7 +122,9 @@ def main():
     refused = recorded(text[at:], [word for word in words if word != "--check"])
     new = text[:at] + "\n".join(filter(None, (section(crate, refused) for crate in crates())))
     if "--check" in words:
-        return 1 if new != text or UNTRIED in new else 0
+        found = list(wrong(new, text))
+        print("".join(f"{line}\n" for line in found), end="")
+        return 1 if found else 0
     PAGE.write_text(new)
     return 0
 
