@@ -1,1 +1,2 @@
+pub mod RowsFound
 pub mod TypeKinds

@@ -9,7 +9,7 @@ ghost use Rattle.expressions.specs.Context.{Agrees};
 ghost use Rattle.expressions.specs.Numbers.{Numbering};
 
 use crate::context::Context;
-use ctypes::Shape;
+use ctypes::{Shape, Types};
 use environment::{Entity, Signature, Tag, TagForm};
 
 impl Context {
@@ -20,6 +20,14 @@ impl Context {
         ensures below { NamesBelow number result }
     {
         self.types.shape(number)
+    }
+
+    /// Its types and its structs, each by its number.
+    pub fn types(&self) -> &Types
+        ensures types { result.now.types ≡ self.now.types }
+        ensures structs { result.now.structs ≡ self.now.structs }
+    {
+        &self.types
     }
 
     /// Whether a number is that of a type. It takes one step.

@@ -1,0 +1,137 @@
+ghost use Rattle.std.specs.Prelude.{◌≡◌, ◌<◌, false, length, option_map, IfOk, IfSome, IfNone};
+ghost use Rattle.cbase.specs.declared.tree.expr.Expr.{Expr};
+ghost use Rattle.expressions.specs.Numbers.{Numbering, entity_at};
+ghost use Rattle.c_machine.specs.Program.{Program, type_of, entity_of, constant_of};
+ghost use Rattle.c_machine.specs.Trees.{kind_in, offset};
+ghost use Rattle.operators.specs.Kinds.{kind_of};
+ghost use Rattle.typing.specs.Idiom.{member_offset};
+ghost use Rattle.typing.specs.Nodes.{pointed_offset};
+ghost use Rattle.c_text.specs.Kept.{kept};
+ghost use Rattle.c_text.specs.Rows.{row_in, have_types};
+ghost use Rattle.c_text.specs.Stands.{StandsFor};
+
+use crate::expression_row::ExpressionRow;
+use crate::kinds::type_kind;
+use crate::rows::{gather, have_types, row_at};
+use c_machine::Kind;
+use cbase::NoMemory;
+use environment::Entity;
+use expressions::Context;
+use std::alloc::Global;
+use std::marker::Model;
+
+/// What typing hands on of a program, with the row of each expression by its number.
+///
+/// It is seen as the context. The contracts speak of each program that the context stands for.
+#[derive(Drop)]
+pub struct TypedText {
+    context: Context,
+    rows: Vec<Option<ExpressionRow>>,
+}
+
+impl Model for TypedText {
+    ghost use Rattle.expressions.specs.Context.{Context as AtPlace};
+    ghost use Rattle.cbase.specs.contracts.ctype.CType as e;
+    ghost use Rattle.std.specs.Coded.{codes};
+    ghost use Rattle.c_text.specs.Rows.{AreRows};
+
+    ghost Value = { AtPlace };
+
+    ghost coded = { Prim.hlevel (codes, e.the_row.coded) };
+
+    ghost view = { λ text. text.context };
+
+    ghost invariant = { λ text. AreRows text.context text.rows.items };
+}
+
+impl TypedText {
+    /// The text of a context. It is `None` only where a row of an expression has a type that is not one of the context.
+    ///
+    /// It takes time and memory for what was handed on.
+    pub fn of(alloc: Global, context: Context) -> Result<Option<TypedText>, NoMemory>
+        ensures some { IfOk result (λ found. IfSome found (λ text. text ≡ context)) }
+        ensures none { IfOk result (λ found. IfNone found (have_types (length context.types) context.handed ≡ false)) }
+    {
+        let mut rows = Vec::new(alloc);
+        gather(&mut rows, context.handed())?;
+        if have_types(&context, context.handed()) {
+            Ok(Some(TypedText { context, rows }))
+        } else {
+            Ok(None)
+        }
+    }
+
+    /// What an access and an operator ask of the own type of an expression, before an array becomes a pointer (C11 6.3.2.1p3).
+    ///
+    /// It is `None` where the type is not kept, as [`type_kind`] says. It takes one step.
+    pub fn kind(&self, number: u32) -> Option<Kind>
+        ensures { (n : Numbering) (p : Program) (expr : Expr) → StandsFor n self.now p → expr.number ≡ number → result ≡ kept (kind_in p (type_of p expr)) }
+    {
+        match self.row(number) {
+            None => Some(Kind::Void),
+            Some(row) => type_kind(self.context.types(), row.ctype),
+        }
+    }
+
+    /// The value of an expression as the bits of its type, where it is an integer constant expression (C11 6.6p6). It takes one step.
+    pub fn constant(&self, number: u32) -> Option<u64>
+        ensures { (n : Numbering) (p : Program) (expr : Expr) → StandsFor n self.now p → expr.number ≡ number → result ≡ constant_of p expr }
+    {
+        match self.row(number) {
+            None => None,
+            Some(row) => row.value,
+        }
+    }
+
+    /// What an expression stands for, where it is a name (C11 6.2.3). It takes one step.
+    pub fn entity(&self, number: u32) -> Option<Entity>
+        ensures { (n : Numbering) (p : Program) (expr : Expr) → StandsFor n self.now p → expr.number ≡ number → option_map (entity_at n) result ≡ entity_of p expr }
+    {
+        match self.row(number) {
+            None => None,
+            Some(row) => row.stands,
+        }
+    }
+
+    /// How many bytes stand before the member of that name in the struct that an expression is, and 0 where there is none (C11 6.5.2.3p3).
+    ///
+    /// It takes one look-up in the names of the members.
+    pub fn member_offset(&self, number: u32, name: &[u8]) -> u64
+        ensures { (n : Numbering) (p : Program) (expr : Expr) → StandsFor n self.now p → expr.number ≡ number
+            → result ≡ offset (member_offset p.abi p.structs (type_of p expr) name.now) }
+    {
+        match self.row(number) {
+            None => 0,
+            Some(row) => offset_of(self.context.member_offset(row.ctype, name)),
+        }
+    }
+
+    /// The same of the struct to which an expression leads (C11 6.5.2.3p4).
+    pub fn pointed_offset(&self, number: u32, name: &[u8]) -> u64
+        ensures { (n : Numbering) (p : Program) (expr : Expr) → StandsFor n self.now p → expr.number ≡ number
+            → result ≡ offset (pointed_offset p.abi p.structs (kind_of p.structs (type_of p expr)) name.now) }
+    {
+        match self.row(number) {
+            None => 0,
+            Some(row) => offset_of(self.context.pointed_offset(row.ctype, name)),
+        }
+    }
+
+    /// The row of an expression, if there is one.
+    fn row(&self, number: u32) -> Option<ExpressionRow>
+        ensures found { result ≡ row_in number self.now.handed }
+        ensures typed { IfSome result (λ row. row.ctype < length self.now.types) }
+    {
+        row_at(&self.rows, number)
+    }
+}
+
+/// A number of bytes that is found, or 0.
+fn offset_of(found: Option<u64>) -> u64
+    ensures { result ≡ offset found }
+{
+    match found {
+        None => 0,
+        Some(bytes) => bytes,
+    }
+}
