@@ -8,7 +8,7 @@ use Rattle.bytes_core.specs.declared.word.Word.{Word}
 use Rattle.bytes_core.specs.declared.word.Word.TheVariants.{Plain, To}
 use Rattle.bytes_core.specs.Access.{access_fault, range_fault, loaded, stored, filled}
 use Rattle.bytes_core.specs.Copying.{copy_fault, copied}
-use Rattle.bytes_core.specs.Fault.{memory_lost}
+use Rattle.bytes_core.specs.Fault.{block_never_freed, memory_lost}
 use Rattle.bytes_core.specs.Loss.{is_lost}
 use Rattle.bytes_core.specs.Release.{free_fault, freed, without}
 use Rattle.bytes_core.specs.Value.{address_number, moved}
@@ -27,10 +27,6 @@ use Rattle.c_machine.specs.Blocks.{initialiser_tasks}
 use Rattle.c_machine.specs.Expressions.{value_kind, address_tasks, value_tasks}
 use Rattle.c_machine.specs.Statements.{statement_tasks, test_tasks, again_tasks, branch_place, branch_tasks, LoopLeft, loop_left, after_break, after_continue, BodyLeft, body_left, oldest}
 use Rattle.c_machine.specs.Choosing.{object_made, static_made, allocated, received}
-
--- an allocated block that lives when main returns, where that is asked for
-abbrev pub block_never_freed : ℕ
-block_never_freed = 9
 
 -- goes on, unless memory is lost
 abbrev pub unless_lost : {E S I : Type 0} → Place → State E S I → List Choice → Outcome E S I
