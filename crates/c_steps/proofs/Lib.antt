@@ -12,3 +12,4 @@ pub mod Contents
 pub mod Making
 pub mod Popping
 pub mod PlainSteps
+pub mod Passing

@@ -5,3 +5,4 @@ pub mod Leaving
 pub mod Making
 pub mod PlainStep
 pub mod Laws
+pub mod Ends

@@ -11,7 +11,7 @@ use cbase::{NoMemory, Place};
 use std::alloc::Global;
 
 /// The run goes on, unless memory is lost.
-fn unless_lost<E: Drop, S: Drop, I: Drop>(
+pub(crate) fn unless_lost<E: Drop, S: Drop, I: Drop>(
     alloc: Global,
     state: &State<E, S, I>,
     place: Place,

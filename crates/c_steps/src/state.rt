@@ -1,4 +1,4 @@
-ghost use Rattle.std.specs.Prelude.{◌≡◌, ◌+◌, ◌≤◌, ◌<◌, ℕ, [], ◌∷◌, All, IfNone, IfOk, IfSome, IsTrue, MatchBool, OnErr, OnOk, Some, length, slice_get};
+ghost use Rattle.std.specs.Prelude.{◌≡◌, ◌+◌, ◌≤◌, ◌<◌, ℕ, [], ◌∷◌, All, IfNone, IfOk, IfSome, IsTrue, MatchBool, OnErr, OnOk, Some, length, slice_get, None};
 ghost use Rattle.std.specs.Bool.{OnFalse};
 ghost use Rattle.bytes_core.specs.Access.{access_fault, range_fault, stored, filled};
 ghost use Rattle.bytes_core.specs.Answer.{answer};
@@ -9,9 +9,10 @@ ghost use Rattle.bytes_core.specs.Release.{free_fault, freed};
 ghost use Rattle.bytes_core.specs.Valid.{NamesBelow, WordNamesBelow};
 ghost use Rattle.c_machine.specs.Choosing.{with_object, with_static};
 ghost use Rattle.c_machine.specs.State.{block_of, doing, roots, with_memory, with_operand};
-ghost use Rattle.c_machine.specs.Statements.{oldest};
+ghost use Rattle.c_machine.specs.Statements.{loop_left, oldest};
 ghost use Rattle.c_steps.specs.Leaving.{in_new_block, block_left, function_left, resumed};
 
+use crate::ends::{LoopEnd, to_loop};
 use crate::frames::{Frame, block_in_frame, declare, end_frame, end_scope};
 use crate::roots::add_roots;
 use crate::stack::Stack;
@@ -78,6 +79,16 @@ impl<E: Drop, S: Drop, I: Drop> State<E, S, I> {
         ensures err { OnErr result (self.new ≡ self.old) }
     {
         self.tasks.push(task)
+    }
+
+    /// What is to be done in the body of the innermost loop goes: it says what stands behind that, if there is a loop.
+    pub fn leave_to_loop(&mut self) -> Option<LoopEnd<S>>
+        ensures some { IfSome result (λ left.
+            loop_left self.old.tasks ≡ Some (record { blocks = left.blocks; loop = left.stmt; held = left.held; rest = self.new.tasks })) }
+        ensures rest { self.new ≡ record self.old { tasks = self.new.tasks } }
+        ensures none { IfNone result (loop_left self.old.tasks ≡ None) }
+    {
+        to_loop(&mut self.tasks)
     }
 
     /// How many operands unfinished expressions hold.
