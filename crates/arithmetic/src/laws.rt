@@ -187,3 +187,11 @@ pub fn shift_right_rounds_down()
         × (value (bytes size) signed number
         <ℤ (value (bytes size) signed result *ℤ pos (2 ^ amount) +ℤ pos (2 ^ amount))) }
 {}
+
+/// The worked examples hold: values and ranges at their edges, conversions, and operations.
+#[tactic(auto, using(crate::proofs::Examples::values, crate::proofs::Examples::conversions, crate::proofs::Examples::computations))]
+pub fn worked_examples()
+    ensures values { AreValues }
+    ensures conversions { AreConverted }
+    ensures computations { AreComputed }
+{}

@@ -15,10 +15,12 @@ mod size;
 pub use fault::Fault;
 pub use idiom::Idiom;
 pub use laws::{
-    each_path_leads, expressions_have_one_outcome, one_thing_is_named, the_least_is_named,
+    each_path_leads, expressions_have_one_outcome, items_have_one_outcome, one_thing_is_named,
+    the_least_is_named,
 };
 pub use rows::{
-    rows_of_braces, rows_of_names, rows_of_operators, rows_of_postfixes,
-    rows_of_statement_expressions, rows_of_types,
+    rows_of_braces, rows_of_declarations, rows_of_functions, rows_of_initialisers, rows_of_items,
+    rows_of_names, rows_of_operators, rows_of_postfixes, rows_of_statement_expressions,
+    rows_of_statements, rows_of_types,
 };
 pub use size::Size;
