@@ -75,6 +75,16 @@ impl Context {
 }
 
 impl Context {
+    /// Whether a number is that of a signature. It takes one step.
+    pub fn has_signature(&self, number: u32) -> bool
+        ensures { result ≡ nat_lt number (length self.now.environment.signatures) }
+    {
+        match self.environment.signature(number) {
+            None => false,
+            Some(_) => true,
+        }
+    }
+
     /// The signature of a number.
     pub fn signature(&self, number: u32) -> &Signature
         requires { number < length self.now.environment.signatures }
