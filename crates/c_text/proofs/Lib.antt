@@ -1,2 +1,3 @@
+pub mod NamesStand
 pub mod RowsFound
 pub mod TypeKinds

@@ -1,5 +1,5 @@
 -- What is found of an expression by its row is what the program says that a context stands for.
-use Rattle.std.proofs.Common.{◌≡◌, ℕ, ◌<◌, Bool, true, false, ◌&&◌, List, [], ◌∷◌, length, map, Option, None, Some, option_map, nat_eq, refl, sym, ap, ◌∙◌, arith, if◌then◌else◌}
+use Rattle.std.proofs.Common.{◌≡◌, ℕ, ◌<◌, Bool, true, false, ◌&&◌, List, [], ◌∷◌, length, map, Option, None, Some, option_map, nat_eq, nat_lt, refl, sym, ap, ◌∙◌, if◌then◌else◌}
 use Rattle.std.specs.Prelude.{option_and_then, IfSome}
 use Rattle.std.specs.Option.{option_map_or}
 use Rattle.cbase.specs.declared.ctype.CType.TheVariants.{Void as VoidType}
@@ -14,8 +14,9 @@ use Rattle.expressions.specs.Numbers.{Numbering, entity_at, handed_at}
 use Rattle.expressions.proofs.Growth.{agrees_at}
 use Rattle.c_machine.specs.Program.{Program, type_of, entity_of, constant_of}
 use Rattle.c_text.specs.declared.expression_row.ExpressionRow.{ExpressionRow}
-use Rattle.c_text.specs.Rows.{row_here, row_in, or_else, has_type, have_types}
+use Rattle.c_text.specs.Rows.{row_here, row_in, or_else, stands_known, is_known, are_known}
 use Rattle.c_text.specs.Stands.{StandsFor}
+use Rattle.c_text.proofs.NamesStand.{signature_below}
 
 -- a row as a numbering reads it
 abbrev row_by : Numbering → ExpressionRow → Row
@@ -76,36 +77,44 @@ entity_is n context p expr number found stands same is =
     at None = refl
     at (Some row) = refl
 
--- a row that is found has a type of the context
+-- what a row that is found names is of the context
 abbrev pub IsTyped : ℕ → Option ExpressionRow → Type 0
 IsTyped types found = IfSome found (λ (row : ExpressionRow). row.ctype < types)
 
-here_typed : (types number : ℕ) (row : HandedRow) → has_type types row ≡ true → IsTyped types (row_here number row)
-here_typed types number (Expression own ctype stands value) is = at (nat_eq number own)
-  where
-    at : (same : Bool) → IsTyped types (if same then Some (record { number = own; ctype = ctype; stands = stands; value = value }) else None)
-    at true = grind (arith, is)
-    at false = tt
-here_typed types number (Store object offset ctype own) is = tt
-here_typed types number (Object token ctype fixed zeroed) is = tt
-here_typed types number (Link token first) is = tt
-here_typed types number (Function token result) is = tt
-here_typed types number (Parameter token ctype) is = tt
-
-or_else_typed : (types : ℕ) (one other : Option ExpressionRow) → IsTyped types one → IsTyped types other → IsTyped types (or_else one other)
-or_else_typed types None other is there = there
-or_else_typed types (Some row) other is there = is
+abbrev pub IsKnown : ℕ → Option ExpressionRow → Type 0
+IsKnown signatures found = IfSome found (λ (row : ExpressionRow). stands_known signatures row.stands ≡ true)
 
 both : (one other : Bool) → one && other ≡ true → (one ≡ true) × (other ≡ true)
 both true true is = (refl, refl)
 both true false is = absurd cc
 both false other is = absurd cc
 
-pub in_typed : (types number : ℕ) (handed : List HandedRow) → have_types types handed ≡ true → IsTyped types (row_in number handed)
-in_typed types number [] is = tt
-in_typed types number (row ∷ rest) is =
-    let parts = both (has_type types row) (have_types types rest) is in
-    or_else_typed types (row_in number rest) (row_here number row) (in_typed types number rest parts.1) (here_typed types number row parts.0)
+here_known : (types signatures number : ℕ) (row : HandedRow) → is_known types signatures row ≡ true →
+    IsTyped types (row_here number row) × IsKnown signatures (row_here number row)
+here_known types signatures number (Expression own ctype stands value) is = at (nat_eq number own)
+  where
+    at : (same : Bool) → IsTyped types (if same then Some (record { number = own; ctype = ctype; stands = stands; value = value }) else None)
+        × IsKnown signatures (if same then Some (record { number = own; ctype = ctype; stands = stands; value = value }) else None)
+    at true = (signature_below ctype types (both (nat_lt ctype types) (stands_known signatures stands) is).0, (both (nat_lt ctype types) (stands_known signatures stands) is).1)
+    at false = (tt, tt)
+here_known types signatures number (Store object offset ctype own) is = (tt, tt)
+here_known types signatures number (Object token ctype fixed zeroed) is = (tt, tt)
+here_known types signatures number (Link token first) is = (tt, tt)
+here_known types signatures number (Function token result) is = (tt, tt)
+here_known types signatures number (Parameter token ctype) is = (tt, tt)
+
+or_else_known : (types signatures : ℕ) (one other : Option ExpressionRow) → IsTyped types one × IsKnown signatures one →
+    IsTyped types other × IsKnown signatures other → IsTyped types (or_else one other) × IsKnown signatures (or_else one other)
+or_else_known types signatures None other is there = there
+or_else_known types signatures (Some row) other is there = is
+
+pub in_known : (types signatures number : ℕ) (handed : List HandedRow) → are_known types signatures handed ≡ true →
+    IsTyped types (row_in number handed) × IsKnown signatures (row_in number handed)
+in_known types signatures number [] is = (tt, tt)
+in_known types signatures number (row ∷ rest) is =
+    let parts = both (is_known types signatures row) (are_known types signatures rest) is in
+    or_else_known types signatures (row_in number rest) (row_here number row) (in_known types signatures number rest parts.1)
+    (here_known types signatures number row parts.0)
 
 -- the type of an expression in the program
 pub ctype_is : (n : Numbering) (context : Context) (p : Program) (expr : Expr) (number : ℕ) (row : ExpressionRow) → StandsFor n context p →

@@ -1,5 +1,7 @@
 -- The rows of expressions among what typing hands on. The last row of a number is that of the expression.
 use Rattle.std.specs.Prelude.{◌≡◌, ℕ, Bool, true, ◌&&◌, List, [], ◌∷◌, length, nat_eq, nat_lt, Option, None, Some, slice_get, if◌then◌else◌}
+use Rattle.environment.specs.declared.entity.Entity.{Entity}
+use Rattle.environment.specs.declared.entity.Entity.TheVariants as entity
 use Rattle.expressions.specs.declared.handed_row.HandedRow.{HandedRow}
 use Rattle.expressions.specs.declared.handed_row.HandedRow.TheVariants.{Expression, Store, Object, Link, Function, Parameter}
 use Rattle.expressions.specs.Context.{Context}
@@ -30,20 +32,30 @@ at_place (Some row) = row
 abbrev pub row_at : List (Option ExpressionRow) → ℕ → Option ExpressionRow
 row_at rows number = at_place (slice_get rows number)
 
--- whether a row of an expression has one of so many types
-abbrev pub has_type : ℕ → HandedRow → Bool
-has_type types (Expression own ctype stands value) = nat_lt ctype types
-has_type types (Store object offset ctype own) = true
-has_type types (Object token ctype fixed zeroed) = true
-has_type types (Link token first) = true
-has_type types (Function token result) = true
-has_type types (Parameter token ctype) = true
+-- whether what a row names by number is there: one of so many types, and of so many signatures
+abbrev pub entity_known : ℕ → Entity → Bool
+entity_known signatures (entity.Object ctype token lifetime defined) = true
+entity_known signatures (entity.Typedef ctype) = true
+entity_known signatures (entity.Enumerator bits) = true
+entity_known signatures (entity.Function signature defined built_in) = nat_lt signature signatures
 
-abbrev pub have_types : ℕ → List HandedRow → Bool
-have_types types [] = true
-have_types types (row ∷ rest) = has_type types row && have_types types rest
+abbrev pub stands_known : ℕ → Option Entity → Bool
+stands_known signatures None = true
+stands_known signatures (Some entity) = entity_known signatures entity
 
--- the rows of a context, each at the place of its number, with types of the context
+abbrev pub is_known : ℕ → ℕ → HandedRow → Bool
+is_known types signatures (Expression own ctype stands value) = nat_lt ctype types && stands_known signatures stands
+is_known types signatures (Store object offset ctype own) = nat_lt ctype types
+is_known types signatures (Object token ctype fixed zeroed) = nat_lt ctype types
+is_known types signatures (Link token first) = true
+is_known types signatures (Function token result) = nat_lt result types
+is_known types signatures (Parameter token ctype) = nat_lt ctype types
+
+abbrev pub are_known : ℕ → ℕ → List HandedRow → Bool
+are_known types signatures [] = true
+are_known types signatures (row ∷ rest) = is_known types signatures row && are_known types signatures rest
+
+-- the rows of a context, each at the place of its number, with types and signatures of the context
 pub record AreRows (context : Context) (rows : List (Option ExpressionRow)) : Type 0 where
   pub found : (number : ℕ) → row_at rows number ≡ row_in number context.handed
-  pub typed : have_types (length context.types) context.handed ≡ true
+  pub known : are_known (length context.types) (length context.environment.signatures) context.handed ≡ true

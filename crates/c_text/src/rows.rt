@@ -1,9 +1,10 @@
 //! The rows of expressions, each at the place of its number.
 ghost use Rattle.std.specs.Prelude.{◌≡◌, ◌<◌, ℕ, [], length, nat_eq, Some, OnOk, if◌then◌else◌};
-ghost use Rattle.c_text.specs.Rows.{row_at, row_here, row_in, or_else, has_type, have_types};
+ghost use Rattle.c_text.specs.Rows.{row_at, row_here, row_in, or_else, is_known, stands_known, are_known};
 
 use crate::expression_row::ExpressionRow;
 use cbase::NoMemory;
+use environment::Entity;
 use expressions::{Context, HandedRow};
 
 /// The row of an expression by its number, if it has one. It takes one step.
@@ -82,28 +83,46 @@ fn lengthen(rows: &mut Vec<Option<ExpressionRow>>, place: usize) -> Result<(), N
     Ok(())
 }
 
-/// Whether each row of an expression has a type of the context.
-pub(crate) fn have_types(context: &Context, handed: &[HandedRow]) -> bool
-    ensures { result ≡ have_types (length context.now.types) handed.now }
+/// Whether each type and each signature that a row names is one of the context.
+pub(crate) fn are_known(context: &Context, handed: &[HandedRow]) -> bool
+    ensures { result ≡ are_known (length context.now.types) (length context.now.environment.signatures) handed.now }
 {
     for row in handed {
-        if !has_type(context, *row) {
+        if !is_known(context, *row) {
             return false;
         }
     }
     true
 }
 
-/// Whether a row, if it is one of an expression, has a type of the context.
-fn has_type(context: &Context, row: HandedRow) -> bool
-    ensures { result ≡ has_type (length context.now.types) row }
+/// Whether the type and the signature that a row names are of the context.
+fn is_known(context: &Context, row: HandedRow) -> bool
+    ensures { result ≡ is_known (length context.now.types) (length context.now.environment.signatures) row }
 {
     match row {
-        HandedRow::Expression { ctype, .. } => context.has_type(ctype),
-        HandedRow::Store { .. }
-        | HandedRow::Object { .. }
-        | HandedRow::Link { .. }
-        | HandedRow::Function { .. }
-        | HandedRow::Parameter { .. } => true,
+        HandedRow::Expression { ctype, stands, .. } => {
+            if context.has_type(ctype) {
+                stands_known(context, stands)
+            } else {
+                false
+            }
+        }
+        HandedRow::Store { ctype, .. } => context.has_type(ctype),
+        HandedRow::Object { ctype, .. } => context.has_type(ctype),
+        HandedRow::Link { .. } => true,
+        HandedRow::Function { result, .. } => context.has_type(result),
+        HandedRow::Parameter { ctype, .. } => context.has_type(ctype),
+    }
+}
+
+/// Whether the signature of a function for which a name stands is one of the context.
+fn stands_known(context: &Context, stands: Option<Entity>) -> bool
+    ensures { result ≡ stands_known (length context.now.environment.signatures) stands }
+{
+    match stands {
+        Some(Entity::Function { signature, .. }) => context.has_signature(signature),
+        Some(Entity::Object { .. } | Entity::Typedef { .. } | Entity::Enumerator { .. }) | None => {
+            true
+        }
     }
 }

@@ -1,4 +1,4 @@
-ghost use Rattle.std.specs.Prelude.{◌≡◌, ◌<◌, false, length, option_map, IfOk, IfSome, IfNone};
+ghost use Rattle.std.specs.Prelude.{◌≡◌, ◌<◌, true, false, length, option_map, IfOk, IfSome, IfNone};
 ghost use Rattle.cbase.specs.declared.tree.expr.Expr.{Expr};
 ghost use Rattle.expressions.specs.Numbers.{Numbering, entity_at};
 ghost use Rattle.c_machine.specs.Program.{Program, type_of, entity_of, constant_of};
@@ -7,12 +7,15 @@ ghost use Rattle.operators.specs.Kinds.{kind_of};
 ghost use Rattle.typing.specs.Idiom.{member_offset};
 ghost use Rattle.typing.specs.Nodes.{pointed_offset};
 ghost use Rattle.c_text.specs.Kept.{kept};
-ghost use Rattle.c_text.specs.Rows.{row_in, have_types};
+ghost use Rattle.c_text.specs.Rows.{row_in, stands_known, are_known};
 ghost use Rattle.c_text.specs.Stands.{StandsFor};
+
+mod signatures;
+mod standing;
 
 use crate::expression_row::ExpressionRow;
 use crate::kinds::type_kind;
-use crate::rows::{gather, have_types, row_at};
+use crate::rows::{are_known, gather, row_at};
 use c_machine::Kind;
 use cbase::NoMemory;
 use environment::Entity;
@@ -45,16 +48,16 @@ impl Model for TypedText {
 }
 
 impl TypedText {
-    /// The text of a context. It is `None` only where a row of an expression has a type that is not one of the context.
+    /// The text of a context. It is `None` only where a row names a type or a signature by a number that the context has not.
     ///
     /// It takes time and memory for what was handed on.
     pub fn of(alloc: Global, context: Context) -> Result<Option<TypedText>, NoMemory>
         ensures some { IfOk result (λ found. IfSome found (λ text. text ≡ context)) }
-        ensures none { IfOk result (λ found. IfNone found (have_types (length context.types) context.handed ≡ false)) }
+        ensures none { IfOk result (λ found. IfNone found (are_known (length context.types) (length context.environment.signatures) context.handed ≡ false)) }
     {
         let mut rows = Vec::new(alloc);
         gather(&mut rows, context.handed())?;
-        if have_types(&context, context.handed()) {
+        if are_known(&context, context.handed()) {
             Ok(Some(TypedText { context, rows }))
         } else {
             Ok(None)
@@ -121,6 +124,7 @@ impl TypedText {
     fn row(&self, number: u32) -> Option<ExpressionRow>
         ensures found { result ≡ row_in number self.now.handed }
         ensures typed { IfSome result (λ row. row.ctype < length self.now.types) }
+        ensures known { IfSome result (λ row. stands_known (length self.now.environment.signatures) row.stands ≡ true) }
     {
         row_at(&self.rows, number)
     }
