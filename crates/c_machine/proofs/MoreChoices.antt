@@ -144,12 +144,14 @@ ends_body false (Pointer bytes) close state choices more = receives (Pointer byt
 ends_body false (Array bytes) close state choices more = receives (Array bytes) _ choices more
 ends_body false (Struct bytes) close state choices more = receives (Struct bytes) _ choices more
 
-returns_to : (t : Text) (callers : List Frame) (place : Place) (state : StateIn t) (choices more : List Choice) → LeavesMore more (returned t callers place state choices) (returned t callers place state (choices ++ more))
-returns_to t [] place state choices more = by_test _ _ _ _ choices more t.strict (by_test _ _ _ _ choices more (is_lost state.memory []) refl refl) refl
-returns_to t (frame ∷ callers) place state choices more = refl
+returns_to : {E S I : Type 0} (strict : Bool) (callers : List Frame) (place : Place) (state : State E S I) (choices more : List Choice) →
+    LeavesMore more (returned strict callers place state choices) (returned strict callers place state (choices ++ more))
+returns_to strict [] place state choices more = by_test _ _ _ _ choices more strict (by_test _ _ _ _ choices more (is_lost state.memory []) refl refl) refl
+returns_to strict (frame ∷ callers) place state choices more = refl
 
-leaves_function : (t : Text) (place : Place) (state : StateIn t) (choices more : List Choice) → LeavesMore more (leave_function t place state choices) (leave_function t place state (choices ++ more))
-leaves_function t place state choices more = by_test _ _ _ _ choices more (is_lost state.memory (roots state)) refl (returns_to t state.callers place state choices more)
+leaves_function : {E S I : Type 0} (strict : Bool) (place : Place) (state : State E S I) (choices more : List Choice) →
+    LeavesMore more (leave_function strict place state choices) (leave_function strict place state (choices ++ more))
+leaves_function strict place state choices more = by_test _ _ _ _ choices more (is_lost state.memory (roots state)) refl (returns_to strict state.callers place state choices more)
 
 -- each step
 leaves : (t : Text) (task : TaskIn t) (state : StateIn t) (choices more : List Choice) → LeavesMore more (step_of t task state choices) (step_of t task state (choices ++ more))
@@ -186,10 +188,10 @@ leaves t (MakeStatic object) state choices more = blocks storage.Static object.b
 leaves t (LeaveBlock place) state choices more = leaves_block state.frame place state choices more
 leaves t (Zero place count) state choices more = popping state.operands state choices more _ _ (λ at after. fault_or _ _ choices more (range_fault state.memory at count) place refl)
 leaves t (Initialise place init) state choices more = refl
-leaves t (BreakAt word) state choices more = leaves_loop (loop_left t state.tasks) (after_break t word) word state choices more
-leaves t (ContinueAt word) state choices more = leaves_loop (loop_left t state.tasks) (after_continue t word) word state choices more
-leaves t (GiveBack word from) state choices more = popping state.operands state choices more _ _ (λ value after. gives_back (body_left t after.tasks) word from value after choices more)
-leaves t (LeaveFunction place) state choices more = leaves_function t place (record state { frame = []; memory = without_objects (blocks_of (objects_of state.frame)) state.memory }) choices more
+leaves t (BreakAt word) state choices more = leaves_loop (loop_left state.tasks) (after_break t word) word state choices more
+leaves t (ContinueAt word) state choices more = leaves_loop (loop_left state.tasks) (after_continue word) word state choices more
+leaves t (GiveBack word from) state choices more = popping state.operands state choices more _ _ (λ value after. gives_back (body_left after.tasks) word from value after choices more)
+leaves t (LeaveFunction place) state choices more = leaves_function t.strict place (record state { frame = []; memory = without_objects (blocks_of (objects_of state.frame)) state.memory }) choices more
 leaves t (EndOfBody is_main result close held) state choices more = ends_body is_main result close state choices more
 leaves t Unknown state choices more = refl
 

@@ -160,12 +160,12 @@ ends_body false (Pointer bytes) close state choices = receives (Pointer bytes) _
 ends_body false (Array bytes) close state choices = receives (Array bytes) _ choices
 ends_body false (Struct bytes) close state choices = receives (Struct bytes) _ choices
 
-returns_to : (t : Text) (callers : List Frame) (place : Place) (state : StateIn t) (choices : List Choice) → TakesOne choices (returned t callers place state choices)
-returns_to t [] place state choices = by_test _ _ choices t.strict (by_test _ _ choices (is_lost state.memory []) tt tt) tt
-returns_to t (frame ∷ callers) place state choices = inl refl
+returns_to : {E S I : Type 0} (strict : Bool) (callers : List Frame) (place : Place) (state : State E S I) (choices : List Choice) → TakesOne choices (returned strict callers place state choices)
+returns_to strict [] place state choices = by_test _ _ choices strict (by_test _ _ choices (is_lost state.memory []) tt tt) tt
+returns_to strict (frame ∷ callers) place state choices = inl refl
 
-leaves_function : (t : Text) (place : Place) (state : StateIn t) (choices : List Choice) → TakesOne choices (leave_function t place state choices)
-leaves_function t place state choices = by_test _ _ choices (is_lost state.memory (roots state)) tt (returns_to t state.callers place state choices)
+leaves_function : {E S I : Type 0} (strict : Bool) (place : Place) (state : State E S I) (choices : List Choice) → TakesOne choices (leave_function strict place state choices)
+leaves_function strict place state choices = by_test _ _ choices (is_lost state.memory (roots state)) tt (returns_to strict state.callers place state choices)
 
 -- each step
 takes : (t : Text) (task : TaskIn t) (state : StateIn t) (choices : List Choice) → TakesOne choices (step_of t task state choices)
@@ -207,10 +207,10 @@ takes t (MakeStatic object) state choices = blocks storage.Static object.bytes t
 takes t (LeaveBlock place) state choices = leaves_block state.frame place state choices
 takes t (Zero place count) state choices = popping state.operands state choices _ (λ at after. fault_or _ choices (range_fault state.memory at count) place (inl refl))
 takes t (Initialise place init) state choices = inl refl
-takes t (BreakAt word) state choices = leaves_loop (loop_left t state.tasks) (after_break t word) word state choices
-takes t (ContinueAt word) state choices = leaves_loop (loop_left t state.tasks) (after_continue t word) word state choices
-takes t (GiveBack word from) state choices = popping state.operands state choices _ (λ value after. gives_back (body_left t after.tasks) word from value after choices)
-takes t (LeaveFunction place) state choices = leaves_function t place (record state { frame = []; memory = without_objects (blocks_of (objects_of state.frame)) state.memory }) choices
+takes t (BreakAt word) state choices = leaves_loop (loop_left state.tasks) (after_break t word) word state choices
+takes t (ContinueAt word) state choices = leaves_loop (loop_left state.tasks) (after_continue word) word state choices
+takes t (GiveBack word from) state choices = popping state.operands state choices _ (λ value after. gives_back (body_left after.tasks) word from value after choices)
+takes t (LeaveFunction place) state choices = leaves_function t.strict place (record state { frame = []; memory = without_objects (blocks_of (objects_of state.frame)) state.memory }) choices
 takes t (EndOfBody is_main result close held) state choices = ends_body is_main result close state choices
 takes t Unknown state choices = tt
 

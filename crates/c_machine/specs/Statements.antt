@@ -102,33 +102,33 @@ pub record LoopLeft (E S I : Type 0) : Type 0 where
   pub held : ℕ
   pub rest : List (Task E S I)
 
-abbrev pub one_more : (t : Text) → LoopLeft t.Expr t.Stmt t.Init → LoopLeft t.Expr t.Stmt t.Init
-one_more t left = record left { blocks = suc left.blocks }
+abbrev pub one_more : {E S I : Type 0} → LoopLeft E S I → LoopLeft E S I
+one_more left = record left { blocks = suc left.blocks }
 
-abbrev pub loop_left : (t : Text) → List (TaskIn t) → Option (LoopLeft t.Expr t.Stmt t.Init)
-loop_left t [] = None
-loop_left t (Again stmt held ∷ rest) = Some (record { blocks = 0; loop = stmt; held = held; rest = rest })
-loop_left t (LeaveBlock place ∷ rest) = option_map (one_more t) (loop_left t rest)
-loop_left t (other ∷ rest) = loop_left t rest
+abbrev pub loop_left : {E S I : Type 0} → List (Task E S I) → Option (LoopLeft E S I)
+loop_left [] = None
+loop_left (Again stmt held ∷ rest) = Some (record { blocks = 0; loop = stmt; held = held; rest = rest })
+loop_left (LeaveBlock place ∷ rest) = option_map one_more (loop_left rest)
+loop_left (other ∷ rest) = loop_left rest
 
 -- the blocks are left one by one from the inside, all at the word
-abbrev pub leaves : (t : Text) → ℕ → Place → List (TaskIn t)
-leaves t count word = replicate count (LeaveBlock word)
+abbrev pub leaves : {E S I : Type 0} → ℕ → Place → List (Task E S I)
+leaves count word = replicate count (LeaveBlock word)
 
 -- a `break` leaves the block of a `for`, too
-abbrev pub behind_for : (t : Text) → Place → List (TaskIn t) → List (TaskIn t)
-behind_for t word (LeaveBlock place ∷ rest) = LeaveBlock word ∷ rest
-behind_for t word rest = rest
+abbrev pub behind_for : {E S I : Type 0} → Place → List (Task E S I) → List (Task E S I)
+behind_for word (LeaveBlock place ∷ rest) = LeaveBlock word ∷ rest
+behind_for word rest = rest
 
 abbrev pub behind_loop : (t : Text) → Place → Clause t.Expr t.Stmt t.Init → List (TaskIn t) → List (TaskIn t)
-behind_loop t word (For first test semicolon next close body) rest = behind_for t word rest
+behind_loop t word (For first test semicolon next close body) rest = behind_for word rest
 behind_loop t word other rest = rest
 
 abbrev pub after_break : (t : Text) → Place → LoopLeft t.Expr t.Stmt t.Init → List (TaskIn t)
-after_break t word left = leaves t left.blocks word ++ behind_loop t word (t.clause left.loop) left.rest
+after_break t word left = leaves left.blocks word ++ behind_loop t word (t.clause left.loop) left.rest
 
-abbrev pub after_continue : (t : Text) → Place → LoopLeft t.Expr t.Stmt t.Init → List (TaskIn t)
-after_continue t word left = leaves t left.blocks word ++ Again left.loop left.held ∷ left.rest
+abbrev pub after_continue : {E S I : Type 0} → Place → LoopLeft E S I → List (Task E S I)
+after_continue word left = leaves left.blocks word ++ Again left.loop left.held ∷ left.rest
 
 -- what stands behind the body of the function: the kind of its result, how many operands the unfinished expressions around the call hold, and what is
 -- to be done behind it
@@ -137,10 +137,10 @@ pub record BodyLeft (E S I : Type 0) : Type 0 where
   pub held : ℕ
   pub rest : List (Task E S I)
 
-abbrev pub body_left : (t : Text) → List (TaskIn t) → Option (BodyLeft t.Expr t.Stmt t.Init)
-body_left t [] = None
-body_left t (EndOfBody is_main result close held ∷ rest) = Some (record { result = result; held = held; rest = rest })
-body_left t (other ∷ rest) = body_left t rest
+abbrev pub body_left : {E S I : Type 0} → List (Task E S I) → Option (BodyLeft E S I)
+body_left [] = None
+body_left (EndOfBody is_main result close held ∷ rest) = Some (record { result = result; held = held; rest = rest })
+body_left (other ∷ rest) = body_left rest
 
 -- so many operands, those that were computed first
 abbrev pub oldest : ℕ → List Word → List Word

@@ -179,14 +179,14 @@ end_of_body false result close state choices = received result (doing (LeaveFunc
 
 -- behind the return of a function its caller goes on; where there is none the run is over. Where main may not return while an allocated block lives, that
 -- is a fault: without roots each such block is lost
-abbrev pub returned : (t : Text) → List Frame → Place → StateIn t → List Choice → OutcomeIn t
-returned t [] place state choices =
-    if t.strict then (if is_lost state.memory [] then Faulted block_never_freed place else Ended) else Ended
-returned t (frame ∷ callers) place state choices = Went (record state { frame = frame; callers = callers }) choices
+abbrev pub returned : {E S I : Type 0} → Bool → List Frame → Place → State E S I → List Choice → Outcome E S I
+returned strict [] place state choices =
+    if strict then (if is_lost state.memory [] then Faulted block_never_freed place else Ended) else Ended
+returned strict (frame ∷ callers) place state choices = Went (record state { frame = frame; callers = callers }) choices
 
-abbrev pub leave_function : (t : Text) → Place → StateIn t → List Choice → OutcomeIn t
-leave_function t place state choices =
-    if is_lost state.memory (roots state) then Faulted memory_lost place else returned t state.callers place state choices
+abbrev pub leave_function : {E S I : Type 0} → Bool → Place → State E S I → List Choice → Outcome E S I
+leave_function strict place state choices =
+    if is_lost state.memory (roots state) then Faulted memory_lost place else returned strict state.callers place state choices
 
 -- the step of each thing that is to be done, where the rest of the list stands in the state
 abbrev pub step_of : (t : Text) → TaskIn t → StateIn t → List Choice → OutcomeIn t
@@ -238,11 +238,11 @@ step_of t (Zero place count) state choices =
     popped state (λ at after.
     unless_fault (range_fault state.memory at count) place (Went (with_memory (filled state.memory at 0 count) after) choices))
 step_of t (Initialise place init) state choices = Went (doing (initialiser_tasks t place init) state) choices
-step_of t (BreakAt word) state choices = leave_loop (loop_left t state.tasks) (after_break t word) word state choices
-step_of t (ContinueAt word) state choices = leave_loop (loop_left t state.tasks) (after_continue t word) word state choices
-step_of t (GiveBack word from) state choices = popped state (λ value after. give_back (body_left t after.tasks) word from value after choices)
+step_of t (BreakAt word) state choices = leave_loop (loop_left state.tasks) (after_break t word) word state choices
+step_of t (ContinueAt word) state choices = leave_loop (loop_left state.tasks) (after_continue word) word state choices
+step_of t (GiveBack word from) state choices = popped state (λ value after. give_back (body_left after.tasks) word from value after choices)
 step_of t (LeaveFunction place) state choices =
-    leave_function t place (record state { frame = []; memory = without_objects (blocks_of (objects_of state.frame)) state.memory }) choices
+    leave_function t.strict place (record state { frame = []; memory = without_objects (blocks_of (objects_of state.frame)) state.memory }) choices
 step_of t (EndOfBody is_main result close held) state choices = end_of_body is_main result close state choices
 step_of t Unknown state choices = Stuck
 

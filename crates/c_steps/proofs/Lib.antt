@@ -1,0 +1,13 @@
+pub mod Behind
+pub mod Stacks
+pub mod Lookups
+pub mod Names
+pub mod RootsInOrder
+pub mod Lengths
+pub mod Kept
+pub mod NamedWords
+pub mod Answered
+pub mod Accessed
+pub mod Contents
+pub mod Making
+pub mod Popping
