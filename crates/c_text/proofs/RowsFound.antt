@@ -108,12 +108,15 @@ in_typed types number (row ∷ rest) is =
     or_else_typed types (row_in number rest) (row_here number row) (in_typed types number rest parts.1) (here_typed types number row parts.0)
 
 -- the type of an expression in the program
+pub ctype_is : (n : Numbering) (context : Context) (p : Program) (expr : Expr) (number : ℕ) (row : ExpressionRow) → StandsFor n context p →
+    expr.number ≡ number → row_in number context.handed ≡ Some row → n.ctype row.ctype ≡ type_of p expr
+ctype_is n context p expr number row stands same is =
+    ap (λ (found : Option Row). option_map_or (λ (row : Row). row.ctype) found VoidType) (sym (row_is n context p expr number (Some row) stands same is))
+
 pub type_is : (n : Numbering) (context : Context) (p : Program) (expr : Expr) (number : ℕ) (row : ExpressionRow) → StandsFor n context p →
-    expr.number ≡ number → row.ctype < length context.types → row_in number context.handed ≡ Some row →
-    type_at context.types row.ctype ≡ type_of p expr
+    expr.number ≡ number → row.ctype < length context.types → row_in number context.handed ≡ Some row → type_at context.types row.ctype ≡ type_of p expr
 type_is n context p expr number row stands same below is =
-    sym (agrees_at n context row.ctype stands.agrees below)
-    ∙ ap (λ (found : Option Row). option_map_or (λ (row : Row). row.ctype) found VoidType) (sym (row_is n context p expr number (Some row) stands same is))
+    sym (agrees_at n context row.ctype stands.agrees below) ∙ ctype_is n context p expr number row stands same is
 
 pub no_type : (n : Numbering) (context : Context) (p : Program) (expr : Expr) (number : ℕ) → StandsFor n context p →
     expr.number ≡ number → row_in number context.handed ≡ None → VoidType ≡ type_of p expr

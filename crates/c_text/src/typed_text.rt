@@ -2,7 +2,10 @@ ghost use Rattle.std.specs.Prelude.{◌≡◌, ◌<◌, false, length, option_ma
 ghost use Rattle.cbase.specs.declared.tree.expr.Expr.{Expr};
 ghost use Rattle.expressions.specs.Numbers.{Numbering, entity_at};
 ghost use Rattle.c_machine.specs.Program.{Program, type_of, entity_of, constant_of};
-ghost use Rattle.c_machine.specs.Trees.{kind_in};
+ghost use Rattle.c_machine.specs.Trees.{kind_in, offset};
+ghost use Rattle.operators.specs.Kinds.{kind_of};
+ghost use Rattle.typing.specs.Idiom.{member_offset};
+ghost use Rattle.typing.specs.Nodes.{pointed_offset};
 ghost use Rattle.c_text.specs.Kept.{kept};
 ghost use Rattle.c_text.specs.Rows.{row_in, have_types};
 ghost use Rattle.c_text.specs.Stands.{StandsFor};
@@ -90,11 +93,45 @@ impl TypedText {
         }
     }
 
+    /// How many bytes stand before the member of that name in the struct that an expression is, and 0 where there is none (C11 6.5.2.3p3).
+    ///
+    /// It takes one look-up in the names of the members.
+    pub fn member_offset(&self, number: u32, name: &[u8]) -> u64
+        ensures { (n : Numbering) (p : Program) (expr : Expr) → StandsFor n self.now p → expr.number ≡ number
+            → result ≡ offset (member_offset p.abi p.structs (type_of p expr) name.now) }
+    {
+        match self.row(number) {
+            None => 0,
+            Some(row) => offset_of(self.context.member_offset(row.ctype, name)),
+        }
+    }
+
+    /// The same of the struct to which an expression leads (C11 6.5.2.3p4).
+    pub fn pointed_offset(&self, number: u32, name: &[u8]) -> u64
+        ensures { (n : Numbering) (p : Program) (expr : Expr) → StandsFor n self.now p → expr.number ≡ number
+            → result ≡ offset (pointed_offset p.abi p.structs (kind_of p.structs (type_of p expr)) name.now) }
+    {
+        match self.row(number) {
+            None => 0,
+            Some(row) => offset_of(self.context.pointed_offset(row.ctype, name)),
+        }
+    }
+
     /// The row of an expression, if there is one.
     fn row(&self, number: u32) -> Option<ExpressionRow>
         ensures found { result ≡ row_in number self.now.handed }
         ensures typed { IfSome result (λ row. row.ctype < length self.now.types) }
     {
         row_at(&self.rows, number)
+    }
+}
+
+/// A number of bytes that is found, or 0.
+fn offset_of(found: Option<u64>) -> u64
+    ensures { result ≡ offset found }
+{
+    match found {
+        None => 0,
+        Some(bytes) => bytes,
     }
 }
