@@ -1,0 +1,3 @@
+pub mod KeptKinds
+pub mod MakingRoom
+pub mod NamedThings

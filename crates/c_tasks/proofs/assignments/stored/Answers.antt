@@ -1,0 +1,16 @@
+-- The type of the value, and that of the left side, twice.
+use Rattle.std.proofs.Common.{[], ◌∷◌, sym, ◌∙◌}
+use Rattle.c_machine.specs.declared.kind.Kind.{Kind}
+use Rattle.c_machine.specs.declared.task.Task.TheVariants.{AddressOf, Convert, Store, ValueOf}
+use Rattle.c_machine.specs.Expressions.{value_kind}
+use Rattle.c_machine.specs.Program.{type_of}
+use Rattle.c_machine.specs.Trees.{kind_in, text_of}
+use Rattle.c_tasks.proofs.MakingRoom.{speaks_of_two, three_there}
+use Rattle.c_tasks.proofs.assignments.stored.Goals as goal
+
+pub returns : goal.returns
+returns c = λ n p stands.
+    speaks_of_two (λ (one other : Kind). AddressOf c.args.left.now ∷ ValueOf c.args.right.now ∷ Convert one other ∷ Store c.args.left.now.place other ∷ []) (value_kind (text_of p) c.args.right.now) (kind_in p (type_of p c.args.left.now)) c.in-Some.from c.in-Some-own_kind.to c.args.state.now c.do_store.new.state
+    (sym c.in-Some.is ∙ c.value_kind.ensures n p stands) (sym c.in-Some-own_kind.is ∙ c.own_kind.ensures n p stands)
+    (three_there (value_kind (text_of p) c.args.right.now) (kind_in p (type_of p c.args.left.now)))
+    c.in_ok-do_store.ensures

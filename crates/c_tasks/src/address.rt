@@ -1,0 +1,111 @@
+//! The addresses of lvalues (C11 6.3.2.1, 6.5.2.1, 6.5.2.3, 6.5.3.2).
+ghost use Rattle.std.specs.Prelude.{◌≡◌, [], ◌∷◌, false, true, IfOk};
+ghost use Rattle.cbase.specs.declared.tree.operators.BinaryOp.TheVariants.{Add};
+ghost use Rattle.cbase.specs.declared.tree.expr.ExprForm.TheOpen as tree;
+ghost use Rattle.c_machine.specs.declared.task.Task.TheVariants.{Operate, ValueOf};
+ghost use Rattle.c_machine.specs.Expressions.{address_parts, address_tasks, named, value_kind};
+ghost use Rattle.c_machine.specs.Trees.{form_of};
+ghost use Rattle.expressions.specs.Numbers.{Numbering};
+ghost use Rattle.c_machine.specs.Program.{Program};
+ghost use Rattle.c_machine.specs.Trees.{text_of};
+ghost use Rattle.c_text.specs.Stands.{StandsFor};
+ghost use Rattle.c_tasks.specs.Room.{MakesRoom};
+
+use crate::operations::operated;
+use crate::pushes::{do_address, do_value, unknown, value_alone};
+use crate::room::Room;
+use crate::standing::object_named;
+use crate::state::TreeState;
+use c_machine::Task;
+use c_text::TypedText;
+use cbase::{BinaryOp, Expr, ExprForm, Identifier, NoMemory, UnaryOp};
+
+/// What is to be done for the address of the lvalue that an expression is (C11 6.3.2.1p1).
+///
+/// It takes one step, and at a member one look-up in the names of the members.
+pub fn address_tasks<'a>(
+    text: &TypedText,
+    state: &mut TreeState<'a>,
+    expr: &'a Expr,
+) -> Result<Room, NoMemory>
+    ensures { IfOk result (λ room. (n : Numbering) (p : Program) → StandsFor n text.now p → MakesRoom (address_tasks (text_of p) expr.now) room state.old state.new) }
+{
+    match &expr.form {
+        ExprForm::Name(_) => object_address(text, state, expr),
+        ExprForm::Unary {
+            op: UnaryOp::Follow,
+            arg,
+        } => value_alone(state, arg.get()),
+        ExprForm::Index { base, index } => item_address(text, state, base.get(), index.get()),
+        ExprForm::Member {
+            base,
+            name,
+            through: false,
+        } => member_address(text, state, expr, base.get(), name),
+        ExprForm::Member {
+            base,
+            name,
+            through: true,
+        } => pointed_address(text, state, expr, base.get(), name),
+        _ => unknown(state),
+    }
+}
+
+/// The address of the object that a name stands for (C11 6.5.1p2).
+fn object_address<'a>(
+    text: &TypedText,
+    state: &mut TreeState<'a>,
+    expr: &'a Expr,
+) -> Result<Room, NoMemory>
+    ensures { IfOk result (λ room. (n : Numbering) (p : Program) → StandsFor n text.now p → MakesRoom (named (text_of p) ((text_of p).stands expr.now)) room state.old state.new) }
+{
+    match object_named(text, expr) {
+        None => unknown(state),
+        Some(token) => {
+            state.do_first(Task::ObjectAt(token))?;
+            Ok(Room::Made)
+        }
+    }
+}
+
+/// The address of an item of an array: `a[i]` is `*(a + i)` (C11 6.5.2.1p2).
+fn item_address<'a>(
+    text: &TypedText,
+    state: &mut TreeState<'a>,
+    base: &'a Expr,
+    index: &'a Expr,
+) -> Result<Room, NoMemory>
+    ensures { IfOk result (λ room. (n : Numbering) (p : Program) → StandsFor n text.now p → MakesRoom (ValueOf base.now ∷ ValueOf index.now ∷ Operate Add (value_kind (text_of p) base.now) (value_kind (text_of p) index.now) ∷ []) room state.old state.new) }
+{
+    operated(text, state, BinaryOp::Add, base, index)
+}
+
+/// The address of a member of the struct that an expression is (C11 6.5.2.3p3).
+fn member_address<'a>(
+    text: &TypedText,
+    state: &mut TreeState<'a>,
+    expr: &'a Expr,
+    base: &'a Expr,
+    name: &'a Identifier,
+) -> Result<Room, NoMemory>
+    ensures { IfOk result (λ room. (n : Numbering) (p : Program) → StandsFor n text.now p → MakesRoom (address_parts (text_of p) expr.now (form_of p expr.now (tree.ExprForm::Member base.now name.now false))) room state.old state.new) }
+{
+    state.do_first(Task::Shift(text.member_offset(base.number, name.name.as_slice())))?;
+    do_address(state, base)?;
+    Ok(Room::Made)
+}
+
+/// The address of a member of the struct to which an expression leads (C11 6.5.2.3p4).
+fn pointed_address<'a>(
+    text: &TypedText,
+    state: &mut TreeState<'a>,
+    expr: &'a Expr,
+    base: &'a Expr,
+    name: &'a Identifier,
+) -> Result<Room, NoMemory>
+    ensures { IfOk result (λ room. (n : Numbering) (p : Program) → StandsFor n text.now p → MakesRoom (address_parts (text_of p) expr.now (form_of p expr.now (tree.ExprForm::Member base.now name.now true))) room state.old state.new) }
+{
+    state.do_first(Task::Shift(text.pointed_offset(base.number, name.name.as_slice())))?;
+    do_value(state, base)?;
+    Ok(Room::Made)
+}

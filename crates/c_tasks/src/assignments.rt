@@ -1,0 +1,160 @@
+//! Assignments, `++` and `--` (C11 6.5.2.4, 6.5.3.1, 6.5.16).
+ghost use Rattle.std.specs.Prelude.{◌≡◌, [], ◌∷◌, None, Option, Some, IfOk, OnOk};
+ghost use Rattle.c_machine.specs.declared.task.Task.TheVariants.{AddressOf, Convert, CopyStruct, Store, Update, ValueOf};
+ghost use Rattle.c_machine.specs.Expressions.{value_kind, value_parts};
+ghost use Rattle.c_machine.specs.State.{doing};
+ghost use Rattle.c_machine.specs.Text.{Assign, Count};
+ghost use Rattle.expressions.specs.Numbers.{Numbering};
+ghost use Rattle.c_machine.specs.Program.{Program};
+ghost use Rattle.c_machine.specs.Trees.{text_of};
+ghost use Rattle.c_text.specs.Stands.{StandsFor};
+ghost use Rattle.c_tasks.specs.Room.{MakesRoom};
+
+use crate::kinds::{own_kind, struct_bytes, value_kind};
+use crate::pushes::{do_address, do_sides};
+use crate::room::Room;
+use crate::state::TreeState;
+use c_machine::{Kind, Task};
+use c_text::TypedText;
+use cbase::{BinaryOp, Expr, NoMemory, Place};
+
+/// What is to be done for an assignment, where `op` is the operation of `+=` and its like (C11 6.5.16).
+pub fn assigned<'a>(
+    text: &TypedText,
+    state: &mut TreeState<'a>,
+    expr: &'a Expr,
+    op: Option<BinaryOp>,
+    left: &'a Expr,
+    right: &'a Expr,
+) -> Result<Room, NoMemory>
+    ensures { IfOk result (λ room. (n : Numbering) (p : Program) → StandsFor n text.now p → MakesRoom (value_parts (text_of p) expr.now (Assign op left.now right.now)) room state.old state.new) }
+{
+    match op {
+        None => set(text, state, expr, left, right),
+        Some(op) => updated(text, state, op, left, right),
+    }
+}
+
+/// `=`: a struct is copied as a whole, and any other value is stored (C11 6.5.16.1).
+fn set<'a>(
+    text: &TypedText,
+    state: &mut TreeState<'a>,
+    expr: &'a Expr,
+    left: &'a Expr,
+    right: &'a Expr,
+) -> Result<Room, NoMemory>
+    ensures { IfOk result (λ room. (n : Numbering) (p : Program) → StandsFor n text.now p → MakesRoom (value_parts (text_of p) expr.now (Assign None left.now right.now)) room state.old state.new) }
+{
+    let Some(kind) = own_kind(text, left) else {
+        return Ok(Room::NotKept);
+    };
+    match struct_bytes(&kind) {
+        None => stored(text, state, left, right),
+        Some(bytes) => {
+            copied(state, expr.place, left, right, bytes)?;
+            Ok(Room::Made)
+        }
+    }
+}
+
+/// A struct of so many bytes is copied, at that place.
+fn copied<'a>(
+    state: &mut TreeState<'a>,
+    place: Place,
+    left: &'a Expr,
+    right: &'a Expr,
+    bytes: u64,
+) -> Result<(), NoMemory>
+    ensures { OnOk result (state.new ≡ doing (AddressOf left.now ∷ AddressOf right.now ∷ CopyStruct place bytes ∷ []) state.old) }
+{
+    state.do_first(Task::CopyStruct { place, bytes })?;
+    do_address(state, right)?;
+    do_address(state, left)
+}
+
+/// A value is converted and stored, at the place of the left side.
+fn stored<'a>(
+    text: &TypedText,
+    state: &mut TreeState<'a>,
+    left: &'a Expr,
+    right: &'a Expr,
+) -> Result<Room, NoMemory>
+    ensures { IfOk result (λ room. (n : Numbering) (p : Program) → StandsFor n text.now p → MakesRoom (AddressOf left.now ∷ ValueOf right.now ∷ Convert (value_kind (text_of p) right.now) ((text_of p).kind left.now) ∷ Store left.now.place ((text_of p).kind left.now) ∷ []) room state.old state.new) }
+{
+    let Some(from) = value_kind(text, right) else {
+        return Ok(Room::NotKept);
+    };
+    let Some(to) = own_kind(text, left) else {
+        return Ok(Room::NotKept);
+    };
+    do_store(state, left, right, from, &to)?;
+    Ok(Room::Made)
+}
+
+/// A value of one kind is stored as one of another.
+fn do_store<'a>(
+    state: &mut TreeState<'a>,
+    left: &'a Expr,
+    right: &'a Expr,
+    from: Kind,
+    to: &Kind,
+) -> Result<(), NoMemory>
+    ensures { OnOk result (state.new ≡ doing (AddressOf left.now ∷ ValueOf right.now ∷ Convert from to.now ∷ Store left.now.place to.now ∷ []) state.old) }
+{
+    state.do_first(Task::Store {
+        place: left.place,
+        kind: *to,
+    })?;
+    state.do_first(Task::Convert { from, to: *to })?;
+    do_sides(state, left, right)
+}
+
+/// `+=` and its like (C11 6.5.16.2).
+fn updated<'a>(
+    text: &TypedText,
+    state: &mut TreeState<'a>,
+    op: BinaryOp,
+    left: &'a Expr,
+    right: &'a Expr,
+) -> Result<Room, NoMemory>
+    ensures { IfOk result (λ room. (n : Numbering) (p : Program) → StandsFor n text.now p → MakesRoom (AddressOf left.now ∷ ValueOf right.now ∷ Update op left.now.place ((text_of p).kind left.now) (value_kind (text_of p) right.now) ∷ []) room state.old state.new) }
+{
+    let Some(kind) = own_kind(text, left) else {
+        return Ok(Room::NotKept);
+    };
+    let Some(other) = value_kind(text, right) else {
+        return Ok(Room::NotKept);
+    };
+    state.do_first(Task::Update {
+        op,
+        place: left.place,
+        kind,
+        right: other,
+    })?;
+    do_sides(state, left, right)?;
+    Ok(Room::Made)
+}
+
+/// What is to be done for `++` and `--`, before their operand or behind it (C11 6.5.2.4, 6.5.3.1).
+pub fn counted<'a>(
+    text: &TypedText,
+    state: &mut TreeState<'a>,
+    expr: &'a Expr,
+    up: bool,
+    after: bool,
+    arg: &'a Expr,
+) -> Result<Room, NoMemory>
+    ensures { IfOk result (λ room. (n : Numbering) (p : Program) → StandsFor n text.now p → MakesRoom (value_parts (text_of p) expr.now (Count up after arg.now)) room state.old state.new) }
+{
+    let Some(kind) = own_kind(text, arg) else {
+        return Ok(Room::NotKept);
+    };
+    state.do_first(Task::CountBy {
+        up,
+        after,
+        place: arg.place,
+        kind,
+    })?;
+    do_address(state, arg)?;
+    Ok(Room::Made)
+}

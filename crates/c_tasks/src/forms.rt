@@ -1,0 +1,93 @@
+//! Casts, `?:`, items, members, and the end of a run (C11 6.5.2.1, 6.5.2.3, 6.5.4, 6.5.15, 7.2).
+ghost use Rattle.std.specs.Prelude.{ℕ, Bool, IfOk};
+ghost use Rattle.cbase.specs.declared.tree.expr.Expr.{Expr};
+ghost use Rattle.c_machine.specs.Expressions.{value_parts};
+ghost use Rattle.c_machine.specs.Text.{AssertFail, Cast, Choose, Index, Member};
+ghost use Rattle.expressions.specs.Numbers.{Numbering};
+ghost use Rattle.c_machine.specs.Program.{Program};
+ghost use Rattle.c_machine.specs.Trees.{text_of};
+ghost use Rattle.c_text.specs.Stands.{StandsFor};
+ghost use Rattle.c_tasks.specs.Room.{MakesRoom};
+
+use crate::kinds::{own_kind, value_kind};
+use crate::loads::loaded;
+use crate::pushes::do_value;
+use crate::room::Room;
+use crate::state::TreeState;
+use c_machine::Task;
+use c_steps::Tree;
+use c_text::TypedText;
+use cbase::{Expr, NoMemory};
+
+/// What is to be done for `?:` (C11 6.5.15p4).
+pub fn chosen<'a>(
+    text: &TypedText,
+    state: &mut TreeState<'a>,
+    expr: &'a Expr,
+    test: &'a Expr,
+    one: &'a Expr,
+    other: &'a Expr,
+) -> Result<Room, NoMemory>
+    ensures { IfOk result (λ room. (n : Numbering) (p : Program) → StandsFor n text.now p → MakesRoom (value_parts (text_of p) expr.now (Choose test.now one.now other.now)) room state.old state.new) }
+{
+    let Some(kind) = value_kind(text, expr) else {
+        return Ok(Room::NotKept);
+    };
+    state.do_first(Task::Pick {
+        kind,
+        one: Tree::of(one),
+        other: Tree::of(other),
+    })?;
+    do_value(state, test)?;
+    Ok(Room::Made)
+}
+
+/// What is to be done for a cast (C11 6.5.4).
+pub fn cast<'a>(
+    text: &TypedText,
+    state: &mut TreeState<'a>,
+    expr: &'a Expr,
+    arg: &'a Expr,
+) -> Result<Room, NoMemory>
+    ensures { IfOk result (λ room. (n : Numbering) (p : Program) → StandsFor n text.now p → MakesRoom (value_parts (text_of p) expr.now (Cast arg.now)) room state.old state.new) }
+{
+    let Some(from) = value_kind(text, arg) else {
+        return Ok(Room::NotKept);
+    };
+    let Some(to) = own_kind(text, expr) else {
+        return Ok(Room::NotKept);
+    };
+    state.do_first(Task::Convert { from, to })?;
+    do_value(state, arg)?;
+    Ok(Room::Made)
+}
+
+/// What is to be done for the value of an item of an array (C11 6.5.2.1).
+pub fn item<'a>(
+    text: &TypedText,
+    state: &mut TreeState<'a>,
+    expr: &'a Expr,
+) -> Result<Room, NoMemory>
+    ensures { IfOk result (λ room. (n : Numbering) (p : Program) (base index : Expr) → StandsFor n text.now p → MakesRoom (value_parts (text_of p) expr.now (Index base index)) room state.old state.new) }
+{
+    loaded(text, state, expr)
+}
+
+/// What is to be done for the value of a member of a struct (C11 6.5.2.3).
+pub fn member<'a>(
+    text: &TypedText,
+    state: &mut TreeState<'a>,
+    expr: &'a Expr,
+) -> Result<Room, NoMemory>
+    ensures { IfOk result (λ room. (n : Numbering) (p : Program) (base : Expr) (offset : ℕ) (through : Bool) → StandsFor n text.now p → MakesRoom (value_parts (text_of p) expr.now (Member base offset through)) room state.old state.new) }
+{
+    loaded(text, state, expr)
+}
+
+/// What is to be done where an assertion failed: the run ends (C11 7.2.1.1).
+pub fn assert_failed(state: &mut TreeState) -> Result<Room, NoMemory>
+    ensures { IfOk result (λ room. (p : Program) (expr : Expr) → MakesRoom (value_parts (text_of p) expr AssertFail) room state.old state.new) }
+{
+    state.do_first(Task::EndRun)?;
+    Ok(Room::Made)
+}

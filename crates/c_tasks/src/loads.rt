@@ -1,0 +1,35 @@
+//! The values of lvalues.
+ghost use Rattle.std.specs.Prelude.{IfOk};
+ghost use Rattle.c_machine.specs.Expressions.{loaded};
+ghost use Rattle.expressions.specs.Numbers.{Numbering};
+ghost use Rattle.c_machine.specs.Program.{Program};
+ghost use Rattle.c_machine.specs.Trees.{text_of};
+ghost use Rattle.c_text.specs.Stands.{StandsFor};
+ghost use Rattle.c_tasks.specs.Room.{MakesRoom};
+
+use crate::kinds::own_kind;
+use crate::pushes::do_address;
+use crate::room::Room;
+use crate::state::TreeState;
+use c_machine::Task;
+use c_text::TypedText;
+use cbase::{Expr, NoMemory};
+
+/// The value of an lvalue: one load, at its place (C11 6.3.2.1p2).
+pub fn loaded<'a>(
+    text: &TypedText,
+    state: &mut TreeState<'a>,
+    expr: &'a Expr,
+) -> Result<Room, NoMemory>
+    ensures { IfOk result (λ room. (n : Numbering) (p : Program) → StandsFor n text.now p → MakesRoom (loaded (text_of p) expr.now) room state.old state.new) }
+{
+    let Some(kind) = own_kind(text, expr) else {
+        return Ok(Room::NotKept);
+    };
+    state.do_first(Task::Load {
+        place: expr.place,
+        kind,
+    })?;
+    do_address(state, expr)?;
+    Ok(Room::Made)
+}

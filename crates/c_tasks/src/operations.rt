@@ -1,0 +1,140 @@
+//! Unary and binary operators (C11 6.5.3, 6.5.5 to 6.5.14, 6.5.17).
+ghost use Rattle.std.specs.Prelude.{◌≡◌, [], ◌∷◌, false, IfOk};
+ghost use Rattle.c_machine.specs.declared.task.Task.TheVariants.{AndThen, Answer, Apply, Drop, Operate, OrElse, ValueOf};
+ghost use Rattle.c_machine.specs.Expressions.{value_kind, value_parts};
+ghost use Rattle.c_machine.specs.Text.{Unary, Binary};
+ghost use Rattle.expressions.specs.Numbers.{Numbering};
+ghost use Rattle.c_machine.specs.Program.{Program};
+ghost use Rattle.c_machine.specs.Trees.{text_of};
+ghost use Rattle.c_text.specs.Stands.{StandsFor};
+ghost use Rattle.c_tasks.specs.Room.{MakesRoom};
+
+use crate::kinds::value_kind;
+use crate::loads::loaded;
+use crate::pushes::{address_alone, do_value, do_values};
+use crate::room::Room;
+use crate::state::TreeState;
+use c_machine::Task;
+use c_steps::Tree;
+use c_text::TypedText;
+use cbase::{BinaryOp, Expr, NoMemory, UnaryOp};
+
+/// What is to be done for the value of a unary operator with its operand (C11 6.5.3.2, 6.5.3.3).
+pub fn unary<'a>(
+    text: &TypedText,
+    state: &mut TreeState<'a>,
+    expr: &'a Expr,
+    op: UnaryOp,
+    arg: &'a Expr,
+) -> Result<Room, NoMemory>
+    ensures { IfOk result (λ room. (n : Numbering) (p : Program) → StandsFor n text.now p → MakesRoom (value_parts (text_of p) expr.now (Unary op arg.now)) room state.old state.new) }
+{
+    match op {
+        UnaryOp::Address => address_alone(state, arg),
+        UnaryOp::Follow => loaded(text, state, expr),
+        UnaryOp::Not => denied(state, arg),
+        _ => applied(text, state, op, arg),
+    }
+}
+
+/// `!` of a value.
+fn denied<'a>(state: &mut TreeState<'a>, arg: &'a Expr) -> Result<Room, NoMemory>
+    ensures { IfOk result (λ room. MakesRoom (ValueOf arg.now ∷ Answer false ∷ []) room state.old state.new) }
+{
+    state.do_first(Task::Answer(false))?;
+    do_value(state, arg)?;
+    Ok(Room::Made)
+}
+
+/// An operator of arithmetic on one value.
+fn applied<'a>(
+    text: &TypedText,
+    state: &mut TreeState<'a>,
+    op: UnaryOp,
+    arg: &'a Expr,
+) -> Result<Room, NoMemory>
+    ensures { IfOk result (λ room. (n : Numbering) (p : Program) → StandsFor n text.now p → MakesRoom (ValueOf arg.now ∷ Apply op (value_kind (text_of p) arg.now) ∷ []) room state.old state.new) }
+{
+    let Some(kind) = value_kind(text, arg) else {
+        return Ok(Room::NotKept);
+    };
+    state.do_first(Task::Apply { op, kind })?;
+    do_value(state, arg)?;
+    Ok(Room::Made)
+}
+
+/// What is to be done for the value of a binary operator or the comma with its operands.
+pub fn binary<'a>(
+    text: &TypedText,
+    state: &mut TreeState<'a>,
+    expr: &'a Expr,
+    op: BinaryOp,
+    left: &'a Expr,
+    right: &'a Expr,
+) -> Result<Room, NoMemory>
+    ensures { IfOk result (λ room. (n : Numbering) (p : Program) → StandsFor n text.now p → MakesRoom (value_parts (text_of p) expr.now (Binary op left.now right.now)) room state.old state.new) }
+{
+    match op {
+        BinaryOp::Both => both(state, left, right),
+        BinaryOp::Either => either(state, left, right),
+        BinaryOp::Comma => behind_comma(state, left, right),
+        _ => operated(text, state, op, left, right),
+    }
+}
+
+/// `&&` (C11 6.5.13p4).
+fn both<'a>(state: &mut TreeState<'a>, left: &'a Expr, right: &'a Expr) -> Result<Room, NoMemory>
+    ensures { IfOk result (λ room. MakesRoom (ValueOf left.now ∷ AndThen right.now ∷ []) room state.old state.new) }
+{
+    state.do_first(Task::AndThen(Tree::of(right)))?;
+    do_value(state, left)?;
+    Ok(Room::Made)
+}
+
+/// `||` (C11 6.5.14p4).
+fn either<'a>(state: &mut TreeState<'a>, left: &'a Expr, right: &'a Expr) -> Result<Room, NoMemory>
+    ensures { IfOk result (λ room. MakesRoom (ValueOf left.now ∷ OrElse right.now ∷ []) room state.old state.new) }
+{
+    state.do_first(Task::OrElse(Tree::of(right)))?;
+    do_value(state, left)?;
+    Ok(Room::Made)
+}
+
+/// `,`: the left value goes (C11 6.5.17p2).
+fn behind_comma<'a>(
+    state: &mut TreeState<'a>,
+    left: &'a Expr,
+    right: &'a Expr,
+) -> Result<Room, NoMemory>
+    ensures { IfOk result (λ room. MakesRoom (ValueOf left.now ∷ Drop ∷ ValueOf right.now ∷ []) room state.old state.new) }
+{
+    do_value(state, right)?;
+    state.do_first(Task::Drop)?;
+    do_value(state, left)?;
+    Ok(Room::Made)
+}
+
+/// An operator on two values.
+pub(crate) fn operated<'a>(
+    text: &TypedText,
+    state: &mut TreeState<'a>,
+    op: BinaryOp,
+    left: &'a Expr,
+    right: &'a Expr,
+) -> Result<Room, NoMemory>
+    ensures { IfOk result (λ room. (n : Numbering) (p : Program) → StandsFor n text.now p → MakesRoom (ValueOf left.now ∷ ValueOf right.now ∷ Operate op (value_kind (text_of p) left.now) (value_kind (text_of p) right.now) ∷ []) room state.old state.new) }
+{
+    let Some(one) = value_kind(text, left) else {
+        return Ok(Room::NotKept);
+    };
+    let Some(other) = value_kind(text, right) else {
+        return Ok(Room::NotKept);
+    };
+    state.do_first(Task::Operate {
+        op,
+        left: one,
+        right: other,
+    })?;
+    do_values(state, left, right)?;
+    Ok(Room::Made)
+}

@@ -1,0 +1,73 @@
+//! Things to do that ask nothing of a program.
+ghost use Rattle.std.specs.Prelude.{◌≡◌, [], ◌∷◌, IfOk, OnOk};
+ghost use Rattle.c_machine.specs.declared.task.Task.TheVariants.{AddressOf, Unknown, ValueOf};
+ghost use Rattle.c_machine.specs.State.{doing};
+ghost use Rattle.c_tasks.specs.Room.{MakesRoom};
+
+use crate::room::Room;
+use crate::state::TreeState;
+use c_machine::Task;
+use c_steps::Tree;
+use cbase::{Expr, NoMemory};
+
+/// The value of an expression.
+pub(crate) fn do_value<'a>(state: &mut TreeState<'a>, expr: &'a Expr) -> Result<(), NoMemory>
+    ensures { OnOk result (state.new ≡ doing (ValueOf expr.now ∷ []) state.old) }
+{
+    state.do_first(Task::ValueOf(Tree::of(expr)))
+}
+
+/// The address of an expression.
+pub(crate) fn do_address<'a>(state: &mut TreeState<'a>, expr: &'a Expr) -> Result<(), NoMemory>
+    ensures { OnOk result (state.new ≡ doing (AddressOf expr.now ∷ []) state.old) }
+{
+    state.do_first(Task::AddressOf(Tree::of(expr)))
+}
+
+/// The values of two expressions, from left to right.
+pub(crate) fn do_values<'a>(
+    state: &mut TreeState<'a>,
+    left: &'a Expr,
+    right: &'a Expr,
+) -> Result<(), NoMemory>
+    ensures { OnOk result (state.new ≡ doing (ValueOf left.now ∷ ValueOf right.now ∷ []) state.old) }
+{
+    do_value(state, right)?;
+    do_value(state, left)
+}
+
+/// An address, and then a value.
+pub(crate) fn do_sides<'a>(
+    state: &mut TreeState<'a>,
+    left: &'a Expr,
+    right: &'a Expr,
+) -> Result<(), NoMemory>
+    ensures { OnOk result (state.new ≡ doing (AddressOf left.now ∷ ValueOf right.now ∷ []) state.old) }
+{
+    do_value(state, right)?;
+    do_address(state, left)
+}
+
+/// The value of an expression alone.
+pub(crate) fn value_alone<'a>(state: &mut TreeState<'a>, expr: &'a Expr) -> Result<Room, NoMemory>
+    ensures { IfOk result (λ room. MakesRoom (ValueOf expr.now ∷ []) room state.old state.new) }
+{
+    do_value(state, expr)?;
+    Ok(Room::Made)
+}
+
+/// The address of an expression alone.
+pub(crate) fn address_alone<'a>(state: &mut TreeState<'a>, expr: &'a Expr) -> Result<Room, NoMemory>
+    ensures { IfOk result (λ room. MakesRoom (AddressOf expr.now ∷ []) room state.old state.new) }
+{
+    do_address(state, expr)?;
+    Ok(Room::Made)
+}
+
+/// Nothing that a program of C does.
+pub(crate) fn unknown(state: &mut TreeState) -> Result<Room, NoMemory>
+    ensures { IfOk result (λ room. MakesRoom (Unknown ∷ []) room state.old state.new) }
+{
+    state.do_first(Task::Unknown)?;
+    Ok(Room::Made)
+}

@@ -1,0 +1,8 @@
+/// Whether there is room for what is to be done first.
+#[derive(Clone, Copy, Debug, PartialEq, Eq)]
+pub enum Room {
+    /// It stands in front of all else that is to be done.
+    Made,
+    /// It speaks of a type that is not kept, as `c_text::type_kind` says. The state is of no use.
+    NotKept,
+}
