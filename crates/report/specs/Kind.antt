@@ -3,7 +3,7 @@ use Rattle.std.specs.Prelude.{ℕ, zero, suc, ◌≤◌, List, codes}
 
 -- whether a number is that of a kind
 abbrev pub IsKind : ℕ → Type 0
-IsKind kind = (1 ≤ kind) × (kind ≤ 8)
+IsKind kind = (1 ≤ kind) × (kind ≤ 9)
 
 -- the printed text of the kind with this number
 abbrev pub kind_text : ℕ → List ℕ
@@ -15,4 +15,5 @@ kind_text (suc (suc (suc (suc zero)))) = codes "access through invalid address"
 kind_text (suc (suc (suc (suc (suc zero))))) = codes "double free"
 kind_text (suc (suc (suc (suc (suc (suc zero)))))) = codes "invalid free"
 kind_text (suc (suc (suc (suc (suc (suc (suc zero))))))) = codes "memory lost"
-kind_text (suc (suc (suc (suc (suc (suc (suc (suc more)))))))) = codes "overlapping copy"
+kind_text (suc (suc (suc (suc (suc (suc (suc (suc zero)))))))) = codes "overlapping copy"
+kind_text (suc (suc (suc (suc (suc (suc (suc (suc (suc more))))))))) = codes "block never freed"

@@ -1,3 +1,4 @@
 pub mod Kind
 pub mod Construct
 pub mod Report
+pub mod ReplayReport

@@ -1,7 +1,7 @@
 ghost use Rattle.std.specs.Prelude.{◌≡◌};
 ghost use Rattle.report.specs.Kind.{IsKind, kind_text};
 
-/// The printed text of a kind of fault, from 1 to 8, without its number.
+/// The printed text of a kind of fault, from 1 to 9, without its number.
 pub(crate) fn text_of_kind(kind: u8) -> &'static [u8]
     requires { IsKind kind }
     ensures { result.now ≡ kind_text kind }
@@ -15,6 +15,7 @@ pub(crate) fn text_of_kind(kind: u8) -> &'static [u8]
         6 => b"invalid free",
         7 => b"memory lost",
         8 => b"overlapping copy",
+        9 => b"block never freed",
         _ => unreachable!(),
     }
 }

@@ -9,11 +9,15 @@ mod exit_status;
 mod kind;
 mod limits;
 mod lines;
+mod replay_answer;
+mod replay_report;
 mod text;
 mod warning;
 
 pub use answer::{Answer, Shown, Why};
 pub use exit_status::status;
 pub use limits::Limits;
+pub use replay_answer::{ReplayAnswer, ReplayShown, Replayed};
+pub use replay_report::{replay_status, replay_text};
 pub use text::report_text;
 pub use warning::Warning;

@@ -54,7 +54,7 @@ fn push_severity(text: &mut Text, error: bool) -> Result<(), NoMemory>
 
 /// Appends the text of a kind with its number.
 #[tactic(auto, using(std::proofs::Common::append_assoc))]
-fn push_kind(alloc: Global, text: &mut Text, kind: u8) -> Result<(), NoMemory>
+pub(crate) fn push_kind(alloc: Global, text: &mut Text, kind: u8) -> Result<(), NoMemory>
     requires { IsKind kind }
     ensures { OnOk result (text.new ≡ text.old ++ kind_phrase kind) }
 {

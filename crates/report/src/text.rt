@@ -13,7 +13,7 @@ use std::alloc::Global;
 /// The report of an answer: its lines, each with a newline at its end. With `ReadFault` and `OutOfMemory` it has none.
 ///
 /// The file of each place that is printed must have a name among those shown, a warning's kind must be one of the
-/// eight, and a construct's number one of the twenty-one.
+/// nine, and a construct's number one of the twenty-one.
 #[tactic(auto, using(std::proofs::Common::append_assoc))]
 pub fn report_text(alloc: Global, shown: &Shown) -> Result<Text, NoMemory>
     requires { HasPrintable shown.now.names shown.now.answer }

@@ -5,7 +5,7 @@ use cbase::Place;
 pub struct Warning {
     /// That of the token at which the run meets it.
     pub place: Place,
-    /// Its kind, from 1, a null pointer dereference, to 8, an overlapping copy; each has a printed text.
+    /// Its kind, from 1, a null pointer dereference, to 9, a block never freed; each has a printed text.
     pub kind: u8,
     /// Whether a run is known that meets it: it is printed as an error then, and else as a warning.
     pub error: bool,

@@ -12,6 +12,7 @@ kinds_printed = record {
   invalid-free = refl;
   memory-lost = refl;
   overlapping-copy = refl;
+  block-never-freed = refl;
 }
 
 pub constructs_printed : ConstructsArePrinted

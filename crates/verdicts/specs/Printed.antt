@@ -1,6 +1,6 @@
 -- That the numbers by which memory tells faults, and by which constructs are given up, are printed as what they stand for.
 use Rattle.std.specs.Prelude.{◌≡◌, codes}
-use Rattle.bytes_core.specs.Fault.{null_pointer_dereference, access_outside_object, access_to_dead_object, access_through_invalid_address, double_free, invalid_free, memory_lost, overlapping_copy}
+use Rattle.bytes_core.specs.Fault.{null_pointer_dereference, access_outside_object, access_to_dead_object, access_through_invalid_address, double_free, invalid_free, memory_lost, overlapping_copy, block_never_freed}
 use Rattle.cconstructs.specs.Numbers.{goto_statement, switch_statement, union_type, floating_type, variable_arguments, inline_assembly, layout_attribute, complex_type, thread_local_object, string_literal, function_pointer}
 use Rattle.report.specs.Construct.{construct_name}
 use Rattle.report.specs.Kind.{kind_text}
@@ -15,6 +15,7 @@ pub record KindsArePrinted : Type 0 where
   pub invalid-free : kind_text invalid_free ≡ codes "invalid free"
   pub memory-lost : kind_text memory_lost ≡ codes "memory lost"
   pub overlapping-copy : kind_text overlapping_copy ≡ codes "overlapping copy"
+  pub block-never-freed : kind_text block_never_freed ≡ codes "block never freed"
 
 -- the name of each construct that is given up
 pub record ConstructsArePrinted : Type 0 where
