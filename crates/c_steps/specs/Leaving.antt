@@ -1,6 +1,9 @@
--- Blocks are entered and left, and functions are left (C11 6.2.4p6, 6.8.6.4).
-use Rattle.std.specs.Prelude.{List, [], ◌∷◌, Option, None, Some}
+-- Blocks are entered and left, and loops and functions are left (C11 6.2.4p6, 6.8.6.3, 6.8.6.4).
+use Rattle.std.specs.Prelude.{ℕ, Bool, true, false, List, [], ◌∷◌, ◌++◌, Option, None, Some}
+use Rattle.cbase.specs.declared.place.Place.{Place}
+use Rattle.c_machine.specs.declared.task.Task.{Task}
 use Rattle.c_machine.specs.State.{State, Frame, blocks_of, objects_of}
+use Rattle.c_machine.specs.Statements.{behind_for, leaves, oldest}
 use Rattle.c_machine.specs.Step.{without_objects}
 
 -- with a block that has no object yet
@@ -20,3 +23,13 @@ function_left state = record state { frame = []; memory = without_objects (block
 abbrev pub resumed : {E S I : Type 0} → List Frame → State E S I → Option (State E S I)
 resumed [] state = None
 resumed (frame ∷ callers) state = Some (record state { frame = frame; callers = callers })
+
+-- behind a loop that a `break` leaves: a `for` has a block of its own, which is left at the word
+abbrev pub behind_loop : {E S I : Type 0} → Bool → Place → List (Task E S I) → List (Task E S I)
+behind_loop true word rest = behind_for word rest
+behind_loop false word rest = rest
+
+-- out of a loop's body, with so many blocks to be left in it, where unfinished expressions around the loop hold so many operands
+abbrev pub out_of_loop : {E S I : Type 0} → Bool → Place → ℕ → ℕ → State E S I → State E S I
+out_of_loop is_for word blocks held state =
+    record state { tasks = leaves blocks word ++ behind_loop is_for word state.tasks; operands = oldest held state.operands }

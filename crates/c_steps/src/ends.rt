@@ -1,10 +1,11 @@
-ghost use Rattle.std.specs.Prelude.{◌≡◌, ◌∷◌, List as Items, IfNone, IfSome, None, Some};
+ghost use Rattle.std.specs.Prelude.{◌≡◌, ◌∷◌, List as Items, IfNone, IfSome, None, OnOk, Some};
 ghost use Rattle.c_machine.specs.declared.task.Task.{Task};
-ghost use Rattle.c_machine.specs.Statements.{loop_left};
+ghost use Rattle.c_machine.specs.Statements.{behind_for, body_left, loop_left};
 ghost use Rattle.c_steps.specs.Ends.{behind};
 
 use crate::stack::Stack;
-use c_machine::Task;
+use c_machine::{Kind, Task};
+use cbase::{NoMemory, Place};
 
 /// What stands behind the body of a loop that is left.
 #[derive(Drop)]
@@ -14,6 +15,15 @@ pub struct LoopEnd<S> {
     /// The loop.
     pub stmt: S,
     /// How many operands the unfinished expressions around it hold.
+    pub held: usize,
+}
+
+/// What stands behind the body of a function that is left.
+#[derive(Drop)]
+pub struct BodyEnd {
+    /// The kind of the result.
+    pub result: Kind,
+    /// How many operands the unfinished expressions around the call hold.
     pub held: usize,
 }
 
@@ -67,4 +77,57 @@ pub(crate) fn to_loop<E: Drop, S: Drop, I: Drop>(
         }
     }
     None
+}
+
+/// The end of a function's body, if a thing to do is one.
+fn body_end<E: Drop, S: Drop, I: Drop>(task: Task<E, S, I>) -> Option<BodyEnd>
+    ensures end { IfSome result (λ left. (rest : Items (Task E S I)) →
+        body_left (task ∷ rest) ≡ Some (record { result = left.result; held = left.held; rest = rest })) }
+    ensures other { IfNone result ((rest : Items (Task E S I)) → body_left (task ∷ rest) ≡ body_left rest) }
+{
+    match task {
+        Task::EndOfBody { result, held, .. } => Some(BodyEnd { result, held }),
+        other => {
+            drop(other);
+            None
+        }
+    }
+}
+
+/// What is to be done in the body of the function that runs goes.
+pub(crate) fn to_body<E: Drop, S: Drop, I: Drop>(
+    tasks: &mut Stack<Task<E, S, I>>,
+) -> Option<BodyEnd>
+    ensures some { IfSome result (λ left. body_left tasks.old ≡ Some (record { result = left.result; held = left.held; rest = tasks.new })) }
+    ensures none { IfNone result (body_left tasks.old ≡ None) }
+{
+    while let Some(task) = tasks.pop() {
+        if let Some(left) = body_end(task) {
+            return Some(left);
+        }
+    }
+    None
+}
+
+/// A thing to do behind a `for` that is left: the end of its block comes at the word.
+fn at_word<E: Drop, S: Drop, I: Drop>(task: Task<E, S, I>, word: Place) -> Task<E, S, I>
+    ensures { (rest : Items (Task E S I)) → behind_for word (task ∷ rest) ≡ result ∷ rest }
+{
+    match task {
+        Task::LeaveBlock(_) => Task::LeaveBlock(word),
+        other => other,
+    }
+}
+
+/// The block of a `for` that is left ends at the word, where it is to be left next.
+pub(crate) fn behind_for<E: Drop, S: Drop, I: Drop>(
+    tasks: &mut Stack<Task<E, S, I>>,
+    word: Place,
+) -> Result<(), NoMemory>
+    ensures { OnOk result (tasks.new ≡ behind_for word tasks.old) }
+{
+    match tasks.pop() {
+        None => Ok(()),
+        Some(task) => tasks.push(at_word(task, word)),
+    }
 }

@@ -28,7 +28,7 @@ mod statics;
 mod tree;
 pub mod updates;
 
-pub use ends::LoopEnd;
+pub use ends::{BodyEnd, LoopEnd};
 pub use losses::{finish, keep, leave_block};
 pub use outcome::Outcome;
 pub use pending::Choices;

@@ -1,4 +1,5 @@
-ghost use Rattle.std.specs.Prelude.{◌≡◌, IfOk, IfSome};
+ghost use Rattle.std.specs.Prelude.{◌≡◌, IfNone, IfOk, IfSome, Ok};
+ghost use Rattle.c_steps.specs.declared.outcome.Outcome.TheVariants.{Stuck};
 ghost use Rattle.c_steps.specs.ComesTo.{comes_to};
 ghost use Rattle.c_steps.specs.PlainStep.{plain_step};
 
@@ -17,7 +18,8 @@ use c_machine::Task;
 use cbase::NoMemory;
 use std::alloc::Global;
 
-/// The step of a thing to do that is taken off those of a state, where it asks no tree and not what else is to be done. Of any other nothing is said.
+/// The step of a thing to do that is taken off those of a state, where it asks no tree and not what else is to be done. Any other changes nothing, and is
+/// answered with [`Outcome::Stuck`].
 ///
 /// `strict` says whether main may not return while an allocated block lives. A step takes time for what it changes; a look for loss takes time for the
 /// bytes of the memory, the objects and the operands.
@@ -28,7 +30,8 @@ pub fn plain_step<E: Drop, S: Drop, I: Drop>(
     strict: bool,
     task: Task<E, S, I>,
 ) -> Result<Outcome, NoMemory>
-    ensures { IfOk result (λ outcome. IfSome (plain_step strict task state.old choices.old) (λ comes. comes_to outcome state.new choices.new ≡ comes)) }
+    ensures plain { IfOk result (λ outcome. IfSome (plain_step strict task state.old choices.old) (λ comes. comes_to outcome state.new choices.new ≡ comes)) }
+    ensures other { IfNone (plain_step strict task state.old choices.old) ((result ≡ Ok Stuck) × ((state.new ≡ state.old) × (choices.new ≡ choices.old))) }
 {
     match task {
         Task::ValueOf(_) => Ok(Outcome::Stuck),

@@ -9,17 +9,17 @@ ghost use Rattle.bytes_core.specs.Release.{free_fault, freed};
 ghost use Rattle.bytes_core.specs.Valid.{NamesBelow, WordNamesBelow};
 ghost use Rattle.c_machine.specs.Choosing.{with_object, with_static};
 ghost use Rattle.c_machine.specs.State.{block_of, doing, roots, with_memory, with_operand};
-ghost use Rattle.c_machine.specs.Statements.{loop_left, oldest};
+ghost use Rattle.c_machine.specs.Statements.{behind_for, body_left, loop_left, oldest};
 ghost use Rattle.c_steps.specs.Leaving.{in_new_block, block_left, function_left, resumed};
 
-use crate::ends::{LoopEnd, to_loop};
+use crate::ends::{BodyEnd, LoopEnd, behind_for, to_body, to_loop};
 use crate::frames::{Frame, block_in_frame, declare, end_frame, end_scope};
 use crate::roots::add_roots;
 use crate::stack::Stack;
 use crate::statics::Statics;
 use bytes_core::{Block, Memory, Word};
 use c_machine::{Task, Variable};
-use cbase::{List, NoMemory};
+use cbase::{List, NoMemory, Place};
 use std::alloc::Global;
 use std::marker::Model;
 
@@ -89,6 +89,23 @@ impl<E: Drop, S: Drop, I: Drop> State<E, S, I> {
         ensures none { IfNone result (loop_left self.old.tasks ≡ None) }
     {
         to_loop(&mut self.tasks)
+    }
+
+    /// What is to be done in the body of the function that runs goes: it says what stands behind that, if a function runs.
+    pub fn leave_to_body(&mut self) -> Option<BodyEnd>
+        ensures some { IfSome result (λ left.
+            body_left self.old.tasks ≡ Some (record { result = left.result; held = left.held; rest = self.new.tasks })) }
+        ensures rest { self.new ≡ record self.old { tasks = self.new.tasks } }
+        ensures none { IfNone result (body_left self.old.tasks ≡ None) }
+    {
+        to_body(&mut self.tasks)
+    }
+
+    /// Where a block is to be left next, it is left at that word: it is the block of a `for` that ends (C11 6.8.5p5, 6.8.6.3).
+    pub fn leave_for_at(&mut self, word: Place) -> Result<(), NoMemory>
+        ensures { OnOk result (self.new ≡ record self.old { tasks = behind_for word self.old.tasks }) }
+    {
+        behind_for(&mut self.tasks, word)
     }
 
     /// How many operands unfinished expressions hold.
