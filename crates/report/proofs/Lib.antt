@@ -1,1 +1,2 @@
 pub mod LineRows
+pub mod KindTexts

@@ -7,7 +7,6 @@ use Rattle.report.specs.declared.replay_answer.Replayed.TheVariants.{Fault, Ende
 use Rattle.report.specs.declared.replay_answer.ReplayAnswer.{ReplayAnswer}
 use Rattle.report.specs.declared.replay_answer.ReplayAnswer.TheVariants.{Played, BadChoices, NotRead, Construct, TooLong, Usage, ReadFault, OutOfMemory}
 use Rattle.report.specs.declared.replay_answer.ReplayShown.{ReplayShown}
-use Rattle.report.specs.Kind.{IsKind}
 use Rattle.report.specs.Report.{HasPlace, construct_line, kind_phrase, lines_text, place_text, why_line}
 
 -- `file:line:column: TEXT [k]`
@@ -42,16 +41,16 @@ replay_lines file choices names OutOfMemory = []
 abbrev pub replay_bytes : ReplayShown → List ℕ
 replay_bytes shown = lines_text (replay_lines shown.file shown.choices shown.names shown.answer)
 
--- a fault's kind is one, and the file of its place has a name
+-- the file of a fault's place has a name
 abbrev pub HasPrintableRun : List (List ℕ) → Replayed → Type 0
-HasPrintableRun names (Fault kind place) = IsKind kind × (place.file < length names)
+HasPrintableRun names (Fault kind place) = place.file < length names
 HasPrintableRun names Ended = Unit {0}
 HasPrintableRun names Waits = Unit {0}
 HasPrintableRun names Running = Unit {0}
 HasPrintableRun names NotYet = Unit {0}
 HasPrintableRun names Stuck = Unit {0}
 
--- each place that is printed has a name for its file, each kind is one, and so is each construct
+-- each place that is printed has a name for its file, and each construct is one
 abbrev pub HasPrintableReplay : List (List ℕ) → ReplayAnswer → Type 0
 HasPrintableReplay names (Played what) = HasPrintableRun names what
 HasPrintableReplay names BadChoices = Unit {0}

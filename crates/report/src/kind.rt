@@ -1,12 +1,13 @@
 ghost use Rattle.std.specs.Prelude.{◌≡◌};
-ghost use Rattle.report.specs.Kind.{IsKind, kind_text};
+ghost use Rattle.report.specs.Kind.{kind_text};
 
-/// The printed text of a kind of fault, from 1 to 9, without its number.
+/// The printed text of a kind of fault, without its number. Kinds are from 1 to 9.
+#[tactic(auto, using(crate::proofs::KindTexts::late_kind))]
 pub(crate) fn text_of_kind(kind: u8) -> &'static [u8]
-    requires { IsKind kind }
     ensures { result.now ≡ kind_text kind }
 {
     match kind {
+        0 => b"",
         1 => b"null pointer dereference",
         2 => b"access outside object",
         3 => b"access to dead object",
@@ -16,6 +17,6 @@ pub(crate) fn text_of_kind(kind: u8) -> &'static [u8]
         7 => b"memory lost",
         8 => b"overlapping copy",
         9 => b"block never freed",
-        _ => unreachable!(),
+        _ => b"block never freed",
     }
 }

@@ -1,6 +1,5 @@
 ghost use Rattle.std.specs.Prelude.{◌≡◌, ◌<◌, [], ◌++◌, OnOk, length, slice_get, unwrap_or};
 ghost use Rattle.std.specs.Fmt.{decimal};
-ghost use Rattle.report.specs.Kind.{IsKind};
 ghost use Rattle.report.specs.Report.{IsPrintable, kind_phrase, place_text, severity, warning_line};
 
 use crate::kind::text_of_kind;
@@ -55,7 +54,6 @@ fn push_severity(text: &mut Text, error: bool) -> Result<(), NoMemory>
 /// Appends the text of a kind with its number.
 #[tactic(auto, using(std::proofs::Common::append_assoc))]
 pub(crate) fn push_kind(alloc: Global, text: &mut Text, kind: u8) -> Result<(), NoMemory>
-    requires { IsKind kind }
     ensures { OnOk result (text.new ≡ text.old ++ kind_phrase kind) }
 {
     text.extend(text_of_kind(kind))?;

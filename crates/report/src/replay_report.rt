@@ -1,5 +1,4 @@
 ghost use Rattle.std.specs.Prelude.{◌≡◌, ◌∷◌, [], ◌++◌, ◌<◌, IfOk, OnOk, length};
-ghost use Rattle.report.specs.Kind.{IsKind};
 ghost use Rattle.report.specs.Report.{lines_text};
 ghost use Rattle.report.specs.ReplayReport.{HasPrintableReplay, HasPrintableRun, fault_line, replay_bytes, replay_status_of, replayed_line, status_of_run, too_long_line};
 
@@ -12,8 +11,8 @@ use std::alloc::Global;
 /// The report on a run with given choices: one line with a newline at its end, and none with `ReadFault` and
 /// `OutOfMemory`.
 ///
-/// The file of each place that is printed must have a name among those shown, a fault's kind must be one of the nine, and
-/// a construct's number one of the twenty-one.
+/// The file of each place that is printed must have a name among those shown, and a construct's number be one of the
+/// twenty-one.
 #[tactic(auto, using(std::proofs::Common::append_assoc))]
 pub fn replay_text(alloc: Global, shown: &ReplayShown) -> Result<Text, NoMemory>
     requires { HasPrintableReplay shown.now.names shown.now.answer }
@@ -76,8 +75,7 @@ fn run_text(alloc: Global, file: &Text, names: &[Text], what: Replayed) -> Resul
 /// The line of the fault that a run meets, with its newline.
 #[tactic(auto, using(std::proofs::Common::append_assoc))]
 fn fault_text(alloc: Global, names: &[Text], kind: u8, place: Place) -> Result<Text, NoMemory>
-    requires is_kind { IsKind kind }
-    requires named { place.file < length names.now }
+    requires { place.file < length names.now }
     ensures { IfOk result (λ text. text ≡ lines_text (fault_line names.now kind place ∷ [])) }
 {
     let mut text = Text::new(alloc);

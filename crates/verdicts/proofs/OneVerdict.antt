@@ -33,14 +33,14 @@ use Rattle.first_form.proofs.ReadLines.{one_program}
 use Rattle.first_form.proofs.Spellings.{same_spelled}
 
 -- what is found out of the bytes of a file, up to the items that main needs
-data Stage : Type 0 where
+pub data Stage : Type 0 where
   AtLexical : (place : Place) → Stage
   AtDeep : (place : Place) → Stage
   AtNoMain : Stage
   AtRead : (t : Tokens) (items : List ItemSpan) (numbers : List ℕ) → Stage
   AtLong : Stage
 
-abbrev IsStage : List ℕ → List ℕ → Stage → Type 0
+abbrev pub IsStage : List ℕ → List ℕ → Stage → Type 0
 IsStage file bytes (AtLexical place) = (length bytes ≤ most_bytes) × HasNoToken file bytes place
 IsStage file bytes (AtDeep place) = (length bytes ≤ most_bytes) × IsTooDeep file bytes place
 IsStage file bytes AtNoMain = (length bytes ≤ most_bytes) × HasNoMain file bytes
@@ -203,7 +203,7 @@ module _ (one_list : (file text : List ℕ) (tokens others : Tokens) → AreToke
       → IsItems t (Ok items) → IsItems other (Err (record { place = place })) → ⊥
   deep_or_items t other items place are also is deep = spans_or_deep other items (record { place = place }) (items_of t other (Ok items) are also is) deep
 
-  one_stage : (stage other : Stage) → IsStage file bytes stage → IsStage file bytes other → stage ≡ other
+  pub one_stage : (stage other : Stage) → IsStage file bytes stage → IsStage file bytes other → stage ≡ other
   one_stage (AtLexical place) (AtLexical second) (short, (lexical, is, placed)) (low, (also, those, there)) =
       ap AtLexical (sym placed ∙ (ap (λ (l : Lexical). l.place) (one_place file bytes lexical also is those) ∙ there))
   one_stage (AtLexical place) (AtDeep second) (short, none) (low, (t, are, deep)) = absurd (no_tokens place t none are)
