@@ -1,4 +1,4 @@
-ghost use Rattle.std.specs.Prelude.{◌≡◌};
+ghost use Rattle.std.specs.Prelude.{◌≡◌, ◌∷◌, []};
 ghost use Rattle.cgrammar.specs.Operators.{row_of, unary_rows, count_rows, member_rows, binary_rows, assignment_rows};
 
 use crate::texts::entry_of;
@@ -64,31 +64,85 @@ pub fn unary_operator(mark: &[u8]) -> Option<UnaryOp>
     entry_of(UNARY.as_slice(), mark)
 }
 
-/// Whether a mark counts up, where it is `++` or `--`; `None` where it is neither (C11 6.5.2.4, 6.5.3.1).
+/// Whether a mark counts up, where it is `++` or `--`; `None` where it is neither (C11 6.5.2.4, 6.5.3.1). No mark of one byte
+/// is looked for in the table.
 pub fn count_operator(mark: &[u8]) -> Option<bool>
     ensures { result ≡ row_of mark.now count_rows }
 {
-    entry_of(COUNT.as_slice(), mark)
+    match mark {
+        [_] => None,
+        _ => entry_of(COUNT.as_slice(), mark),
+    }
+}
+
+/// Whether a mark of one byte goes to a member through a pointer.
+fn member_byte(byte: u8) -> Option<bool>
+    ensures { result ≡ row_of (byte ∷ []) member_rows }
+{
+    if byte == b'.' {
+        return Some(false);
+    }
+    None
 }
 
 /// Whether a mark goes to a member through a pointer, where it is `->` or `.`; `None` where it is neither (C11 6.5.2.3).
+/// Most marks have one byte, and are looked for in no table.
 pub fn member_operator(mark: &[u8]) -> Option<bool>
     ensures { result ≡ row_of mark.now member_rows }
 {
-    entry_of(MEMBER.as_slice(), mark)
+    match mark {
+        [byte] => member_byte(*byte),
+        _ => entry_of(MEMBER.as_slice(), mark),
+    }
+}
+
+/// The binary operator that a mark of one byte is.
+fn binary_byte(byte: u8) -> Option<(u8, BinaryOp)>
+    ensures { result ≡ row_of (byte ∷ []) binary_rows }
+{
+    match byte {
+        b'|' => Some((2, BinaryOp::Or)),
+        b'^' => Some((3, BinaryOp::Xor)),
+        b'&' => Some((4, BinaryOp::And)),
+        b'<' => Some((6, BinaryOp::Less)),
+        b'>' => Some((6, BinaryOp::Greater)),
+        b'+' => Some((8, BinaryOp::Add)),
+        b'-' => Some((8, BinaryOp::Sub)),
+        b'*' => Some((9, BinaryOp::Mul)),
+        b'/' => Some((9, BinaryOp::Div)),
+        b'%' => Some((9, BinaryOp::Rem)),
+        _ => None,
+    }
 }
 
 /// The binary operator that a mark is, behind its level, 0 for the loosest (C11 6.5.5 to 6.5.14); `None` where it is none.
+/// Most marks have one byte, and are looked for in no table.
 pub fn binary_operator(mark: &[u8]) -> Option<(u8, BinaryOp)>
     ensures { result ≡ row_of mark.now binary_rows }
 {
-    entry_of(BINARY.as_slice(), mark)
+    match mark {
+        [byte] => binary_byte(*byte),
+        _ => entry_of(BINARY.as_slice(), mark),
+    }
+}
+
+/// What the assignment operator that a mark of one byte is does before its store.
+fn assignment_byte(byte: u8) -> Option<Option<BinaryOp>>
+    ensures { result ≡ row_of (byte ∷ []) assignment_rows }
+{
+    if byte == b'=' {
+        return Some(None);
+    }
+    None
 }
 
 /// What the assignment operator that a mark is does before its store: `Some(None)` for `=` (C11 6.5.16). `None` where it is
-/// none.
+/// none. Most marks have one byte, and are looked for in no table.
 pub fn assignment_operator(mark: &[u8]) -> Option<Option<BinaryOp>>
     ensures { result ≡ row_of mark.now assignment_rows }
 {
-    entry_of(ASSIGNMENT.as_slice(), mark)
+    match mark {
+        [byte] => assignment_byte(*byte),
+        _ => entry_of(ASSIGNMENT.as_slice(), mark),
+    }
 }

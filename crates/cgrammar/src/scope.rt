@@ -101,10 +101,14 @@ impl Scope {
         })
     }
 
-    /// Whether the innermost scope that has the name declares it as a typedef.
+    /// Whether the innermost scope that has the name declares it as a typedef. Where few scopes are open a look-up goes through
+    /// them all.
     pub fn is_typedef(&self, name: &[u8]) -> bool
         ensures { result ≡ is_typedef_name self.now name.now }
     {
+        if self.sets.len() < 3 {
+            return found(self.sets.as_slice(), name).unwrap_or(false);
+        }
         let bound = self.bounds.bound(name).min(self.sets.len());
         found(&self.sets.as_slice()[..bound], name).unwrap_or(false)
     }

@@ -21,6 +21,7 @@ pub mod PieceExact
 pub mod PassedSteps
 pub mod OfferedSteps
 pub mod Numbered
+pub mod KeptRows
 pub mod WalkSteps
 pub mod ItemsExact
 pub mod ItemsInside

@@ -1,5 +1,6 @@
 -- Items as rows of tokens with their words, without the tokens that are passed over.
-use Rattle.std.specs.Prelude.{ℕ, not, List, [], ◌∷◌, map, slice_range, filter}
+use Rattle.std.specs.Prelude.{ℕ, Bool, not, List, [], ◌∷◌, map, slice_range, filter}
+use Rattle.std.specs.List.{list_all}
 use Rattle.ctokens.specs.declared.token.Tokens.{Tokens}
 use Rattle.ctokens.specs.declared.item_span.ItemSpan.{ItemSpan}
 use Rattle.ctokens.specs.declared.symbol.Symbol.{Symbol}
@@ -14,6 +15,10 @@ module _ {N : Type 0} where
   lexemes [] words = []
   lexemes (symbol ∷ symbols) [] = []
   lexemes (symbol ∷ symbols) (word ∷ words) = record { symbol = symbol; word = word } ∷ lexemes symbols words
+
+  -- whether no token of a row is passed over
+  abbrev pub are_kept : List (Lexeme N) → Bool
+  are_kept row = list_all (λ (token : Lexeme N). not (is_passed_over token.symbol)) row
 
   -- the tokens that are not passed over
   abbrev pub kept : List (Lexeme N) → List (Lexeme N)

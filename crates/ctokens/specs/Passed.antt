@@ -1,5 +1,7 @@
 -- The tokens that are passed over before items and grammar look at a text.
 use Rattle.std.specs.Prelude.{ℕ, ◌+◌, ◌-◌, Bool, true, false, ◌&&◌, if◌then◌else◌, List, [], ◌∷◌, map, zero, suc}
+use Rattle.ctokens.specs.declared.token.TokenKind.{TokenKind}
+use Rattle.ctokens.specs.declared.token.TokenKind.TheVariants.{Word}
 use Rattle.ctokens.specs.declared.token.Tokens.{Tokens}
 use Rattle.ctokens.specs.declared.symbol.Symbol.{Symbol}
 use Rattle.ctokens.specs.declared.symbol.Symbol.TheVariants.{PassedOver}
@@ -29,6 +31,11 @@ read_symbols symbols = read_from false 0 symbols
 -- for each token of a text, whether it is passed over
 abbrev pub passed_tokens : Tokens → List Bool
 passed_tokens t = map is_passed_over (read_symbols (symbols t))
+
+-- the token is a word by what its bytes spell
+abbrev pub is_word_kind : TokenKind → Bool
+is_word_kind Word = true
+is_word_kind _ = false
 
 -- the tokens that are not passed over, where it is said for each token whether it is
 abbrev pub unpassed : {A : Type 0} → List Bool → List A → List A

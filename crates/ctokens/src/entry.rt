@@ -69,13 +69,14 @@ fn offers_built_in(words: &[Lexeme<u32>]) -> bool
     true
 }
 
-/// Whether the item defines main.
+/// Whether the item defines main, where it is known whether it ends with a body.
 #[tactic(auto, unfolding(crate::specs::Need::defines_main))]
-fn defines_main(alloc: Global, row: &[Lexeme<u32>]) -> Result<bool, NoMemory>
-    requires { length row.now ≤ most_bytes }
+fn defines_main(alloc: Global, row: &[Lexeme<u32>], body: bool) -> Result<bool, NoMemory>
+    requires few { length row.now ≤ most_bytes }
+    requires known { body ≡ ends_with_body row.now }
     ensures { IfOk result (λ main. main ≡ defines_main row.now) }
 {
-    if !ends_with_body(row) {
+    if !body {
         return Ok(false);
     }
     let mut declared = Vec::new(alloc);
@@ -94,14 +95,16 @@ fn words(alloc: Global, tokens: &[Lexeme<u32>]) -> Result<List<u32>, NoMemory>
     Ok(List::from_vec(words))
 }
 
-/// The names by which the item is needed: those that it offers, and none where it declares built-in functions alone.
+/// The names by which the item is needed: those that it offers, and none where it declares built-in functions alone. It is
+/// known whether the item ends with a body.
 #[tactic(auto, unfolding(crate::specs::Need::needed_by))]
-fn needed_by(alloc: Global, row: &[Lexeme<u32>]) -> Result<List<u32>, NoMemory>
-    requires { length row.now ≤ most_bytes }
+fn needed_by(alloc: Global, row: &[Lexeme<u32>], body: bool) -> Result<List<u32>, NoMemory>
+    requires few { length row.now ≤ most_bytes }
+    requires known { body ≡ ends_with_body row.now }
     ensures { IfOk result (λ names. names ≡ needed_by row.now) }
 {
     let offered = offered(alloc, row)?;
-    if !ends_with_body(row) && offers_built_in(offered.as_slice()) {
+    if !body && offers_built_in(offered.as_slice()) {
         return Ok(List::new(alloc));
     }
     words(alloc, offered.as_slice())
@@ -127,9 +130,10 @@ pub(crate) fn entry_of(alloc: Global, row: &[Lexeme<u32>]) -> Result<Entry, NoMe
     requires { length row.now ≤ most_bytes }
     ensures { IfOk result (λ entry. entry ≡ entry_of row.now) }
 {
+    let body = ends_with_body(row);
     Ok(Entry {
-        main: defines_main(alloc, row)?,
-        offers: needed_by(alloc, row)?,
+        main: defines_main(alloc, row, body)?,
+        offers: needed_by(alloc, row, body)?,
         contains: contained(alloc, row)?,
     })
 }

@@ -1,9 +1,9 @@
 ghost use Rattle.std.specs.Prelude.{◌≡◌, ◌≤◌, Ok, length, IfOk};
 ghost use Rattle.std.specs.List.{All, list_any};
-ghost use Rattle.ctokens.specs.Entry.{IsTextRow, entries_of, is_main_entry};
+ghost use Rattle.ctokens.specs.Entry.{IsTextRow, entries_of, entry_of, is_main_entry};
 ghost use Rattle.ctokens.specs.Items.{IsInside, IsItems};
 ghost use Rattle.ctokens.specs.Need.{IsNeed};
-ghost use Rattle.ctokens.specs.ItemRows.{kept, item_row, item_rows, lexemes};
+ghost use Rattle.ctokens.specs.ItemRows.{are_kept, kept, item_row, item_rows, lexemes};
 ghost use Rattle.ctokens.specs.NeedSearch.{need_of};
 ghost use Rattle.ctokens.specs.InText.{LieInText, most_bytes};
 
@@ -34,17 +34,16 @@ fn lexemes(alloc: Global, symbols: &[Symbol], words: &[u32]) -> Result<Vec<Lexem
     Ok(row)
 }
 
-/// The tokens of a span that are not passed over.
-fn item_row(
-    alloc: Global,
-    row: &[Lexeme<u32>],
-    span: ItemSpan,
-) -> Result<Vec<Lexeme<u32>>, NoMemory>
-    requires { IsInside (length row.now) span }
-    ensures value { IfOk result (λ rest. rest.items ≡ item_row row.now span) }
-    ensures len { IfOk result (λ rest. length rest.items ≤ length row.now) }
+/// Whether no token of a row is passed over.
+fn are_kept(row: &[Lexeme<u32>]) -> bool
+    ensures { result ≡ are_kept row.now }
 {
-    kept(alloc, &row[span.first as usize..span.after as usize])
+    for token in row {
+        if token.symbol.is_passed_over() {
+            return false;
+        }
+    }
+    true
 }
 
 /// The tokens that are not passed over.
@@ -61,6 +60,29 @@ fn kept(alloc: Global, row: &[Lexeme<u32>]) -> Result<Vec<Lexeme<u32>>, NoMemory
     Ok(kept)
 }
 
+/// What counts for need of an item with these tokens, without those that are passed over. Where there are none of these, no
+/// token is copied.
+#[tactic(auto, using(crate::proofs::KeptRows::all_kept))]
+fn entry_of_kept(alloc: Global, row: &[Lexeme<u32>]) -> Result<Entry, NoMemory>
+    requires { length row.now ≤ most_bytes }
+    ensures { IfOk result (λ entry. entry ≡ entry_of (kept row.now)) }
+{
+    if are_kept(row) {
+        return entry_of(alloc, row);
+    }
+    let tokens = kept(alloc, row)?;
+    entry_of(alloc, tokens.as_slice())
+}
+
+/// What counts for need of the item of a span.
+fn entry_in(alloc: Global, row: &[Lexeme<u32>], span: ItemSpan) -> Result<Entry, NoMemory>
+    requires few { length row.now ≤ most_bytes }
+    requires inside { IsInside (length row.now) span }
+    ensures { IfOk result (λ entry. entry ≡ entry_of (item_row row.now span)) }
+{
+    entry_of_kept(alloc, &row[span.first as usize..span.after as usize])
+}
+
 /// What counts of each item for need.
 fn entries(alloc: Global, row: &[Lexeme<u32>], items: &[ItemSpan]) -> Result<Vec<Entry>, NoMemory>
     requires few { length row.now ≤ most_bytes }
@@ -70,8 +92,7 @@ fn entries(alloc: Global, row: &[Lexeme<u32>], items: &[ItemSpan]) -> Result<Vec
 {
     let mut entries = Vec::with_capacity(alloc, items.len())?;
     for span in items {
-        let tokens = item_row(alloc, row, *span)?;
-        entries.push(entry_of(alloc, tokens.as_slice())?)?;
+        entries.push(entry_in(alloc, row, *span)?)?;
     }
     Ok(entries)
 }

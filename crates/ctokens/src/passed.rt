@@ -1,11 +1,11 @@
 ghost use Rattle.std.specs.Prelude.{◌≡◌, ◌≤◌, IfOk, length, map};
-ghost use Rattle.ctokens.specs.Passed.{depth_after, passed_tokens, read_from, read_symbols};
+ghost use Rattle.ctokens.specs.Passed.{depth_after, is_word_kind, passed_tokens, read_from, read_symbols};
 ghost use Rattle.ctokens.specs.InText.{LieInText, most_bytes};
 ghost use Rattle.ctokens.specs.Symbol.{is_passed_over};
 
 use crate::symbol::Symbol;
 use crate::symbol_of::token_symbol;
-use crate::token::Tokens;
+use crate::token::{TokenKind, Tokens};
 use cbase::{List, NoMemory};
 use std::alloc::Global;
 
@@ -52,8 +52,15 @@ pub(crate) fn read_symbols(alloc: Global, symbols: &[Symbol]) -> Result<Vec<Symb
     Ok(read)
 }
 
+/// Whether a token is a word by what its bytes spell.
+fn is_word_kind(kind: TokenKind) -> bool
+    ensures { result ≡ is_word_kind kind }
+{
+    matches!(kind, TokenKind::Word)
+}
+
 /// For each token of the text, whether it is passed over: qualifiers and the like, and attributes with their
-/// bracketed part.
+/// bracketed part. Outside of attributes only words are, so that no other token is looked at.
 #[tactic(auto, using(crate::proofs::PassedSteps::read_inside))]
 pub fn passed_over(alloc: Global, t: &Tokens) -> Result<List<bool>, NoMemory>
     requires { LieInText t.now }
@@ -66,6 +73,10 @@ pub fn passed_over(alloc: Global, t: &Tokens) -> Result<List<bool>, NoMemory>
     let mut behind = false;
     let mut unclosed: u32 = 0;
     for token in list {
+        if unclosed == 0 && !behind && !is_word_kind(token.kind) {
+            passed.push(false)?;
+            continue;
+        }
         let symbol = token_symbol(text, *token);
         if unclosed > 0 {
             passed.push(true)?;

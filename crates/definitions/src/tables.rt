@@ -1,6 +1,6 @@
 //! The roles of tokens by their bytes.
 
-ghost use Rattle.std.specs.Prelude.{◌≡◌, ◌<◌, ◌≤◌, length, map};
+ghost use Rattle.std.specs.Prelude.{◌≡◌, ◌<◌, ◌≤◌, ◌∷◌, [], length, map};
 ghost use Rattle.ctokens.specs.SymbolRows.{row_read};
 ghost use Rattle.ctokens.specs.TokenSymbols.{token_word, word_of};
 ghost use Rattle.definitions.specs.Roles.{mark_role, role_in, token_role, word_role};
@@ -18,19 +18,6 @@ const WORDS: [(&'static str, Role); 8] = [
     ("asm", Role::Assembly),
     ("__asm", Role::Assembly),
     ("__asm__", Role::Assembly),
-];
-
-/// The marks that matter here.
-const MARKS: [(&'static str, Role); 9] = [
-    ("(", Role::LeftParenthesis),
-    (")", Role::RightParenthesis),
-    ("[", Role::LeftBracket),
-    ("]", Role::RightBracket),
-    ("{", Role::LeftBrace),
-    ("}", Role::RightBrace),
-    (";", Role::Semicolon),
-    (",", Role::Comma),
-    ("=", Role::Equals),
 ];
 
 /// The role of the row that has these bytes, or `Other` where there is no such row.
@@ -56,12 +43,34 @@ fn word_role(word: &[u8]) -> Role
     role_in(WORDS.as_slice(), word)
 }
 
+/// The role of a mark of one byte: all marks that matter here have one.
+#[tactic(auto, unfolding(crate::specs::Roles::mark_role))]
+fn byte_role(byte: u8) -> Role
+    ensures { result ≡ mark_role (byte ∷ []) }
+{
+    match byte {
+        b'(' => Role::LeftParenthesis,
+        b')' => Role::RightParenthesis,
+        b'[' => Role::LeftBracket,
+        b']' => Role::RightBracket,
+        b'{' => Role::LeftBrace,
+        b'}' => Role::RightBrace,
+        b';' => Role::Semicolon,
+        b',' => Role::Comma,
+        b'=' => Role::Equals,
+        _ => Role::Other,
+    }
+}
+
 /// The role of a mark.
 #[tactic(auto, unfolding(crate::specs::Roles::mark_role))]
 fn mark_role(bytes: &[u8]) -> Role
     ensures { result ≡ mark_role bytes.now }
 {
-    role_in(MARKS.as_slice(), bytes)
+    match bytes {
+        [byte] => byte_role(*byte),
+        _ => Role::Other,
+    }
 }
 
 /// The role of a token of the text.

@@ -34,7 +34,7 @@ pub row_stops : (text : List ℕ) (before : List PlacedToken) (token : Lexeme) (
     → None ≡ option_map (λ rest. before ++ rest) (row_of text (token ∷ tokens))
 row_stops text before token tokens is = ap (λ o. option_map (λ rest. before ++ rest) (with_first o (row_of text tokens))) (sym is)
 
--- a token that is passed over is not kept
+-- a token that is passed over is left out
 pub kept_passed : (passed : List Bool) (tokens : List Lexeme) (at : ℕ) (d : Bool) → at < length passed → at < length tokens → get_or passed at d ≡ true
     → unpassed (drop at passed) (drop at tokens) ≡ unpassed (drop (suc at) passed) (drop (suc at) tokens)
 kept_passed [] tokens at d within inside is = absurd (omega arith)
@@ -42,6 +42,14 @@ kept_passed (flag ∷ passed) [] at d within inside is = absurd (omega arith)
 kept_passed (true ∷ passed) (token ∷ tokens) zero d within inside is = refl
 kept_passed (false ∷ passed) (token ∷ tokens) zero d within inside is = absurd cc
 kept_passed (flag ∷ passed) (token ∷ tokens) (suc at) d within inside is = kept_passed passed tokens at d (omega arith) (omega arith) is
+
+-- the first of some tokens is kept where it is not passed over
+pub first_kept : (passed : List Bool) (at : ℕ) (d : Bool) (token : Lexeme) (tokens : List Lexeme) → at < length passed → get_or passed at d ≡ false
+    → unpassed (drop at passed) (token ∷ tokens) ≡ token ∷ unpassed (drop (suc at) passed) tokens
+first_kept [] at d token tokens within is = absurd (omega arith)
+first_kept (true ∷ passed) zero d token tokens within is = absurd cc
+first_kept (false ∷ passed) zero d token tokens within is = refl
+first_kept (flag ∷ passed) (suc at) d token tokens within is = first_kept passed at d token tokens (omega arith) is
 
 -- a row and the tokens that spell it
 
@@ -102,12 +110,12 @@ kept-All P (true ∷ passed) (token ∷ tokens) all = kept-All P passed tokens (
 kept-All P (false ∷ passed) (token ∷ tokens) all =
     All-cons P token (unpassed passed tokens) (all 0 token (omega arith)) (kept-All P passed tokens (All-tail P token tokens all))
 
-drop-All : (P : Lexeme → Type 0) (count : ℕ) (tokens : List Lexeme) → All P tokens → All P (drop count tokens)
+pub drop-All : (P : Lexeme → Type 0) (count : ℕ) (tokens : List Lexeme) → All P tokens → All P (drop count tokens)
 drop-All P zero tokens all = all
 drop-All P (suc count) [] all = All-nil P
 drop-All P (suc count) (token ∷ tokens) all = drop-All P count tokens (All-tail P token tokens all)
 
-take-All : (P : Lexeme → Type 0) (count : ℕ) (tokens : List Lexeme) → All P tokens → All P (take count tokens)
+pub take-All : (P : Lexeme → Type 0) (count : ℕ) (tokens : List Lexeme) → All P tokens → All P (take count tokens)
 take-All P zero tokens all = All-nil P
 take-All P (suc count) [] all = All-nil P
 take-All P (suc count) (token ∷ tokens) all = All-cons P token (take count tokens) (all 0 token (omega arith)) (take-All P count tokens (All-tail P token tokens all))

@@ -29,53 +29,35 @@ pub fn row_of_item(
     ensures none { IfOk result (λ o. IfNone o ((row : Items PlacedToken)
         → AreSpelled t.now.text (item_tokens t.now span) row → ⊥)) }
 {
-    let tokens = item_tokens(alloc, t, span)?;
-    row_of(alloc, t.text.as_slice(), tokens.as_slice())
-}
-
-/// The tokens of an item that are not passed over.
-fn item_tokens(alloc: Global, t: &Tokens, span: ItemSpan) -> Result<Vec<Lexeme>, NoMemory>
-    requires text { LieInText t.now }
-    requires inside { IsInside (length t.now.list) span }
-    ensures { IfOk result (λ tokens. tokens.items ≡ item_tokens t.now span) }
-{
     let passed = passed_over(alloc, t)?;
     let from = span.first as usize;
     let to = span.after as usize;
-    kept(
+    row_of(
         alloc,
+        t.text.as_slice(),
         &passed.as_slice()[from..to],
         &t.list.as_slice()[from..to],
     )
 }
 
-/// The tokens that are not passed over, where `passed` says for each whether it is.
-fn kept(alloc: Global, passed: &[bool], tokens: &[Lexeme]) -> Result<Vec<Lexeme>, NoMemory>
-    requires { length passed.now ≡ length tokens.now }
-    ensures { IfOk result (λ rest. rest.items ≡ unpassed passed.now tokens.now) }
-{
-    let mut rest = Vec::new(alloc);
-    for i in 0..tokens.len() {
-        if passed[i] {
-            continue;
-        }
-        rest.push(tokens[i])?;
-    }
-    Ok(rest)
-}
-
-/// The tokens of the first form that tokens in a row spell, if each spells one.
-#[tactic(auto, using(crate::proofs::Spellings::row_more, crate::proofs::Spellings::row_stops))]
+/// The tokens of the first form that the tokens in a row spell which are not passed over, if each of these spells one;
+/// `passed` says for each token whether it is passed over. The first that spells none is the last that is looked at.
+#[tactic(auto, using(crate::proofs::Spellings::row_more, crate::proofs::Spellings::row_stops, crate::proofs::Spellings::first_kept))]
 fn row_of(
     alloc: Global,
     text: &[u8],
+    passed: &[bool],
     tokens: &[Lexeme],
 ) -> Result<Option<List<PlacedToken>>, NoMemory>
-    requires { All (λ token. (token.from < token.to) × (token.to ≤ length text.now)) tokens.now }
-    ensures { IfOk result (λ row. row ≡ row_of text.now tokens.now) }
+    requires same { length passed.now ≡ length tokens.now }
+    requires bytes { All (λ token. (token.from < token.to) × (token.to ≤ length text.now)) tokens.now }
+    ensures { IfOk result (λ row. row ≡ row_of text.now (unpassed passed.now tokens.now)) }
 {
     let mut row = List::new(alloc);
-    for token in tokens {
+    for (i, token) in tokens.iter().enumerate() {
+        if passed[i] {
+            continue;
+        }
         match placed_of(text, *token) {
             None => return Ok(None),
             Some(placed) => row.push(placed)?,
