@@ -62,7 +62,7 @@ impl<F: Fn(&mut Context, Within, Part<'_>) -> Result<Found<Told>, NoMemory>> Che
         requires deep { expr_levels expr.now ≤ self.now.depth }
         ensures { IfOk result (λ found. Walked (Says self.now.abi (λ o. WordsAre (OfExpr expr.now) o)) a_type context.old context.new found) }
     {
-        match self.unloaded(context, expr) {
+        match self.ask_expression(context, expr) {
             Ok(Found::Passes(known)) => Ok(whole(known.ctype)),
             Ok(Found::Refused(fault)) => Ok(Found::Refused(fault)),
             Err(error) => Err(error),
