@@ -32,6 +32,7 @@ pub mod Stepping
 pub mod StructMembers
 pub mod Telling
 pub mod TypeNames
+pub mod TypeParts
 pub mod TypeWords
 pub mod Walking
 pub mod WholeExpressions

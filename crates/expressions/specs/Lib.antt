@@ -21,6 +21,7 @@ pub mod Settled
 pub mod Shapes
 pub mod Taken
 pub mod Telling
+pub mod TypeParts
 pub mod Types
 pub mod Walked
 pub mod Ways
