@@ -1,5 +1,5 @@
 -- What is found at an expression itself, of what a context answers and of what is made of that.
-use Rattle.std.proofs.Common.{◌≡◌, ℕ, List, [], ◌∷◌, ◌++◌, Option, None, Some, refl, sym, ap, ◌∙◌, subst, Result}
+use Rattle.std.proofs.Common.{◌≡◌, ℕ, List, [], ◌∷◌, ◌++◌, Option, None, Some, refl, sym, ap, ◌∙◌, subst, Result, Ok, Err, length}
 use Rattle.std.specs.Prelude.{IfOk}
 use Rattle.std.proofs.lemmas.Result.{IfOk-weaker}
 use Rattle.cbase.specs.declared.no_memory.NoMemory.{NoMemory}
@@ -17,7 +17,8 @@ use Rattle.expressions.specs.declared.found.Found.TheVariants.{Passes, Refused}
 use Rattle.expressions.specs.declared.handed_row.HandedRow.{HandedRow}
 use Rattle.expressions.specs.declared.known.Known.{Known as KnownByNumber}
 use Rattle.expressions.specs.Context.{Context, Agrees, OnlyTypes}
-use Rattle.expressions.specs.Numbers.{Numbering, known_at, row_of}
+use Rattle.expressions.specs.Finished.{FinishedBy}
+use Rattle.expressions.specs.Numbers.{Numbering, known_at, row_of, IsTypedBelow}
 use Rattle.expressions.specs.Operated.{Operates, Finished}
 use Rattle.expressions.specs.Settled.{HandsOn, Stays, Judged, SettledBroken, Settled, IsSettledBy, IsFirstOf}
 use Rattle.expressions.proofs.Growth.{agrees_before, agrees_before_types, hands_on_grows}
@@ -83,6 +84,20 @@ pub each_judged : (r : Result (Found KnownByNumber) NoMemory) (other judge : Num
 each_judged r other judge place knows rest number old mid new outcome operates alike meant =
     IfOk-weaker r (λ found. Finished place rest number mid outcome new found) (λ found. Judged judge place knows number old new found)
     (λ found. judged_here judge place knows rest number old mid new outcome found (operates_alike other judge old mid outcome alike operates) meant)
+
+-- the same of what a context answers, where memory may have been wanting
+pub each_finished : (r : Result (Found KnownByNumber) NoMemory) (other judge : Numbering → Judgement) (place : Broken → Place) (knows : Numbering → CType → Known) (rest : KnownByNumber) (number : ℕ)
+    (old mid new : Context) (outcome : Result Outcome NoMemory) → IfOk outcome (λ answer. Operates other old mid answer) → ((n : Numbering) → other n ≡ judge n)
+    → ((n : Numbering) → Agrees n old → (t : CType) → record (known_at n rest) { ctype = t } ≡ knows n t)
+    → IfOk r (λ found. FinishedBy place rest number mid outcome new found) → IfOk r (λ found. Judged judge place knows number old new found)
+each_finished r other judge place knows rest number old mid new (Ok outcome) operates alike meant finished = each_judged r other judge place knows rest number old mid new outcome operates alike meant finished
+each_finished (Ok found) other judge place knows rest number old mid new (Err error) operates alike meant finished = absurd finished
+each_finished (Err wanting) other judge place knows rest number old mid new (Err error) operates alike meant finished = tt
+
+pub answer_below : (other : Numbering → Judgement) (old mid : Context) (outcome : Result Outcome NoMemory) → IfOk outcome (λ answer. Operates other old mid answer)
+    → IfOk outcome (λ answer. IsTypedBelow (length mid.types) answer)
+answer_below other old mid (Ok outcome) operates = operates.below
+answer_below other old mid (Err error) operates = tt
 
 -- where several things are asked
 pub settled_here : (faults : Numbering → List Fault) (knows : Numbering → Known) (first : Option Fault) (known : KnownByNumber) (number : ℕ) (old mid new : Context)

@@ -1,9 +1,12 @@
+pub mod Behind
 pub mod Blocks
 pub mod ByRule
 pub mod Called
 pub mod Calling
 pub mod EachArgument
+pub mod EachItem
 pub mod Enumerators
+pub mod Extents
 pub mod Firsts
 pub mod Growth
 pub mod Interning
@@ -29,6 +32,7 @@ pub mod Stepping
 pub mod StructMembers
 pub mod Telling
 pub mod TypeNames
+pub mod TypeParts
 pub mod TypeWords
 pub mod Walking
 pub mod WholeExpressions

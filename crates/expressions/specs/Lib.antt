@@ -7,6 +7,7 @@ pub mod Declaring
 pub mod Enumerated
 pub mod Exact
 pub mod FileScope
+pub mod Finished
 pub mod Found
 pub mod Language
 pub mod Members
@@ -17,8 +18,10 @@ pub mod Opened
 pub mod Operated
 pub mod Pointers
 pub mod Settled
+pub mod Shapes
 pub mod Taken
 pub mod Telling
+pub mod TypeParts
 pub mod Types
 pub mod Walked
 pub mod Ways

@@ -13,4 +13,5 @@ pub(crate) mod members;
 pub(crate) mod names;
 pub(crate) mod offsets;
 pub(crate) mod operations;
+pub(crate) mod shapes;
 pub(crate) mod sizes;

@@ -53,7 +53,7 @@ impl Context {
     {
         match self.types.size(number) {
             Extent::Incomplete => false,
-            Extent::Bytes(_) | Extent::TooLarge => true,
+            _ => true,
         }
     }
 
@@ -64,7 +64,7 @@ impl Context {
     {
         match self.types.size(number) {
             Extent::TooLarge => true,
-            Extent::Incomplete | Extent::Bytes(_) => false,
+            _ => false,
         }
     }
 

@@ -29,8 +29,13 @@ pub(crate) fn assignment_node(
         rule: 5,
         part: value_place,
     };
-    let outcome = context.assignment(left.operand(), right.operand())?;
-    finish_blaming(context, node.number, blame, outcome, Known::plain(0))
+    finish_blaming(
+        context.assignment(left.operand(), right.operand()),
+        context,
+        node.number,
+        blame,
+        Known::plain(0),
+    )
 }
 
 /// What is found at `+=` and its like (C11 6.5.16.2).
@@ -45,6 +50,10 @@ pub(crate) fn update_node(
     requires right { right.ctype < length context.old.types }
     ensures { IfOk result (λ found. Judged (λ n. updated op (operand_at n context.old.structs (operand_in left)) (operand_at n context.old.structs (operand_in right))) (λ broken. node.place) (λ n t. plain t) node.number context.old context.new found) }
 {
-    let outcome = context.update(op, left.operand(), right.operand())?;
-    finish(context, node, outcome, Known::plain(0))
+    finish(
+        context.update(op, left.operand(), right.operand()),
+        context,
+        node,
+        Known::plain(0),
+    )
 }

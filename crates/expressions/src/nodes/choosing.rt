@@ -34,6 +34,10 @@ pub(crate) fn choice_node(
         context.integer_type(other.ctype),
         other.value,
     );
-    let outcome = context.choice(test.operand(), one.operand(), other.operand())?;
-    finish(context, node, outcome, Known::valued(value, 0))
+    finish(
+        context.choice(test.operand(), one.operand(), other.operand()),
+        context,
+        node,
+        Known::valued(value, 0),
+    )
 }

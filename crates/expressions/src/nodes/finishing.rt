@@ -2,7 +2,7 @@ ghost use Rattle.std.specs.Prelude.{◌≡◌, ◌<◌, ℕ, length, Option, Non
 ghost use Rattle.operators.specs.declared.found.Broken.{Broken};
 ghost use Rattle.expressions.specs.Blame.{blamed};
 ghost use Rattle.expressions.specs.Numbers.{IsTypedBelow};
-ghost use Rattle.expressions.specs.Operated.{Finished};
+ghost use Rattle.expressions.specs.Finished.{FinishedBy};
 ghost use Rattle.expressions.specs.Settled.{IsSettledBy};
 
 use crate::context::Context;
@@ -71,40 +71,42 @@ pub(crate) fn pass(
 
 /// Finishes at an operator: what is broken is refused at the expression's place, and else the expression passes with its type.
 pub(crate) fn finish(
+    outcome: Result<Outcome, NoMemory>,
     context: &mut Context,
     node: Node,
-    outcome: Outcome,
     rest: Known,
 ) -> Result<Found<Known>, NoMemory>
-    requires { IsTypedBelow (length context.old.types) outcome }
-    ensures { IfOk result (λ found. Finished (λ broken. node.place) rest node.number context.old outcome context.new found) }
+    requires { IfOk outcome (λ answer. IsTypedBelow (length context.old.types) answer) }
+    ensures { IfOk result (λ found. FinishedBy (λ broken. node.place) rest node.number context.old outcome context.new found) }
 {
     match outcome {
-        Outcome::Typed(ctype) => pass(context, node.number, Known { ctype, ..rest }),
-        Outcome::Broken(broken) => Ok(Found::Refused(Fault {
+        Ok(Outcome::Typed(ctype)) => pass(context, node.number, Known { ctype, ..rest }),
+        Ok(Outcome::Broken(broken)) => Ok(Found::Refused(Fault {
             place: node.place,
             broken,
         })),
+        Err(error) => Err(error),
     }
 }
 
 /// The same, where one rule that is broken stands at a part.
 pub(crate) fn finish_blaming(
+    outcome: Result<Outcome, NoMemory>,
     context: &mut Context,
     number: u32,
     blame: Blame,
-    outcome: Outcome,
     rest: Known,
 ) -> Result<Found<Known>, NoMemory>
-    requires { IsTypedBelow (length context.old.types) outcome }
-    ensures { IfOk result (λ found. Finished (blamed blame) rest number context.old outcome context.new found) }
+    requires { IfOk outcome (λ answer. IsTypedBelow (length context.old.types) answer) }
+    ensures { IfOk result (λ found. FinishedBy (blamed blame) rest number context.old outcome context.new found) }
 {
     match outcome {
-        Outcome::Typed(ctype) => pass(context, number, Known { ctype, ..rest }),
-        Outcome::Broken(broken) => Ok(Found::Refused(Fault {
+        Ok(Outcome::Typed(ctype)) => pass(context, number, Known { ctype, ..rest }),
+        Ok(Outcome::Broken(broken)) => Ok(Found::Refused(Fault {
             place: blame.place(broken),
             broken,
         })),
+        Err(error) => Err(error),
     }
 }
 

@@ -7,7 +7,7 @@ ghost use Rattle.typing.specs.Known.{located};
 ghost use Rattle.typing.specs.Nodes.{place_of_member, pointed_offset};
 ghost use Rattle.values.specs.Values.{word_of};
 ghost use Rattle.expressions.specs.Numbers.{Numbering, operand_at, operand_in, IsTypedBelow};
-ghost use Rattle.expressions.specs.Operated.{Finished};
+ghost use Rattle.expressions.specs.Finished.{FinishedBy};
 ghost use Rattle.expressions.specs.Settled.{Judged};
 
 use crate::context::Context;
@@ -32,8 +32,12 @@ pub(crate) fn index_node(
 {
     let word = word_of(context.integer_type(index.ctype), index.value);
     let idiom = at_index(base.idiom, word, context.item_bytes(base.ctype));
-    let outcome = context.index(base.operand(), index.operand())?;
-    finish(context, node, outcome, Known::located(idiom, 0))
+    finish(
+        context.index(base.operand(), index.operand()),
+        context,
+        node,
+        Known::located(idiom, 0),
+    )
 }
 
 /// What is found at `base.name` (C11 6.5.2.3p1, p3): a name that is no member is rule 6 at it.
@@ -51,8 +55,13 @@ pub(crate) fn member_node(
         lvalue: base.lvalue,
         ..Known::located(within(base.idiom, offset), 0)
     };
-    let outcome = context.member(base.operand(), name.name.as_slice())?;
-    finish_member(context, node, name, outcome, rest)
+    finish_member(
+        context.member(base.operand(), name.name.as_slice()),
+        context,
+        node,
+        name,
+        rest,
+    )
 }
 
 /// What is found at `base->name` (C11 6.5.2.3p2, p4).
@@ -67,27 +76,32 @@ pub(crate) fn pointed_member_node(
 {
     let offset = context.pointed_offset(base.ctype, name.name.as_slice());
     let rest = Known::located(through(base.idiom, offset), 0);
-    let outcome = context.pointed_member(base.operand(), name.name.as_slice())?;
-    finish_member(context, node, name, outcome, rest)
+    finish_member(
+        context.pointed_member(base.operand(), name.name.as_slice()),
+        context,
+        node,
+        name,
+        rest,
+    )
 }
 
 /// Finishes at a member: a name that is none is rule 6 at it.
 fn finish_member(
+    outcome: Result<Outcome, NoMemory>,
     context: &mut Context,
     node: Node,
     name: &Identifier,
-    outcome: Outcome,
     rest: Known,
 ) -> Result<Found<Known>, NoMemory>
-    requires { IsTypedBelow (length context.old.types) outcome }
-    ensures { IfOk result (λ found. Finished (place_of_member node.place name.now.place) rest node.number context.old outcome context.new found) }
+    requires { IfOk outcome (λ answer. IsTypedBelow (length context.old.types) answer) }
+    ensures { IfOk result (λ found. FinishedBy (place_of_member node.place name.now.place) rest node.number context.old outcome context.new found) }
 {
     let blame = Blame {
         mark: node.place,
         rule: 6,
         part: name.place,
     };
-    finish_blaming(context, node.number, blame, outcome, rest)
+    finish_blaming(outcome, context, node.number, blame, rest)
 }
 
 /// How much of the offsetof idiom an item of an array is, of so many bytes.

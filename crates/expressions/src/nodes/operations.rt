@@ -29,8 +29,12 @@ pub(crate) fn unary_node(
     ensures { IfOk result (λ found. Judged (λ n. unary op (operand_at n context.old.structs (operand_in arg))) (λ broken. node.place) (λ n t. valued (unary_value op (kind_of context.old.structs (n.ctype arg.ctype)) arg.value) t) node.number context.old context.new found) }
 {
     let value = unary_value(op, context.integer_type(arg.ctype), arg.value);
-    let outcome = context.unary(op, arg.operand())?;
-    finish(context, node, outcome, Known::valued(value, 0))
+    finish(
+        context.unary(op, arg.operand()),
+        context,
+        node,
+        Known::valued(value, 0),
+    )
 }
 
 /// What is found at `&` (C11 6.5.3.2p1, p3).
@@ -43,11 +47,10 @@ pub(crate) fn address_node(
     ensures { IfOk result (λ found. Judged (λ n. unary Address (operand_at n context.old.structs (operand_in arg))) (λ broken. node.place) (λ n t. record (plain t) { idiom = address arg.idiom }) node.number context.old context.new found) }
 {
     let idiom = address(arg.idiom);
-    let outcome = context.unary(UnaryOp::Address, arg.operand())?;
     finish(
+        context.unary(UnaryOp::Address, arg.operand()),
         context,
         node,
-        outcome,
         Known {
             idiom,
             ..Known::plain(0)
@@ -74,8 +77,12 @@ pub(crate) fn indirection_node(
     requires { arg.ctype < length context.old.types }
     ensures { IfOk result (λ found. Judged (λ n. unary Follow (operand_at n context.old.structs (operand_in arg))) (λ broken. node.place) (λ n t. located Outside t) node.number context.old context.new found) }
 {
-    let outcome = context.unary(UnaryOp::Follow, arg.operand())?;
-    finish(context, node, outcome, Known::located(Idiom::Outside, 0))
+    finish(
+        context.unary(UnaryOp::Follow, arg.operand()),
+        context,
+        node,
+        Known::located(Idiom::Outside, 0),
+    )
 }
 
 /// What is found at `++` and `--` (C11 6.5.2.4, 6.5.3.1).
@@ -87,8 +94,7 @@ pub(crate) fn counting_node(
     requires { arg.ctype < length context.old.types }
     ensures { IfOk result (λ found. Judged (λ n. counted (operand_at n context.old.structs (operand_in arg))) (λ broken. node.place) (λ n t. plain t) node.number context.old context.new found) }
 {
-    let outcome = context.count(arg.operand())?;
-    finish(context, node, outcome, Known::plain(0))
+    finish(context.count(arg.operand()), context, node, Known::plain(0))
 }
 
 /// What is found at a binary operator or a comma (C11 6.5.5 to 6.5.14, 6.5.17).
@@ -110,6 +116,10 @@ pub(crate) fn binary_node(
         context.integer_type(right.ctype),
         right.value,
     );
-    let outcome = context.binary(op, left.operand(), right.operand())?;
-    finish(context, node, outcome, Known::valued(value, 0))
+    finish(
+        context.binary(op, left.operand(), right.operand()),
+        context,
+        node,
+        Known::valued(value, 0),
+    )
 }

@@ -1,11 +1,10 @@
-ghost use Rattle.std.specs.Prelude.{◌≡◌, ◌<◌, ◌≤◌, ◌+◌, ℕ, Some, IfOk, length};
-ghost use Rattle.cbase.specs.declared.tree.expr.ExprForm.TheOpen.{Struct, Enum};
-ghost use Rattle.cbase.specs.declared.tree.spec.TypeSpec.TheVariants.{Struct as StructSpec, Enum as EnumSpec};
-ghost use Rattle.ctrees.specs.Levels.{expr_levels, type_name_levels, stmt_levels, init_levels, spec_levels};
-ghost use Rattle.typing.specs.Typing.{ExpressionIs, NameOfTypeIs, WordsAre, StatementIs, InitialiserIs, SurplusIs};
-ghost use Rattle.expressions.specs.Found.{an_expression, a_type, nothing};
-ghost use Rattle.expressions.specs.Nests.{Nests, subject_of, slot_at};
+ghost use Rattle.std.specs.Prelude.{◌≡◌, ◌<◌, ◌≤◌, ℕ, IfOk, length};
+ghost use Rattle.ctrees.specs.Levels.{expr_levels, stmt_levels, init_levels};
+ghost use Rattle.typing.specs.Typing.{ExpressionIs, StatementIs, InitialiserIs, SurplusIs};
+ghost use Rattle.expressions.specs.Found.{an_expression, nothing};
+ghost use Rattle.expressions.specs.Nests.{Nests, part_levels, subject_of, slot_at};
 ghost use Rattle.expressions.specs.Telling.{IsOfExpression, IsOfType, IsOfNothing, expression_told, type_told, nothing_told};
+ghost use Rattle.expressions.specs.TypeParts.{IsTypePart, IsTypeTold};
 ghost use Rattle.expressions.specs.Walked.{Walked, Says, SaysBy};
 
 use crate::checker::{Checker, Within};
@@ -14,7 +13,7 @@ use crate::found::Found;
 use crate::known::Known;
 use crate::named_type::NamedType;
 use crate::part::{Part, Slot, Subject, Told};
-use cbase::{Enumerator, Expr, FieldDecl, Identifier, Init, List, NoMemory, Stmt, TypeName};
+use cbase::{Expr, Init, NoMemory, Stmt};
 
 impl<F: Fn(&mut Context, Within, Part<'_>) -> Result<Found<Told>, NoMemory>> Checker<F> {
     /// The data layout, and how many levels a part that lies in a tree may have.
@@ -40,45 +39,18 @@ impl<F: Fn(&mut Context, Within, Part<'_>) -> Result<Found<Told>, NoMemory>> Che
         expression_in((self.inner)(context, self.within(), Part::Expression(expr)))
     }
 
-    /// What is found of a type name that lies in a tree.
-    pub fn ask_type_name(
+    /// What is found of a type name that lies in a tree, and of a struct or an enum with braces.
+    pub fn ask_type(
         &self,
         context: &mut Context,
-        name: &TypeName,
+        part: Part<'_>,
     ) -> Result<Found<NamedType>, NoMemory>
         requires nests { Nests self.now.abi self.now.depth (F.pre self.now.inner) (F.post self.now.inner) }
-        requires deep { type_name_levels name.now + 1 ≤ self.now.depth }
-        ensures { IfOk result (λ found. Walked (Says self.now.abi (λ o. NameOfTypeIs name.now o)) a_type context.old context.new found) }
+        requires deep { part_levels part ≤ self.now.depth }
+        requires of_type { IsTypePart part }
+        ensures { IfOk result (λ found. IsTypeTold self.now.abi part.entry context.old context.new found) }
     {
-        type_in((self.inner)(context, self.within(), Part::TypeName(name)))
-    }
-
-    /// What is found of a struct with its members in braces.
-    pub fn ask_members(
-        &self,
-        context: &mut Context,
-        name: &Option<Identifier>,
-        fields: &List<FieldDecl>,
-    ) -> Result<Found<NamedType>, NoMemory>
-        requires nests { Nests self.now.abi self.now.depth (F.pre self.now.inner) (F.post self.now.inner) }
-        requires deep { spec_levels (StructSpec name.now (Some fields.now)) ≤ self.now.depth }
-        ensures { IfOk result (λ found. Walked (Says self.now.abi (λ o. WordsAre (Struct name.now (Some fields.now)) o)) a_type context.old context.new found) }
-    {
-        type_in((self.inner)(context, self.within(), Part::Members(name, fields)))
-    }
-
-    /// What is found of an enum with its constants in braces.
-    pub fn ask_enumerators(
-        &self,
-        context: &mut Context,
-        name: &Option<Identifier>,
-        values: &List<Enumerator>,
-    ) -> Result<Found<NamedType>, NoMemory>
-        requires nests { Nests self.now.abi self.now.depth (F.pre self.now.inner) (F.post self.now.inner) }
-        requires deep { spec_levels (EnumSpec name.now (Some values.now)) ≤ self.now.depth }
-        ensures { IfOk result (λ found. Walked (Says self.now.abi (λ o. WordsAre (Enum name.now (Some values.now)) o)) a_type context.old context.new found) }
-    {
-        type_in((self.inner)(context, self.within(), Part::Enumerators(name, values)))
+        type_in((self.inner)(context, self.within(), part))
     }
 
     /// What is found of a statement or a declaration in a block.

@@ -5,9 +5,8 @@ ghost use Rattle.cbase.specs.declared.place.Place.{Place};
 ghost use Rattle.cbase.specs.declared.tree.stmt.Stmt.{Stmt as StmtTree};
 ghost use Rattle.ctrees.specs.Levels.{expr_levels, stmt_levels};
 ghost use Rattle.typing.specs.Forms.{value_in};
-ghost use Rattle.typing.specs.Pieces.{BlockOf};
-ghost use Rattle.typing.specs.Typing.{PiecesAre, StatementsAre};
-ghost use Rattle.expressions.specs.Found.{an_expression, one_value, a_value_type};
+ghost use Rattle.typing.specs.Typing.{StatementsAre};
+ghost use Rattle.expressions.specs.Found.{an_expression, a_value_type};
 ghost use Rattle.expressions.specs.Nests.{Nests};
 ghost use Rattle.expressions.specs.Walked.{Walked, Says, SaysForm};
 
@@ -23,7 +22,7 @@ use std::alloc::Global;
 use typing::Fault;
 
 impl<F: Fn(&mut Context, Within, Part<'_>) -> Result<Found<Told>, NoMemory>> Checker<F> {
-    /// A statement expression, which C11 has not: it has the type of its value.
+    /// A statement expression, which C11 has not: its block is a scope of its own, and it has the type of its value.
     pub(crate) fn statement_expression(
         &self,
         alloc: Global,
@@ -35,28 +34,13 @@ impl<F: Fn(&mut Context, Within, Part<'_>) -> Result<Found<Told>, NoMemory>> Che
         requires deep { All (λ stmt. stmt_levels stmt ≤ self.now.depth) body.now }
         ensures { (close : Place) → IfOk result (λ found. Walked (SaysForm self.now.abi node.number node.place (Inner body.now close)) an_expression context.old context.new found) }
     {
-        match self.block(alloc, context, body) {
-            Ok(Found::Passes(ctype)) => pass(context, node.number, Known::plain(ctype)),
-            Ok(Found::Refused(fault)) => Ok(Found::Refused(fault)),
-            Err(error) => Err(error),
-        }
-    }
-
-    /// Its block, which is a scope of its own.
-    fn block(
-        &self,
-        alloc: Global,
-        context: &mut Context,
-        body: &[Stmt],
-    ) -> Result<Found<u32>, NoMemory>
-        requires nests { Nests self.now.abi self.now.depth (F.pre self.now.inner) (F.post self.now.inner) }
-        requires deep { All (λ stmt. stmt_levels stmt ≤ self.now.depth) body.now }
-        ensures { IfOk result (λ found. Walked (Says self.now.abi (λ o. PiecesAre (BlockOf body.now ∷ []) o)) one_value context.old context.new found) }
-    {
         context.enter(alloc)?;
         let found = self.statements(context, body)?;
         context.leave();
-        Ok(found)
+        match found {
+            Found::Passes(ctype) => pass(context, node.number, Known::plain(ctype)),
+            Found::Refused(fault) => Ok(Found::Refused(fault)),
+        }
     }
 
     /// Its statements: the value is that of the last one where that is an expression, and else there is none.

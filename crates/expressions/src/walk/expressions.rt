@@ -14,6 +14,7 @@ use crate::known::Known;
 use crate::nodes::constant::constant_node;
 use crate::nodes::finishing::Node;
 use crate::nodes::names::name_node;
+use crate::nodes::shapes::{Pair, Single};
 use crate::part::{Part, Told};
 use crate::walk::forms::failed_assertion;
 use cbase::{Expr, ExprForm, NoMemory};
@@ -59,43 +60,41 @@ impl<F: Fn(&mut Context, Within, Part<'_>) -> Result<Found<Told>, NoMemory>> Che
             ExprForm::Constant(spelling) => {
                 constant_node(context, node, self.abi, spelling.as_slice())
             }
-            ExprForm::Unary { op, arg } => self.unary(context, node, *op, arg.get()),
-            ExprForm::Binary { op, left, right } => {
-                self.binary(context, node, *op, left.get(), right.get())
+            ExprForm::Unary { op, arg } => {
+                self.single(context, node, Single::Unary(*op), arg.get())
             }
-            ExprForm::Assign {
-                op: None,
-                left,
-                right,
-            } => self.assignment(context, node, left.get(), right.get()),
-            ExprForm::Assign {
-                op: Some(op),
-                left,
-                right,
-            } => self.update(context, node, *op, left.get(), right.get()),
-            ExprForm::Count { arg, .. } => self.count(context, node, arg.get()),
+            ExprForm::Binary { op, left, right } => {
+                self.pair(context, node, Pair::Binary(*op), left.get(), right.get())
+            }
+            ExprForm::Assign { op, left, right } => {
+                self.pair(context, node, Pair::Assign(*op), left.get(), right.get())
+            }
+            ExprForm::Count { up, after, arg } => self.single(
+                context,
+                node,
+                Single::Count {
+                    up: *up,
+                    after: *after,
+                },
+                arg.get(),
+            ),
             ExprForm::Choose { test, yes, no } => {
                 self.choice(context, node, test.get(), yes.get(), no.get())
             }
             ExprForm::Cast { to, arg } => self.cast(alloc, context, node, to.get(), arg.get()),
-            ExprForm::SizeOf(arg) => self.size(context, node, arg.get()),
+            ExprForm::SizeOf(arg) => self.single(context, node, Single::Size, arg.get()),
             ExprForm::SizeOfType(to) => self.type_size(alloc, context, node, to.get()),
             ExprForm::OffsetOf { to, path } => {
                 self.offset(context, node, to.get(), path.as_slice(), alloc)
             }
             ExprForm::Index { base, index } => {
-                self.subscript(context, node, base.get(), index.get())
+                self.pair(context, node, Pair::Index, base.get(), index.get())
             }
             ExprForm::Member {
                 base,
                 name,
-                through: false,
-            } => self.member(context, node, base.get(), name),
-            ExprForm::Member {
-                base,
-                name,
-                through: true,
-            } => self.pointed_member(context, node, base.get(), name),
+                through,
+            } => self.single(context, node, Single::Member(name, *through), base.get()),
             ExprForm::Call { callee, args } => {
                 self.call(alloc, context, node, callee.get(), args.as_slice())
             }

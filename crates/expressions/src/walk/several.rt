@@ -1,9 +1,9 @@
 ghost use Rattle.std.specs.Prelude.{◌≡◌, ◌≤◌, ◌∷◌, [], ℕ, length, map, All, IfOk};
-ghost use Rattle.ctrees.specs.Levels.{expr_levels, type_name_levels, part_levels};
-ghost use Rattle.typing.specs.Pieces.{Loaded, OfType, indices_in};
+ghost use Rattle.ctrees.specs.Levels.{expr_levels, part_levels};
+ghost use Rattle.typing.specs.Pieces.{Loaded, indices_in};
 ghost use Rattle.typing.specs.Typing.{PiecesAre};
 ghost use Rattle.expressions.specs.Counted.{IsCounted};
-ghost use Rattle.expressions.specs.Found.{two_operands, three_operands, some_operands, a_type_and_operand, some_indices, a_type_and_indices};
+ghost use Rattle.expressions.specs.Found.{two_operands, some_operands, some_indices};
 ghost use Rattle.expressions.specs.Nests.{Nests};
 ghost use Rattle.expressions.specs.Walked.{Walked, Says};
 
@@ -11,10 +11,8 @@ use crate::checker::{Checker, Within};
 use crate::context::Context;
 use crate::found::Found;
 use crate::known::Known;
-use crate::named_type::NamedType;
 use crate::part::{Part, Told};
-use cbase::{Expr, NoMemory, TypeName};
-use std::alloc::Global;
+use cbase::{Expr, NoMemory};
 
 impl<F: Fn(&mut Context, Within, Part<'_>) -> Result<Found<Told>, NoMemory>> Checker<F> {
     /// Two operands.
@@ -36,32 +34,6 @@ impl<F: Fn(&mut Context, Within, Part<'_>) -> Result<Found<Told>, NoMemory>> Che
         };
         match self.loaded(context, right) {
             Ok(Found::Passes(b)) => Ok(Found::Passes((a, b))),
-            Ok(Found::Refused(fault)) => Ok(Found::Refused(fault)),
-            Err(error) => Err(error),
-        }
-    }
-
-    /// Three operands.
-    pub(crate) fn three(
-        &self,
-        context: &mut Context,
-        test: &Expr,
-        one: &Expr,
-        other: &Expr,
-    ) -> Result<Found<(Known, Known, Known)>, NoMemory>
-        requires nests { Nests self.now.abi self.now.depth (F.pre self.now.inner) (F.post self.now.inner) }
-        requires test { expr_levels test.now ≤ self.now.depth }
-        requires one { expr_levels one.now ≤ self.now.depth }
-        requires other { expr_levels other.now ≤ self.now.depth }
-        ensures { IfOk result (λ found. Walked (Says self.now.abi (λ o. PiecesAre (Loaded test.now ∷ Loaded one.now ∷ Loaded other.now ∷ []) o)) three_operands context.old context.new found) }
-    {
-        let t = match self.loaded(context, test) {
-            Ok(Found::Passes(known)) => known,
-            Ok(Found::Refused(fault)) => return Ok(Found::Refused(fault)),
-            Err(error) => return Err(error),
-        };
-        match self.two(context, one, other) {
-            Ok(Found::Passes((a, b))) => Ok(Found::Passes((t, a, b))),
             Ok(Found::Refused(fault)) => Ok(Found::Refused(fault)),
             Err(error) => Err(error),
         }
@@ -90,31 +62,6 @@ impl<F: Fn(&mut Context, Within, Part<'_>) -> Result<Found<Told>, NoMemory>> Che
         Ok(Found::Passes(()))
     }
 
-    /// A type name and an operand behind it.
-    pub(crate) fn type_and_operand(
-        &self,
-        alloc: Global,
-        context: &mut Context,
-        to: &TypeName,
-        arg: &Expr,
-    ) -> Result<Found<(NamedType, Known)>, NoMemory>
-        requires nests { Nests self.now.abi self.now.depth (F.pre self.now.inner) (F.post self.now.inner) }
-        requires to { type_name_levels to.now ≤ self.now.depth }
-        requires arg { expr_levels arg.now ≤ self.now.depth }
-        ensures { IfOk result (λ found. Walked (Says self.now.abi (λ o. PiecesAre (OfType to.now ∷ Loaded arg.now ∷ []) o)) a_type_and_operand context.old context.new found) }
-    {
-        let named = match self.type_name(alloc, context, to) {
-            Ok(Found::Passes(named)) => named,
-            Ok(Found::Refused(fault)) => return Ok(Found::Refused(fault)),
-            Err(error) => return Err(error),
-        };
-        match self.loaded(context, arg) {
-            Ok(Found::Passes(known)) => Ok(Found::Passes((named, known))),
-            Ok(Found::Refused(fault)) => Ok(Found::Refused(fault)),
-            Err(error) => Err(error),
-        }
-    }
-
     /// The indices on the way to a member, as words of 64 bits, which are put behind one another.
     pub(crate) fn indices(
         &self,
@@ -139,33 +86,5 @@ impl<F: Fn(&mut Context, Within, Part<'_>) -> Result<Found<Told>, NoMemory>> Che
             }
         }
         Ok(Found::Passes(()))
-    }
-
-    /// A type name and the indices on the way to a member of it.
-    pub(crate) fn type_and_indices(
-        &self,
-        alloc: Global,
-        context: &mut Context,
-        to: &TypeName,
-        path: &[cbase::Part],
-        words: &mut Vec<u64>,
-    ) -> Result<Found<NamedType>, NoMemory>
-        requires nests { Nests self.now.abi self.now.depth (F.pre self.now.inner) (F.post self.now.inner) }
-        requires to { type_name_levels to.now ≤ self.now.depth }
-        requires deep { All (λ part. part_levels part ≤ self.now.depth) path.now }
-        requires empty { words.old.items ≡ [] }
-        ensures walk { IfOk result (λ found. Walked (Says self.now.abi (λ o. PiecesAre (OfType to.now ∷ indices_in path.now) o)) (a_type_and_indices words.new.items) context.old context.new found) }
-        ensures count { IfOk result (λ found. IsCounted found (length words.new.items) (length (indices_in path.now))) }
-    {
-        let named = match self.type_name(alloc, context, to) {
-            Ok(Found::Passes(named)) => named,
-            Ok(Found::Refused(fault)) => return Ok(Found::Refused(fault)),
-            Err(error) => return Err(error),
-        };
-        match self.indices(context, path, words) {
-            Ok(Found::Passes(())) => Ok(Found::Passes(named)),
-            Ok(Found::Refused(fault)) => Ok(Found::Refused(fault)),
-            Err(error) => Err(error),
-        }
     }
 }

@@ -1,22 +1,24 @@
 ghost use Rattle.std.specs.Prelude.{◌≡◌, ◌≤◌, Some, None, IfOk};
-ghost use Rattle.cbase.specs.declared.tree.expr.ExprForm.TheOpen.{Basic, Named, Struct, Enum, OfExpr};
+ghost use Rattle.cbase.specs.declared.tree.expr.ExprForm.TheOpen.{Basic, Named, Struct, Enum};
 ghost use Rattle.cbase.specs.declared.tree.expr.ExprForm.TheViews.{out-TypeSpec};
 ghost use Rattle.cbase.specs.declared.abi.Abi.{Abi};
-ghost use Rattle.ctrees.specs.Levels.{expr_levels, spec_levels};
+ghost use Rattle.ctrees.specs.Levels.{spec_levels};
 ghost use Rattle.operators.specs.declared.found.Broken.TheVariants.{Rule};
 ghost use Rattle.typing.specs.Faults.{fault};
 ghost use Rattle.typing.specs.Typing.{WordsAre};
 ghost use Rattle.expressions.specs.declared.found.Found.TheVariants.{Passes, Refused};
 ghost use Rattle.expressions.specs.Found.{a_type};
 ghost use Rattle.expressions.specs.Nests.{Nests};
+ghost use Rattle.expressions.specs.TypeParts.{typeof_found};
 ghost use Rattle.expressions.specs.Walked.{Walked, Says};
 
 use crate::checker::{Checker, Within};
 use crate::context::Context;
 use crate::found::Found;
+use crate::known::Known;
 use crate::named_type::NamedType;
 use crate::part::{Part, Told};
-use cbase::{Abi, BasicType, Expr, Identifier, NoMemory, TypeSpec, bytes_of_rank};
+use cbase::{Abi, BasicType, Identifier, NoMemory, TypeSpec, bytes_of_rank};
 use environment::{DeclaredType, Entity, Tag};
 use operators::Broken;
 use std::alloc::Global;
@@ -38,35 +40,33 @@ impl<F: Fn(&mut Context, Within, Part<'_>) -> Result<Found<Told>, NoMemory>> Che
             TypeSpec::Basic(basic_type) => basic(context, self.abi, *basic_type),
             TypeSpec::Named(name) => typedef(context, name.as_slice()),
             TypeSpec::Struct { name, fields } => match fields {
-                Some(fields) => self.ask_members(context, name, fields),
+                Some(fields) => self.ask_type(context, Part::Members(name, fields)),
                 None => match name {
                     Some(tag) => structure(alloc, context, tag),
                     None => nothing(context),
                 },
             },
             TypeSpec::Enum { name, values } => match values {
-                Some(values) => self.ask_enumerators(context, name, values),
+                Some(values) => self.ask_type(context, Part::Enumerators(name, values)),
                 None => match name {
                     Some(tag) => enumeration(alloc, context, tag),
                     None => nothing(context),
                 },
             },
-            TypeSpec::OfExpr(expr) => self.type_of(context, expr.get()),
-            TypeSpec::OfType(to) => self.ask_type_name(context, to.get()),
+            TypeSpec::OfExpr(expr) => typeof_expression(self.ask_expression(context, expr.get())),
+            TypeSpec::OfType(to) => self.ask_type(context, Part::TypeName(to.get())),
         }
     }
+}
 
-    /// `typeof` of an expression, in which an array stays one. C11 has none.
-    fn type_of(&self, context: &mut Context, expr: &Expr) -> Result<Found<NamedType>, NoMemory>
-        requires nests { Nests self.now.abi self.now.depth (F.pre self.now.inner) (F.post self.now.inner) }
-        requires deep { expr_levels expr.now ≤ self.now.depth }
-        ensures { IfOk result (λ found. Walked (Says self.now.abi (λ o. WordsAre (OfExpr expr.now) o)) a_type context.old context.new found) }
-    {
-        match self.unloaded(context, expr) {
-            Ok(Found::Passes(known)) => Ok(whole(known.ctype)),
-            Ok(Found::Refused(fault)) => Ok(Found::Refused(fault)),
-            Err(error) => Err(error),
-        }
+/// `typeof` of an expression, in which an array stays one, by what is found of that. C11 has none.
+fn typeof_expression(told: Result<Found<Known>, NoMemory>) -> Result<Found<NamedType>, NoMemory>
+    ensures { result ≡ typeof_found told }
+{
+    match told {
+        Ok(Found::Passes(known)) => Ok(whole(known.ctype)),
+        Ok(Found::Refused(fault)) => Ok(Found::Refused(fault)),
+        Err(error) => Err(error),
     }
 }
 

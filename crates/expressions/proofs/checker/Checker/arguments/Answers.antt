@@ -1,5 +1,7 @@
 use Rattle.std.proofs.Common.{arith}
 use Rattle.expressions.proofs.Loops.{arguments_start, arguments_next, arguments_refused, arguments_end, arguments_counted}
+use Rattle.ctrees.specs.Levels.{expr_levels}
+use Rattle.expressions.proofs.EachItem.{each_item}
 use Rattle.expressions.proofs.checker.Checker.arguments.Goals as goal
 
 pub loop-arg-init : goal.loop-arg-init
@@ -21,3 +23,6 @@ returns-clause-count g c = arguments_counted c.args.self.now.abi c.args.args.now
 
 pub loaded-requires-clause-nests : goal.loaded-requires-clause-nests
 loaded-requires-clause-nests g c = c.requires.nests
+
+pub loaded-requires-clause-deep : goal.loaded-requires-clause-deep
+loaded-requires-clause-deep g c = each_item expr_levels c.args.self.now.depth c.args.args.now c.loop-arg.arg-index c.arg-item.result c.requires.deep c.loop-arg-test.true c.arg-item.is

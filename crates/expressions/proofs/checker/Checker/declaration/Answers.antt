@@ -1,8 +1,9 @@
 -- A declaration of members: its words, and its names behind them.
 use Rattle.expressions.proofs.checker.Checker.declaration.Goals as goal
 use Rattle.expressions.proofs.MembersSoFar.{are_members_grow}
-use Rattle.expressions.proofs.SpecLevels.{names_within}
+use Rattle.expressions.proofs.SpecLevels.{names_within, words_within}
 use Rattle.expressions.proofs.StructMembers.{words_stop, words_grow, declaration_found}
+use Rattle.expressions.proofs.Walking.{passed_of}
 
 pub member_names-requires-clause-deep : goal.member_names-requires-clause-deep
 member_names-requires-clause-deep g c = names_within c.args.field.now c.as_slice.result.now c.args.self.now.depth c.as_slice.ensures c.requires.deep
@@ -30,3 +31,9 @@ returns-in-Ok-Passes-clause-members g c = c.member_names.ensures.members
 
 pub returns-in-Ok-Refused-clause-members : goal.returns-in-Ok-Refused-clause-members
 returns-in-Ok-Refused-clause-members g c = tt
+
+pub words-requires-clause-deep : goal.words-requires-clause-deep
+words-requires-clause-deep g c = words_within c.args.field.now c.args.self.now.depth c.requires.deep
+
+pub member_names-requires-clause-base : goal.member_names-requires-clause-base
+member_names-requires-clause-base g c = (passed_of _ _ _ _ _ _ c.in-Ok-Passes.field-0-is c.in-Ok-Passes.ensures).below

@@ -1,6 +1,8 @@
 -- The declarations of members, one behind the other.
 use Rattle.std.proofs.Common.{arith}
 use Rattle.typing.specs.Typing.{MembersAre, DeclarationIs}
+use Rattle.ctrees.specs.Levels.{field_decl_levels}
+use Rattle.expressions.proofs.EachItem.{each_item}
 use Rattle.expressions.proofs.checker.Checker.declarations.Goals as goal
 use Rattle.expressions.proofs.StructMembers.{where_passes, declarations_in_order, behind_start, behind_next, behind_refused, behind_end}
 
@@ -35,3 +37,6 @@ returns-clause-members g c = c.loop-field.invariant.1
 
 pub returns-in-Ok-Refused-clause-members : goal.returns-in-Ok-Refused-clause-members
 returns-in-Ok-Refused-clause-members g c = tt
+
+pub declaration-requires-clause-deep : goal.declaration-requires-clause-deep
+declaration-requires-clause-deep g c = each_item field_decl_levels c.args.self.now.depth c.args.fields.now c.loop-field.field-index c.field-item.result c.requires.deep c.loop-field-test.true c.field-item.is

@@ -2,7 +2,7 @@
 use Rattle.expressions.proofs.checker.Checker.declared_member.Goals as goal
 use Rattle.expressions.proofs.Growth.{below_grows, grows_trans, only_types_grows}
 use Rattle.expressions.proofs.MembersSoFar.{are_members_grow}
-use Rattle.expressions.proofs.SpecLevels.{member_sizes_within}
+use Rattle.expressions.proofs.SpecLevels.{member_sizes_within, width_within}
 use Rattle.expressions.proofs.StructMembers.{sizes_stop, width_stop, parts_grow, member_found}
 use Rattle.expressions.proofs.WholeTypeNames.{declares_now}
 
@@ -55,3 +55,6 @@ returns-in-Ok-Refused-clause-members g c = tt
 
 pub returns-in-Ok-Refused-width-clause-members : goal.returns-in-Ok-Refused-width-clause-members
 returns-in-Ok-Refused-width-clause-members g c = tt
+
+pub width-requires-clause-deep : goal.width-requires-clause-deep
+width-requires-clause-deep g c = width_within c.args.name.now c.args.self.now.depth c.requires.deep

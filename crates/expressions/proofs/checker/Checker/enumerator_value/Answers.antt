@@ -1,4 +1,7 @@
 -- The value of a constant of an enum.
+use Rattle.std.proofs.Common.{◌≤◌, Option, subst}
+use Rattle.cbase.specs.declared.tree.expr.Expr.{Expr}
+use Rattle.ctrees.specs.Levels.{maybe_levels}
 use Rattle.expressions.proofs.Enumerators.{value_following, value_given, value_refused}
 use Rattle.expressions.proofs.checker.Checker.enumerator_value.Goals as goal
 
@@ -15,3 +18,6 @@ returns-in-Ok-Refused g c = value_refused c.args.self.now.abi c.args.place c.arg
 
 pub loaded-requires-clause-nests : goal.loaded-requires-clause-nests
 loaded-requires-clause-nests g c = c.requires.nests
+
+pub loaded-requires-clause-deep : goal.loaded-requires-clause-deep
+loaded-requires-clause-deep g c = subst (λ (given : Option Expr). maybe_levels given ≤ c.args.self.now.depth) c.in-Some.is c.requires.deep

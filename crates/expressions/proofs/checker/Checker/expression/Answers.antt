@@ -9,3 +9,6 @@ pub returns-clause-nothing_else : goal.returns-clause-nothing_else
 returns-clause-nothing_else g c =
     nothing_else_result c.args.self.now.abi c.args.expr.now c.args.context.now _ c.form.result
     (expression_result c.args.self.now.abi c.args.expr.now c.args.context.now _ c.form.result c.form.ensures)
+
+pub form-requires-clause-nests : goal.form-requires-clause-nests
+form-requires-clause-nests g c = c.requires.nests

@@ -1,7 +1,8 @@
 -- An expression by its form: its parts are no deeper than it, and what is found of it is found of one layer of it.
 use Rattle.std.proofs.Common.{ap, sym, ◌∙◌}
-use Rattle.cbase.specs.declared.tree.expr.ExprForm.TheOpen.{Name, Constant, Unary, Binary, Count, Choose, Cast, SizeOf, SizeOfType, OffsetOf, Index, Call, Inner, AssertFail}
-use Rattle.cbase.specs.declared.tree.expr.ExprForm.TheViews.{out-ExprForm, outs-Name, outs-Constant, outs-Unary, outs-Binary, outs-Count, outs-Choose, outs-Cast, outs-SizeOf, outs-SizeOfType, outs-OffsetOf, outs-Index, outs-Call, outs-Inner, outs-AssertFail}
+use Rattle.cbase.specs.declared.tree.expr.Expr.{Expr}
+use Rattle.cbase.specs.declared.tree.expr.ExprForm.TheOpen.{Name, Constant, Unary, Binary, Assign, ExprForm::Member, Count, Choose, Cast, SizeOf, SizeOfType, OffsetOf, Index, Call, Inner, AssertFail}
+use Rattle.cbase.specs.declared.tree.expr.ExprForm.TheViews.{out-ExprForm, outs-Name, outs-Constant, outs-Unary, outs-Binary, outs-Assign, outs-ExprForm::Member, outs-Count, outs-Choose, outs-Cast, outs-SizeOf, outs-SizeOfType, outs-OffsetOf, outs-Index, outs-Call, outs-Inner, outs-AssertFail}
 use Rattle.ctrees.specs.Levels.{expr_levels, type_name_levels}
 use Rattle.expressions.proofs.Levels.{one_within, first_within, second_within, middle_within, third_within, unary_levels, binary_levels, assign_levels, count_levels, choose_levels, cast_levels, size_levels, type_size_levels, offset_levels, index_levels, member_levels, call_levels, path_within, arguments_within, body_within}
 use Rattle.expressions.proofs.ByRule.{name_form, constant_form}
@@ -18,58 +19,91 @@ returns-in-Constant g c =
     form_alike c.args.self.now.abi c.args.node.number c.args.node.place (Constant c.as_slice-in-Constant.result.now) (out-ExprForm c.args.form.now) c.args.context.now _ c.constant_node.result
     (ap Constant c.as_slice-in-Constant.ensures ∙ sym (ap out-ExprForm c.in-Constant.is ∙ outs-Constant c.in-Constant.spelling)) (constant_form c.args.self.now.abi c.args.node.number c.args.node.place c.as_slice-in-Constant.result.now c.args.context.now _ c.constant_node.result c.constant_node.ensures)
 
-pub unary-requires-clause-nests : goal.unary-requires-clause-nests
-unary-requires-clause-nests g c = c.requires.nests
+pub single-requires-clause-nests : goal.single-requires-clause-nests
+single-requires-clause-nests g c = c.requires.nests
 
-pub unary-requires-clause-arg : goal.unary-requires-clause-arg
-unary-requires-clause-arg g c = one_within c.args.form.now _ _ _ c.args.self.now.depth c.in-Unary.is (unary_levels c.in-Unary.op c.in-Unary.arg) (ap expr_levels c.get.ensures) c.requires.deep
+pub single-requires-clause-arg : goal.single-requires-clause-arg
+single-requires-clause-arg g c = one_within c.args.form.now _ _ _ c.args.self.now.depth c.in-Unary.is (unary_levels c.in-Unary.op c.in-Unary.arg) (ap expr_levels c.get.ensures) c.requires.deep
 
 pub returns-in-Unary : goal.returns-in-Unary
 returns-in-Unary g c =
-    form_alike c.args.self.now.abi c.args.node.number c.args.node.place (Unary c.in-Unary.op c.get.result.now) (out-ExprForm c.args.form.now) c.args.context.now _ c.unary.result
-    (ap (Unary c.in-Unary.op) c.get.ensures ∙ sym (ap out-ExprForm c.in-Unary.is ∙ outs-Unary c.in-Unary.op c.in-Unary.arg)) c.unary.ensures
+    form_alike c.args.self.now.abi c.args.node.number c.args.node.place (Unary c.in-Unary.op c.get.result.now) (out-ExprForm c.args.form.now) c.args.context.now _ c.single.result
+    (ap (Unary c.in-Unary.op) c.get.ensures ∙ sym (ap out-ExprForm c.in-Unary.is ∙ outs-Unary c.in-Unary.op c.in-Unary.arg)) c.single.ensures
 
-pub binary-requires-clause-nests : goal.binary-requires-clause-nests
-binary-requires-clause-nests g c = c.requires.nests
+pub pair-requires-clause-nests : goal.pair-requires-clause-nests
+pair-requires-clause-nests g c = c.requires.nests
 
-pub binary-requires-clause-left : goal.binary-requires-clause-left
-binary-requires-clause-left g c = first_within c.args.form.now _ _ _ _ c.args.self.now.depth c.in-Binary.is (binary_levels c.in-Binary.op c.in-Binary.left c.in-Binary.right) (ap expr_levels c.get-in-Binary.ensures) c.requires.deep
+pub pair-requires-clause-left : goal.pair-requires-clause-left
+pair-requires-clause-left g c = first_within c.args.form.now _ _ _ _ c.args.self.now.depth c.in-Binary.is (binary_levels c.in-Binary.op c.in-Binary.left c.in-Binary.right) (ap expr_levels c.get-in-Binary.ensures) c.requires.deep
 
-pub binary-requires-clause-right : goal.binary-requires-clause-right
-binary-requires-clause-right g c = second_within c.args.form.now _ _ _ _ c.args.self.now.depth c.in-Binary.is (binary_levels c.in-Binary.op c.in-Binary.left c.in-Binary.right) (ap expr_levels c.get-in-Binary-2.ensures) c.requires.deep
+pub pair-requires-clause-right : goal.pair-requires-clause-right
+pair-requires-clause-right g c = second_within c.args.form.now _ _ _ _ c.args.self.now.depth c.in-Binary.is (binary_levels c.in-Binary.op c.in-Binary.left c.in-Binary.right) (ap expr_levels c.get-in-Binary-2.ensures) c.requires.deep
 
 pub returns-in-Binary : goal.returns-in-Binary
 returns-in-Binary g c =
-    form_alike c.args.self.now.abi c.args.node.number c.args.node.place (Binary c.in-Binary.op c.get-in-Binary.result.now c.get-in-Binary-2.result.now) (out-ExprForm c.args.form.now) c.args.context.now _ c.binary.result
-    ((λ i. Binary c.in-Binary.op (c.get-in-Binary.ensures i) (c.get-in-Binary-2.ensures i)) ∙ sym (ap out-ExprForm c.in-Binary.is ∙ outs-Binary c.in-Binary.op c.in-Binary.left c.in-Binary.right)) c.binary.ensures
+    form_alike c.args.self.now.abi c.args.node.number c.args.node.place (Binary c.in-Binary.op c.get-in-Binary.result.now c.get-in-Binary-2.result.now) (out-ExprForm c.args.form.now) c.args.context.now _ c.pair.result
+    ((λ i. Binary c.in-Binary.op (c.get-in-Binary.ensures i) (c.get-in-Binary-2.ensures i)) ∙ sym (ap out-ExprForm c.in-Binary.is ∙ outs-Binary c.in-Binary.op c.in-Binary.left c.in-Binary.right)) c.pair.ensures
 
-pub assignment-requires-clause-nests : goal.assignment-requires-clause-nests
-assignment-requires-clause-nests g c = c.requires.nests
+pub pair-requires-in-Assign-clause-nests : goal.pair-requires-in-Assign-clause-nests
+pair-requires-in-Assign-clause-nests g c = c.requires.nests
 
-pub assignment-requires-clause-left : goal.assignment-requires-clause-left
-assignment-requires-clause-left g c = first_within c.args.form.now _ _ _ _ c.args.self.now.depth c.in-Assign-None-default-default.is (assign_levels _ _ _) (ap expr_levels c.get-in-Assign-None-default-default.ensures) c.requires.deep
+pub pair-requires-in-Assign-clause-left : goal.pair-requires-in-Assign-clause-left
+pair-requires-in-Assign-clause-left g c = first_within c.args.form.now _ _ _ _ c.args.self.now.depth c.in-Assign.is (assign_levels c.in-Assign.op c.in-Assign.left c.in-Assign.right) (ap expr_levels c.get-in-Assign.ensures) c.requires.deep
 
-pub assignment-requires-clause-right : goal.assignment-requires-clause-right
-assignment-requires-clause-right g c = second_within c.args.form.now _ _ _ _ c.args.self.now.depth c.in-Assign-None-default-default.is (assign_levels _ _ _) (ap expr_levels c.get-in-Assign-None-default-default-2.ensures) c.requires.deep
+pub pair-requires-in-Assign-clause-right : goal.pair-requires-in-Assign-clause-right
+pair-requires-in-Assign-clause-right g c = second_within c.args.form.now _ _ _ _ c.args.self.now.depth c.in-Assign.is (assign_levels c.in-Assign.op c.in-Assign.left c.in-Assign.right) (ap expr_levels c.get-in-Assign-2.ensures) c.requires.deep
 
-pub update-requires-clause-nests : goal.update-requires-clause-nests
-update-requires-clause-nests g c = c.requires.nests
+pub returns-in-Assign : goal.returns-in-Assign
+returns-in-Assign g c =
+    form_alike c.args.self.now.abi c.args.node.number c.args.node.place (Assign c.in-Assign.op c.get-in-Assign.result.now c.get-in-Assign-2.result.now) (out-ExprForm c.args.form.now) c.args.context.now _ c.pair-in-Assign.result
+    ((λ i. Assign c.in-Assign.op (c.get-in-Assign.ensures i) (c.get-in-Assign-2.ensures i)) ∙ sym (ap out-ExprForm c.in-Assign.is ∙ outs-Assign c.in-Assign.op c.in-Assign.left c.in-Assign.right)) c.pair-in-Assign.ensures
 
-pub update-requires-clause-left : goal.update-requires-clause-left
-update-requires-clause-left g c = first_within c.args.form.now _ _ _ _ c.args.self.now.depth c.in-Assign-Some-default-default.is (assign_levels _ _ _) (ap expr_levels c.get-in-Assign-Some-default-default.ensures) c.requires.deep
+pub single-requires-in-Count-clause-nests : goal.single-requires-in-Count-clause-nests
+single-requires-in-Count-clause-nests g c = c.requires.nests
 
-pub update-requires-clause-right : goal.update-requires-clause-right
-update-requires-clause-right g c = second_within c.args.form.now _ _ _ _ c.args.self.now.depth c.in-Assign-Some-default-default.is (assign_levels _ _ _) (ap expr_levels c.get-in-Assign-Some-default-default-2.ensures) c.requires.deep
-
-pub count-requires-clause-nests : goal.count-requires-clause-nests
-count-requires-clause-nests g c = c.requires.nests
-
-pub count-requires-clause-arg : goal.count-requires-clause-arg
-count-requires-clause-arg g c = one_within c.args.form.now _ _ _ c.args.self.now.depth c.in-Count.is (count_levels c.in-Count.up c.in-Count.after c.in-Count.arg) (ap expr_levels c.get-in-Count.ensures) c.requires.deep
+pub single-requires-in-Count-clause-arg : goal.single-requires-in-Count-clause-arg
+single-requires-in-Count-clause-arg g c = one_within c.args.form.now _ _ _ c.args.self.now.depth c.in-Count.is (count_levels c.in-Count.up c.in-Count.after c.in-Count.arg) (ap expr_levels c.get-in-Count.ensures) c.requires.deep
 
 pub returns-in-Count : goal.returns-in-Count
-returns-in-Count g c = form_alike c.args.self.now.abi c.args.node.number c.args.node.place (Count c.in-Count.up c.in-Count.after c.get-in-Count.result.now) (out-ExprForm c.args.form.now) c.args.context.now _ c.count.result
-    (ap (Count c.in-Count.up c.in-Count.after) c.get-in-Count.ensures ∙ sym (ap out-ExprForm c.in-Count.is ∙ outs-Count c.in-Count.up c.in-Count.after c.in-Count.arg)) (c.count.ensures c.in-Count.up c.in-Count.after)
+returns-in-Count g c =
+    form_alike c.args.self.now.abi c.args.node.number c.args.node.place (Count c.in-Count.up c.in-Count.after c.get-in-Count.result.now) (out-ExprForm c.args.form.now) c.args.context.now _ c.single-in-Count.result
+    (ap (Count c.in-Count.up c.in-Count.after) c.get-in-Count.ensures ∙ sym (ap out-ExprForm c.in-Count.is ∙ outs-Count c.in-Count.up c.in-Count.after c.in-Count.arg)) c.single-in-Count.ensures
+
+pub single-requires-in-SizeOf-clause-nests : goal.single-requires-in-SizeOf-clause-nests
+single-requires-in-SizeOf-clause-nests g c = c.requires.nests
+
+pub single-requires-in-SizeOf-clause-arg : goal.single-requires-in-SizeOf-clause-arg
+single-requires-in-SizeOf-clause-arg g c = one_within c.args.form.now _ _ _ c.args.self.now.depth c.in-SizeOf.is (size_levels c.in-SizeOf.arg) (ap expr_levels c.get-in-SizeOf.ensures) c.requires.deep
+
+pub returns-in-SizeOf : goal.returns-in-SizeOf
+returns-in-SizeOf g c =
+    form_alike c.args.self.now.abi c.args.node.number c.args.node.place (SizeOf c.get-in-SizeOf.result.now) (out-ExprForm c.args.form.now) c.args.context.now _ c.single-in-SizeOf.result
+    (ap SizeOf c.get-in-SizeOf.ensures ∙ sym (ap out-ExprForm c.in-SizeOf.is ∙ outs-SizeOf c.in-SizeOf.arg)) c.single-in-SizeOf.ensures
+
+pub pair-requires-in-Index-clause-nests : goal.pair-requires-in-Index-clause-nests
+pair-requires-in-Index-clause-nests g c = c.requires.nests
+
+pub pair-requires-in-Index-clause-left : goal.pair-requires-in-Index-clause-left
+pair-requires-in-Index-clause-left g c = first_within c.args.form.now _ _ _ _ c.args.self.now.depth c.in-Index.is (index_levels c.in-Index.base c.in-Index.index) (ap expr_levels c.get-in-Index.ensures) c.requires.deep
+
+pub pair-requires-in-Index-clause-right : goal.pair-requires-in-Index-clause-right
+pair-requires-in-Index-clause-right g c = second_within c.args.form.now _ _ _ _ c.args.self.now.depth c.in-Index.is (index_levels c.in-Index.base c.in-Index.index) (ap expr_levels c.get-in-Index-2.ensures) c.requires.deep
+
+pub returns-in-Index : goal.returns-in-Index
+returns-in-Index g c =
+    form_alike c.args.self.now.abi c.args.node.number c.args.node.place (Index c.get-in-Index.result.now c.get-in-Index-2.result.now) (out-ExprForm c.args.form.now) c.args.context.now _ c.pair-in-Index.result
+    ((λ i. Index (c.get-in-Index.ensures i) (c.get-in-Index-2.ensures i)) ∙ sym (ap out-ExprForm c.in-Index.is ∙ outs-Index c.in-Index.base c.in-Index.index)) c.pair-in-Index.ensures
+
+pub single-requires-in-Member-clause-nests : goal.single-requires-in-Member-clause-nests
+single-requires-in-Member-clause-nests g c = c.requires.nests
+
+pub single-requires-in-Member-clause-arg : goal.single-requires-in-Member-clause-arg
+single-requires-in-Member-clause-arg g c = one_within c.args.form.now _ _ _ c.args.self.now.depth c.in-Member.is (member_levels c.in-Member.base c.in-Member.name c.in-Member.through) (ap expr_levels c.get-in-Member.ensures) c.requires.deep
+
+pub returns-in-Member : goal.returns-in-Member
+returns-in-Member g c =
+    form_alike c.args.self.now.abi c.args.node.number c.args.node.place (ExprForm::Member c.get-in-Member.result.now c.in-Member.name c.in-Member.through) (out-ExprForm c.args.form.now) c.args.context.now _ c.single-in-Member.result
+    (ap (λ (base : Expr). ExprForm::Member base c.in-Member.name c.in-Member.through) c.get-in-Member.ensures ∙ sym (ap out-ExprForm c.in-Member.is ∙ outs-ExprForm::Member c.in-Member.base c.in-Member.name c.in-Member.through)) c.single-in-Member.ensures
 
 pub choice-requires-clause-nests : goal.choice-requires-clause-nests
 choice-requires-clause-nests g c = c.requires.nests
@@ -102,17 +136,6 @@ returns-in-Cast g c =
     form_alike c.args.self.now.abi c.args.node.number c.args.node.place (Cast c.get-in-Cast.result.now c.get-in-Cast-2.result.now) (out-ExprForm c.args.form.now) c.args.context.now _ c.cast.result
     ((λ i. Cast (c.get-in-Cast.ensures i) (c.get-in-Cast-2.ensures i)) ∙ sym (ap out-ExprForm c.in-Cast.is ∙ outs-Cast c.in-Cast.to c.in-Cast.arg)) c.cast.ensures
 
-pub size-requires-clause-nests : goal.size-requires-clause-nests
-size-requires-clause-nests g c = c.requires.nests
-
-pub size-requires-clause-arg : goal.size-requires-clause-arg
-size-requires-clause-arg g c = one_within c.args.form.now _ _ _ c.args.self.now.depth c.in-SizeOf.is (size_levels c.in-SizeOf.arg) (ap expr_levels c.get-in-SizeOf.ensures) c.requires.deep
-
-pub returns-in-SizeOf : goal.returns-in-SizeOf
-returns-in-SizeOf g c =
-    form_alike c.args.self.now.abi c.args.node.number c.args.node.place (SizeOf c.get-in-SizeOf.result.now) (out-ExprForm c.args.form.now) c.args.context.now _ c.size.result
-    (ap SizeOf c.get-in-SizeOf.ensures ∙ sym (ap out-ExprForm c.in-SizeOf.is ∙ outs-SizeOf c.in-SizeOf.arg)) c.size.ensures
-
 pub type_size-requires-clause-nests : goal.type_size-requires-clause-nests
 type_size-requires-clause-nests g c = c.requires.nests
 
@@ -137,32 +160,6 @@ pub returns-in-OffsetOf : goal.returns-in-OffsetOf
 returns-in-OffsetOf g c =
     form_alike c.args.self.now.abi c.args.node.number c.args.node.place (OffsetOf c.get-in-OffsetOf.result.now c.as_slice-in-OffsetOf.result.now) (out-ExprForm c.args.form.now) c.args.context.now _ c.offset.result
     ((λ i. OffsetOf (c.get-in-OffsetOf.ensures i) (c.as_slice-in-OffsetOf.ensures i)) ∙ sym (ap out-ExprForm c.in-OffsetOf.is ∙ outs-OffsetOf c.in-OffsetOf.to c.in-OffsetOf.path)) c.offset.ensures
-
-pub subscript-requires-clause-nests : goal.subscript-requires-clause-nests
-subscript-requires-clause-nests g c = c.requires.nests
-
-pub subscript-requires-clause-base : goal.subscript-requires-clause-base
-subscript-requires-clause-base g c = first_within c.args.form.now _ _ _ _ c.args.self.now.depth c.in-Index.is (index_levels c.in-Index.base c.in-Index.index) (ap expr_levels c.get-in-Index.ensures) c.requires.deep
-
-pub subscript-requires-clause-index : goal.subscript-requires-clause-index
-subscript-requires-clause-index g c = second_within c.args.form.now _ _ _ _ c.args.self.now.depth c.in-Index.is (index_levels c.in-Index.base c.in-Index.index) (ap expr_levels c.get-in-Index-2.ensures) c.requires.deep
-
-pub returns-in-Index : goal.returns-in-Index
-returns-in-Index g c =
-    form_alike c.args.self.now.abi c.args.node.number c.args.node.place (Index c.get-in-Index.result.now c.get-in-Index-2.result.now) (out-ExprForm c.args.form.now) c.args.context.now _ c.subscript.result
-    ((λ i. Index (c.get-in-Index.ensures i) (c.get-in-Index-2.ensures i)) ∙ sym (ap out-ExprForm c.in-Index.is ∙ outs-Index c.in-Index.base c.in-Index.index)) c.subscript.ensures
-
-pub member-requires-clause-nests : goal.member-requires-clause-nests
-member-requires-clause-nests g c = c.requires.nests
-
-pub member-requires-clause-base : goal.member-requires-clause-base
-member-requires-clause-base g c = one_within c.args.form.now _ _ _ c.args.self.now.depth c.in-Member-default-default-false.is (member_levels _ _ _) (ap expr_levels c.get-in-Member-default-default-false.ensures) c.requires.deep
-
-pub pointed_member-requires-clause-nests : goal.pointed_member-requires-clause-nests
-pointed_member-requires-clause-nests g c = c.requires.nests
-
-pub pointed_member-requires-clause-base : goal.pointed_member-requires-clause-base
-pointed_member-requires-clause-base g c = one_within c.args.form.now _ _ _ c.args.self.now.depth c.in-Member-default-default-true.is (member_levels _ _ _) (ap expr_levels c.get-in-Member-default-default-true.ensures) c.requires.deep
 
 pub call-requires-clause-nests : goal.call-requires-clause-nests
 call-requires-clause-nests g c = c.requires.nests

@@ -1,6 +1,8 @@
 -- The constants of an enum, one behind the other.
 use Rattle.std.proofs.Common.{arith}
 use Rattle.expressions.proofs.Enumerators.{enumerators_start, enumerators_next, enumerators_refused, enumerators_end}
+use Rattle.ctrees.specs.Levels.{enumerator_levels}
+use Rattle.expressions.proofs.EachItem.{each_item}
 use Rattle.expressions.proofs.checker.Checker.listed.Goals as goal
 
 pub loop-constant-init : goal.loop-constant-init
@@ -20,3 +22,6 @@ returns g c = enumerators_end c.args.self.now.abi c.args.values.now c.loop-const
 
 pub enumerator-requires-clause-nests : goal.enumerator-requires-clause-nests
 enumerator-requires-clause-nests g c = c.requires.nests
+
+pub enumerator-requires-clause-deep : goal.enumerator-requires-clause-deep
+enumerator-requires-clause-deep g c = each_item enumerator_levels c.args.self.now.depth c.args.values.now c.loop-constant.constant-index c.constant-item.result c.requires.deep c.loop-constant-test.true c.constant-item.is

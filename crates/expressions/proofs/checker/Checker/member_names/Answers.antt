@@ -2,6 +2,8 @@
 use Rattle.std.proofs.Common.{arith}
 use Rattle.typing.specs.Typing.{NamesAre, MemberIs}
 use Rattle.expressions.specs.Numbers.{named_at}
+use Rattle.ctrees.specs.Levels.{field_name_levels}
+use Rattle.expressions.proofs.EachItem.{each_item}
 use Rattle.expressions.proofs.checker.Checker.member_names.Goals as goal
 use Rattle.expressions.proofs.Growth.{below_grows}
 use Rattle.expressions.proofs.StructMembers.{where_passes, names_in_order, behind_start, behind_next, behind_refused, behind_end}
@@ -41,3 +43,6 @@ returns-clause-members g c = c.loop-name.invariant.1
 
 pub returns-in-Ok-Refused-clause-members : goal.returns-in-Ok-Refused-clause-members
 returns-in-Ok-Refused-clause-members g c = tt
+
+pub declared_member-requires-clause-deep : goal.declared_member-requires-clause-deep
+declared_member-requires-clause-deep g c = each_item field_name_levels c.args.self.now.depth c.args.names.now c.loop-name.name-index c.name-item.result c.requires.deep c.loop-name-test.true c.name-item.is

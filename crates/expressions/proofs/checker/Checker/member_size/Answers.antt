@@ -1,4 +1,7 @@
 -- A size of a member.
+use Rattle.std.proofs.Common.{◌≤◌, Option, subst}
+use Rattle.cbase.specs.declared.tree.expr.Expr.{Expr}
+use Rattle.ctrees.specs.Levels.{maybe_levels}
 use Rattle.expressions.proofs.checker.Checker.member_size.Goals as goal
 use Rattle.expressions.proofs.MemberSizes.{size_left_out, size_fixed, size_stops}
 
@@ -15,3 +18,6 @@ returns-in-Ok-Refused g c = size_stops c.args.self.now.abi c.args.context.now c.
 
 pub array_size-requires-clause-nests : goal.array_size-requires-clause-nests
 array_size-requires-clause-nests g c = c.requires.nests
+
+pub array_size-requires-clause-deep : goal.array_size-requires-clause-deep
+array_size-requires-clause-deep g c = subst (λ (given : Option Expr). maybe_levels given ≤ c.args.self.now.depth) c.in-Some.is c.requires.deep

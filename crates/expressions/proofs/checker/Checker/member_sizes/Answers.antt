@@ -1,5 +1,7 @@
 -- The sizes of a member, one behind the other.
 use Rattle.std.proofs.Common.{arith}
+use Rattle.ctrees.specs.Levels.{maybe_levels}
+use Rattle.expressions.proofs.EachItem.{each_item}
 use Rattle.expressions.proofs.checker.Checker.member_sizes.Goals as goal
 use Rattle.expressions.proofs.MemberSizes.{sizes_start, sizes_next, sizes_refused, sizes_end}
 
@@ -19,3 +21,6 @@ returns g c = sizes_end c.args.self.now.abi c.args.sizes.now c.loop-size.found.i
 
 pub member_size-requires-clause-nests : goal.member_size-requires-clause-nests
 member_size-requires-clause-nests g c = c.requires.nests
+
+pub member_size-requires-clause-deep : goal.member_size-requires-clause-deep
+member_size-requires-clause-deep g c = each_item maybe_levels c.args.self.now.depth c.args.sizes.now c.loop-size.size-index c.size-item.result c.requires.deep c.loop-size-test.true c.size-item.is

@@ -1,6 +1,8 @@
 -- The statements of a block, one behind the other.
 use Rattle.std.proofs.Common.{arith, eq-eqb}
 use borrow.Author.Tests.{eqb-true}
+use Rattle.ctrees.specs.Levels.{stmt_levels}
+use Rattle.expressions.proofs.EachItem.{each_item}
 use Rattle.expressions.proofs.checker.Checker.statements.Goals as goal
 use Rattle.expressions.proofs.Blocks.{statements_start, statements_next, statements_refused, statements_value, statements_end}
 
@@ -27,3 +29,6 @@ ask_statement-requires-clause-nests g c = c.requires.nests
 
 pub last_value-requires-clause-nests : goal.last_value-requires-clause-nests
 last_value-requires-clause-nests g c = c.requires.nests
+
+pub ask_statement-requires-clause-deep : goal.ask_statement-requires-clause-deep
+ask_statement-requires-clause-deep g c = each_item stmt_levels c.args.self.now.depth c.args.body.now c.loop-at.at c.index-body-at.result c.requires.deep c.loop-at-test.true c.index-body-at.is

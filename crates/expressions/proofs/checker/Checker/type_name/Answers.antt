@@ -1,3 +1,4 @@
+use Rattle.expressions.proofs.EachItem.{spec_within}
 use Rattle.expressions.proofs.WholeTypeNames.{sizes_within, sizes_of, words_refused, sizes_stop, base_below, type_named, declares_now}
 use Rattle.expressions.proofs.checker.Checker.type_name.Goals as goal
 
@@ -29,3 +30,6 @@ words-requires-clause-nests g c = c.requires.nests
 
 pub sizes-requires-clause-nests : goal.sizes-requires-clause-nests
 sizes-requires-clause-nests g c = c.requires.nests
+
+pub words-requires-clause-deep : goal.words-requires-clause-deep
+words-requires-clause-deep g c = spec_within c.args.to.now c.args.self.now.depth c.requires.deep

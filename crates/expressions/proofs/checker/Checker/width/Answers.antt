@@ -1,4 +1,7 @@
 -- The width of a member.
+use Rattle.std.proofs.Common.{◌≤◌, Option, subst}
+use Rattle.cbase.specs.declared.tree.expr.Expr.{Expr}
+use Rattle.ctrees.specs.Levels.{maybe_levels}
 use Rattle.expressions.proofs.checker.Checker.width.Goals as goal
 use Rattle.expressions.proofs.MemberSizes.{no_width, width_passes, width_refused}
 
@@ -15,3 +18,6 @@ returns-in-Ok-Refused g c = width_refused c.args.self.now.abi c.args.context.now
 
 pub loaded-requires-clause-nests : goal.loaded-requires-clause-nests
 loaded-requires-clause-nests g c = c.requires.nests
+
+pub loaded-requires-clause-deep : goal.loaded-requires-clause-deep
+loaded-requires-clause-deep g c = subst (λ (given : Option Expr). maybe_levels given ≤ c.args.self.now.depth) c.in-Some.is c.requires.deep

@@ -2,19 +2,20 @@
 use Rattle.cbase.specs.declared.tree.expr.ExprForm.TheOpen.{Basic, Named, Struct, Enum, OfExpr}
 use Rattle.std.proofs.Common.{Some, None}
 use Rattle.expressions.proofs.checker.Checker.words.Goals as goal
+use Rattle.expressions.proofs.TypeParts.{typeof_told}
 use Rattle.expressions.proofs.TypeWords.{layered, typeof_type, struct_layer, enum_layer, struct_alone_layer, enum_alone_layer, basic_layer, named_layer, typeof_expr_layer, typeof_layer}
 
 pub returns-in-Some : goal.returns-in-Some
-returns-in-Some g c = layered c.args.self.now.abi c.args.context.now c.ask_members.new.context c.args.spec.now (Struct c.in-Struct.name (Some c.in-Some.fields)) c.ask_members.result
-    (struct_layer c.args.spec.now c.in-Struct.name c.in-Struct.fields c.in-Some.fields c.in-Struct.is c.in-Some.is) c.ask_members.ensures
+returns-in-Some g c = layered c.args.self.now.abi c.args.context.now c.ask_type.new.context c.args.spec.now (Struct c.in-Struct.name (Some c.in-Some.fields)) c.ask_type.result
+    (struct_layer c.args.spec.now c.in-Struct.name c.in-Struct.fields c.in-Some.fields c.in-Struct.is c.in-Some.is) c.ask_type.ensures
 
 pub returns-in-Some-values : goal.returns-in-Some-values
-returns-in-Some-values g c = layered c.args.self.now.abi c.args.context.now c.ask_enumerators.new.context c.args.spec.now (Enum c.in-Enum.name (Some c.in-Some-values.values)) c.ask_enumerators.result
-    (enum_layer c.args.spec.now c.in-Enum.name c.in-Enum.values c.in-Some-values.values c.in-Enum.is c.in-Some-values.is) c.ask_enumerators.ensures
+returns-in-Some-values g c = layered c.args.self.now.abi c.args.context.now c.ask_type-in-Some-values.new.context c.args.spec.now (Enum c.in-Enum.name (Some c.in-Some-values.values)) c.ask_type-in-Some-values.result
+    (enum_layer c.args.spec.now c.in-Enum.name c.in-Enum.values c.in-Some-values.values c.in-Enum.is c.in-Some-values.is) c.ask_type-in-Some-values.ensures
 
 pub returns-in-OfType : goal.returns-in-OfType
-returns-in-OfType g c = typeof_type c.args.self.now.abi c.args.context.now c.ask_type_name.new.context c.args.spec.now c.in-OfType.to c.ask_type_name.result
-    (typeof_layer c.args.spec.now c.in-OfType.to c.in-OfType.is) (rw c.get-in-OfType.ensures at c.ask_type_name.ensures)
+returns-in-OfType g c = typeof_type c.args.self.now.abi c.args.context.now c.ask_type-in-OfType.new.context c.args.spec.now c.in-OfType.to c.ask_type-in-OfType.result
+    (typeof_layer c.args.spec.now c.in-OfType.to c.in-OfType.is) (rw c.get-in-OfType.ensures at c.ask_type-in-OfType.ensures)
 
 pub returns-in-Basic : goal.returns-in-Basic
 returns-in-Basic g c = layered c.args.self.now.abi c.args.context.now c.basic.new.context c.args.spec.now (Basic c.in-Basic.basic_type) c.basic.result
@@ -41,17 +42,26 @@ returns-in-None-name-2 g c = layered c.args.self.now.abi c.args.context.now c.no
     (enum_alone_layer c.args.spec.now c.in-Enum.name _ c.in-Enum.values c.in-Enum.is c.in-None-values.is c.in-None-name-2.is) (c.nothing-in-None-name-2.ensures.of_enum c.args.self.now.abi)
 
 pub returns-in-OfExpr : goal.returns-in-OfExpr
-returns-in-OfExpr g c = layered c.args.self.now.abi c.args.context.now c.type_of.new.context c.args.spec.now (OfExpr c.get.result.now) c.type_of.result
-    (typeof_expr_layer c.args.spec.now c.in-OfExpr.expr c.get.result.now c.in-OfExpr.is c.get.ensures) (c.type_of.ensures)
+returns-in-OfExpr g c = layered c.args.self.now.abi c.args.context.now c.ask_expression.new.context c.args.spec.now (OfExpr c.get.result.now) c.typeof_expression.result
+    (typeof_expr_layer c.args.spec.now c.in-OfExpr.expr c.get.result.now c.in-OfExpr.is c.get.ensures) (typeof_told c.args.self.now.abi c.args.context.now c.ask_expression.new.context c.get.result.now c.ask_expression.result c.typeof_expression.result c.typeof_expression.ensures c.ask_expression.ensures)
 
-pub ask_members-requires-clause-nests : goal.ask_members-requires-clause-nests
-ask_members-requires-clause-nests g c = c.requires.nests
+pub ask_type-requires-clause-nests : goal.ask_type-requires-clause-nests
+ask_type-requires-clause-nests g c = c.requires.nests
 
-pub ask_enumerators-requires-clause-nests : goal.ask_enumerators-requires-clause-nests
-ask_enumerators-requires-clause-nests g c = c.requires.nests
+pub ask_type-requires-clause-of_type : goal.ask_type-requires-clause-of_type
+ask_type-requires-clause-of_type g c = tt
 
-pub ask_type_name-requires-clause-nests : goal.ask_type_name-requires-clause-nests
-ask_type_name-requires-clause-nests g c = c.requires.nests
+pub ask_type-requires-in-Some-values-clause-nests : goal.ask_type-requires-in-Some-values-clause-nests
+ask_type-requires-in-Some-values-clause-nests g c = c.requires.nests
 
-pub type_of-requires-clause-nests : goal.type_of-requires-clause-nests
-type_of-requires-clause-nests g c = c.requires.nests
+pub ask_type-requires-in-Some-values-clause-of_type : goal.ask_type-requires-in-Some-values-clause-of_type
+ask_type-requires-in-Some-values-clause-of_type g c = tt
+
+pub ask_type-requires-in-OfType-clause-nests : goal.ask_type-requires-in-OfType-clause-nests
+ask_type-requires-in-OfType-clause-nests g c = c.requires.nests
+
+pub ask_type-requires-in-OfType-clause-of_type : goal.ask_type-requires-in-OfType-clause-of_type
+ask_type-requires-in-OfType-clause-of_type g c = tt
+
+pub ask_expression-requires-clause-nests : goal.ask_expression-requires-clause-nests
+ask_expression-requires-clause-nests g c = c.requires.nests

@@ -54,3 +54,15 @@ unconverted-converted-requires-clause-known c = c.requires.known
 
 pub signature-signature-requires : goal.signature-signature-requires
 signature-signature-requires c = c.requires.signature
+
+pub has_struct-requires-clause-result : goal.has_struct-requires-clause-result
+has_struct-requires-clause-result c = c.signature-signature.ensures.below.0
+
+pub has_struct-requires-clause-params : goal.has_struct-requires-clause-params
+has_struct-requires-clause-params c = c.signature-signature.ensures.below.1
+
+pub length_fault-lengths-requires-clause-params : goal.length_fault-lengths-requires-clause-params
+length_fault-lengths-requires-clause-params c = rw c.as_slice-params.ensures c.signature-signature.ensures.below.1
+
+pub unconverted-converted-requires-clause-params : goal.unconverted-converted-requires-clause-params
+unconverted-converted-requires-clause-params c = rw c.as_slice-params.ensures c.signature-signature.ensures.below.1

@@ -5,6 +5,7 @@ use Rattle.typing.specs.Calls.{inconstant_lengths, lengths_of, is_length, is_con
 use Rattle.typing.specs.Faults.{unless}
 use Rattle.expressions.specs.Settled.{IsFirstOf}
 use Rattle.expressions.proofs.EachArgument.{next_asked, all_asked}
+use Rattle.expressions.proofs.SoFar.{none_so_far}
 use Rattle.expressions.proofs.nodes.arguments.inconstant_length.Goals as goal
 
 pub loop-at-preserved : goal.loop-at-preserved
@@ -23,3 +24,6 @@ pub returns : goal.returns
 returns c n structs =
     all_asked (inconstant_lengths (lengths_of c.args.name.now)) (λ at args. refl) (λ at param params. refl)
     n structs c.args.params.now c.args.args.now c.args.known.now c.loop-at.at _ c.loop-at.first (omega arith) (c.loop-at.invariant n structs)
+
+pub loop-at-init : goal.loop-at-init
+loop-at-init c n structs = none_so_far _

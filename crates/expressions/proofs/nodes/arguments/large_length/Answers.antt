@@ -4,7 +4,8 @@ use Rattle.operators.specs.declared.found.Broken.TheVariants.{Construct}
 use Rattle.typing.specs.Calls.{large_lengths, lengths_of, is_length, is_small, length_in}
 use Rattle.typing.specs.Faults.{unless}
 use Rattle.expressions.specs.Settled.{IsFirstOf}
-use Rattle.expressions.proofs.EachArgument.{next_asked, all_asked}
+use Rattle.expressions.proofs.EachArgument.{past_known, next_asked, all_asked}
+use Rattle.expressions.proofs.SoFar.{none_so_far}
 use Rattle.expressions.proofs.nodes.arguments.large_length.Goals as goal
 
 pub loop-at-preserved : goal.loop-at-preserved
@@ -23,3 +24,12 @@ pub returns : goal.returns
 returns c n agrees =
     all_asked (large_lengths (lengths_of c.args.name.now)) (λ at args. refl) (λ at param params. refl)
     n c.args.context.now.structs c.args.params.now c.args.args.now c.args.known.now c.loop-at.at _ c.loop-at.first (omega arith) (c.loop-at.invariant n agrees)
+
+pub length_in-requires-clause-param : goal.length_in-requires-clause-param
+length_in-requires-clause-param c = c.requires.params c.loop-at.at 0 (omega arith)
+
+pub length_in-requires-clause-one : goal.length_in-requires-clause-one
+length_in-requires-clause-one c = c.requires.known c.loop-at.at past_known (omega (arith, c.requires.count))
+
+pub loop-at-init : goal.loop-at-init
+loop-at-init c n agrees = none_so_far _

@@ -8,6 +8,7 @@ use Rattle.typing.specs.Faults.{unless}
 use Rattle.expressions.specs.declared.known.Known.{Known as KnownByNumber}
 use Rattle.expressions.specs.Settled.{IsFirstOf}
 use Rattle.expressions.proofs.EachArgument.{past_known, next_asked, all_asked}
+use Rattle.expressions.proofs.SoFar.{none_so_far}
 use Rattle.expressions.proofs.nodes.arguments.unconverted.Goals as goal
 
 pub loop-at-preserved : goal.loop-at-preserved
@@ -27,3 +28,12 @@ pub returns : goal.returns
 returns c n agrees =
     all_asked (λ at. unconverted) (λ at args. refl) (λ at param params. refl)
     n c.args.context.now.structs c.args.params.now c.args.args.now c.args.known.now c.loop-at.at _ c.loop-at.first (omega arith) (c.loop-at.invariant n agrees)
+
+pub converts-fits-requires-clause-to : goal.converts-fits-requires-clause-to
+converts-fits-requires-clause-to c = c.requires.params c.loop-at.at 0 (omega arith)
+
+pub converts-fits-requires-clause-operand : goal.converts-fits-requires-clause-operand
+converts-fits-requires-clause-operand c = rw c.operand.ensures (c.requires.known c.loop-at.at past_known (omega (arith, c.requires.count)))
+
+pub loop-at-init : goal.loop-at-init
+loop-at-init c n agrees = none_so_far _

@@ -12,3 +12,18 @@ returns c =
     (settled_behind _ (λ n. plain (n.ctype (n.signature number).result)) c.args.node.number old old c.settle.new.context (only_none old) c.call_fault-broken.result c.plain.result
     c.call_fault-broken.ensures (λ n agrees. c.plain.ensures.is n ∙ ap plain (c.result_of-result.ensures.is n agrees)))
     c.settle.ensures
+
+pub call_fault-broken-requires-clause-signature : goal.call_fault-broken-requires-clause-signature
+call_fault-broken-requires-clause-signature c = c.requires.signature
+
+pub call_fault-broken-requires-clause-known : goal.call_fault-broken-requires-clause-known
+call_fault-broken-requires-clause-known c = c.requires.known
+
+pub call_fault-broken-requires-clause-count : goal.call_fault-broken-requires-clause-count
+call_fault-broken-requires-clause-count c = c.requires.count
+
+pub result_of-result-requires : goal.result_of-result-requires
+result_of-result-requires c = c.requires.signature
+
+pub settle-requires : goal.settle-requires
+settle-requires c = rw c.plain.ensures.ctype c.result_of-result.ensures.below

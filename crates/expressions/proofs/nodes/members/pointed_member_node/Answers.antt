@@ -7,12 +7,12 @@ use Rattle.typing.specs.Idiom.{through}
 use Rattle.typing.specs.Known.{Known, located}
 use Rattle.typing.specs.Nodes.{pointed_offset}
 use Rattle.expressions.specs.Numbers.{operand_at}
-use Rattle.expressions.proofs.Judging.{each_judged}
+use Rattle.expressions.proofs.Judging.{each_finished, answer_below}
 use Rattle.expressions.proofs.nodes.members.pointed_member_node.Goals as goal
 
 pub returns : goal.returns
 returns c = λ abi.
-    each_judged c.finish_member.result _ _ _ _ c.located-rest.result _ _ _ _ c.in_ok-outcome.outcome c.in_ok-outcome.ensures
+    each_finished c.finish_member.result _ _ _ _ c.located-rest.result _ _ _ _ c.pointed_member.result c.pointed_member.ensures
     (λ n i. member_through c.args.context.now.structs (operand_at n c.args.context.now.structs (c.operand.ensures i)).kind (c.as_slice-2.ensures i))
     (λ n agrees t.
     let kind = kind_of c.args.context.now.structs (n.ctype c.args.base.ctype) in
@@ -20,3 +20,6 @@ returns c = λ abi.
     ap (λ (k : Known). record k { ctype = t }) (c.located-rest.ensures.is n)
     ∙ ap (λ (idiom : Idiom). located idiom t) (c.through.ensures ∙ ap (through c.args.base.idiom) offset))
     c.finish_member.ensures
+
+pub finish_member-requires : goal.finish_member-requires
+finish_member-requires c = answer_below _ _ _ c.pointed_member.result c.pointed_member.ensures

@@ -35,3 +35,15 @@ returns-in-At-clause-is c abi n path agrees =
     subst (λ (step : Step). LeadsOn abi structs c.args.word n (step ∷ path) (drop from.indices indices) from way) (sym is)
     (subst (λ (left : List ℕ). LeadsOn abi structs c.args.word n (IndexedStep c.in-At.field-0 ∷ path) left from way) (sym next) leads))
     (c.item_step.ensures.is abi n c.in-At.field-0 path rest agrees)
+
+pub member_step-requires : goal.member_step-requires
+member_step-requires c = c.requires.ctype
+
+pub item_step-requires-clause-ctype : goal.item_step-requires-clause-ctype
+item_step-requires-clause-ctype c = c.requires.ctype
+
+pub returns-in-Member-clause-below : goal.returns-in-Member-clause-below
+returns-in-Member-clause-below c = c.member_step.ensures.below
+
+pub returns-in-At-clause-below : goal.returns-in-At-clause-below
+returns-in-At-clause-below c = c.item_step.ensures.below

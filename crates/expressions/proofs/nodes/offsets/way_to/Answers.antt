@@ -1,4 +1,4 @@
-use Rattle.std.proofs.Common.{◌≡◌, ◌-◌, List, ◌∷◌, drop, take, map, length, sym, ap, ◌∙◌, subst}
+use Rattle.std.proofs.Common.{refl, ◌≡◌, ◌-◌, List, ◌∷◌, drop, take, map, length, sym, ap, ◌∙◌, subst}
 use Rattle.cbase.specs.declared.tree.expr.ExprForm.TheOpen.{Part::Member as NamedStep, At as IndexedStep}
 use Rattle.cbase.specs.declared.tree.expr.ExprForm.TheViews.{out-Part, outs-Part::Member, outs-At}
 use Rattle.cbase.specs.declared.tree.expr.Part.{Part}
@@ -56,3 +56,12 @@ leads-requires-in-At-clause-ctype c = c.requires.ctype
 
 pub leads-requires-in-At-clause-indices : goal.leads-requires-in-At-clause-indices
 leads-requires-in-At-clause-indices c = c.requires.indices
+
+pub leads-requires-in-At-clause-none : goal.leads-requires-in-At-clause-none
+leads-requires-in-At-clause-none c = refl
+
+pub leads-requires-clause-ctype : goal.leads-requires-clause-ctype
+leads-requires-clause-ctype c = c.in-Ok.ensures.below
+
+pub leads-requires-clause-none : goal.leads-requires-clause-none
+leads-requires-clause-none c = c.in-Ok.ensures.indices
