@@ -1,7 +1,6 @@
 -- The names that may be typedefs' stay right for the scopes.
-use Rattle.std.proofs.Common.{◌≡◌, ℕ, zero, suc, Bool, true, false, refl, ap, sym, subst, ◌∙◌, List, [], ◌∷◌, ◌++◌, get_or, Option, None, Some, is_some, Result, Ok, Err, OnOk, OnErr}
+use Rattle.std.proofs.Common.{◌≡◌, ℕ, zero, suc, Bool, true, false, refl, ap, sym, subst, ◌∙◌, List, [], ◌∷◌, get_or, Option, None, Some, is_some, Result, Ok, Err, OnOk, OnErr}
 use Rattle.std.specs.Str.{bytes_eq}
-use Rattle.std.specs.Prelude.{if◌then◌else◌}
 use Rattle.std.proofs.lemmas.Slice.Eq.{bytes_eq-Decides}
 use Rattle.cgrammar.specs.NameTables.{value_in, with_value}
 use Rattle.cgrammar.specs.Scope.{Names, says_typedef, is_typedef_name, first_answer, found, declared, declared_around, left, entered}

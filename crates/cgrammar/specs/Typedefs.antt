@@ -1,6 +1,6 @@
 -- The names that may be those of typedefs: each name that a scope declares as a typedef is among them. One may be among them that
 -- no scope declares as a typedef any more.
-use Rattle.std.specs.Prelude.{◌≡◌, ℕ, Bool, true, List, [], is_some, slice_index_or, Some}
+use Rattle.std.specs.Prelude.{◌≡◌, ℕ, true, List, [], is_some, slice_index_or, Some}
 use Rattle.cgrammar.specs.NameTables.{value_in}
 use Rattle.cgrammar.specs.Scope.{Names}
 

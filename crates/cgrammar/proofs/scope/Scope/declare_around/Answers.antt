@@ -1,4 +1,4 @@
-use Rattle.std.proofs.Common.{ℕ, List, [], slice_index_or}
+use Rattle.std.proofs.Common.{List, [], slice_index_or}
 use Rattle.cgrammar.specs.Bounds.{IsBounded}
 use Rattle.cgrammar.specs.Scope.{Names, declared_around}
 use Rattle.cgrammar.specs.Typedefs.{HasTypedefs}
