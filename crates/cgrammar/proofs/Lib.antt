@@ -17,6 +17,7 @@ pub mod Integers
 pub mod Labels
 pub mod Matching
 pub mod Scopes
+pub mod TypedefNames
 pub mod Stacks
 pub mod StarRows
 pub mod TokenReadings

@@ -27,6 +27,7 @@ pub mod Reader
 pub mod Readings
 pub mod Rows
 pub mod Scope
+pub mod Typedefs
 pub mod Starts
 pub mod Terminals
 pub mod TokenReadings

@@ -23,6 +23,7 @@ mod tables;
 mod terminal;
 mod terminals;
 mod texts;
+mod typedefs;
 
 pub use basic_words::{BasicWords, read_basic_words};
 pub use closers::matched_length;

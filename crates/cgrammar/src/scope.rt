@@ -3,6 +3,7 @@ ghost use Rattle.cgrammar.specs.Scope.{found, is_typedef_name, declared, declare
 
 use crate::bounds::Bounds;
 use crate::names::Names;
+use crate::typedefs::Typedefs;
 use cbase::NoMemory;
 use std::alloc::Global;
 use std::marker::Model;
@@ -17,6 +18,9 @@ pub struct Scope {
 
     // Where a look-up begins, so that it does not go through each scope.
     bounds: Bounds,
+
+    // The names that may be typedefs', so that no other is looked up in the scopes.
+    typedefs: Typedefs,
 }
 
 impl Model for Scope {
@@ -25,10 +29,11 @@ impl Model for Scope {
     ghost Value = { List (List (List ℕ × Bool)) };
 
     ghost use Rattle.cgrammar.specs.Bounds.{AreBounds};
+    ghost use Rattle.cgrammar.specs.Typedefs.{HasTypedefs};
 
     ghost view = { λ scope. scope.sets.items };
 
-    ghost invariant = { λ scope. AreBounds scope.sets.items scope.bounds.levels.items };
+    ghost invariant = { λ scope. AreBounds scope.sets.items scope.bounds.levels.items × HasTypedefs scope.sets.items scope.typedefs.names };
 }
 
 impl Scope {
@@ -41,6 +46,7 @@ impl Scope {
         Ok(Scope {
             sets,
             bounds: Bounds::new(alloc)?,
+            typedefs: Typedefs::new(alloc),
         })
     }
 
@@ -58,7 +64,7 @@ impl Scope {
     }
 
     /// Leaves the innermost scope, with all names that it declares. Where there is no scope it changes nothing.
-    #[tactic(auto, using(crate::proofs::Scopes::left_take))]
+    #[tactic(auto, using(crate::proofs::Scopes::left_take, crate::proofs::TypedefNames::known_left))]
     pub fn leave(&mut self)
         ensures { self.new ≡ left self.old }
     {
@@ -72,6 +78,7 @@ impl Scope {
         ensures ok { OnOk result (self.new ≡ declared name.now typedef self.old) }
         ensures err { OnErr result (self.new ≡ self.old) }
     {
+        self.typedefs.declare(alloc, name, typedef)?;
         self.bounds.declare(alloc, name)?;
         declare_last(alloc, &mut self.sets, name, typedef)
     }
@@ -87,6 +94,7 @@ impl Scope {
         ensures ok { OnOk result (self.new ≡ declared_around name.now typedef self.old) }
         ensures err { OnErr result (self.new ≡ self.old) }
     {
+        self.typedefs.declare(alloc, name, typedef)?;
         self.bounds.declare_around(alloc, name)?;
         declare_around_last(alloc, &mut self.sets, name, typedef)
     }
@@ -98,16 +106,16 @@ impl Scope {
         Ok(Scope {
             sets: copied(alloc, self.sets.as_slice())?,
             bounds: self.bounds.copied(alloc)?,
+            typedefs: self.typedefs.copied()?,
         })
     }
 
-    /// Whether the innermost scope that has the name declares it as a typedef. Where few scopes are open a look-up goes through
-    /// them all.
+    /// Whether the innermost scope that has the name declares it as a typedef. Most names are no typedef's in any scope.
     pub fn is_typedef(&self, name: &[u8]) -> bool
         ensures { result ≡ is_typedef_name self.now name.now }
     {
-        if self.sets.len() < 3 {
-            return found(self.sets.as_slice(), name).unwrap_or(false);
+        if !self.typedefs.may_have(name) {
+            return false;
         }
         let bound = self.bounds.bound(name).min(self.sets.len());
         found(&self.sets.as_slice()[..bound], name).unwrap_or(false)
