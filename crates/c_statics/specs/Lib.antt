@@ -1,0 +1,3 @@
+pub mod MainHere
+pub mod Nodes
+pub mod Weights
