@@ -1,6 +1,15 @@
+pub mod Powers
 pub mod WordKinds
+pub mod Rows
 pub mod MatchRows
+pub mod Verdicts
+pub mod Refusals
 pub mod Verdict
 pub mod Steps
 pub mod OneWord
 pub mod Exact
+pub mod ReplayRows
+pub mod ReplaySteps
+pub mod ReplayWord
+pub mod ReplayExact
+pub mod ReplayExamples

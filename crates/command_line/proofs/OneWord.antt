@@ -2,14 +2,17 @@
 use Rattle.std.proofs.Common.{◌≡◌, ◌∙◌, Bool, true, false, refl, sym, ap, subst, List, [], ◌∷◌, Option, Some, None, codes}
 use Rattle.std.specs.Str.{IsUtf8, bytes_eq}
 use Rattle.clap.specs.Walk.{Held, Row, Walk, has_row, idle, option, settled, used, walked}
-use Rattle.clap.specs.Faults.{settle_fault, turn_fault, use_fault}
+use Rattle.clap.specs.Faults.{settle_fault, use_fault}
 use Rattle.clap.specs.Kinds.{or_else}
 use Rattle.command_line.specs.CommandLine.{Next, anything, budget_value, files, int_limit_value}
-use Rattle.command_line.specs.CommandLine.{Word}
+use Rattle.command_line.specs.Words.{Word}
 use Rattle.command_line.proofs.WordKinds.{IsLong, IsPlain, Kind, ends, is_long, is_plain, is_short, kind_of_word}
-use Rattle.command_line.proofs.MatchRows.{Holds, budget_rule, file_rule, holds_budget, holds_file, holds_int_limit, int_limit_rule, new_row, no_row, row_for, some_row}
-use Rattle.command_line.proofs.Verdict.{IsRefused, Pending, file_fault, file_held, held, refused_first, refused_second, rules, shape, verdict, walk_at}
-use Rattle.command_line.proofs.Steps.{Settles, Stands, Step, doomed_files, doomed_idle, dooms, end_idle, end_waiting, goes, refuses, seen_is, short_fault_idle, short_fault_waiting, walk_of}
+use Rattle.command_line.proofs.Rows.{new_row, no_row, row_for, some_row}
+use Rattle.command_line.proofs.MatchRows.{Holds, budget_rule, file_rule, holds_budget, holds_file, holds_int_limit, int_limit_rule}
+use Rattle.command_line.proofs.Verdicts.{IsRefused, Pending, held, refused_first, refused_second, verdict}
+use Rattle.command_line.proofs.Refusals.{end_idle, end_waiting, long_waiting, short_idle, short_waiting}
+use Rattle.command_line.proofs.Verdict.{file_fault, file_held, place, rules, shape, walk_at}
+use Rattle.command_line.proofs.Steps.{Settles, Stands, Step, doomed_files, doomed_idle, dooms, goes, refuses, seen_is, walk_of}
 
 -- ---- file
 
@@ -153,11 +156,11 @@ free_plain (Some old) b k rows p st word q = refuses (rw (q.no_end, q.no_hyphen)
 free_word : (f b k : Option Word) (rows : List Row) (p : Pending) → Settles f b k rows p → (word : Word) → Kind word
     → Step (seen_is f b k anything) (walk_at (held rows p) idle f false) word
 free_word f b k rows p st word (ends is) = subst (Step (seen_is f b k anything) (walk_at (held rows p) idle f false)) (sym is)
-    (goes (seen_is f b k files) rows p refl refl (end_idle (held rows p) f) st)
+    (goes (seen_is f b k files) rows p refl refl (end_idle rules (held rows p) (place f)) st)
 free_word f b k rows p st word (is_long name given l) =
     free_long f b k rows p st word name given l (bytes_eq (codes "budget") name) refl (bytes_eq (codes "int-limit") name) refl
 free_word f b k rows p st word (is_short letter flag flags s) =
-    refuses (rw (s.no_end, s.hyphen, s.no_budget, s.no_int_limit) refl) (short_fault_idle rows p f word letter flag flags s)
+    refuses (rw (s.no_end, s.hyphen, s.no_option (codes "budget"), s.no_option (codes "int-limit")) refl) (short_idle shape (λ x. refl) rows p (place f) word letter flag flags s)
 free_word f b k rows p st word (is_plain q) = free_plain f b k rows p st word q
 
 -- ---- each word is FILE
@@ -173,15 +176,6 @@ file_word (Some old) b k rows p st word = refuses refl tt
 
 -- ---- an option waits for its value
 
-budget_long : (f b k : Option Word) (rows : List Row) (word name : Word) (given : Option Word) → IsLong word name given
-    → (t : Bool) → bytes_eq (codes "budget") name ≡ t → (u : Bool) → bytes_eq (codes "int-limit") name ≡ u
-    → IsRefused (turn_fault shape [] (walk_at (held rows (Some (codes "budget", []))) (option (codes "budget")) f false) word)
-budget_long f b k rows word name None l true is_b u is_k = rw (l.no_end, l.long, is_b) tt
-budget_long f b k rows word name (Some x) l true is_b u is_k = rw (l.no_end, l.long, is_b) tt
-budget_long f b k rows word name None l false is_b true is_k = rw (l.no_end, l.long, is_b, is_k) tt
-budget_long f b k rows word name (Some x) l false is_b true is_k = rw (l.no_end, l.long, is_b, is_k) tt
-budget_long f b k rows word name given l false is_b false is_k = rw (l.no_end, l.long, is_b, is_k) tt
-
 budget_plain : (f b k : Option Word) (rows : List Row) → Holds f b k rows → (word : Word) → IsPlain word
     → Step (seen_is f b k budget_value) (walk_at (held rows (Some (codes "budget", []))) (option (codes "budget")) f false) word
 unfolding walked
@@ -192,29 +186,20 @@ budget_plain f (Some old) k rows h word q =
     let w = walk_at (held rows (Some (codes "budget", []))) (option (codes "budget")) f false in
     let there : has_row (codes "budget") rows ≡ true = some_row (codes "budget") rows (row_for (codes "budget") old) h.budget_row in
     let goes_to : walked rules [] w word ≡ walk_at (held rows (Some (codes "budget", word ∷ []))) idle f false = rw (q.no_end, q.no_long, q.no_short) refl in
-    dooms (rw q.no_hyphen refl) (λ rest texts. subst (λ (v : Walk). IsRefused (verdict v rest)) (sym goes_to)
+    dooms (rw q.no_hyphen refl) (λ rest texts. subst (λ (v : Walk). IsRefused (verdict shape v rest)) (sym goes_to)
     (doomed_idle rows (Some (codes "budget", word ∷ [])) f (budget_again word rows there) rest texts))
 
 budget_word : (f b k : Option Word) (rows : List Row) → Holds f b k rows → (word : Word) → Kind word
     → Step (seen_is f b k budget_value) (walk_at (held rows (Some (codes "budget", []))) (option (codes "budget")) f false) word
 budget_word f b k rows h word (ends is) =
     let w = walk_at (held rows (Some (codes "budget", []))) (option (codes "budget")) f false in
-    subst (Step (seen_is f b k budget_value) w) (sym is) (dooms refl (λ rest texts. subst (λ (v : Walk). IsRefused (verdict v rest))
-    (sym (end_waiting (held rows (Some (codes "budget", []))) (codes "budget") f)) (doomed_files (held rows (Some (codes "budget", []))) (option (codes "budget")) f tt rest)))
+    subst (Step (seen_is f b k budget_value) w) (sym is) (dooms refl (λ rest texts. subst (λ (v : Walk). IsRefused (verdict shape v rest))
+    (sym (end_waiting rules (held rows (Some (codes "budget", []))) (codes "budget") (place f))) (doomed_files (held rows (Some (codes "budget", []))) (option (codes "budget")) f tt rest)))
 budget_word f b k rows h word (is_long name given l) = refuses (rw l.hyphen refl)
-    (budget_long f b k rows word name given l (bytes_eq (codes "budget") name) refl (bytes_eq (codes "int-limit") name) refl)
+    (long_waiting shape (held rows (Some (codes "budget", []))) (codes "budget") (place f) word name given l tt)
 budget_word f b k rows h word (is_short letter flag flags s) = refuses (rw s.hyphen refl)
-    (short_fault_waiting rows (Some (codes "budget", [])) (codes "budget") f word letter flag flags s)
+    (short_waiting shape (λ x. refl) rows (Some (codes "budget", [])) (codes "budget") (place f) word letter flag flags s)
 budget_word f b k rows h word (is_plain q) = budget_plain f b k rows h word q
-
-int_limit_long : (f b k : Option Word) (rows : List Row) (word name : Word) (given : Option Word) → IsLong word name given
-    → (t : Bool) → bytes_eq (codes "budget") name ≡ t → (u : Bool) → bytes_eq (codes "int-limit") name ≡ u
-    → IsRefused (turn_fault shape [] (walk_at (held rows (Some (codes "int-limit", []))) (option (codes "int-limit")) f false) word)
-int_limit_long f b k rows word name None l true is_b u is_k = rw (l.no_end, l.long, is_b) tt
-int_limit_long f b k rows word name (Some x) l true is_b u is_k = rw (l.no_end, l.long, is_b) tt
-int_limit_long f b k rows word name None l false is_b true is_k = rw (l.no_end, l.long, is_b, is_k) tt
-int_limit_long f b k rows word name (Some x) l false is_b true is_k = rw (l.no_end, l.long, is_b, is_k) tt
-int_limit_long f b k rows word name given l false is_b false is_k = rw (l.no_end, l.long, is_b, is_k) tt
 
 int_limit_plain : (f b k : Option Word) (rows : List Row) → Holds f b k rows → (word : Word) → IsPlain word
     → Step (seen_is f b k int_limit_value) (walk_at (held rows (Some (codes "int-limit", []))) (option (codes "int-limit")) f false) word
@@ -226,19 +211,19 @@ int_limit_plain f b (Some old) rows h word q =
     let w = walk_at (held rows (Some (codes "int-limit", []))) (option (codes "int-limit")) f false in
     let there : has_row (codes "int-limit") rows ≡ true = some_row (codes "int-limit") rows (row_for (codes "int-limit") old) h.int_limit_row in
     let goes_to : walked rules [] w word ≡ walk_at (held rows (Some (codes "int-limit", word ∷ []))) idle f false = rw (q.no_end, q.no_long, q.no_short) refl in
-    dooms (rw q.no_hyphen refl) (λ rest texts. subst (λ (v : Walk). IsRefused (verdict v rest)) (sym goes_to)
+    dooms (rw q.no_hyphen refl) (λ rest texts. subst (λ (v : Walk). IsRefused (verdict shape v rest)) (sym goes_to)
     (doomed_idle rows (Some (codes "int-limit", word ∷ [])) f (int_limit_again word rows there) rest texts))
 
 int_limit_word : (f b k : Option Word) (rows : List Row) → Holds f b k rows → (word : Word) → Kind word
     → Step (seen_is f b k int_limit_value) (walk_at (held rows (Some (codes "int-limit", []))) (option (codes "int-limit")) f false) word
 int_limit_word f b k rows h word (ends is) =
     let w = walk_at (held rows (Some (codes "int-limit", []))) (option (codes "int-limit")) f false in
-    subst (Step (seen_is f b k int_limit_value) w) (sym is) (dooms refl (λ rest texts. subst (λ (v : Walk). IsRefused (verdict v rest))
-    (sym (end_waiting (held rows (Some (codes "int-limit", []))) (codes "int-limit") f)) (doomed_files (held rows (Some (codes "int-limit", []))) (option (codes "int-limit")) f tt rest)))
+    subst (Step (seen_is f b k int_limit_value) w) (sym is) (dooms refl (λ rest texts. subst (λ (v : Walk). IsRefused (verdict shape v rest))
+    (sym (end_waiting rules (held rows (Some (codes "int-limit", []))) (codes "int-limit") (place f))) (doomed_files (held rows (Some (codes "int-limit", []))) (option (codes "int-limit")) f tt rest)))
 int_limit_word f b k rows h word (is_long name given l) = refuses (rw l.hyphen refl)
-    (int_limit_long f b k rows word name given l (bytes_eq (codes "budget") name) refl (bytes_eq (codes "int-limit") name) refl)
+    (long_waiting shape (held rows (Some (codes "int-limit", []))) (codes "int-limit") (place f) word name given l tt)
 int_limit_word f b k rows h word (is_short letter flag flags s) = refuses (rw s.hyphen refl)
-    (short_fault_waiting rows (Some (codes "int-limit", [])) (codes "int-limit") f word letter flag flags s)
+    (short_waiting shape (λ x. refl) rows (Some (codes "int-limit", [])) (codes "int-limit") (place f) word letter flag flags s)
 int_limit_word f b k rows h word (is_plain q) = int_limit_plain f b k rows h word q
 
 -- ---- whatever may come

@@ -1,66 +1,23 @@
 -- One word, by the rule and by the parser.
-use Rattle.std.proofs.Common.{◌≡◌, ℕ, Bool, true, false, refl, sym, subst, List, [], ◌∷◌, Option, Some, None, codes}
-use Rattle.std.specs.Str.{IsUtf8, bytes_eq}
-use Rattle.clap.specs.Walk.{Held, Row, Text, Waiting, Walk, idle, option, settled, walked}
-use Rattle.clap.specs.Faults.{flags_fault, settle_fault, turn_fault, use_fault}
-use Rattle.clap.specs.Kinds.{or_else}
+use Rattle.std.proofs.Common.{◌≡◌, true, false, refl, sym, subst, List, [], ◌∷◌, Option, Some, None, codes}
+use Rattle.clap.specs.Walk.{Held, Row, Waiting, Walk, idle, option, settled, walked}
+use Rattle.clap.specs.Faults.{settle_fault, turn_fault}
 use Rattle.command_line.specs.CommandLine.{Next, anything, budget_value, files, int_limit_value}
-use Rattle.command_line.specs.CommandLine.{Seen, Word, after_word}
-use Rattle.command_line.proofs.WordKinds.{IsLong, IsPlain, IsShort, Kind, ends, is_long, is_plain, is_short, kind_of_word}
-use Rattle.command_line.proofs.MatchRows.{Holds, budget_rule, int_limit_rule}
-use Rattle.command_line.proofs.Verdict.{IsRefused, Pending, file_fault, held, refused_first, refused_later, refused_turn, rules, shape, verdict, verdict_end, walk_at}
-
-abbrev pub AreTexts : List Word → Type 0
-AreTexts [] = Unit {0}
-AreTexts (word ∷ rest) = IsUtf8 word × AreTexts rest
+use Rattle.command_line.specs.CommandLine.{Seen, after_word}
+use Rattle.command_line.specs.Words.{Word}
+use Rattle.command_line.proofs.WordKinds.{IsPlain, Kind, ends, is_long, is_plain, is_short, kind_of_word}
+use Rattle.command_line.proofs.MatchRows.{Holds}
+use Rattle.command_line.proofs.Verdicts.{AreTexts, IsRefused, Pending, held, refused_later, refused_turn, verdict, verdict_end}
+use Rattle.command_line.proofs.Refusals.{end_idle, long_idle, short_idle}
+use Rattle.command_line.proofs.Verdict.{file_fault, place, rules, shape, walk_at}
 
 -- ---- where what is pending fails, no later word mends it
 
 pub doomed_files : (h : Held) (waiting : Waiting) (file : Option Word) → IsRefused (settle_fault rules false h) → (words : List Word)
-    → IsRefused (verdict (walk_at h waiting file true) words)
-doomed_files h waiting file bad [] = rw (verdict_end (walk_at h waiting file true)) bad
-doomed_files h waiting None bad (word ∷ rest) = refused_turn (walk_at h waiting None true) word rest (subst IsRefused (sym (file_fault h)) bad)
-doomed_files h waiting (Some file) bad (word ∷ rest) = refused_turn (walk_at h waiting (Some file) true) word rest tt
-
-pub end_idle : (h : Held) (file : Option Word) → walked rules [] (walk_at h idle file false) (45 ∷ 45 ∷ []) ≡ walk_at h idle file true
-unfolding walked
-end_idle h file = refl
-
-pub end_waiting : (h : Held) (id : Text) (file : Option Word) → walked rules [] (walk_at h (option id) file false) (45 ∷ 45 ∷ []) ≡ walk_at h (option id) file true
-unfolding walked
-end_waiting h id file = refl
-
--- an option's word fails with what is pending, or by itself
-doomed_long : (h : Held) (file : Option Word) (word name : Word) (given : Option Word) → IsLong word name given → IsRefused (settle_fault rules false h)
-    → (b : Bool) → bytes_eq (codes "budget") name ≡ b → (k : Bool) → bytes_eq (codes "int-limit") name ≡ k → IsRefused (turn_fault shape [] (walk_at h idle file false) word)
-doomed_long h file word name None l bad true is_b k is_k =
-    let here : IsRefused (or_else (settle_fault rules false h) []) = refused_first (settle_fault rules false h) [] bad in
-    rw (l.no_end, l.long, is_b) here
-doomed_long h file word name (Some value) l bad true is_b k is_k =
-    let fault = use_fault false budget_rule (value ∷ []) (settled rules h).rows in
-    let first : IsRefused (or_else (settle_fault rules false h) fault) = refused_first (settle_fault rules false h) fault bad in
-    let here : IsRefused (or_else (or_else (settle_fault rules false h) fault) []) = refused_first (or_else (settle_fault rules false h) fault) [] first in
-    rw (l.no_end, l.long, is_b) here
-doomed_long h file word name None l bad false is_b true is_k =
-    let here : IsRefused (or_else (settle_fault rules false h) []) = refused_first (settle_fault rules false h) [] bad in
-    rw (l.no_end, l.long, is_b, is_k) here
-doomed_long h file word name (Some value) l bad false is_b true is_k =
-    let fault = use_fault false int_limit_rule (value ∷ []) (settled rules h).rows in
-    let first : IsRefused (or_else (settle_fault rules false h) fault) = refused_first (settle_fault rules false h) fault bad in
-    let here : IsRefused (or_else (or_else (settle_fault rules false h) fault) []) = refused_first (or_else (settle_fault rules false h) fault) [] first in
-    rw (l.no_end, l.long, is_b, is_k) here
-doomed_long h file word name given l bad false is_b false is_k = rw (l.no_end, l.long, is_b, is_k) tt
-
--- a word with one hyphen is no option
-pub short_fault_idle : (rows : List Row) (pending : Pending) (file : Option Word) (word : Word) (letter flag : ℕ) (flags : Word) → IsShort word letter flag flags
-    → IsRefused (turn_fault shape [] (walk_at (held rows pending) idle file false) word)
-unfolding flags_fault
-short_fault_idle rows pending file word letter flag flags s = rw (s.no_end, s.no_long, s.short, s.letter_is) tt
-
-pub short_fault_waiting : (rows : List Row) (pending : Pending) (id : Text) (file : Option Word) (word : Word) (letter flag : ℕ) (flags : Word) → IsShort word letter flag flags
-    → IsRefused (turn_fault shape [] (walk_at (held rows pending) (option id) file false) word)
-unfolding flags_fault
-short_fault_waiting rows pending id file word letter flag flags s = rw (s.no_end, s.no_long, s.short, s.letter_is) tt
+    → IsRefused (verdict shape (walk_at h waiting file true) words)
+doomed_files h waiting file bad [] = rw (verdict_end shape (walk_at h waiting file true)) bad
+doomed_files h waiting None bad (word ∷ rest) = refused_turn shape (walk_at h waiting None true) word rest (subst IsRefused (sym (file_fault h)) bad)
+doomed_files h waiting (Some file) bad (word ∷ rest) = refused_turn shape (walk_at h waiting (Some file) true) word rest tt
 
 doomed_plain : (h : Held) (file : Option Word) (word : Word) → IsPlain word → IsRefused (settle_fault rules false h) → IsRefused (turn_fault shape [] (walk_at h idle file false) word)
 doomed_plain h None word q bad =
@@ -69,23 +26,23 @@ doomed_plain h None word q bad =
 doomed_plain h (Some file) word q bad = rw (q.no_end, q.no_long, q.no_short) tt
 
 doomed_word : (rows : List Row) (pending : Pending) (file : Option Word) → IsRefused (settle_fault rules false (held rows pending)) → (word : Word) → Kind word → (rest : List Word)
-    → IsRefused (verdict (walk_at (held rows pending) idle file false) (word ∷ rest))
+    → IsRefused (verdict shape (walk_at (held rows pending) idle file false) (word ∷ rest))
 doomed_word rows pending file bad word (ends is) rest =
     let w = walk_at (held rows pending) idle file false in
     let past = doomed_files (held rows pending) idle file bad rest in
-    let later = subst (λ (v : Walk). IsRefused (verdict v rest)) (sym (end_idle (held rows pending) file)) past in
-    subst (λ (x : Word). IsRefused (verdict w (x ∷ rest))) (sym is) (refused_later w (45 ∷ 45 ∷ []) rest later)
+    let later = subst (λ (v : Walk). IsRefused (verdict shape v rest)) (sym (end_idle rules (held rows pending) (place file))) past in
+    subst (λ (x : Word). IsRefused (verdict shape w (x ∷ rest))) (sym is) (refused_later shape w (45 ∷ 45 ∷ []) rest later)
 doomed_word rows pending file bad word (is_long name given l) rest =
-    refused_turn (walk_at (held rows pending) idle file false) word rest
-    (doomed_long (held rows pending) file word name given l bad (bytes_eq (codes "budget") name) refl (bytes_eq (codes "int-limit") name) refl)
+    refused_turn shape (walk_at (held rows pending) idle file false) word rest
+    (long_idle shape (held rows pending) (place file) word name given l bad)
 doomed_word rows pending file bad word (is_short letter flag flags s) rest =
-    refused_turn (walk_at (held rows pending) idle file false) word rest (short_fault_idle rows pending file word letter flag flags s)
+    refused_turn shape (walk_at (held rows pending) idle file false) word rest (short_idle shape (λ x. refl) rows pending (place file) word letter flag flags s)
 doomed_word rows pending file bad word (is_plain q) rest =
-    refused_turn (walk_at (held rows pending) idle file false) word rest (doomed_plain (held rows pending) file word q bad)
+    refused_turn shape (walk_at (held rows pending) idle file false) word rest (doomed_plain (held rows pending) file word q bad)
 
 pub doomed_idle : (rows : List Row) (pending : Pending) (file : Option Word) → IsRefused (settle_fault rules false (held rows pending)) → (words : List Word) → AreTexts words
-    → IsRefused (verdict (walk_at (held rows pending) idle file false) words)
-doomed_idle rows pending file bad [] texts = rw (verdict_end (walk_at (held rows pending) idle file false)) bad
+    → IsRefused (verdict shape (walk_at (held rows pending) idle file false) words)
+doomed_idle rows pending file bad [] texts = rw (verdict_end shape (walk_at (held rows pending) idle file false)) bad
 doomed_idle rows pending file bad (word ∷ rest) texts = doomed_word rows pending file bad word (kind_of_word word texts.0) rest
 
 -- ---- where the rule and the parser stand between two words
@@ -115,4 +72,4 @@ pub data Step (seen : Seen) (w : Walk) (word : Word) : Type 0 where
   goes : (later : Seen) (rows : List Row) (pending : Pending) → after_word seen word ≡ Some later → turn_fault shape [] w word ≡ []
       → walked rules [] w word ≡ walk_of later.next later.file rows pending → Stands later.next later.file later.budget later.int_limit rows pending → Step seen w word
   refuses : after_word seen word ≡ None → IsRefused (turn_fault shape [] w word) → Step seen w word
-  dooms : after_word seen word ≡ None → ((rest : List Word) → AreTexts rest → IsRefused (verdict (walked rules [] w word) rest)) → Step seen w word
+  dooms : after_word seen word ≡ None → ((rest : List Word) → AreTexts rest → IsRefused (verdict shape (walked rules [] w word) rest)) → Step seen w word

@@ -1,12 +1,12 @@
 -- The four kinds of word: the mark `--`, a long option, a short one, and a plain word.
-use Rattle.std.proofs.Common.{◌≡◌, ◌∙◌, ◌<◌, ◌+◌, ◌==◌, ℕ, Bool, true, false, suc, cond, refl, sym, ap, subst, arith, List, [], ◌∷◌, length, take, drop, Option, Some, None, codes, true≢false}
+use Rattle.std.proofs.Common.{◌≡◌, ◌∙◌, ◌<◌, ◌+◌, ◌==◌, ℕ, Bool, true, false, suc, cond, refl, sym, ap, subst, arith, List, [], ◌∷◌, length, take, drop, Option, Some, None, true≢false}
 use Rattle.std.specs.Prelude.{slice_get, encode_utf8_all}
 use Rattle.std.specs.List.{list_any, position_or_len, before_first}
 use Rattle.std.specs.Str.{IsUtf8, bytes_eq, chars}
 use Rattle.std.proofs.lemmas.Bool.{eq-eqb, eqb-true}
 use Rattle.std.proofs.lemmas.Str.{IsCharBoundary-after_ascii, IsUtf8-drop, chars-encodes}
 use Rattle.clap.specs.Lexer.{long_of, short_of}
-use Rattle.command_line.specs.CommandLine.{Word, has_hyphen, is_end_of_options, is_equals, option_name, option_value}
+use Rattle.command_line.specs.Words.{Word, has_hyphen, is_end_of_options, is_equals, option_name, option_value}
 
 pub record IsLong (word name : Word) (given : Option Word) : Type 0 where
   pub no_end : is_end_of_options word ≡ false
@@ -21,8 +21,7 @@ pub record IsShort (word : Word) (letter : ℕ) (flag : ℕ) (flags : Word) : Ty
   pub no_long : long_of word ≡ None
   pub short : short_of word ≡ Some (flag ∷ flags)
   pub letter_is : slice_get (chars (flag ∷ flags)) 0 ≡ Some letter
-  pub no_budget : bytes_eq (codes "--budget") (option_name word) ≡ false
-  pub no_int_limit : bytes_eq (codes "--int-limit") (option_name word) ≡ false
+  pub no_option : (name : Word) → bytes_eq (45 ∷ 45 ∷ name) (option_name word) ≡ false
 
 pub record IsPlain (word : Word) : Type 0 where
   pub no_end : is_end_of_options word ≡ false
@@ -100,8 +99,7 @@ short_word y ys other found = record {
   no_long = rw other refl;
   short = rw other refl;
   letter_is = found.1;
-  no_budget = other_name y ys (codes "budget") (is_equals y) refl other;
-  no_int_limit = other_name y ys (codes "int-limit") (is_equals y) refl other;
+  no_option = λ name. other_name y ys name (is_equals y) refl other;
 }
 
 -- ---- every word is of one kind

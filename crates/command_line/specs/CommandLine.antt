@@ -1,38 +1,10 @@
 -- Which words `predator [--budget N] [--int-limit K] FILE` takes, and what they ask for.
-use Rattle.std.specs.Prelude.{◌==◌, ℕ, Bool, true, false, List, [], ◌∷◌, Option, Some, None}
+use Rattle.std.specs.Prelude.{ℕ, Bool, true, false, List, [], ◌∷◌, Option, Some, None}
 use Rattle.std.specs.Prelude.{if◌then◌else◌, codes, option_and_then, option_map}
-use Rattle.std.specs.List.{list_any, before_first, after_first}
 use Rattle.std.specs.Str.{bytes_eq}
 use Rattle.command_line.specs.Numbers.{number_or}
+use Rattle.command_line.specs.Words.{Word, has_hyphen, is_end_of_options, once, option_name, option_value}
 use Rattle.command_line.specs.declared.command.Command.{Command}
-
--- a word is its bytes
-abbrev pub Word : Type 0
-Word = List ℕ
-
--- ---- one word by itself
-
--- `--`
-abbrev pub is_end_of_options : Word → Bool
-is_end_of_options word = bytes_eq word (codes "--")
-
--- the word begins with `-` (45) and has more bytes
-abbrev pub has_hyphen : Word → Bool
-has_hyphen (first ∷ second ∷ rest) = first == 45
-has_hyphen _ = false
-
--- `=` (61)
-abbrev pub is_equals : ℕ → Bool
-is_equals byte = byte == 61
-
--- what stands before the first `=` of an option's word
-abbrev pub option_name : Word → Word
-option_name word = before_first is_equals word
-
--- what stands behind it, where there is one
-abbrev pub option_value : Word → Option Word
-option_value word =
-    if list_any is_equals word then Some (after_first is_equals word) else None
 
 -- ---- what the words so far have given
 
@@ -53,11 +25,6 @@ pub record Seen : Type 0 where
 -- before the first word
 abbrev pub nothing_seen : Seen
 nothing_seen = record { file = None; budget = None; int_limit = None; next = anything }
-
--- a place that one word may fill
-abbrev pub once : Option Word → Word → Option Word
-once None word = Some word
-once (Some earlier) word = None
 
 -- the word is FILE, of which there is one
 abbrev pub with_file : Seen → Option Word → Option Seen
@@ -143,6 +110,10 @@ is_settled budget_value = false
 is_settled int_limit_value = false
 is_settled files = true
 
+-- the most digits that N and K have
+abbrev pub most_digits : ℕ
+most_digits = 6
+
 -- the least N, how many states are kept at most
 abbrev pub least_budget : ℕ
 least_budget = 1
@@ -176,8 +147,8 @@ command_with _ _ _ = None
 -- the command of the words that were given for FILE and for the two options
 abbrev pub command_from : Option Word → Option Word → Option Word → Option Command
 command_from file budget int_limit = command_with file
-    (number_or default_budget least_budget most_budget budget)
-    (number_or default_int_limit least_int_limit most_int_limit int_limit)
+    (number_or most_digits default_budget least_budget most_budget budget)
+    (number_or most_digits default_int_limit least_int_limit most_int_limit int_limit)
 
 -- the command of all the words together
 abbrev pub command_seen : Seen → Option Command

@@ -6,6 +6,9 @@ use crate::parser::parsed;
 use cbase::{NoMemory, Text};
 use std::alloc::Global;
 
+/// The most digits that N and K have.
+const MOST_DIGITS: usize = 6;
+
 /// The least N that `--budget` takes.
 const LEAST_BUDGET: u32 = 1;
 
@@ -46,10 +49,17 @@ fn command_from(
         o ≡ command_from (option_copied file.entry) (option_copied budget.entry)
         (option_copied int_limit.entry)) }
 {
-    let Some(budget) = number_or(DEFAULT_BUDGET, LEAST_BUDGET, MOST_BUDGET, budget) else {
+    let Some(budget) = number_or(
+        MOST_DIGITS,
+        DEFAULT_BUDGET,
+        LEAST_BUDGET,
+        MOST_BUDGET,
+        budget,
+    ) else {
         return Ok(None);
     };
     let Some(int_limit) = number_or(
+        MOST_DIGITS,
         DEFAULT_INT_LIMIT,
         LEAST_INT_LIMIT,
         MOST_INT_LIMIT,

@@ -4,7 +4,12 @@
 #![tactic(auto)]
 
 mod command;
+mod laws;
 mod numbers;
 mod parser;
+mod replay;
+mod replay_parser;
 
 pub use command::{Command, command_of};
+pub use laws::replay_examples_hold;
+pub use replay::{ReplayCommand, replay_command_of};

@@ -2,12 +2,22 @@ ghost use Rattle.std.specs.Prelude.{◌≡◌, ◌≢◌, [], IfNone, IfOk, IfSo
 ghost use Rattle.clap.specs.Words.{app_of, matches_of, rows_of};
 ghost use Rattle.clap.specs.Faults.{fault_of};
 ghost use Rattle.clap.specs.Matches.{found_of};
-ghost use Rattle.command_line.specs.Parser.{predator_app};
+ghost use Rattle.command_line.specs.Parser.{bare_app, predator_app};
 
 use cbase::NoMemory;
 use clap::error::ErrorKind;
 use clap::{Arg, ArgMatches, Command};
 use std::alloc::{AllocError, Global};
+
+/// A parser that takes no word, and answers neither with help nor with a version.
+pub(crate) fn bare<'a>(alloc: Global) -> Command<'a>
+    ensures { app_of result ≡ bare_app }
+{
+    Command::new(alloc, "predator")
+        .no_binary_name(true)
+        .disable_help_flag(true)
+        .disable_version_flag(true)
+}
 
 /// The parser of the words behind the program's name.
 fn parser<'a>(alloc: Global) -> Result<Command<'a>, AllocError>
@@ -16,11 +26,7 @@ fn parser<'a>(alloc: Global) -> Result<Command<'a>, AllocError>
     let budget = Arg::new(alloc, "budget").long("budget");
     let int_limit = Arg::new(alloc, "int-limit").long("int-limit");
     let file = Arg::new(alloc, "file").required(true);
-    let bare = Command::new(alloc, "predator")
-        .no_binary_name(true)
-        .disable_help_flag(true)
-        .disable_version_flag(true);
-    bare.arg(budget)?.arg(int_limit)?.arg(file)
+    bare(alloc).arg(budget)?.arg(int_limit)?.arg(file)
 }
 
 /// What the parser makes of the words, and `None` where it refuses them.

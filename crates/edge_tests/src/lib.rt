@@ -8,6 +8,8 @@ mod files;
 #[cfg(test)]
 mod program;
 #[cfg(test)]
+mod replay_words;
+#[cfg(test)]
 mod replays;
 #[cfg(test)]
 mod reports;

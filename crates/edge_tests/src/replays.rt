@@ -142,7 +142,8 @@ fn each_run_has_its_status(rt: HostRuntime) -> Result<(), Fail> {
         Replayed::Running,
         Replayed::NotYet,
         Replayed::Stuck,
-    ].map(|what| replay_status(&ReplayAnswer::Played { what }));
+    ]
+    .map(|what| replay_status(&ReplayAnswer::Played { what }));
     assert_eq!(rt; statuses, [1, 0, 2, 2, 3, 2]);
     Ok(())
 }
