@@ -1,9 +1,14 @@
 //! `predator [--budget N] [--int-limit K] FILE`: reads a C program and says whether a run of it can misuse memory.
+//!
+//! `predator replay [--model M] [--strict] [--steps N] FILE CHOICES`: says what a run of it does with these choices. A FILE
+//! of the name `replay` is given to the first as `./replay`.
 #![tactic(auto)]
 
-ghost use Rattle.std.specs.Prelude.{◌≡◌, drop};
+ghost use Rattle.std.specs.Prelude.{◌≡◌, drop, map, string_bytes};
+ghost use Rattle.predator.specs.Words.{asks_for_replay};
 
 use outside::{OsFiles, OsSink};
+use replay::replay;
 use report::{Answer, status};
 use std::io::ErrorKind;
 use std::process::ExitCode;
@@ -22,7 +27,11 @@ fn run(rt: &HostRuntime) -> u8 {
     match arguments(rt) {
         Ok(arguments) => {
             let words = words_of(arguments.as_slice());
-            predator(rt.alloc(), words, &mut files, &mut out).status
+            if asks_for_replay(words) {
+                replay(rt.alloc(), words_of(words), &mut files, &mut out).status
+            } else {
+                predator(rt.alloc(), words, &mut files, &mut out).status
+            }
         }
         Err(ErrorKind::OutOfMemory) => status(&Answer::OutOfMemory),
         Err(_) => predator(rt.alloc(), &[], &mut files, &mut out).status,
@@ -38,7 +47,17 @@ fn arguments(rt: &HostRuntime) -> Result<Vec<String>, ErrorKind> {
     }
 }
 
-/// The words behind the program's name.
+/// Whether the first word is `replay`.
+fn asks_for_replay(words: &[String]) -> bool
+    ensures { result ≡ asks_for_replay (map string_bytes words.now) }
+{
+    match words {
+        [] => false,
+        [first, ..] => first.as_bytes() == b"replay",
+    }
+}
+
+/// The words behind the first, which is the program's name or `replay`.
 fn words_of(arguments: &[String]) -> &[String]
     ensures { result.now ≡ drop 1 arguments.now }
 {

@@ -1,0 +1,182 @@
+-- Of two files at most one verdict is true.
+use Rattle.std.proofs.Common.{◌≡◌, ℕ, ◌+◌, ◌<◌, ◌≤◌, ◌⊎◌, Bool, true, false, IsTrue, inl, inr, Option, Some, Result, List, length, ◌↔◌, refl, ap, sym, ◌∙◌, subst, arith}
+use Rattle.cbase.specs.declared.abi.Abi.{Abi}
+use Rattle.cbase.specs.declared.structs.StructDef.{StructDef}
+use Rattle.cbase.specs.declared.tree.item.Item.{Item}
+use Rattle.choices.specs.declared.choice.Choice.{Choice}
+use Rattle.choices.specs.Format.{SpellsChoices}
+use Rattle.command_line.specs.declared.replay.ReplayCommand.{ReplayCommand}
+use Rattle.cread.specs.InOrder.{at_file}
+use Rattle.ctokens.specs.InText.{most_bytes}
+use Rattle.ctokens.specs.Items.{IsItems}
+use Rattle.ctokens.specs.TokenList.{AreTokens, IsLexical}
+use Rattle.ctokens.specs.declared.item_span.Deep.{Deep}
+use Rattle.ctokens.specs.declared.item_span.ItemSpan.{ItemSpan}
+use Rattle.ctokens.specs.declared.token.Lexical.{Lexical}
+use Rattle.ctokens.specs.declared.token.Tokens.{Tokens}
+use Rattle.languages.specs.CLanguage.{Declarations, c_language, c_file}
+use Rattle.typing.specs.Outcomes.{Handed}
+use Rattle.ccheck.specs.declared.refusal.Refusal.{Refusal}
+use Rattle.ccheck.specs.declared.refusal.Refusal.TheVariants as refusal
+use Rattle.ccheck.specs.Checked.{IsRefused, at_beginning}
+use Rattle.ccheck.specs.Needed.{spans_of}
+use Rattle.ccheck.specs.Walk.{HaveOneAnswer}
+use Rattle.c_machine.specs.Program.{Program}
+use Rattle.c_machine.specs.Run.{run_of}
+use Rattle.c_machine.specs.Trees.{text_of}
+use Rattle.report.specs.declared.answer.Why.TheVariants as why
+use Rattle.report.specs.declared.replay_answer.ReplayAnswer.{ReplayAnswer}
+use Rattle.report.specs.declared.replay_answer.ReplayAnswer.TheVariants.{Played, BadChoices, NotRead, Construct, TooLong, Usage, ReadFault, OutOfMemory}
+use Rattle.verdicts.proofs.OneVerdict.{Stage, AtLexical, AtDeep, AtNoMain, AtRead, AtLong, IsStage, one_stage}
+use Rattle.replay.specs.Answered.{IsAnswered}
+use Rattle.replay.proofs.Files.{judged_of}
+use Rattle.replay.specs.Judged.{IsExact, IsVerdict, Judges}
+use Rattle.replay.specs.Program.{IsProgram, what_of}
+use Rattle.replay.specs.Told.{answer_of}
+
+-- what is found of CHOICES
+data Heard : Type 0 where
+  Spelled : (choices : List Choice) → Heard
+  NotSpelled : Heard
+  TooMany : Heard
+
+abbrev IsHeard : List ℕ → Heard → Type 0
+IsHeard second (Spelled choices) = (length second ≤ most_bytes) × SpellsChoices second choices
+IsHeard second NotSpelled = (length second ≤ most_bytes) × ((choices : List Choice) → SpellsChoices second choices → ⊥)
+IsHeard second TooMany = 4194305 ≤ length second
+
+-- what is answered then of a program
+abbrev answer_to : Tokens → Program → ℕ → Heard → ReplayAnswer
+answer_to t p steps (Spelled choices) = Played (what_of t (run_of (text_of p) choices steps))
+answer_to t p steps NotSpelled = BadChoices
+answer_to t p steps TooMany = TooLong 4194305 true
+
+abbrev IsRefusedSo : ReplayCommand → Tokens → List ItemSpan → List ℕ → ReplayAnswer → Type 0
+IsRefusedSo command t items numbers answer =
+    (reason : Refusal) × IsRefused t items numbers command.model command.strict reason × (answer ≡ answer_of reason)
+
+abbrev PassesSo : ReplayCommand → List ℕ → Tokens → List ItemSpan → List ℕ → ReplayAnswer → Type 0
+PassesSo command second t items numbers answer =
+    (p : Program) × (heard : Heard) × IsProgram t items numbers command.model command.strict p × IsHeard second heard
+    × (answer ≡ answer_to t p command.steps heard)
+
+-- what is answered at a stage of FILE
+abbrev Fits : ReplayCommand → List ℕ → Stage → ReplayAnswer → Type 0
+Fits command second (AtLexical place) answer = answer ≡ NotRead (why.Lexical place)
+Fits command second (AtDeep place) answer = answer ≡ NotRead (why.Deep place)
+Fits command second AtNoMain answer = answer ≡ NotRead why.NoMain
+Fits command second (AtRead t items numbers) answer = IsRefusedSo command t items numbers answer ⊎ PassesSo command second t items numbers answer
+Fits command second AtLong answer = answer ≡ TooLong 4194305 false
+
+-- each answer that says something of the files is given at some stage
+stage_of : (command : ReplayCommand) (bytes second : List ℕ) (answer : ReplayAnswer) → IsVerdict answer → Judges command bytes second answer
+    → (stage : Stage) × IsStage command.file bytes stage × Fits command second stage answer
+stage_of command bytes second (Played what) verdict (short, (t, p, choices, holds, spells, is)) =
+    (AtRead t holds.items holds.numbers, (holds.is_short, holds.is_read), inr (p, Spelled choices, holds.is_program, (short, spells), ap Played (sym is)))
+stage_of command bytes second BadChoices verdict (short, (t, p, holds), none) =
+    (AtRead t holds.items holds.numbers, (holds.is_short, holds.is_read), inr (p, NotSpelled, holds.is_program, (short, none), refl))
+stage_of command bytes second (NotRead (why.Lexical place)) verdict judged = (AtLexical place, judged, refl)
+stage_of command bytes second (NotRead (why.Deep place)) verdict judged = (AtDeep place, judged, refl)
+stage_of command bytes second (NotRead why.NoMain) verdict judged = (AtNoMain, judged, refl)
+stage_of command bytes second (NotRead (why.Syntax place)) verdict (short, (t, items, numbers, read, first)) =
+    (AtRead t items numbers, (short, read), inl (refusal.Syntax place, first, refl))
+stage_of command bytes second (NotRead (why.Rule number place)) verdict (short, (t, items, numbers, read, first)) =
+    (AtRead t items numbers, (short, read), inl (refusal.Rule number place, first, refl))
+stage_of command bytes second (Construct number place) verdict (short, (t, items, numbers, read, first)) =
+    (AtRead t items numbers, (short, read), inl (refusal.Construct number place, first, refl))
+stage_of command bytes second (TooLong taken false) verdict (is, inside) = (AtLong, omega (arith, is, inside), ap (λ (n : ℕ). TooLong n false) is)
+stage_of command bytes second (TooLong taken true) verdict (is, inside, (t, p, holds)) = (
+  AtRead t holds.items holds.numbers,
+  (holds.is_short, holds.is_read),
+  inr (p, TooMany, holds.is_program, omega (arith, is, inside), ap (λ (n : ℕ). TooLong n true) is),
+)
+stage_of command bytes second Usage verdict judged = absurd verdict
+stage_of command bytes second ReadFault verdict judged = absurd verdict
+stage_of command bytes second OutOfMemory verdict judged = absurd verdict
+
+abbrev program_with : List Item → List Handed → List StructDef → Abi → Bool → Program
+program_with items handed structs abi strict = record { items = items; handed = handed; structs = structs; abi = abi; strict = strict }
+
+same_fields : (p q : Program) → p.items ≡ q.items → p.handed ≡ q.handed → p.structs ≡ q.structs → p.abi ≡ q.abi → p.strict ≡ q.strict → p ≡ q
+same_fields p q items handed structs abi strict =
+    ap (λ (x : List Item). program_with x p.handed p.structs p.abi p.strict) items
+    ∙ (ap (λ (x : List Handed). program_with q.items x p.structs p.abi p.strict) handed
+    ∙ (ap (λ (x : List StructDef). program_with q.items q.handed x p.abi p.strict) structs
+    ∙ (ap (λ (x : Abi). program_with q.items q.handed q.structs x p.strict) abi
+    ∙ ap (λ (x : Bool). program_with q.items q.handed q.structs q.abi x) strict)))
+
+module _ (one_list : (file text : List ℕ) (tokens others : Tokens) → AreTokens file text tokens → AreTokens file text others → tokens ≡ others)
+    (one_place : (file text : List ℕ) (lexical other : Lexical) → IsLexical file text lexical → IsLexical file text other → lexical ≡ other)
+    (never_both : (file text : List ℕ) (tokens : Tokens) (lexical : Lexical) → AreTokens file text tokens → IsLexical file text lexical → ⊥)
+    (one_items : (t : Tokens) (answer other : Result (List ItemSpan) Deep) → IsItems t answer → IsItems t other → answer ≡ other)
+    (one_answer : (abi : Abi) → HaveOneAnswer (c_language abi) (c_file abi))
+    (one_choices : (text : List ℕ) (a b : List Choice) → SpellsChoices text a → SpellsChoices text b → a ≡ b)
+    (command : ReplayCommand) (bytes second : List ℕ) where
+  -- of the items that main needs one answer is true, with one program
+  pass_or_refused : (t : Tokens) (items : List ItemSpan) (numbers : List ℕ) (reason : Refusal) (p : Program)
+      → IsProgram t items numbers command.model command.strict p → IsRefused t items numbers command.model command.strict reason → ⊥
+  pass_or_refused t items numbers reason p is (behind, first) =
+      (one_answer command.model).never_both t (spans_of items numbers) at_file is.after (at_beginning t items command.model command.strict) is.behind behind
+      p.items p.handed reason is.passing first
+
+  one_refusal : (t : Tokens) (items : List ItemSpan) (numbers : List ℕ) (reason other : Refusal)
+      → IsRefused t items numbers command.model command.strict reason → IsRefused t items numbers command.model command.strict other → reason ≡ other
+  one_refusal t items numbers reason other (behind, is) (outside, also) =
+      (one_answer command.model).one_refusal t (spans_of items numbers) at_file (at_beginning t items command.model command.strict) behind outside reason other
+      is also
+
+  one_program : (t : Tokens) (items : List ItemSpan) (numbers : List ℕ) (p q : Program) → IsProgram t items numbers command.model command.strict p
+      → IsProgram t items numbers command.model command.strict q → p ≡ q
+  one_program t items numbers p q is also =
+      let (trees, rows, places) = (one_answer command.model).one_program t (spans_of items numbers) at_file is.after also.after
+      (at_beginning t items command.model command.strict) is.behind also.behind p.items q.items p.handed q.handed is.passing also.passing in
+      same_fields p q trees rows (is.structs_are ∙ (ap (λ (x : Declarations). x.structs) places ∙ sym also.structs_are))
+      (is.abi_is ∙ sym also.abi_is) (is.strict_is ∙ sym also.strict_is)
+
+  -- and of CHOICES
+  one_heard : (heard other : Heard) → IsHeard second heard → IsHeard second other → heard ≡ other
+  one_heard (Spelled choices) (Spelled others) (short, is) (low, also) = ap Spelled (one_choices second choices others is also)
+  one_heard (Spelled choices) NotSpelled (short, is) (low, none) = absurd (none choices is)
+  one_heard (Spelled choices) TooMany (short, is) long = absurd (omega (arith, short, long))
+  one_heard NotSpelled (Spelled choices) (short, none) (low, is) = absurd (none choices is)
+  one_heard NotSpelled NotSpelled none also = refl
+  one_heard NotSpelled TooMany (short, none) long = absurd (omega (arith, short, long))
+  one_heard TooMany (Spelled choices) long (short, is) = absurd (omega (arith, short, long))
+  one_heard TooMany NotSpelled long (short, none) = absurd (omega (arith, short, long))
+  one_heard TooMany TooMany long also = refl
+
+  one_fit : (stage : Stage) (answer other : ReplayAnswer) → Fits command second stage answer → Fits command second stage other → answer ≡ other
+  one_fit (AtLexical place) answer other is also = is ∙ sym also
+  one_fit (AtDeep place) answer other is also = is ∙ sym also
+  one_fit AtNoMain answer other is also = is ∙ sym also
+  one_fit AtLong answer other is also = is ∙ sym also
+  one_fit (AtRead t items numbers) answer other (inl (reason, by, is)) (inl (reason2, also, is2)) =
+      is ∙ (ap answer_of (one_refusal t items numbers reason reason2 by also) ∙ sym is2)
+  one_fit (AtRead t items numbers) answer other (inl (reason, by, is)) (inr (p, heard, passes, hears, is2)) =
+      absurd (pass_or_refused t items numbers reason p passes by)
+  one_fit (AtRead t items numbers) answer other (inr (p, heard, passes, hears, is)) (inl (reason, by, is2)) =
+      absurd (pass_or_refused t items numbers reason p passes by)
+  one_fit (AtRead t items numbers) answer other (inr (p, heard, passes, hears, is)) (inr (q, heard2, passes2, hears2, is2)) =
+      is
+      ∙ (ap (λ (x : Program). answer_to t x command.steps heard) (one_program t items numbers p q passes passes2)
+      ∙ (ap (answer_to t q command.steps) (one_heard heard heard2 hears hears2) ∙ sym is2))
+
+  one_verdict : (answer other : ReplayAnswer) → IsVerdict answer → IsVerdict other → Judges command bytes second answer → Judges command bytes second other
+      → answer ≡ other
+  one_verdict answer other verdict verdict2 judged also =
+      let (stage, is, fits) = stage_of command bytes second answer verdict judged in
+      let (stage2, is2, fits2) = stage_of command bytes second other verdict2 also in
+      let same : stage ≡ stage2 = one_stage one_list one_place never_both one_items one_answer command.file bytes stage stage2 is is2 in
+      one_fit stage2 answer other (subst (λ (s : Stage). Fits command second s answer) same fits) fits2
+
+  pub exact_verdict : (answer : ReplayAnswer) → IsVerdict answer → Judges command bytes second answer → IsExact command bytes second answer
+  exact_verdict answer verdict judged = record {
+    only = λ other verdict2.
+        (λ same. subst (Judges command bytes second) same judged, λ also. one_verdict answer other verdict verdict2 judged also);
+  }
+
+  -- what is answered of files whose contents are told is exactly true of them
+  pub exactly_one : (tells : Bool) (content other : Option (List ℕ)) (names : List (List ℕ)) (answer : ReplayAnswer) → IsTrue tells → content ≡ Some bytes
+      → other ≡ Some second → IsVerdict answer → IsAnswered tells content other command names answer → IsExact command bytes second answer
+  exactly_one tells content other names answer told one two verdict answered =
+      exact_verdict answer verdict (judged_of tells content other command bytes second names answer told one two verdict answered)

@@ -1,0 +1,30 @@
+use Rattle.std.proofs.Common.{refl}
+use Rattle.replay.proofs.Files.{long_taken, result_begun, result_rose, whole_answered}
+use Rattle.replay.proofs.answering.answer_of_command.Goals as goal
+
+-- what is true of the bytes that were read is said of the files
+pub returns-in-Whole-clause-judged : goal.returns-in-Whole-clause-judged
+returns-in-Whole-clause-judged g c =
+    let F = g.F.Files in
+    let command = c.args.command.now in
+    rw (← c.in_ok-name.ensures)
+    (whole_answered command c.answer_of_text.result (F.tells c.args.files.now) (F.tells c.read_file.new.files) (F.bytes_of c.args.files.now c.in_ok-name.name)
+    (F.bytes_of c.args.files.now command.choices) (F.bytes_of c.read_file.new.files command.choices) (F.left c.read_file.new.files) c.in-Whole.text _ c.in-Whole.is
+    c.in_ok-text.ensures.told c.read_file.ensures.tells (c.read_file.ensures.kept command.choices) c.answer_of_text.ensures.judged)
+
+-- FILE was read before CHOICES
+pub returns-in-Whole-clause-rose : goal.returns-in-Whole-clause-rose
+returns-in-Whole-clause-rose g c =
+    let F = g.F.Files in
+    result_rose c.answer_of_text.result (F.faults c.args.files.now) (F.faults c.read_file.new.files) _ c.read_file.ensures.later c.answer_of_text.ensures.rose
+
+pub returns-in-Whole-clause-begun : goal.returns-in-Whole-clause-begun
+returns-in-Whole-clause-begun g c = result_begun c.answer_of_text.result _ c.args.command.now.file c.args.command.now.choices c.answer_of_text.ensures.begun
+
+pub returns-in-Long-clause-judged : goal.returns-in-Long-clause-judged
+returns-in-Long-clause-judged g c =
+    let F = g.F.Files in
+    let content = F.bytes_of c.args.files.now c.in_ok-name.name in
+    rw (← c.in_ok-name.ensures)
+    (rw c.too_long.ensures
+    (refl, long_taken (F.tells c.args.files.now) content (F.left c.read_file.new.files) _ _ c.in-Long.is c.in_ok-text.ensures.within c.in_ok-text.ensures.told, refl))

@@ -1,0 +1,5 @@
+pub mod Program
+pub mod Judged
+pub mod Shown
+pub mod Answered
+pub mod Told

@@ -1,0 +1,152 @@
+ghost use Rattle.std.specs.Prelude.{◌≡◌, ◌≤◌, ◌⊎◌, ℕ, true, Option, List as Items, [], length, IfOk};
+ghost use Rattle.outside.specs.Faults.{Rose};
+ghost use Rattle.ctokens.specs.InText.{most_bytes};
+ghost use Rattle.ctokens.specs.TokenList.{HasNamedFiles};
+ghost use Rattle.report.specs.ReplayReport.{HasPrintableReplay};
+ghost use Rattle.replay.specs.Answered.{AreBytesOf, IsAnswered};
+ghost use Rattle.replay.specs.Told.{HoldsTyped, IsAboutBoth, IsAboutFiles, IsTold};
+
+use crate::judging::{Answered, JudgedFile, judge, with_names};
+use crate::playing::play;
+use cbase::{List, NoMemory, Text};
+use ccheck::TypedProgram;
+use choices::{ReadChoices, read_choices};
+use command_line::ReplayCommand;
+use ctokens::Tokens;
+use outside::{Files, Reading, read_file};
+use report::ReplayAnswer;
+use std::alloc::Global;
+
+/// How many bytes a file has at most, if it is to be read to its end.
+const MOST_BYTES: u32 = 4_194_304;
+
+/// The answer to a command: FILE is read and judged, and where it holds a program CHOICES is.
+pub(crate) fn answer_of_command<F: Files>(
+    alloc: Global,
+    command: &ReplayCommand,
+    files: &mut F,
+) -> Result<Answered, NoMemory>
+    ensures about { IfOk result (λ a. IsAboutFiles a.answer) }
+    ensures printable { IfOk result (λ a. HasPrintableReplay a.names a.answer) }
+    ensures rose { IfOk result (λ a. a.answer ≡ ReplayAnswer.ReadFault → Rose (F.faults files.old) (F.faults files.new)) }
+    ensures failed { IfOk result (λ a. a.answer ≡ ReplayAnswer.ReadFault → F.failed files.new ≡ true) }
+    ensures begun { IfOk result (λ a. a.answer ≡ ReplayAnswer.ReadFault
+        → (F.begun files.new ≡ command.now.file) ⊎ (F.begun files.new ≡ command.now.choices)) }
+    ensures judged { IfOk result (λ a. IsAnswered (F.tells files.old) (F.bytes_of files.old command.now.file)
+        (F.bytes_of files.old command.now.choices) command.now a.names a.answer) }
+{
+    let name = Text::from_slice(alloc, command.file.as_slice())?;
+    match read_file(alloc, files, name, MOST_BYTES)? {
+        Reading::Whole(text) => answer_of_text(alloc, command, text.as_slice(), files),
+        Reading::Long(_) => Ok(too_long(alloc)),
+        Reading::Failed => Ok(read_fault(alloc)),
+    }
+}
+
+/// The answer where FILE has too many bytes.
+fn too_long(alloc: Global) -> Answered
+    ensures { result ≡ record { answer = ReplayAnswer.TooLong 4194305 false; names = [] } }
+{
+    Answered {
+        answer: ReplayAnswer::TooLong {
+            taken: MOST_BYTES + 1,
+            second: false,
+        },
+        names: List::new(alloc),
+    }
+}
+
+/// The answer where a file is not read.
+fn read_fault(alloc: Global) -> Answered
+    ensures { result ≡ record { answer = ReplayAnswer.ReadFault; names = [] } }
+{
+    Answered {
+        answer: ReplayAnswer::ReadFault,
+        names: List::new(alloc),
+    }
+}
+
+/// The answer where these are the bytes of FILE.
+fn answer_of_text<F: Files>(
+    alloc: Global,
+    command: &ReplayCommand,
+    text: &[u8],
+    files: &mut F,
+) -> Result<Answered, NoMemory>
+    requires { length text.now ≤ most_bytes }
+    ensures about { IfOk result (λ a. IsAboutFiles a.answer) }
+    ensures printable { IfOk result (λ a. HasPrintableReplay a.names a.answer) }
+    ensures rose { IfOk result (λ a. a.answer ≡ ReplayAnswer.ReadFault → Rose (F.faults files.old) (F.faults files.new)) }
+    ensures failed { IfOk result (λ a. a.answer ≡ ReplayAnswer.ReadFault → F.failed files.new ≡ true) }
+    ensures begun { IfOk result (λ a. a.answer ≡ ReplayAnswer.ReadFault → F.begun files.new ≡ command.now.choices) }
+    ensures judged { (content : Option (Items ℕ)) → AreBytesOf (F.tells files.old) content text.now
+        → IfOk result (λ a. IsAnswered (F.tells files.old) content (F.bytes_of files.old command.now.choices)
+        command.now a.names a.answer) }
+{
+    match judge(alloc, command, text)? {
+        JudgedFile::Refused(answered) => Ok(answered),
+        JudgedFile::Holds(t, typed) => answer_of_program(alloc, command, t, typed, files),
+    }
+}
+
+/// The answer where FILE holds this program.
+fn answer_of_program<F: Files>(
+    alloc: Global,
+    command: &ReplayCommand,
+    t: Tokens,
+    typed: TypedProgram,
+    files: &mut F,
+) -> Result<Answered, NoMemory>
+    requires named { HasNamedFiles t }
+    requires holds { HoldsTyped command.now t typed }
+    ensures about { IfOk result (λ a. IsAboutFiles a.answer) }
+    ensures printable { IfOk result (λ a. HasPrintableReplay a.names a.answer) }
+    ensures rose { IfOk result (λ a. a.answer ≡ ReplayAnswer.ReadFault → Rose (F.faults files.old) (F.faults files.new)) }
+    ensures failed { IfOk result (λ a. a.answer ≡ ReplayAnswer.ReadFault → F.failed files.new ≡ true) }
+    ensures begun { IfOk result (λ a. a.answer ≡ ReplayAnswer.ReadFault → F.begun files.new ≡ command.now.choices) }
+    ensures judged { (content : Option (Items ℕ)) → AreBytesOf (F.tells files.old) content t.text
+        → IfOk result (λ a. IsAnswered (F.tells files.old) content (F.bytes_of files.old command.now.choices)
+        command.now a.names a.answer) }
+{
+    let name = Text::from_slice(alloc, command.choices.as_slice())?;
+    match read_file(alloc, files, name, MOST_BYTES)? {
+        Reading::Whole(second) => answer_of_both(alloc, command, t, typed, second.as_slice()),
+        Reading::Long(_) => {
+            drop(typed);
+            Ok(with_names(
+                ReplayAnswer::TooLong {
+                    taken: MOST_BYTES + 1,
+                    second: true,
+                },
+                t,
+            ))
+        }
+        Reading::Failed => Ok(read_fault(alloc)),
+    }
+}
+
+/// The answer where FILE holds this program, and these are the bytes of CHOICES.
+fn answer_of_both(
+    alloc: Global,
+    command: &ReplayCommand,
+    t: Tokens,
+    typed: TypedProgram,
+    second: &[u8],
+) -> Result<Answered, NoMemory>
+    requires named { HasNamedFiles t }
+    requires holds { HoldsTyped command.now t typed }
+    requires short { length second.now ≤ most_bytes }
+    ensures about { IfOk result (λ a. IsAboutBoth a.answer) }
+    ensures told { IfOk result (IsTold command.now t.text second.now) }
+{
+    match read_choices(alloc, second)? {
+        ReadChoices::Choices(choices) => {
+            let what = play(alloc, &t, typed, choices.as_slice(), command.steps)?;
+            Ok(with_names(ReplayAnswer::Played { what }, t))
+        }
+        ReadChoices::Refused(_) => {
+            drop(typed);
+            Ok(with_names(ReplayAnswer::BadChoices, t))
+        }
+    }
+}

@@ -1,0 +1,102 @@
+ghost use Rattle.std.specs.Prelude.{◌≡◌, ◌<◌, List as Items, length, IfOk};
+ghost use Rattle.choices.specs.declared.choice.Choice.{Choice};
+ghost use Rattle.expressions.specs.Numbers.{Numbering};
+ghost use Rattle.ctokens.specs.TokenList.{HasNamedFiles};
+ghost use Rattle.ccheck.specs.Refusals.{place_at};
+ghost use Rattle.c_machine.specs.Program.{Program};
+ghost use Rattle.c_machine.specs.Run.{run_of};
+ghost use Rattle.c_machine.specs.State.{StateIn};
+ghost use Rattle.c_machine.specs.Trees.{text_of};
+ghost use Rattle.c_text.specs.Stands.{StandsFor};
+ghost use Rattle.c_steps.specs.ComesTo.{comes_to};
+ghost use Rattle.report.specs.ReplayReport.{HasPrintableRun};
+ghost use Rattle.replay.specs.Program.{what_of};
+
+use c_steps::Outcome;
+use c_text::TypedText;
+use cbase::{Item, NoMemory, Place};
+use ccheck::TypedProgram;
+use choices::Choice;
+use ctokens::Tokens;
+use report::Replayed;
+use std::alloc::Global;
+
+/// What a run of a typed program does with these choices within so many steps.
+///
+/// The contract speaks of each program that the context stands for by some numbering. That a context names only types and signatures which it has is not
+/// proved of checked programs: where it does not, the answer is want of memory.
+pub(crate) fn play(
+    alloc: Global,
+    t: &Tokens,
+    typed: TypedProgram,
+    choices: &[Choice],
+    steps: u32,
+) -> Result<Replayed, NoMemory>
+    requires { HasNamedFiles t.now }
+    ensures is { IfOk result (λ what. (n : Numbering) (p : Program) → StandsFor n typed.context p
+        → p.items ≡ typed.program → p.strict ≡ typed.strict
+        → what_of t.now (run_of (text_of p) choices.now steps) ≡ what) }
+    ensures printable { IfOk result (HasPrintableRun t.now.names) }
+{
+    let TypedProgram {
+        program,
+        context,
+        abi: _,
+        strict,
+    } = typed;
+    let Some(text) = TypedText::of(alloc, context)? else {
+        return Err(NoMemory);
+    };
+    let outcome = run_program(alloc, program.as_slice(), &text, strict, choices, steps)?;
+    Ok(replayed(t, outcome))
+}
+
+/// The run of a program from its start, in so many steps.
+fn run_program(
+    _alloc: Global,
+    items: &[Item],
+    text: &TypedText,
+    strict: bool,
+    choices: &[Choice],
+    steps: u32,
+) -> Result<Outcome, NoMemory>
+    ensures { IfOk result (λ outcome. (n : Numbering) (p : Program) → StandsFor n text.now p
+        → p.items ≡ items.now → p.strict ≡ strict
+        → (state : StateIn (text_of p)) × (rest : Items Choice)
+        × (run_of (text_of p) choices.now steps ≡ comes_to outcome state rest)) }
+{
+    Err(NoMemory)
+}
+
+/// What is answered of what a run comes to.
+fn replayed(t: &Tokens, outcome: Outcome) -> Replayed
+    requires { HasNamedFiles t.now }
+    ensures is { (p : Program) (state : StateIn (text_of p)) (rest : Items Choice)
+        → what_of t.now (comes_to outcome state rest) ≡ result }
+    ensures printable { HasPrintableRun t.now.names result }
+{
+    match outcome {
+        Outcome::Went => Replayed::Running,
+        Outcome::Waits => Replayed::Waits,
+        Outcome::Ended => Replayed::Ended,
+        Outcome::Faulted { kind, place } => Replayed::Fault {
+            kind,
+            place: place_at(t, place.at),
+        },
+        Outcome::NotYet => Replayed::NotYet,
+        Outcome::Stuck => Replayed::Stuck,
+    }
+}
+
+/// The place of the token before which so many stand; past the last one that of none.
+#[tactic(auto, using(crate::proofs::Told::place_named))]
+fn place_at(t: &Tokens, number: u32) -> Place
+    requires { HasNamedFiles t.now }
+    ensures is { result ≡ place_at t.now number }
+    ensures named { result.file < length t.now.names }
+{
+    match t.list.as_slice().get(number as usize) {
+        Some(token) => token.place,
+        None => Place::NONE,
+    }
+}
