@@ -1,5 +1,8 @@
+pub mod BlocksEntered
 pub mod ClauseByForm
 pub mod EachArgument
+pub mod EachInFront
+pub mod Initialised
 pub mod KeptKinds
 pub mod MakingRoom
 pub mod NamedThings

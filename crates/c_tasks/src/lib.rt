@@ -8,10 +8,12 @@
 mod address;
 mod arguments;
 pub mod assignments;
+pub mod blocks;
 mod branches;
 pub mod calls;
 pub mod forms;
 mod functions;
+pub mod initialisers;
 mod kinds;
 mod loads;
 mod loops;
