@@ -7,8 +7,10 @@
 
 mod address;
 pub mod assignments;
+pub mod blocks;
 pub mod forms;
 mod functions;
+pub mod initialisers;
 mod kinds;
 mod loads;
 pub mod names;
