@@ -1,2 +1,3 @@
+pub mod Static
 pub mod Walking
 pub mod Weights

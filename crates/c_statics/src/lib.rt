@@ -11,7 +11,9 @@ mod noted;
 mod notes;
 mod parts;
 mod set;
+mod statics;
 mod walk;
 
 pub use main_function::{MainFunction, main_item};
 pub use set::StaticSet;
+pub use statics::{StaticSets, static_sets};
