@@ -1,7 +1,6 @@
 -- What is said of the bytes of files that were read is said of the files.
-use Rattle.std.proofs.Common.{◌≡◌, ℕ, ◌+◌, ◌≤◌, ◌⊎◌, inr, Bool, true, false, IsTrue, IfOk, Result, Ok, Err, Option, Some, List, [], ◌++◌, length, refl, sym, ◌∙◌, subst, arith}
+use Rattle.std.proofs.Common.{◌≡◌, ℕ, ◌≤◌, ◌⊎◌, inr, Bool, true, false, IsTrue, IfOk, Result, Ok, Err, Option, Some, List, [], ◌++◌, length, refl, sym, ◌∙◌, subst, arith}
 use Rattle.std.proofs.lemmas.List.{length-append}
-use Rattle.ctokens.specs.InText.{most_bytes}
 use Rattle.command_line.specs.ReplayLine.{replay_command_of}
 use Rattle.command_line.specs.declared.replay.ReplayCommand.{ReplayCommand}
 use Rattle.ctokens.specs.TokenList.{HasNamedFiles}
@@ -20,7 +19,7 @@ use Rattle.replay.specs.declared.judging.Answered.{Answered}
 use Rattle.replay.specs.declared.judging.JudgedFile.{JudgedFile}
 use Rattle.replay.specs.declared.judging.JudgedFile.TheVariants.{Holds, Refused}
 use Rattle.replay.specs.Answered.{AreBytesOf, HasTaken, IsAnswered}
-use Rattle.replay.specs.Judged.{HasProgram, IsExact, IsVerdict, Judges}
+use Rattle.replay.specs.Judged.{HasProgram, IsVerdict, Judges}
 use Rattle.replay.specs.Shown.{AreNames, choices_in, file_in, unless_nothing}
 use Rattle.replay.proofs.Told.{has_program}
 use Rattle.replay.specs.Told.{HoldsTyped, IsAboutBoth, IsAboutFile, IsAboutFiles, IsJudged, IsTold}
