@@ -1,7 +1,6 @@
 -- What is said of the bytes of files that were read is said of the files.
-use Rattle.std.proofs.Common.{◌≡◌, ℕ, ◌+◌, ◌≤◌, ◌⊎◌, inr, Bool, true, false, IsTrue, IfOk, Result, Ok, Err, Option, Some, List, [], ◌++◌, length, refl, sym, ◌∙◌, subst, arith}
+use Rattle.std.proofs.Common.{◌≡◌, ℕ, ◌≤◌, ◌⊎◌, inr, Bool, true, false, IsTrue, IfOk, Result, Ok, Err, Option, Some, List, [], ◌++◌, length, refl, sym, ◌∙◌, subst, arith}
 use Rattle.std.proofs.lemmas.List.{length-append}
-use Rattle.ctokens.specs.InText.{most_bytes}
 use Rattle.command_line.specs.ReplayLine.{replay_command_of}
 use Rattle.command_line.specs.declared.replay.ReplayCommand.{ReplayCommand}
 use Rattle.ctokens.specs.TokenList.{HasNamedFiles}
@@ -20,8 +19,8 @@ use Rattle.replay.specs.declared.judging.Answered.{Answered}
 use Rattle.replay.specs.declared.judging.JudgedFile.{JudgedFile}
 use Rattle.replay.specs.declared.judging.JudgedFile.TheVariants.{Holds, Refused}
 use Rattle.replay.specs.Answered.{AreBytesOf, HasTaken, IsAnswered}
-use Rattle.replay.specs.Judged.{HasProgram, IsExact, IsVerdict, Judges}
-use Rattle.replay.specs.Shown.{AreNames}
+use Rattle.replay.specs.Judged.{HasProgram, IsVerdict, Judges}
+use Rattle.replay.specs.Shown.{AreNames, choices_in, file_in, unless_nothing}
 use Rattle.replay.proofs.Told.{has_program}
 use Rattle.replay.specs.Told.{HoldsTyped, IsAboutBoth, IsAboutFile, IsAboutFiles, IsJudged, IsTold}
 
@@ -57,12 +56,12 @@ both_about Usage about = absurd about
 both_about ReadFault about = absurd about
 both_about OutOfMemory about = absurd about
 
-pub file_no_fault : {P : Type 0} (answer : ReplayAnswer) → IsAboutFile answer → answer ≡ ReadFault → P
-file_no_fault answer about is = absurd (subst IsAboutFile is about)
+pub file_no_fault : (P : Type 0) (answer : ReplayAnswer) → IsAboutFile answer → answer ≡ ReadFault → P
+file_no_fault P answer about is = absurd (subst IsAboutFile is about)
 
-pub both_no_fault : {E P : Type 0} (result : Result Answered E) → IfOk result (λ a. IsAboutBoth a.answer) → IfOk result (λ a. a.answer ≡ ReadFault → P)
-both_no_fault (Ok answered) about = λ is. absurd (subst IsAboutBoth is about)
-both_no_fault (Err error) about = tt
+pub both_no_fault : {E : Type 0} (P : Type 0) (result : Result Answered E) → IfOk result (λ a. IsAboutBoth a.answer) → IfOk result (λ a. a.answer ≡ ReadFault → P)
+both_no_fault P (Ok answered) about = λ is. absurd (subst IsAboutBoth is about)
+both_no_fault P (Err error) about = tt
 
 pub both_about_files : {E : Type 0} (result : Result Answered E) → IfOk result (λ a. IsAboutBoth a.answer) → IfOk result (λ a. IsAboutFiles a.answer)
 both_about_files (Ok answered) about = both_about answered.answer about
@@ -140,7 +139,7 @@ module _ (tells : Bool) (content other : Option (List ℕ)) (command : ReplayCom
       (subst (λ (bs : List ℕ). Judges command front bs answer) (same_bytes behind second (sym (those told) ∙ two)) judged)
 
   -- where the contents of both are told, an answer is true of them
-  judged_of : (bytes second : List ℕ) (names : List (List ℕ)) (answer : ReplayAnswer) → IsTrue tells → content ≡ Some bytes → other ≡ Some second
+  pub judged_of : (bytes second : List ℕ) (names : List (List ℕ)) (answer : ReplayAnswer) → IsTrue tells → content ≡ Some bytes → other ≡ Some second
       → IsVerdict answer → IsAnswered tells content other command names answer → Judges command bytes second answer
   judged_of bytes second names (Played what) told one two verdict (front, behind, are, those, judged, named) =
       of_whole bytes second front behind (Played what) told one two are those judged
@@ -150,9 +149,9 @@ module _ (tells : Bool) (content other : Option (List ℕ)) (command : ReplayCom
       subst (λ (bs : List ℕ). Judges command bs second (NotRead why)) (same_bytes front bytes (sym (are told) ∙ one)) (judged second)
   judged_of bytes second names (Construct number place) told one two verdict (front, are, judged, named) =
       subst (λ (bs : List ℕ). Judges command bs second (Construct number place)) (same_bytes front bytes (sym (are told) ∙ one)) (judged second)
-  judged_of bytes second names (TooLong taken false) told one two verdict (is, has, none) = (is, taken_of content bytes taken told one has)
+  judged_of bytes second names (TooLong taken false) told one two verdict (is, has, none) = (is, taken_of tells content bytes taken told one has)
   judged_of bytes second names (TooLong taken true) told one two verdict (is, has, (front, are, holds, named)) =
-      (is, taken_of other second taken told two has, subst (HasProgram command) (same_bytes front bytes (sym (are told) ∙ one)) holds)
+      (is, taken_of tells other second taken told two has, subst (HasProgram command) (same_bytes front bytes (sym (are told) ∙ one)) holds)
   judged_of bytes second names Usage told one two verdict answered = absurd verdict
   judged_of bytes second names ReadFault told one two verdict answered = absurd verdict
   judged_of bytes second names OutOfMemory told one two verdict answered = absurd verdict
@@ -170,25 +169,28 @@ module _ (command : ReplayCommand) (bytes : List ℕ) where
 -- an answer with a result
 module _ {E : Type 0} (command : ReplayCommand) (result : Result Answered E) where
   -- what is answered where FILE was read to its end is so of the file. It was read before CHOICES was, which kept the contents
-  pub whole_answered : (tells later : Bool) (content other kept : Option (List ℕ)) (left text : List ℕ) (reading : Reading) → reading ≡ Whole text
-      → (IsTrue tells → Reads content left reading) → later ≡ tells → kept ≡ other
+  pub whole_answered : (tells later : Bool) (bytes_of : List ℕ → Option (List ℕ)) (name file : List ℕ) (other kept : Option (List ℕ)) (left text : List ℕ)
+      (reading : Reading) → name ≡ file → reading ≡ Whole text → (IsTrue tells → Reads (bytes_of name) left reading) → later ≡ tells → kept ≡ other
       → ((whole : Option (List ℕ)) → AreBytesOf later whole text → IfOk result (λ a. IsAnswered later whole kept command a.names a.answer))
-      → IfOk result (λ a. IsAnswered tells content other command a.names a.answer)
-  whole_answered tells later content other kept left text reading is reads same also answered =
-      subst (λ (bytes : Option (List ℕ)). IfOk result (λ a. IsAnswered tells content bytes command a.names a.answer)) also
+      → IfOk result (λ a. IsAnswered tells (bytes_of file) other command a.names a.answer)
+  whole_answered tells later bytes_of name file other kept left text reading named is reads same also answered =
+      subst (λ (bytes : Option (List ℕ)). IfOk result (λ a. IsAnswered tells (bytes_of file) bytes command a.names a.answer)) also
       (subst (λ (told : Bool). ((whole : Option (List ℕ)) → AreBytesOf told whole text → IfOk result (λ a. IsAnswered told whole kept command a.names a.answer)))
-      same answered content (λ told. (subst (Reads content left) is (reads told)).0))
+      same answered (bytes_of file)
+      (λ told. subst (λ (x : List ℕ). bytes_of x ≡ Some text) named (subst (Reads (bytes_of name) left) is (reads told)).0))
 
   -- an answer about both files
-  pub both_result : (tells : Bool) (content other : Option (List ℕ)) (bytes second left : List ℕ) (reading : Reading) → reading ≡ Whole second
-      → (IsTrue tells → Reads other left reading) → AreBytesOf tells content bytes → IfOk result (λ a. IsAboutBoth a.answer)
-      → IfOk result (IsTold command bytes second) → IfOk result (λ a. IsAnswered tells content other command a.names a.answer)
-  both_result tells content other bytes second left reading is reads are about told = of_result result about told
+  pub both_result : (tells : Bool) (content : Option (List ℕ)) (bytes_of : List ℕ → Option (List ℕ)) (name choices bytes second left : List ℕ)
+      (reading : Reading) → name ≡ choices → reading ≡ Whole second → (IsTrue tells → Reads (bytes_of name) left reading) → AreBytesOf tells content bytes
+      → IfOk result (λ a. IsAboutBoth a.answer) → IfOk result (IsTold command bytes second)
+      → IfOk result (λ a. IsAnswered tells content (bytes_of choices) command a.names a.answer)
+  both_result tells content bytes_of name choices bytes second left reading named is reads are about told = of_result result about told
     where
       of_result : (r : Result Answered E) → IfOk r (λ a. IsAboutBoth a.answer) → IfOk r (IsTold command bytes second)
-          → IfOk r (λ a. IsAnswered tells content other command a.names a.answer)
+          → IfOk r (λ a. IsAnswered tells content (bytes_of choices) command a.names a.answer)
       of_result (Ok answered) about told =
-          both_answered tells content other command bytes second answered are (λ yes. (subst (Reads other left) is (reads yes)).0) about told
+          both_answered tells content (bytes_of choices) command bytes second answered are
+          (λ yes. subst (λ (x : List ℕ). bytes_of x ≡ Some second) named (subst (Reads (bytes_of name) left) is (reads yes)).0) about told
       of_result (Err error) about told = tt
 
   pub both_printable : (bytes second : List ℕ) → IfOk result (IsTold command bytes second) → IfOk result (λ a. HasPrintableReplay a.names a.answer)
@@ -199,10 +201,14 @@ module _ {E : Type 0} (command : ReplayCommand) (result : Result Answered E) whe
       of_result (Err error) told = tt
 
 -- so many bytes were taken of a file that is too long
-pub long_taken : (tells : Bool) (content : Option (List ℕ)) (left taken : List ℕ) (reading : Reading) → reading ≡ Long taken → IsWithin 4194304 reading
-    → (IsTrue tells → Reads content left reading) → HasTaken tells content 4194305
-long_taken tells content left taken reading is within reads = λ told.
-    (taken, left, subst (IsWithin 4194304) is within, subst (Reads content left) is (reads told))
+pub long_taken : (tells : Bool) (bytes_of : List ℕ → Option (List ℕ)) (name file left taken : List ℕ) (reading : Reading) → name ≡ file → reading ≡ Long taken
+    → IsWithin 4194304 reading → (IsTrue tells → Reads (bytes_of name) left reading) → HasTaken tells (bytes_of file) 4194305
+long_taken tells bytes_of name file left taken reading named is within reads = λ told. (
+  taken,
+  left,
+  subst (IsWithin 4194304) is within,
+  subst (λ (x : List ℕ). bytes_of x ≡ Some (taken ++ left)) named (subst (Reads (bytes_of name) left) is (reads told)),
+)
 
 -- what is said of an answer is said of it with its report
 pub plan_answered : {E : Type 0} (tells : Bool) (content other : Option (List ℕ)) (command : ReplayCommand) (result : Result Plan E) (shown : ReplayShown)
@@ -224,3 +230,47 @@ pub long_answered : (tells : Bool) (content other : Option (List ℕ)) (command 
     → HasTaken tells other 4194305 → AreBytesOf tells content t.text → IsAnswered tells content other command t.names (TooLong 4194305 true)
 long_answered tells content other command t typed held taken are =
     (refl, taken, (t.text, are, has_program command t typed held, (t, held.is_read.are_tokens, refl)))
+
+-- the names of the two files are shown
+shown_name : (name : List ℕ) (answer : ReplayAnswer) → IsAboutFiles answer → name ≡ unless_nothing name answer
+shown_name name (Played what) about = refl
+shown_name name BadChoices about = refl
+shown_name name (NotRead why) about = refl
+shown_name name (Construct number place) about = refl
+shown_name name (TooLong taken second) about = refl
+shown_name name Usage about = absurd about
+shown_name name ReadFault about = refl
+shown_name name OutOfMemory about = absurd about
+
+-- a plan for a command
+module _ {E : Type 0} where
+  pub plan_known : (result : Result Plan E) → IfOk result (λ plan. IsAboutFiles plan.shown.answer) → IfOk result (λ plan. plan.shown.answer ≡ OutOfMemory → ⊥)
+  plan_known (Ok plan) about = about_no_memory plan.shown.answer about
+  plan_known (Err error) about = tt
+
+  pub plan_no_usage : (P : Type 0) (result : Result Plan E) → IfOk result (λ plan. IsAboutFiles plan.shown.answer)
+      → IfOk result (λ plan. plan.shown.answer ≡ Usage → P)
+  plan_no_usage P (Ok plan) about = λ is. absurd (about_no_usage plan.shown.answer about is)
+  plan_no_usage P (Err error) about = tt
+
+  pub plan_named : (result : Result Plan E) (found : Option ReplayCommand) (words : List (List ℕ)) (command : ReplayCommand) → found ≡ replay_command_of words
+      → found ≡ Some command → IfOk result (λ plan. IsAboutFiles plan.shown.answer) → IfOk result (λ plan. plan.shown.file ≡ command.file)
+      → IfOk result (λ plan. plan.shown.file ≡ unless_nothing (file_in (replay_command_of words)) plan.shown.answer)
+  plan_named (Ok plan) found words command is some about named =
+      subst (λ (o : Option ReplayCommand). plan.shown.file ≡ unless_nothing (file_in o) plan.shown.answer) (sym some ∙ is)
+      (named ∙ shown_name command.file plan.shown.answer about)
+  plan_named (Err error) found words command is some about named = tt
+
+  pub plan_choices_named : (result : Result Plan E) (found : Option ReplayCommand) (words : List (List ℕ)) (command : ReplayCommand)
+      → found ≡ replay_command_of words → found ≡ Some command → IfOk result (λ plan. IsAboutFiles plan.shown.answer)
+      → IfOk result (λ plan. plan.shown.choices ≡ command.choices)
+      → IfOk result (λ plan. plan.shown.choices ≡ unless_nothing (choices_in (replay_command_of words)) plan.shown.answer)
+  plan_choices_named (Ok plan) found words command is some about named =
+      subst (λ (o : Option ReplayCommand). plan.shown.choices ≡ unless_nothing (choices_in o) plan.shown.answer) (sym some ∙ is)
+      (named ∙ shown_name command.choices plan.shown.answer about)
+  plan_choices_named (Err error) found words command is some about named = tt
+
+  pub plan_about : (result : Result Plan E) (shown : ReplayShown) → IsAboutFiles shown.answer → IfOk result (λ plan. plan.shown ≡ shown)
+      → IfOk result (λ plan. IsAboutFiles plan.shown.answer)
+  plan_about (Ok plan) shown about is = subst (λ (s : ReplayShown). IsAboutFiles s.answer) (sym is) about
+  plan_about (Err error) shown about is = tt

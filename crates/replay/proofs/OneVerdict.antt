@@ -1,5 +1,5 @@
 -- Of two files at most one verdict is true.
-use Rattle.std.proofs.Common.{◌≡◌, ℕ, ◌+◌, ◌<◌, ◌≤◌, ◌⊎◌, Bool, true, false, IsTrue, inl, inr, Option, Some, Result, List, length, ◌↔◌, refl, ap, sym, ◌∙◌, subst, arith}
+use Rattle.std.proofs.Common.{◌≡◌, ℕ, ◌≤◌, ◌⊎◌, Bool, true, false, IsTrue, inl, inr, Option, Some, Result, List, length, refl, ap, sym, ◌∙◌, subst, arith}
 use Rattle.cbase.specs.declared.abi.Abi.{Abi}
 use Rattle.cbase.specs.declared.structs.StructDef.{StructDef}
 use Rattle.cbase.specs.declared.tree.item.Item.{Item}

@@ -1,6 +1,5 @@
 -- What is found of FILE's tokens is true of its bytes, whatever is in CHOICES.
-use Rattle.std.proofs.Common.{◌≡◌, ℕ, ◌<◌, ◌≤◌, ◌+◌, true, ◌∙◌, IfOk, Result, inl, inr, None, Some, Ok, Err, Option, List, length, map, slice_get, option_map, unwrap_or, refl, sym, subst, arith}
-use Rattle.std.specs.List.{All}
+use Rattle.std.proofs.Common.{◌≡◌, ℕ, ◌<◌, ◌≤◌, ◌∙◌, IfOk, Result, inl, inr, None, Some, Ok, Err, Option, List, length, map, slice_get, option_map, unwrap_or, refl, sym, subst}
 use Rattle.std.proofs.lemmas.Option.{slice_get_cases, get_or_from_slice_get}
 use Rattle.cbase.specs.declared.place.Place.{Place}
 use Rattle.cgrammar.specs.Terminals.{no_place}
@@ -41,14 +40,13 @@ use Rattle.report.specs.ReplayReport.{HasPrintableRun}
 use Rattle.report.specs.declared.answer.Why.{Why}
 use Rattle.report.specs.declared.answer.Why.TheVariants as why
 use Rattle.report.specs.declared.replay_answer.Replayed.{Replayed}
-use Rattle.report.specs.declared.replay_answer.ReplayAnswer.TheVariants.{Played, BadChoices, NotRead, TooLong}
-use Rattle.verdicts.specs.Verdict.{IsRead}
+use Rattle.report.specs.declared.replay_answer.ReplayAnswer.TheVariants.{Played, BadChoices, NotRead}
 use Rattle.replay.specs.declared.judging.JudgedFile.{JudgedFile}
 use Rattle.replay.specs.declared.judging.JudgedFile.TheVariants.{Holds, Refused}
 use Rattle.replay.specs.declared.judging.Needed.{Needed}
 use Rattle.replay.specs.declared.judging.Needed.TheVariants.{None as NoItems}
 use Rattle.replay.specs.Judged.{HasProgram, HoldsProgram}
-use Rattle.replay.specs.Program.{IsProgram, what_of}
+use Rattle.replay.specs.Program.{what_of}
 use Rattle.replay.specs.Told.{AreNeeded, HoldsTyped, IsJudged, IsTold, answer_of}
 
 -- a token of a text has a name for its file, and so has the place of none

@@ -1,6 +1,5 @@
 -- What an answer of `replay` says of the bytes of FILE and of CHOICES.
 use Rattle.std.specs.Prelude.{◌≡◌, ℕ, ◌+◌, ◌≤◌, ◌↔◌, true, false, List, length}
-use Rattle.cbase.specs.declared.place.Place.{Place}
 use Rattle.choices.specs.declared.choice.Choice.{Choice}
 use Rattle.choices.specs.Format.{SpellsChoices}
 use Rattle.command_line.specs.declared.replay.ReplayCommand.{ReplayCommand}

@@ -1,4 +1,5 @@
-use Rattle.std.proofs.Common.{refl}
+use Rattle.std.proofs.Common.{refl, ap, sym, ◌∙◌}
+use Rattle.outside.specs.declared.reading.Reading.TheVariants.{Whole}
 use Rattle.replay.proofs.Files.{long_taken, result_begun, result_rose, whole_answered}
 use Rattle.replay.proofs.answering.answer_of_command.Goals as goal
 
@@ -6,11 +7,13 @@ use Rattle.replay.proofs.answering.answer_of_command.Goals as goal
 pub returns-in-Whole-clause-judged : goal.returns-in-Whole-clause-judged
 returns-in-Whole-clause-judged g c =
     let F = g.F.Files in
+    let files = c.args.files.now in
+    let later = c.read_file.new.files in
     let command = c.args.command.now in
-    rw (← c.in_ok-name.ensures)
-    (whole_answered command c.answer_of_text.result (F.tells c.args.files.now) (F.tells c.read_file.new.files) (F.bytes_of c.args.files.now c.in_ok-name.name)
-    (F.bytes_of c.args.files.now command.choices) (F.bytes_of c.read_file.new.files command.choices) (F.left c.read_file.new.files) c.in-Whole.text _ c.in-Whole.is
-    c.in_ok-text.ensures.told c.read_file.ensures.tells (c.read_file.ensures.kept command.choices) c.answer_of_text.ensures.judged)
+    whole_answered command c.answer_of_text.result (F.tells files) (F.tells later) (F.bytes_of files) c.in_ok-name.name command.file
+    (F.bytes_of files command.choices) (F.bytes_of later command.choices) (F.left later) c.as_slice-in-Whole.result.now _
+    (c.in_ok-name.ensures ∙ c.as_slice.ensures) (c.in-Whole.is ∙ ap Whole (sym c.as_slice-in-Whole.ensures)) c.in_ok-text.ensures.told
+    c.read_file.ensures.tells (c.read_file.ensures.kept command.choices) c.answer_of_text.ensures.judged
 
 -- FILE was read before CHOICES
 pub returns-in-Whole-clause-rose : goal.returns-in-Whole-clause-rose
@@ -24,7 +27,10 @@ returns-in-Whole-clause-begun g c = result_begun c.answer_of_text.result _ c.arg
 pub returns-in-Long-clause-judged : goal.returns-in-Long-clause-judged
 returns-in-Long-clause-judged g c =
     let F = g.F.Files in
-    let content = F.bytes_of c.args.files.now c.in_ok-name.name in
-    rw (← c.in_ok-name.ensures)
-    (rw c.too_long.ensures
-    (refl, long_taken (F.tells c.args.files.now) content (F.left c.read_file.new.files) _ _ c.in-Long.is c.in_ok-text.ensures.within c.in_ok-text.ensures.told, refl))
+    let files = c.args.files.now in
+    rw c.too_long.ensures (
+      refl,
+      long_taken (F.tells files) (F.bytes_of files) c.in_ok-name.name c.args.command.now.file (F.left c.read_file.new.files) _ _
+          (c.in_ok-name.ensures ∙ c.as_slice.ensures) c.in-Long.is c.in_ok-text.ensures.within c.in_ok-text.ensures.told,
+      refl,
+    )

@@ -28,12 +28,12 @@ returns-in-Refused-clause-printable g c =
 
 pub returns-in-Refused-clause-rose : goal.returns-in-Refused-clause-rose
 returns-in-Refused-clause-rose g c =
-    file_no_fault c.in-Refused.answered.answer (answer_refused c.args.command.now c.args.text.now _ c.in-Refused.answered c.in-Refused.is c.in_ok-answered.ensures).0
+    file_no_fault _ c.in-Refused.answered.answer (answer_refused c.args.command.now c.args.text.now _ c.in-Refused.answered c.in-Refused.is c.in_ok-answered.ensures).0
 
 pub returns-in-Refused-clause-failed : goal.returns-in-Refused-clause-failed
 returns-in-Refused-clause-failed g c =
-    file_no_fault c.in-Refused.answered.answer (answer_refused c.args.command.now c.args.text.now _ c.in-Refused.answered c.in-Refused.is c.in_ok-answered.ensures).0
+    file_no_fault _ c.in-Refused.answered.answer (answer_refused c.args.command.now c.args.text.now _ c.in-Refused.answered c.in-Refused.is c.in_ok-answered.ensures).0
 
 pub returns-in-Refused-clause-begun : goal.returns-in-Refused-clause-begun
 returns-in-Refused-clause-begun g c =
-    file_no_fault c.in-Refused.answered.answer (answer_refused c.args.command.now c.args.text.now _ c.in-Refused.answered c.in-Refused.is c.in_ok-answered.ensures).0
+    file_no_fault _ c.in-Refused.answered.answer (answer_refused c.args.command.now c.args.text.now _ c.in-Refused.answered c.in-Refused.is c.in_ok-answered.ensures).0

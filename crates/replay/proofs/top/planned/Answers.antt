@@ -1,8 +1,9 @@
 -- What is said of the command is so of the one that the words ask for.
-use Rattle.std.proofs.Common.{IfOk, map, string_bytes, subst}
+use Rattle.std.proofs.Common.{◌≡◌, ◌⊎◌, IfOk, map, string_bytes, subst}
 use Rattle.command_line.specs.declared.replay.ReplayCommand.{ReplayCommand}
+use Rattle.report.specs.declared.replay_answer.ReplayAnswer.TheVariants.{ReadFault}
 use Rattle.replay.specs.Answered.{IsAnswered}
-use Rattle.replay.proofs.Files.{same_command}
+use Rattle.replay.proofs.Files.{plan_choices_named, plan_known, plan_named, plan_no_usage, same_command}
 use Rattle.replay.proofs.top.planned.Goals as goal
 
 pub returns-in-Some-clause-judged : goal.returns-in-Some-clause-judged
@@ -13,3 +14,27 @@ returns-in-Some-clause-judged g c = λ command words.
     subst
     (λ (x : ReplayCommand). IfOk c.planned_command.result (λ plan. IsAnswered (F.tells files) (F.bytes_of files x.file) (F.bytes_of files x.choices) x plan.shown.names plan.shown.answer))
     same c.planned_command.ensures.judged
+
+pub returns-in-Some-clause-begun : goal.returns-in-Some-clause-begun
+returns-in-Some-clause-begun g c = λ command words.
+    let F = g.F.Files in
+    let same = same_command _ (map string_bytes c.args.words.now) c.in-Some.command command c.in_ok-command.ensures c.in-Some.is words in
+    subst
+    (λ (x : ReplayCommand). IfOk c.planned_command.result (λ plan. plan.shown.answer ≡ ReadFault → (F.begun c.planned_command.new.files ≡ x.file) ⊎ (F.begun c.planned_command.new.files ≡ x.choices)))
+    same c.planned_command.ensures.begun
+
+pub returns-in-Some-clause-known : goal.returns-in-Some-clause-known
+returns-in-Some-clause-known g c = plan_known c.planned_command.result c.planned_command.ensures.about
+
+pub returns-in-Some-clause-usage_only : goal.returns-in-Some-clause-usage_only
+returns-in-Some-clause-usage_only g c = plan_no_usage _ c.planned_command.result c.planned_command.ensures.about
+
+pub returns-in-Some-clause-named : goal.returns-in-Some-clause-named
+returns-in-Some-clause-named g c =
+    plan_named c.planned_command.result _ (map string_bytes c.args.words.now) c.in-Some.command c.in_ok-command.ensures c.in-Some.is c.planned_command.ensures.about
+    c.planned_command.ensures.named
+
+pub returns-in-Some-clause-choices_named : goal.returns-in-Some-clause-choices_named
+returns-in-Some-clause-choices_named g c =
+    plan_choices_named c.planned_command.result _ (map string_bytes c.args.words.now) c.in-Some.command c.in_ok-command.ensures c.in-Some.is
+    c.planned_command.ensures.about c.planned_command.ensures.choices_named

@@ -1,6 +1,9 @@
-use Rattle.replay.proofs.Files.{plan_answered}
+use Rattle.replay.proofs.Files.{plan_about, plan_answered}
 use Rattle.replay.proofs.top.planned_command.Goals as goal
 
 -- what is said of the answer is said of the plan
 pub returns-clause-judged : goal.returns-clause-judged
 returns-clause-judged g c = plan_answered _ _ _ _ c.reported.result _ c.in_ok-answer.ensures.judged c.reported.ensures.shown
+
+pub returns-clause-about : goal.returns-clause-about
+returns-clause-about g c = plan_about c.reported.result _ c.in_ok-answer.ensures.about c.reported.ensures.shown

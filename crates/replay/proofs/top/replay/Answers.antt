@@ -1,4 +1,4 @@
-use Rattle.std.proofs.Common.{◌≡◌, ◌∙◌, sym}
+use Rattle.std.proofs.Common.{◌∙◌, sym}
 use Rattle.replay.proofs.Files.{is_verdict}
 use Rattle.replay.proofs.OneVerdict.{exactly_one}
 use Rattle.replay.proofs.top.replay.Goals as goal
