@@ -1,13 +1,17 @@
 //! Loops (C11 6.8.5).
 ghost use Rattle.std.specs.Prelude.{◌≡◌, [], ◌∷◌, ◌++◌, IfOk, OnOk};
-ghost use Rattle.c_machine.specs.declared.task.Task.TheVariants.{Again, Execute, Test};
+ghost use Rattle.c_machine.specs.declared.task.Task.TheVariants.{Again, Execute, LeaveBlock, OpenBlock, Test};
+ghost use Rattle.c_machine.specs.Blocks.{objects_in};
 ghost use Rattle.c_machine.specs.State.{doing};
 ghost use Rattle.c_machine.specs.Statements.{again_tasks, eval_tasks, test_or_turn, test_tasks};
+ghost use Rattle.expressions.specs.Numbers.{Numbering};
 ghost use Rattle.c_machine.specs.Program.{Program};
 ghost use Rattle.c_machine.specs.Trees.{text_of};
+ghost use Rattle.c_text.specs.Stands.{StandsFor};
 ghost use Rattle.c_tasks.specs.Loops.{is_for};
 ghost use Rattle.c_tasks.specs.Room.{MakesRoom};
 
+use crate::blocks::objects_in;
 use crate::branches::tested;
 use crate::pushes::{do_statement, unknown};
 use crate::room::Room;
@@ -15,6 +19,7 @@ use crate::state::TreeState;
 use crate::statements::evaluated;
 use c_machine::Task;
 use c_steps::Tree;
+use c_text::TypedText;
 use cbase::{Boxed, Expr, NoMemory, Place, Stmt, StmtForm};
 
 /// What is to be done for the condition of a loop: a `for` without one goes on (C11 6.8.5p4, 6.8.5.3p2).
@@ -114,4 +119,38 @@ fn after_turn<'a>(
 {
     do_test(state, stmt)?;
     evaluated(state, next, close)
+}
+
+/// A `for` is a block of its own, which is left at its word (C11 6.8.5p5): what comes first, and the condition.
+pub(crate) fn for_loop<'a>(
+    text: &TypedText,
+    state: &mut TreeState<'a>,
+    stmt: &'a Stmt,
+    first: &'a Stmt,
+) -> Result<Room, NoMemory>
+    ensures { IfOk result (λ room. (n : Numbering) (p : Program) → StandsFor n text.now p
+        → MakesRoom (OpenBlock ∷ (objects_in (text_of p) first.now ++ Execute first.now ∷ Test stmt.now ∷ LeaveBlock stmt.now.place ∷ [])) room state.old state.new) }
+{
+    do_run(state, stmt, first)?;
+    match objects_in(text, state, first)? {
+        Room::Made => opened(state),
+        Room::NotKept => Ok(Room::NotKept),
+    }
+}
+
+/// What comes first in a `for`, its condition, and the end of its block.
+fn do_run<'a>(state: &mut TreeState<'a>, stmt: &'a Stmt, first: &'a Stmt) -> Result<(), NoMemory>
+    ensures { OnOk result (state.new ≡ doing (Execute first.now ∷ Test stmt.now ∷ LeaveBlock stmt.now.place ∷ []) state.old) }
+{
+    state.do_first(Task::LeaveBlock(stmt.place))?;
+    do_test(state, stmt)?;
+    do_statement(state, first)
+}
+
+/// A block begins.
+fn opened(state: &mut TreeState) -> Result<Room, NoMemory>
+    ensures { IfOk result (λ room. MakesRoom (OpenBlock ∷ []) room state.old state.new) }
+{
+    state.do_first(Task::OpenBlock)?;
+    Ok(Room::Made)
 }
