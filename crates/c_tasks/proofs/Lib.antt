@@ -1,3 +1,11 @@
+pub mod BlocksEntered
+pub mod ClauseByForm
+pub mod EachArgument
+pub mod EachInFront
+pub mod EachName
+pub mod Initialised
 pub mod KeptKinds
 pub mod MakingRoom
 pub mod NamedThings
+pub mod RoomBehind
+pub mod ValueByForm

@@ -101,7 +101,7 @@ stores t place left right own kind is none = no_struct own (none ∙ ap struct_b
 pub lacks_one : (own : Kind) (rest : List Kind) → None ≡ kept own → are_kept (own ∷ rest) ≡ false
 lacks_one own rest is = ap (λ (found : Option Kind). is_there found && are_kept rest) (sym is)
 
-then_false : (fits : Bool) → fits && false ≡ false
+pub then_false : (fits : Bool) → fits && false ≡ false
 then_false true = refl
 then_false false = refl
 

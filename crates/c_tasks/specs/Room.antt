@@ -3,13 +3,13 @@ use Rattle.std.specs.Prelude.{◌≡◌, Bool, true, false, ◌&&◌, List, [], 
 use Rattle.c_machine.specs.declared.kind.Kind.{Kind}
 use Rattle.c_machine.specs.declared.kind.Kind.TheVariants.{Struct}
 use Rattle.c_machine.specs.declared.task.Task.{Task}
-use Rattle.c_machine.specs.declared.task.Task.TheVariants.{Load, Convert, Apply, Operate, Pick, Store, Update, CountBy, CopyStruct, RunBuiltIn, GiveBack}
+use Rattle.c_machine.specs.declared.task.Task.TheVariants.{Load, Convert, Apply, Operate, Pick, Store, Update, CountBy, CopyStruct, RunBuiltIn, MakeObject, MakeStatic, Zero, GiveBack}
 use Rattle.c_machine.specs.State.{State, doing}
 use Rattle.c_tasks.specs.declared.room.Room.{Room}
 use Rattle.c_tasks.specs.declared.room.Room.TheVariants.{Made, NotKept}
 use Rattle.c_text.specs.Kept.{kept}
 
--- the types of which a thing to do speaks. What copies a struct speaks of its type
+-- the types of which a thing to do speaks. What copies a struct speaks of its type, and what makes or fills an object of one of its size
 abbrev pub kinds_of : {E S I : Type 0} → Task E S I → List Kind
 kinds_of (Load place kind) = kind ∷ []
 kinds_of (Convert from to) = from ∷ to ∷ []
@@ -21,6 +21,9 @@ kinds_of (Update op place kind right) = kind ∷ right ∷ []
 kinds_of (CountBy up after place kind) = kind ∷ []
 kinds_of (CopyStruct place bytes) = Struct bytes ∷ []
 kinds_of (RunBuiltIn what place result) = result ∷ []
+kinds_of (MakeObject object) = Struct object.bytes ∷ []
+kinds_of (MakeStatic object) = Struct object.bytes ∷ []
+kinds_of (Zero place bytes) = Struct bytes ∷ []
 kinds_of (GiveBack place kind) = kind ∷ []
 kinds_of other = []
 

@@ -1,6 +1,6 @@
 //! Things to do that ask nothing of a program.
 ghost use Rattle.std.specs.Prelude.{◌≡◌, [], ◌∷◌, IfOk, OnOk};
-ghost use Rattle.c_machine.specs.declared.task.Task.TheVariants.{AddressOf, Unknown, ValueOf};
+ghost use Rattle.c_machine.specs.declared.task.Task.TheVariants.{AddressOf, Execute, Unknown, ValueOf};
 ghost use Rattle.c_machine.specs.State.{doing};
 ghost use Rattle.c_tasks.specs.Room.{MakesRoom};
 
@@ -8,7 +8,7 @@ use crate::room::Room;
 use crate::state::TreeState;
 use c_machine::Task;
 use c_steps::Tree;
-use cbase::{Expr, NoMemory};
+use cbase::{Expr, NoMemory, Stmt};
 
 /// The value of an expression.
 pub(crate) fn do_value<'a>(state: &mut TreeState<'a>, expr: &'a Expr) -> Result<(), NoMemory>
@@ -46,6 +46,24 @@ pub(crate) fn do_sides<'a>(
 {
     do_value(state, right)?;
     do_address(state, left)
+}
+
+/// A statement.
+pub(crate) fn do_statement<'a>(state: &mut TreeState<'a>, stmt: &'a Stmt) -> Result<(), NoMemory>
+    ensures { OnOk result (state.new ≡ doing (Execute stmt.now ∷ []) state.old) }
+{
+    state.do_first(Task::Execute(Tree::of(stmt)))
+}
+
+/// A statement alone.
+pub(crate) fn statement_alone<'a>(
+    state: &mut TreeState<'a>,
+    stmt: &'a Stmt,
+) -> Result<Room, NoMemory>
+    ensures { IfOk result (λ room. MakesRoom (Execute stmt.now ∷ []) room state.old state.new) }
+{
+    do_statement(state, stmt)?;
+    Ok(Room::Made)
 }
 
 /// The value of an expression alone.

@@ -1,3 +1,11 @@
+pub mod FirstRows
+pub mod FixedInOrder
+pub mod Following
+pub mod FunctionsFound
+pub mod LinksFound
 pub mod NamesStand
+pub mod ObjectsFound
+pub mod PushedObjects
 pub mod RowsFound
+pub mod StoresFound
 pub mod TypeKinds

@@ -1,4 +1,11 @@
+pub mod FirstRows
+pub mod Fixed
+pub mod Functions
 pub mod Kept
+pub mod Links
+pub mod Objects
 pub mod Rows
 pub mod Standing
 pub mod Stands
+pub mod Stores
+pub mod Tables

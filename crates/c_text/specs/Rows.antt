@@ -1,10 +1,9 @@
 -- The rows of expressions among what typing hands on. The last row of a number is that of the expression.
-use Rattle.std.specs.Prelude.{◌≡◌, ℕ, Bool, true, ◌&&◌, List, [], ◌∷◌, length, nat_eq, nat_lt, Option, None, Some, slice_get, if◌then◌else◌}
+use Rattle.std.specs.Prelude.{ℕ, Bool, true, ◌&&◌, List, [], ◌∷◌, nat_eq, nat_lt, Option, None, Some, slice_get, if◌then◌else◌}
 use Rattle.environment.specs.declared.entity.Entity.{Entity}
 use Rattle.environment.specs.declared.entity.Entity.TheVariants as entity
 use Rattle.expressions.specs.declared.handed_row.HandedRow.{HandedRow}
 use Rattle.expressions.specs.declared.handed_row.HandedRow.TheVariants.{Expression, Store, Object, Link, Function, Parameter}
-use Rattle.expressions.specs.Context.{Context}
 use Rattle.c_text.specs.declared.expression_row.ExpressionRow.{ExpressionRow}
 
 abbrev pub row_here : ℕ → HandedRow → Option ExpressionRow
@@ -54,8 +53,3 @@ is_known types signatures (Parameter token ctype) = nat_lt ctype types
 abbrev pub are_known : ℕ → ℕ → List HandedRow → Bool
 are_known types signatures [] = true
 are_known types signatures (row ∷ rest) = is_known types signatures row && are_known types signatures rest
-
--- the rows of a context, each at the place of its number, with types and signatures of the context
-pub record AreRows (context : Context) (rows : List (Option ExpressionRow)) : Type 0 where
-  pub found : (number : ℕ) → row_at rows number ≡ row_in number context.handed
-  pub known : are_known (length context.types) (length context.environment.signatures) context.handed ≡ true

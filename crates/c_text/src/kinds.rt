@@ -76,7 +76,7 @@ fn step_of(types: &Types, number: u32) -> Option<u64>
 }
 
 /// How many bytes an object of the type of that number has: none for more than 65,536, and 0 for an incomplete type.
-fn bytes_of(types: &Types, number: u32) -> Option<u64>
+pub(crate) fn bytes_of(types: &Types, number: u32) -> Option<u64>
     requires { number < length types.now.types }
     ensures { (p : Program) → p.structs ≡ types.now.structs → result ≡ at_most (size_of p (type_at types.now.types number)) }
 {

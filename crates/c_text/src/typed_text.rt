@@ -1,4 +1,4 @@
-ghost use Rattle.std.specs.Prelude.{◌≡◌, ◌<◌, true, false, length, option_map, IfOk, IfSome, IfNone};
+ghost use Rattle.std.specs.Prelude.{◌≡◌, ◌+◌, ◌<◌, ◌∷◌, true, false, drop, length, option_map, IfOk, IfSome, IfNone};
 ghost use Rattle.cbase.specs.declared.tree.expr.Expr.{Expr};
 ghost use Rattle.expressions.specs.Numbers.{Numbering, entity_at};
 ghost use Rattle.c_machine.specs.Program.{Program, type_of, entity_of, constant_of};
@@ -7,36 +7,41 @@ ghost use Rattle.operators.specs.Kinds.{kind_of};
 ghost use Rattle.typing.specs.Idiom.{member_offset};
 ghost use Rattle.typing.specs.Nodes.{pointed_offset};
 ghost use Rattle.c_text.specs.Kept.{kept};
-ghost use Rattle.c_text.specs.Rows.{row_in, stands_known, are_known};
+ghost use Rattle.c_text.specs.Rows.{row_in, stands_known, is_known, are_known};
 ghost use Rattle.c_text.specs.Stands.{StandsFor};
 
+mod objects;
+mod parameters;
 mod signatures;
 mod standing;
+mod statics;
+mod stores;
 
 use crate::expression_row::ExpressionRow;
 use crate::kinds::type_kind;
-use crate::rows::{are_known, gather, row_at};
+use crate::rows::{are_known, row_at};
+use crate::tables::{Tables, gather};
 use c_machine::Kind;
 use cbase::NoMemory;
 use environment::Entity;
-use expressions::Context;
+use expressions::{Context, HandedRow};
 use std::alloc::Global;
 use std::marker::Model;
 
-/// What typing hands on of a program, with the row of each expression by its number.
+/// What typing hands on of a program, with the row of each expression by its number, and those of names by their tokens.
 ///
 /// It is seen as the context. The contracts speak of each program that the context stands for.
 #[derive(Drop)]
 pub struct TypedText {
     context: Context,
-    rows: Vec<Option<ExpressionRow>>,
+    tables: Tables,
 }
 
 impl Model for TypedText {
     ghost use Rattle.expressions.specs.Context.{Context as AtPlace};
     ghost use Rattle.cbase.specs.contracts.ctype.CType as e;
     ghost use Rattle.std.specs.Coded.{codes};
-    ghost use Rattle.c_text.specs.Rows.{AreRows};
+    ghost use Rattle.c_text.specs.Tables.{AreTables};
 
     ghost Value = { AtPlace };
 
@@ -44,7 +49,7 @@ impl Model for TypedText {
 
     ghost view = { λ text. text.context };
 
-    ghost invariant = { λ text. AreRows text.context text.rows.items };
+    ghost invariant = { λ text. AreTables text.context text.tables };
 }
 
 impl TypedText {
@@ -55,10 +60,10 @@ impl TypedText {
         ensures some { IfOk result (λ found. IfSome found (λ text. text ≡ context)) }
         ensures none { IfOk result (λ found. IfNone found (are_known (length context.types) (length context.environment.signatures) context.handed ≡ false)) }
     {
-        let mut rows = Vec::new(alloc);
-        gather(&mut rows, context.handed())?;
+        let mut tables = Tables::new(alloc);
+        gather(&mut tables, context.handed())?;
         if are_known(&context, context.handed()) {
-            Ok(Some(TypedText { context, rows }))
+            Ok(Some(TypedText { context, tables }))
         } else {
             Ok(None)
         }
@@ -126,7 +131,16 @@ impl TypedText {
         ensures typed { IfSome result (λ row. row.ctype < length self.now.types) }
         ensures known { IfSome result (λ row. stands_known (length self.now.environment.signatures) row.stands ≡ true) }
     {
-        row_at(&self.rows, number)
+        row_at(&self.tables.rows, number)
+    }
+
+    /// What was handed on behind so many rows.
+    fn handed_row(&self, at: usize) -> HandedRow
+        requires { at < length self.now.handed }
+        ensures is { drop at self.now.handed ≡ result ∷ drop (at + 1) self.now.handed }
+        ensures known { is_known (length self.now.types) (length self.now.environment.signatures) result ≡ true }
+    {
+        self.context.handed()[at]
     }
 }
 

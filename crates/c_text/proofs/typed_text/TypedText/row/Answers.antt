@@ -10,7 +10,7 @@ pub returns-clause-typed : goal.returns-clause-typed
 returns-clause-typed c =
     let found = c.row_at.ensures
     ∙ ap (λ rows. row_at rows c.args.number) c.deref.ensures.value
-    ∙ c.self.invariant.found c.args.number
+    ∙ c.self.invariant.gathered.rows c.args.number
     ∙ ap (λ (context : Context). row_in c.args.number context.handed) c.self.view_is in
     let known = subst (λ (context : Context). are_known (length context.types) (length context.environment.signatures) context.handed ≡ true)
     c.self.view_is c.self.invariant.known in
@@ -21,7 +21,7 @@ pub returns-clause-known : goal.returns-clause-known
 returns-clause-known c =
     let found = c.row_at.ensures
     ∙ ap (λ rows. row_at rows c.args.number) c.deref.ensures.value
-    ∙ c.self.invariant.found c.args.number
+    ∙ c.self.invariant.gathered.rows c.args.number
     ∙ ap (λ (context : Context). row_in c.args.number context.handed) c.self.view_is in
     let known = subst (λ (context : Context). are_known (length context.types) (length context.environment.signatures) context.handed ≡ true)
     c.self.view_is c.self.invariant.known in

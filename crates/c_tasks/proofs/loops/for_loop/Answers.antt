@@ -1,0 +1,29 @@
+-- The objects of what comes first are made at the front of the block.
+use Rattle.std.proofs.Common.{[], ◌∷◌, ◌++◌, refl, subst}
+use Rattle.c_machine.specs.declared.task.Task.TheVariants.{Execute, LeaveBlock, OpenBlock, Test}
+use Rattle.c_machine.specs.Blocks.{objects_in}
+use Rattle.c_machine.specs.Trees.{text_of}
+use Rattle.c_tasks.specs.declared.room.Room.{Room}
+use Rattle.c_tasks.specs.declared.room.Room.TheVariants.{Made, NotKept}
+use Rattle.c_tasks.specs.Room.{MakesRoom}
+use Rattle.c_tasks.proofs.MakingRoom.{Tasks, on_ok}
+use Rattle.c_tasks.proofs.RoomBehind.{in_front}
+use Rattle.c_tasks.proofs.loops.for_loop.Goals as goal
+
+pub returns-in-Made : goal.returns-in-Made
+returns-in-Made c = on_ok _ _ c.opened.result
+    (λ room made. λ n p stands.
+    let run : Tasks = Execute c.args.first.now ∷ Test c.args.stmt.now ∷ LeaveBlock c.args.stmt.now.place ∷ [] in
+    in_front (OpenBlock ∷ []) (objects_in (text_of p) c.args.first.now ++ run) room c.args.state.now c.objects_in.new.state c.opened.new.state
+    (in_front (objects_in (text_of p) c.args.first.now) run Made c.args.state.now c.do_run.new.state c.objects_in.new.state
+    (c.in_ok-do_run.ensures, refl)
+    (subst (λ (room : Room). MakesRoom (objects_in (text_of p) c.args.first.now) room c.do_run.new.state c.objects_in.new.state) c.in-Made.is (c.in_ok-objects_in.ensures n p stands)))
+    made)
+    c.opened.ensures
+
+pub returns-in-NotKept : goal.returns-in-NotKept
+returns-in-NotKept c = λ n p stands.
+    let run : Tasks = Execute c.args.first.now ∷ Test c.args.stmt.now ∷ LeaveBlock c.args.stmt.now.place ∷ [] in
+    in_front (OpenBlock ∷ objects_in (text_of p) c.args.first.now) run NotKept c.args.state.now c.do_run.new.state c.objects_in.new.state
+    (c.in_ok-do_run.ensures, refl)
+    (subst (λ (room : Room). MakesRoom (objects_in (text_of p) c.args.first.now) room c.do_run.new.state c.objects_in.new.state) c.in-NotKept.is (c.in_ok-objects_in.ensures n p stands))

@@ -1,0 +1,258 @@
+//! Initialisers (C11 6.7.9).
+ghost use Rattle.std.specs.Prelude.{◌≡◌, true, false, [], ◌∷◌, ◌++◌, Some, map, IfOk, OnOk};
+ghost use Rattle.cbase.specs.declared.tree.expr.ExprForm.TheViews.{out-InitPart};
+ghost use Rattle.cbase.specs.declared.tree.init.InitPart.{InitPart};
+ghost use Rattle.c_machine.specs.declared.kind.Kind.{Kind};
+ghost use Rattle.c_machine.specs.declared.object.Object.{Object};
+ghost use Rattle.c_machine.specs.declared.task.Task.TheVariants.{AddressOf, Convert, CopyStruct, Finish, Initialise, ObjectAt, Shift, Store as StoreTask, ValueOf};
+ghost use Rattle.c_machine.specs.Blocks.{declared_by, declared_tasks, initialiser_tasks, set, zeroed};
+ghost use Rattle.c_machine.specs.Expressions.{value_kind};
+ghost use Rattle.c_machine.specs.State.{doing};
+ghost use Rattle.expressions.specs.Numbers.{Numbering};
+ghost use Rattle.c_machine.specs.Program.{Program};
+ghost use Rattle.c_machine.specs.Trees.{name_of, text_of};
+ghost use Rattle.c_text.specs.Kept.{is_sized, kept};
+ghost use Rattle.c_text.specs.Stands.{StandsFor};
+ghost use Rattle.c_tasks.specs.Room.{MakesRoom};
+
+use crate::kinds::{struct_bytes, value_kind};
+use crate::pushes::{do_address, do_value, unknown};
+use crate::room::Room;
+use crate::state::TreeState;
+use c_machine::{Kind, Object, Task};
+use c_steps::Tree;
+use c_text::{Store, TypedText};
+use cbase::{Declared, Expr, Init, InitPart, NoMemory, Place};
+
+/// What is to be done for a declared name: only an automatic object with an initialiser does something (C11 6.7.9).
+pub fn declared_tasks<'a>(
+    text: &TypedText,
+    state: &mut TreeState<'a>,
+    name: &'a Declared,
+) -> Result<Room, NoMemory>
+    ensures { IfOk result (λ room. (n : Numbering) (p : Program) → StandsFor n text.now p → MakesRoom (declared_tasks (text_of p) (name_of name.now)) room state.old state.new) }
+{
+    match &name.init {
+        None => Ok(Room::Made),
+        Some(init) => initialised(text, state, name.place, init),
+    }
+}
+
+/// What is to be done for a name with an initialiser, if it declares an automatic object.
+fn initialised<'a>(
+    text: &TypedText,
+    state: &mut TreeState<'a>,
+    place: Place,
+    init: &'a Init,
+) -> Result<Room, NoMemory>
+    ensures { IfOk result (λ room. (n : Numbering) (p : Program) → StandsFor n text.now p
+        → MakesRoom (declared_by (text_of p) place ((text_of p).automatic place) (Some init.now)) room state.old state.new) }
+{
+    match text.automatic(place.at) {
+        None => initialised_large(state, place, init),
+        Some(None) => Ok(Room::Made),
+        Some(Some(object)) => initialised_object(text, state, place, object, init),
+    }
+}
+
+/// An object whose size is kept is initialised: braces first fill the whole object with 0 (C11 6.7.9p19, p21).
+fn initialised_object<'a>(
+    text: &TypedText,
+    state: &mut TreeState<'a>,
+    place: Place,
+    object: Object,
+    init: &'a Init,
+) -> Result<Room, NoMemory>
+    ensures { IfOk result (λ room. (n : Numbering) (p : Program) → StandsFor n text.now p → is_sized object ≡ true
+        → MakesRoom (zeroed (text_of p) place object ((text_of p).initialiser init.now) ++ Initialise place init.now ∷ []) room state.old state.new) }
+{
+    state.do_first(Task::Initialise {
+        place,
+        init: Tree::of(init),
+    })?;
+    match init {
+        Init::Value { .. } => Ok(Room::Made),
+        Init::Braces(_) => {
+            state.do_first(Task::Zero {
+                place,
+                bytes: object.bytes,
+            })?;
+            state.do_first(Task::ObjectAt(text.first_token(place.at)))?;
+            Ok(Room::Made)
+        }
+    }
+}
+
+/// The same of an object whose size is not kept.
+fn initialised_large<'a>(
+    state: &mut TreeState<'a>,
+    place: Place,
+    init: &'a Init,
+) -> Result<Room, NoMemory>
+    ensures { IfOk result (λ room. (p : Program) (object : Object) → is_sized object ≡ false
+        → MakesRoom (zeroed (text_of p) place object ((text_of p).initialiser init.now) ++ Initialise place init.now ∷ []) room state.old state.new) }
+{
+    match init {
+        Init::Value { .. } => {
+            state.do_first(Task::Initialise {
+                place,
+                init: Tree::of(init),
+            })?;
+            Ok(Room::Made)
+        }
+        Init::Braces(_) => Ok(Room::NotKept),
+    }
+}
+
+/// What is to be done for an initialiser of the object whose name stands there: its values, from left to right (C11 6.7.9).
+pub fn initialiser_tasks<'a>(
+    text: &TypedText,
+    state: &mut TreeState<'a>,
+    place: Place,
+    init: &'a Init,
+) -> Result<Room, NoMemory>
+    ensures { IfOk result (λ room. (n : Numbering) (p : Program) → StandsFor n text.now p → MakesRoom (initialiser_tasks (text_of p) place init.now) room state.old state.new) }
+{
+    match init {
+        Init::Value { value, after } => set(text, state, place, value, *after),
+        Init::Braces(parts) => {
+            do_parts(state, place, parts.as_slice())?;
+            Ok(Room::Made)
+        }
+    }
+}
+
+/// The parts of an initialiser in braces, in order.
+fn do_parts<'a>(
+    state: &mut TreeState<'a>,
+    place: Place,
+    parts: &'a [InitPart],
+) -> Result<(), NoMemory>
+    ensures { OnOk result (state.new ≡ doing (map (λ (part : InitPart). Initialise place (out-InitPart part).init) parts.now) state.old) }
+{
+    let mut left = parts.len();
+    while left > 0 {
+        left -= 1;
+        do_part(state, place, &parts[left])?;
+    }
+    Ok(())
+}
+
+/// A part of an initialiser in braces.
+fn do_part<'a>(state: &mut TreeState<'a>, place: Place, part: &'a InitPart) -> Result<(), NoMemory>
+    ensures { OnOk result (state.new ≡ doing (Initialise place (out-InitPart part.now).init ∷ []) state.old) }
+{
+    state.do_first(Task::Initialise {
+        place,
+        init: Tree::of(&part.init),
+    })
+}
+
+/// A value of an initialiser, a full expression, which ends at the token of that place (C11 6.7.9p11, 6.8p4).
+fn set<'a>(
+    text: &TypedText,
+    state: &mut TreeState<'a>,
+    place: Place,
+    value: &'a Expr,
+    after: Place,
+) -> Result<Room, NoMemory>
+    ensures { IfOk result (λ room. (n : Numbering) (p : Program) → StandsFor n text.now p
+        → MakesRoom (set (text_of p) place value.now after ((text_of p).store place value.now)) room state.old state.new) }
+{
+    match text.store(place.at, value.number) {
+        None => Ok(Room::NotKept),
+        Some(None) => unknown(state),
+        Some(Some(store)) => set_part(text, state, place, value, after, &store),
+    }
+}
+
+/// What a value sets is set: a struct is copied as a whole, and any other value is stored (C11 6.7.9p11, p13).
+fn set_part<'a>(
+    text: &TypedText,
+    state: &mut TreeState<'a>,
+    place: Place,
+    value: &'a Expr,
+    after: Place,
+    store: &Store,
+) -> Result<Room, NoMemory>
+    ensures { IfOk result (λ room. (n : Numbering) (p : Program) (kind : Kind) → StandsFor n text.now p → Some store.now.kind ≡ kept kind
+        → MakesRoom (set (text_of p) place value.now after (Some (record { offset = store.now.offset; kind = kind }))) room state.old state.new) }
+{
+    match struct_bytes(&store.kind) {
+        None => set_value(text, state, place, value, after, store),
+        Some(bytes) => {
+            set_struct(text, state, place, value, after, store.offset, bytes)?;
+            Ok(Room::Made)
+        }
+    }
+}
+
+/// A struct of so many bytes is copied to its place in the object.
+fn set_struct<'a>(
+    text: &TypedText,
+    state: &mut TreeState<'a>,
+    place: Place,
+    value: &'a Expr,
+    after: Place,
+    offset: u64,
+    bytes: u64,
+) -> Result<(), NoMemory>
+    ensures { OnOk result ((n : Numbering) (p : Program) → StandsFor n text.now p
+        → state.new ≡ doing (ObjectAt ((text_of p).token place) ∷ Shift offset ∷ AddressOf value.now ∷ CopyStruct place bytes ∷ Finish after ∷ []) state.old) }
+{
+    state.do_first(Task::Finish(after))?;
+    state.do_first(Task::CopyStruct { place, bytes })?;
+    do_address(state, value)?;
+    do_target(text, state, place, offset)
+}
+
+/// A value is converted and stored at its place in the object.
+fn set_value<'a>(
+    text: &TypedText,
+    state: &mut TreeState<'a>,
+    place: Place,
+    value: &'a Expr,
+    after: Place,
+    store: &Store,
+) -> Result<Room, NoMemory>
+    ensures { IfOk result (λ room. (n : Numbering) (p : Program) (kind : Kind) → StandsFor n text.now p → Some store.now.kind ≡ kept kind
+        → MakesRoom (ObjectAt ((text_of p).token place) ∷ Shift store.now.offset ∷ ValueOf value.now ∷ Convert (value_kind (text_of p) value.now) kind
+        ∷ StoreTask place kind ∷ Finish after ∷ []) room state.old state.new) }
+{
+    let Some(from) = value_kind(text, value) else {
+        return Ok(Room::NotKept);
+    };
+    state.do_first(Task::Finish(after))?;
+    do_conversion(state, place, value, from, &store.kind)?;
+    do_target(text, state, place, store.offset)?;
+    Ok(Room::Made)
+}
+
+/// A value of one kind is stored as one of another.
+fn do_conversion<'a>(
+    state: &mut TreeState<'a>,
+    place: Place,
+    value: &'a Expr,
+    from: Kind,
+    to: &Kind,
+) -> Result<(), NoMemory>
+    ensures { OnOk result (state.new ≡ doing (ValueOf value.now ∷ Convert from to.now ∷ StoreTask place to.now ∷ []) state.old) }
+{
+    state.do_first(Task::Store { place, kind: *to })?;
+    state.do_first(Task::Convert { from, to: *to })?;
+    do_value(state, value)
+}
+
+/// The address of so many bytes behind the front of the object whose name stands there.
+fn do_target(
+    text: &TypedText,
+    state: &mut TreeState,
+    place: Place,
+    offset: u64,
+) -> Result<(), NoMemory>
+    ensures { OnOk result ((n : Numbering) (p : Program) → StandsFor n text.now p
+        → state.new ≡ doing (ObjectAt ((text_of p).token place) ∷ Shift offset ∷ []) state.old) }
+{
+    state.do_first(Task::Shift(offset))?;
+    state.do_first(Task::ObjectAt(text.first_token(place.at)))
+}

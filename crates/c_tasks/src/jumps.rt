@@ -1,0 +1,77 @@
+//! `break`, `continue` and `return` (C11 6.8.6).
+ghost use Rattle.std.specs.Prelude.{[], ◌∷◌, None, Some, IfOk};
+ghost use Rattle.c_machine.specs.declared.task.Task.TheVariants.{BreakAt, ContinueAt};
+ghost use Rattle.c_machine.specs.Statements.{return_tasks};
+ghost use Rattle.expressions.specs.Numbers.{Numbering};
+ghost use Rattle.c_machine.specs.Program.{Program};
+ghost use Rattle.c_machine.specs.Trees.{text_of};
+ghost use Rattle.c_text.specs.Stands.{StandsFor};
+ghost use Rattle.c_tasks.specs.Room.{MakesRoom};
+
+use crate::kinds::value_kind;
+use crate::pushes::do_value;
+use crate::room::Room;
+use crate::state::TreeState;
+use c_machine::{Kind, Task};
+use c_text::TypedText;
+use cbase::{Boxed, Expr, NoMemory, Place};
+
+/// `break` (C11 6.8.6.3).
+pub(crate) fn broken_off(state: &mut TreeState, word: Place) -> Result<Room, NoMemory>
+    ensures { IfOk result (λ room. MakesRoom (BreakAt word ∷ []) room state.old state.new) }
+{
+    state.do_first(Task::BreakAt(word))?;
+    Ok(Room::Made)
+}
+
+/// `continue` (C11 6.8.6.2).
+pub(crate) fn continued(state: &mut TreeState, word: Place) -> Result<Room, NoMemory>
+    ensures { IfOk result (λ room. MakesRoom (ContinueAt word ∷ []) room state.old state.new) }
+{
+    state.do_first(Task::ContinueAt(word))?;
+    Ok(Room::Made)
+}
+
+/// `return`, with a value or without one (C11 6.8.6.4).
+pub(crate) fn returned<'a>(
+    text: &TypedText,
+    state: &mut TreeState<'a>,
+    word: Place,
+    expr: &'a Option<Boxed<Expr>>,
+) -> Result<Room, NoMemory>
+    ensures { IfOk result (λ room. (n : Numbering) (p : Program) → StandsFor n text.now p → MakesRoom (return_tasks (text_of p) word expr.now) room state.old state.new) }
+{
+    match expr {
+        None => returned_nothing(state, word),
+        Some(expr) => returned_value(text, state, word, expr.get()),
+    }
+}
+
+/// `return` without a value.
+fn returned_nothing(state: &mut TreeState, word: Place) -> Result<Room, NoMemory>
+    ensures { IfOk result (λ room. (p : Program) → MakesRoom (return_tasks (text_of p) word None) room state.old state.new) }
+{
+    state.do_first(Task::GiveBack {
+        place: word,
+        kind: Kind::Void,
+    })?;
+    state.do_first(Task::Push(0))?;
+    Ok(Room::Made)
+}
+
+/// `return` with a value.
+fn returned_value<'a>(
+    text: &TypedText,
+    state: &mut TreeState<'a>,
+    word: Place,
+    expr: &'a Expr,
+) -> Result<Room, NoMemory>
+    ensures { IfOk result (λ room. (n : Numbering) (p : Program) → StandsFor n text.now p → MakesRoom (return_tasks (text_of p) word (Some expr.now)) room state.old state.new) }
+{
+    let Some(kind) = value_kind(text, expr) else {
+        return Ok(Room::NotKept);
+    };
+    state.do_first(Task::GiveBack { place: word, kind })?;
+    do_value(state, expr)?;
+    Ok(Room::Made)
+}

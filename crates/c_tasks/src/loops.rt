@@ -1,0 +1,156 @@
+//! Loops (C11 6.8.5).
+ghost use Rattle.std.specs.Prelude.{◌≡◌, [], ◌∷◌, ◌++◌, IfOk, OnOk};
+ghost use Rattle.c_machine.specs.declared.task.Task.TheVariants.{Again, Execute, LeaveBlock, OpenBlock, Test};
+ghost use Rattle.c_machine.specs.Blocks.{objects_in};
+ghost use Rattle.c_machine.specs.State.{doing};
+ghost use Rattle.c_machine.specs.Statements.{again_tasks, eval_tasks, test_or_turn, test_tasks};
+ghost use Rattle.expressions.specs.Numbers.{Numbering};
+ghost use Rattle.c_machine.specs.Program.{Program};
+ghost use Rattle.c_machine.specs.Trees.{text_of};
+ghost use Rattle.c_text.specs.Stands.{StandsFor};
+ghost use Rattle.c_tasks.specs.Loops.{is_for};
+ghost use Rattle.c_tasks.specs.Room.{MakesRoom};
+
+use crate::blocks::objects_in;
+use crate::branches::tested;
+use crate::pushes::{do_statement, unknown};
+use crate::room::Room;
+use crate::state::TreeState;
+use crate::statements::evaluated;
+use c_machine::Task;
+use c_steps::Tree;
+use c_text::TypedText;
+use cbase::{Boxed, Expr, NoMemory, Place, Stmt, StmtForm};
+
+/// What is to be done for the condition of a loop: a `for` without one goes on (C11 6.8.5p4, 6.8.5.3p2).
+///
+/// Unfinished expressions around the loop hold so many operands.
+pub fn test_tasks<'a>(
+    state: &mut TreeState<'a>,
+    stmt: &'a Stmt,
+    held: usize,
+) -> Result<Room, NoMemory>
+    ensures { IfOk result (λ room. (p : Program) → MakesRoom (test_tasks (text_of p) stmt.now held) room state.old state.new) }
+{
+    match &stmt.form {
+        StmtForm::While { test, .. } => tested(state, stmt, test.get()),
+        StmtForm::Do { test, .. } => tested(state, stmt, test.get()),
+        StmtForm::For { test, body, .. } => tested_or_on(state, stmt, held, test, body.get()),
+        _ => unknown(state),
+    }
+}
+
+/// What is to be done behind the body of a loop: in a `for` what is done after each turn, and then the condition (C11 6.8.5.3p1).
+pub fn again_tasks<'a>(state: &mut TreeState<'a>, stmt: &'a Stmt) -> Result<Room, NoMemory>
+    ensures { IfOk result (λ room. (p : Program) → MakesRoom (again_tasks (text_of p) stmt.now) room state.old state.new) }
+{
+    match &stmt.form {
+        StmtForm::For { next, close, .. } => after_turn(state, stmt, next, *close),
+        _ => test_alone(state, stmt),
+    }
+}
+
+/// Whether a statement is a `for`, whose block a `break` leaves, too (C11 6.8.5p5, 6.8.6.3).
+pub fn is_for(stmt: &Stmt) -> bool
+    ensures { (p : Program) → result ≡ is_for ((text_of p).clause stmt.now) }
+{
+    match &stmt.form {
+        StmtForm::For { .. } => true,
+        _ => false,
+    }
+}
+
+/// The condition of a loop is to be tested.
+pub(crate) fn do_test<'a>(state: &mut TreeState<'a>, stmt: &'a Stmt) -> Result<(), NoMemory>
+    ensures { OnOk result (state.new ≡ doing (Test stmt.now ∷ []) state.old) }
+{
+    state.do_first(Task::Test(Tree::of(stmt)))
+}
+
+/// The condition of a loop alone.
+pub(crate) fn test_alone<'a>(state: &mut TreeState<'a>, stmt: &'a Stmt) -> Result<Room, NoMemory>
+    ensures { IfOk result (λ room. MakesRoom (Test stmt.now ∷ []) room state.old state.new) }
+{
+    do_test(state, stmt)?;
+    Ok(Room::Made)
+}
+
+/// A turn of a loop.
+pub(crate) fn turn<'a>(
+    state: &mut TreeState<'a>,
+    stmt: &'a Stmt,
+    held: usize,
+    body: &'a Stmt,
+) -> Result<Room, NoMemory>
+    ensures { IfOk result (λ room. MakesRoom (Execute body.now ∷ Again stmt.now held ∷ []) room state.old state.new) }
+{
+    state.do_first(Task::Again {
+        stmt: Tree::of(stmt),
+        held,
+    })?;
+    do_statement(state, body)?;
+    Ok(Room::Made)
+}
+
+/// The condition of a `for`, or a turn where it has none (C11 6.8.5.3p2).
+fn tested_or_on<'a>(
+    state: &mut TreeState<'a>,
+    stmt: &'a Stmt,
+    held: usize,
+    test: &'a Option<Boxed<Expr>>,
+    body: &'a Stmt,
+) -> Result<Room, NoMemory>
+    ensures { IfOk result (λ room. (p : Program) → MakesRoom (test_or_turn (text_of p) stmt.now held test.now body.now) room state.old state.new) }
+{
+    match test {
+        None => turn(state, stmt, held, body),
+        Some(test) => tested(state, stmt, test.get()),
+    }
+}
+
+/// What is done after a turn of a `for`, a full expression that ends at that place, and then the condition.
+fn after_turn<'a>(
+    state: &mut TreeState<'a>,
+    stmt: &'a Stmt,
+    next: &'a Option<Boxed<Expr>>,
+    close: Place,
+) -> Result<Room, NoMemory>
+    ensures { IfOk result (λ room. (p : Program) → MakesRoom (eval_tasks (text_of p) next.now close ++ Test stmt.now ∷ []) room state.old state.new) }
+{
+    do_test(state, stmt)?;
+    evaluated(state, next, close)
+}
+
+/// A `for` is a block of its own, which is left at its word (C11 6.8.5p5): what comes first, and the condition.
+pub(crate) fn for_loop<'a>(
+    text: &TypedText,
+    state: &mut TreeState<'a>,
+    stmt: &'a Stmt,
+    first: &'a Stmt,
+) -> Result<Room, NoMemory>
+    ensures { IfOk result (λ room. (n : Numbering) (p : Program) → StandsFor n text.now p
+        → MakesRoom (OpenBlock ∷ (objects_in (text_of p) first.now ++ Execute first.now ∷ Test stmt.now ∷ LeaveBlock stmt.now.place ∷ [])) room state.old state.new) }
+{
+    do_run(state, stmt, first)?;
+    match objects_in(text, state, first)? {
+        Room::Made => opened(state),
+        Room::NotKept => Ok(Room::NotKept),
+    }
+}
+
+/// What comes first in a `for`, its condition, and the end of its block.
+fn do_run<'a>(state: &mut TreeState<'a>, stmt: &'a Stmt, first: &'a Stmt) -> Result<(), NoMemory>
+    ensures { OnOk result (state.new ≡ doing (Execute first.now ∷ Test stmt.now ∷ LeaveBlock stmt.now.place ∷ []) state.old) }
+{
+    state.do_first(Task::LeaveBlock(stmt.place))?;
+    do_test(state, stmt)?;
+    do_statement(state, first)
+}
+
+/// A block begins.
+fn opened(state: &mut TreeState) -> Result<Room, NoMemory>
+    ensures { IfOk result (λ room. MakesRoom (OpenBlock ∷ []) room state.old state.new) }
+{
+    state.do_first(Task::OpenBlock)?;
+    Ok(Room::Made)
+}

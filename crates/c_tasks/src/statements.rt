@@ -1,0 +1,63 @@
+//! Statements (C11 6.8).
+ghost use Rattle.std.specs.Prelude.{IfOk};
+ghost use Rattle.c_machine.specs.Statements.{eval_tasks, statement_tasks};
+ghost use Rattle.expressions.specs.Numbers.{Numbering};
+ghost use Rattle.c_machine.specs.Program.{Program};
+ghost use Rattle.c_machine.specs.Trees.{text_of};
+ghost use Rattle.c_text.specs.Stands.{StandsFor};
+ghost use Rattle.c_tasks.specs.Room.{MakesRoom};
+
+use crate::blocks::in_block;
+use crate::branches::tested;
+use crate::declarations::declared_names;
+use crate::jumps::{broken_off, continued, returned};
+use crate::loops::{for_loop, test_alone, turn};
+use crate::pushes::do_value;
+use crate::room::Room;
+use crate::state::TreeState;
+use c_machine::Task;
+use c_text::TypedText;
+use cbase::{Boxed, Expr, NoMemory, Place, Stmt, StmtForm};
+
+/// What is to be done for a statement, where unfinished expressions around it hold so many operands (C11 6.8).
+///
+/// It takes one step, and at a block or a declaration time for what stands directly in it.
+pub fn statement_tasks<'a>(
+    text: &TypedText,
+    state: &mut TreeState<'a>,
+    stmt: &'a Stmt,
+    held: usize,
+) -> Result<Room, NoMemory>
+    ensures { IfOk result (λ room. (n : Numbering) (p : Program) → StandsFor n text.now p → MakesRoom (statement_tasks (text_of p) stmt.now held) room state.old state.new) }
+{
+    match &stmt.form {
+        StmtForm::Declare(decl) => declared_names(text, state, decl.get().names.as_slice()),
+        StmtForm::Eval(expr) => evaluated(state, expr, stmt.after),
+        StmtForm::Block(body) => in_block(text, state, body.as_slice(), stmt.after),
+        StmtForm::If { test, .. } => tested(state, stmt, test.get()),
+        StmtForm::While { .. } => test_alone(state, stmt),
+        StmtForm::Do { body, .. } => turn(state, stmt, held, body.get()),
+        StmtForm::For { first, .. } => for_loop(text, state, stmt, first.get()),
+        StmtForm::Break => broken_off(state, stmt.place),
+        StmtForm::Continue => continued(state, stmt.place),
+        StmtForm::Return(expr) => returned(text, state, stmt.place, expr),
+    }
+}
+
+/// A full expression, if there is one, which ends at that place (C11 6.8.3).
+pub(crate) fn evaluated<'a>(
+    state: &mut TreeState<'a>,
+    expr: &'a Option<Boxed<Expr>>,
+    after: Place,
+) -> Result<Room, NoMemory>
+    ensures { IfOk result (λ room. (p : Program) → MakesRoom (eval_tasks (text_of p) expr.now after) room state.old state.new) }
+{
+    match expr {
+        None => Ok(Room::Made),
+        Some(expr) => {
+            state.do_first(Task::Finish(after))?;
+            do_value(state, expr.get())?;
+            Ok(Room::Made)
+        }
+    }
+}
