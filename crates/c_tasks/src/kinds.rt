@@ -21,7 +21,7 @@ pub(crate) fn own_kind(text: &TypedText, expr: &Expr) -> Option<Kind>
 }
 
 /// The kind of the value of an expression, where it is kept: an array became a pointer (C11 6.3.2.1p3).
-pub(crate) fn value_kind(text: &TypedText, expr: &Expr) -> Option<Kind>
+pub fn value_kind(text: &TypedText, expr: &Expr) -> Option<Kind>
     ensures { (n : Numbering) (p : Program) → StandsFor n text.now p → result ≡ kept (value_kind (text_of p) expr.now) }
 {
     match text.kind(expr.number) {

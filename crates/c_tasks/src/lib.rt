@@ -31,6 +31,7 @@ pub use address::address_tasks;
 pub use branches::{branch_place, branch_tasks};
 pub use functions::built_in;
 pub use initialisers::initialiser_tasks;
+pub use kinds::value_kind;
 pub use loops::{again_tasks, is_for, test_tasks};
 pub use room::Room;
 pub use state::TreeState;

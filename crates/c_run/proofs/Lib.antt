@@ -1,0 +1,5 @@
+mod MakingSteps
+mod PlainSteps
+mod ByCondition
+mod Leaving
+mod RunsOn
