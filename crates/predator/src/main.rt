@@ -53,7 +53,7 @@ fn asks_for_replay(words: &[String]) -> bool
 {
     match words {
         [] => false,
-        [first, ..] => first.as_bytes() == b"replay",
+        [first, ..] => first.as_bytes() == b"replay".as_slice(),
     }
 }
 
