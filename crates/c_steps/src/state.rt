@@ -1,4 +1,4 @@
-ghost use Rattle.std.specs.Prelude.{◌≡◌, ◌+◌, ◌≤◌, ◌<◌, ℕ, [], ◌∷◌, All, IfNone, IfOk, IfSome, IsTrue, MatchBool, OnErr, OnOk, Some, length, slice_get, None};
+ghost use Rattle.std.specs.Prelude.{◌≡◌, ◌+◌, ◌≤◌, ◌<◌, ℕ, [], ◌∷◌, All, IfNone, IfOk, IfSome, IsTrue, MatchBool, OnErr, OnOk, Some, length, nat_eq, slice_get, None};
 ghost use Rattle.std.specs.Bool.{OnFalse};
 ghost use Rattle.bytes_core.specs.Access.{access_fault, range_fault, stored, filled};
 ghost use Rattle.bytes_core.specs.Answer.{answer};
@@ -71,6 +71,13 @@ impl<E: Drop, S: Drop, I: Drop> State<E, S, I> {
         ensures none { IfNone result (self.old.tasks ≡ []) }
     {
         self.tasks.pop()
+    }
+
+    /// Whether nothing is left to do.
+    pub fn is_done(&self) -> bool
+        ensures { result ≡ nat_eq (length self.now.tasks) 0 }
+    {
+        self.tasks.len() == 0
     }
 
     /// One more thing to do, before all others. Where memory is wanting all stays as it was.
