@@ -28,6 +28,7 @@ mod statements;
 mod value;
 
 pub use address::address_tasks;
+pub use blocks::entered;
 pub use branches::{branch_place, branch_tasks};
 pub use functions::built_in;
 pub use initialisers::initialiser_tasks;
