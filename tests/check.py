@@ -4,8 +4,9 @@
 Usage: python3 tests/check.py
 answers/ has short texts whose answers were worked out by hand, preprocessed/ programs as gcc -E writes them. What is
 wanted of NAME.c or NAME.i stands in NAME.expect. answers/types.rows has one program a line, and below it the status and the
-report that are wanted of it as a file t.c; a line that begins with `# ` says what the rows below it show. It prints a line for each
-that differs; the status is 1 where one does, and where the picture of docs/flow.md is not that of its rows.
+report that are wanted of it as a file t.c; a line that begins with `# ` says what the rows below it show. replay/replay.rows has such
+rows for `predator replay`: a line between the two has the options and, each behind a `|`, the lines of the choices, which are the file c. It
+prints a line for each that differs; the status is 1 where one does, and where the picture of docs/flow.md is not that of its rows.
 """
 import re
 import subprocess
@@ -17,6 +18,7 @@ HOME = Path(__file__).resolve().parent
 PROGRAM = HOME.parent / "predator"
 FOLDERS = (("answers", "*.c"), ("preprocessed", "*.i"))
 ROWS = HOME / "answers" / "types.rows"
+REPLAY_ROWS = HOME / "replay" / "replay.rows"
 ESCAPED = {b"n": b"\n", b"t": b"\t", b"r": b"\r", b"s": b" "}
 
 
@@ -80,6 +82,35 @@ def differing_rows(found):
     return count
 
 
+def replay_rows(file):
+    """The rows of a file for `replay`: of each the heading above it, the program, the options, the choices, and what is wanted."""
+    heading, found, lines = "", [], iter(file.read_bytes().split(b"\n")[:-1])
+    for line in lines:
+        if line.startswith(b"# "):
+            heading = line.decode()
+        else:
+            options, *choices = next(lines).split(b"|")
+            text = b"".join(choice.strip() + b"\n" for choice in choices if choice)
+            status, _, report = next(lines).partition(b" ")
+            found.append((heading, unescaped(line), options.split(), text, (unescaped(report), int(status))))
+    return found
+
+
+def differing_replays(found):
+    """How many of these rows are answered otherwise than is wanted."""
+    count = 0
+    with tempfile.TemporaryDirectory() as folder:
+        for heading, text, options, choices, want in found:
+            Path(folder, "t.c").write_bytes(text)
+            Path(folder, "c").write_bytes(choices)
+            done = subprocess.run([PROGRAM, "replay", *options, "t.c", "c"], cwd=folder, stdin=subprocess.DEVNULL, stdout=subprocess.PIPE)
+            got = done.stdout, done.returncode
+            if got != want:
+                count += 1
+                print(f"{heading}: {text!r} with {choices!r} differs: wanted {want!r}, got {got!r}")
+    return count
+
+
 def main():
     is_wrong = False
     for folder, pattern in FOLDERS:
@@ -91,6 +122,10 @@ def main():
     count = differing_rows(found)
     is_wrong = is_wrong or count > 0 or not found
     print(f"{ROWS.name}: {len(found) - count} of {len(found)} programs as wanted")
+    found = replay_rows(REPLAY_ROWS)
+    count = differing_replays(found)
+    is_wrong = is_wrong or count > 0 or not found
+    print(f"{REPLAY_ROWS.name}: {len(found) - count} of {len(found)} runs as wanted")
     picture = subprocess.run([sys.executable, HOME.parent / "tools" / "flow_picture.py", "--check"])
     return 1 if is_wrong or picture.returncode else 0
 

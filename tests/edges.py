@@ -17,6 +17,7 @@ HOME = Path(__file__).resolve().parent.parent
 PROGRAM = str(Path(sys.argv[1]).resolve() if len(sys.argv) > 1 else HOME / "predator")
 SAFE = b"int main(void) {\n  void *p = malloc(8);\n  free(p);\n  return 0;\n}\n"
 USAGE = b"usage: predator [--budget N] [--int-limit K] FILE\n"
+REPLAY_USAGE = b"usage: predator replay [--model M] [--strict] [--steps N] FILE CHOICES\n"
 MOST = 4_194_304
 # How many brackets may be open, and how many levels a tree may have (docs/language.md).
 BRACKETS = 256
@@ -267,12 +268,98 @@ def one_block_too_many(folder):
     return is_too_large(folder, blocks(LEVELS + 1))
 
 
+def replayed(folder, choices, *options):
+    """What `replay` answers of a main that returns, with this text of choices."""
+    Path(folder, "t.c").write_bytes(b"int main(void) { return 0; }\n")
+    Path(folder, "c").write_bytes(choices)
+    return ran(["replay", *options, "t.c", "c"], folder)
+
+
+def replay_of_no_words(folder):
+    return ran(["replay"], folder), (4, REPLAY_USAGE)
+
+
+def replay_without_choices(folder):
+    return ran(["replay", "safe.c"], folder), (4, REPLAY_USAGE)
+
+
+def replay_of_three_files(folder):
+    return ran(["replay", "safe.c", "safe.c", "safe.c"], folder), (4, REPLAY_USAGE)
+
+
+def replay_of_a_file_called_replay(folder):
+    Path(folder, "replay").write_bytes(SAFE)
+    return ran(["./replay"], folder), (0, b"./replay: safe\n")
+
+
+def replay_where_both_are_missing(folder):
+    return ran(["replay", "missing.c", "missing"], folder), (5, b"")
+
+
+def replay_where_the_choices_are_missing(folder):
+    return ran(["replay", "safe.c", "missing"], folder), (5, b"")
+
+
+def replay_of_a_refused_file_without_choices(folder):
+    Path(folder, "t.c").write_bytes(b"int main(void) { return x; }\n")
+    return ran(["replay", "t.c", "missing"], folder), (3, b"t.c: not read: rule 1 at t.c:1:25\n")
+
+
+def replay_where_the_choices_are_a_folder(folder):
+    return ran(["replay", "safe.c", "."], folder), (5, b"")
+
+
+def replay_of_the_same_file_twice(folder):
+    return ran(["replay", "safe.c", "safe.c"], folder), (3, b"safe.c: no choices\n")
+
+
+def replay_where_the_choices_are_a_pipe(folder):
+    os.mkfifo(Path(folder, "pipe"))
+
+    def write():
+        with open(Path(folder, "pipe"), "wb") as file:
+            for line in (b"block 16 00000000", b"00000000\nno", b"ne\n"):
+                file.write(line)
+                file.flush()
+
+    thread = threading.Thread(target=write)
+    thread.start()
+    try:
+        return ran(["replay", "safe.c", "pipe"], folder), (0, b"safe.c: ended\n")
+    finally:
+        thread.join()
+
+
+def replay_with_the_longest_choices(folder):
+    return replayed(folder, b"input 1\n" * (MOST // 8)), (0, b"t.c: ended\n")
+
+
+def replay_with_one_byte_too_many(folder):
+    return replayed(folder, b"input 1\n" * (MOST // 8) + b"i"), (3, b"c: not read: over 4194304 bytes\n")
+
+
+def replay_of_a_million_steps(folder):
+    Path(folder, "t.c").write_bytes(b"int main(void) { while (1) ; }\n")
+    Path(folder, "c").write_bytes(b"")
+    return ran(["replay", "t.c", "c"], folder), (2, b"t.c: still running\n")
+
+
+def replay_where_the_output_is_full(folder):
+    Path(folder, "c").write_bytes(b"")
+    with open("/dev/full", "wb") as full:
+        return (ran(["replay", "safe.c", "c"], folder, stdout=full)[0],), (6,)
+
+
 CASES = (a_folder, no_permission, a_missing_file, a_path_that_is_no_utf8, a_full_device, a_closed_output,
          a_pipe_that_nobody_reads, a_pipe_that_closes_after_ten_bytes, a_file_that_grows, a_named_pipe, an_empty_name,
          no_words, ten_thousand_words, an_empty_file, the_longest_file, one_byte_too_many, a_hundred_thousand_stars,
          sixty_thousand_members, one_member_too_many, as_many_braces_as_may_be_open, braces_around_a_number, one_brace_too_many,
          as_many_expressions_as_are_read, one_expression_too_many, as_many_casts_as_are_read, one_cast_too_many,
-         as_many_statements_as_are_read, one_statement_too_many, as_many_blocks_as_are_read, one_block_too_many)
+         as_many_statements_as_are_read, one_statement_too_many, as_many_blocks_as_are_read, one_block_too_many,
+         replay_of_no_words, replay_without_choices, replay_of_three_files, replay_of_a_file_called_replay,
+         replay_where_both_are_missing, replay_where_the_choices_are_missing, replay_of_a_refused_file_without_choices,
+         replay_where_the_choices_are_a_folder, replay_of_the_same_file_twice, replay_where_the_choices_are_a_pipe,
+         replay_with_the_longest_choices, replay_with_one_byte_too_many, replay_of_a_million_steps, replay_where_the_output_is_full)
 
 
 def main():

@@ -2,8 +2,8 @@
 """Runs predator's sources on the words given without a proof, by the kit's `rt try`, and ends with the program's status.
 
 Usage: tools/run_unproved.py [WORD ..], in the caller's folder
-The kit runs the program in a folder of its own. So FILE is read here, and stands there under a name of one word that
-does not occur in it; in the report that word is then FILE again. Standard output has the report alone.
+The kit runs the program in a folder of its own. So FILE is read here, and behind `replay` CHOICES too, and each stands there under a name of
+one word that does not occur in it; in the report that word is then its name again. Standard output has the report alone.
 """
 import os
 import secrets
@@ -16,25 +16,27 @@ CRATE = Path(__file__).resolve().parent.parent / "crates" / "predator"
 # One byte more than a text may have: the program takes no more of a file.
 MOST = 4_194_305
 OPTIONS = (b"--budget", b"--int-limit")
+REPLAY_OPTIONS = (b"--model", b"--steps")
 # The status where there is no answer at all: no status of the program's own.
 NO_ANSWER = 127
 NOTE = "predator: this answer is not from the proved program; `./prove` or `rt ci` makes it"
 
 
-def file_at(words):
-    """Where FILE stands among the words, if one word alone can be FILE; a word that the program refuses stays as it is."""
-    found, at = [], 0
+def files_at(words):
+    """Where FILE, and behind `replay` CHOICES too, stand among the words, if these can be no others; words that the program refuses stay as they are."""
+    is_replay = words[:1] == [b"replay"]
+    found, at = [], 1 if is_replay else 0
     while at < len(words):
         word = words[at]
         if word == b"--":
             found += range(at + 1, len(words))
             break
-        if word in OPTIONS:
+        if word in (REPLAY_OPTIONS if is_replay else OPTIONS):
             at += 1
         elif word == b"-" or not word.startswith(b"-"):
             found.append(at)
         at += 1
-    return found[0] if len(found) == 1 and is_name(words[found[0]]) else None
+    return found if len(found) == (2 if is_replay else 1) and all(is_name(words[at]) for at in found) else []
 
 
 def is_name(word):
@@ -72,19 +74,21 @@ def tried(words, data):
 
 def answered(words):
     """The report and the status of the program on these words, or None and what the kit said."""
-    at = file_at(words)
-    content = None if at is None else content_of(words[at])
-    name = name_for(content, words)
-    given = words if at is None else words[:at] + [name] + words[at + 1:]
+    given, names, data = list(words), {}, []
     with tempfile.TemporaryDirectory() as folder:
-        data = []
-        if content is not None:
-            data = [(name, Path(folder, "text"))]
-            data[0][1].write_bytes(content)
+        for at in files_at(words):
+            content = content_of(words[at])
+            given[at] = name_for(content, given)
+            names[given[at]] = words[at]
+            if content is not None:
+                data.append((given[at], Path(folder, str(at))))
+                data[-1][1].write_bytes(content)
         report, said, status = tried(given, data)
     if not any(line.startswith(b"run=ended ") for line in said.splitlines()):
         return None, said
-    return (report if at is None else report.replace(name, words[at])), status
+    for name, word in names.items():
+        report = report.replace(name, word)
+    return report, status
 
 
 def main():

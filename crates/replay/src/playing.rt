@@ -12,9 +12,10 @@ ghost use Rattle.c_steps.specs.ComesTo.{comes_to};
 ghost use Rattle.report.specs.ReplayReport.{HasPrintableRun};
 ghost use Rattle.replay.specs.Program.{what_of};
 
+use c_start::run_program;
 use c_steps::Outcome;
 use c_text::TypedText;
-use cbase::{Item, NoMemory, Place};
+use cbase::{NoMemory, Place};
 use ccheck::TypedProgram;
 use choices::Choice;
 use ctokens::Tokens;
@@ -49,23 +50,6 @@ pub(crate) fn play(
     };
     let outcome = run_program(alloc, program.as_slice(), &text, strict, choices, steps)?;
     Ok(replayed(t, outcome))
-}
-
-/// The run of a program from its start, in so many steps.
-fn run_program(
-    _alloc: Global,
-    items: &[Item],
-    text: &TypedText,
-    strict: bool,
-    choices: &[Choice],
-    steps: u32,
-) -> Result<Outcome, NoMemory>
-    ensures { IfOk result (λ outcome. (n : Numbering) (p : Program) → StandsFor n text.now p
-        → p.items ≡ items.now → p.strict ≡ strict
-        → (state : StateIn (text_of p)) × (rest : Items Choice)
-        × (run_of (text_of p) choices.now steps ≡ comes_to outcome state rest)) }
-{
-    Err(NoMemory)
 }
 
 /// What is answered of what a run comes to.
