@@ -76,7 +76,10 @@ pub over_later : {E : Type 0} (text : Context) (items : List Item) (strict : Boo
     Started text items strict stepped choices middle more → Ran text strict steps ran middle more after rest →
     IfOk result (λ outcome. ran ≡ Came outcome) → IfOk result (ComesSo text items strict choices steps)
 over_later text items strict choices steps stepped ran middle after more rest (Ok outcome) on started going is =
-    λ n p stands same held.
-    (after, rest, goes_so (text_of p) steps stepped outcome middle after choices more rest on (started n p stands held same)
-        (subst (λ (came : Stepped). IsRun (text_of p) steps came middle more after rest) is (going n p stands held)))
+    λ n p stands same held. (
+      after,
+      rest,
+      goes_so (text_of p) steps stepped outcome middle after choices more rest on (started n p stands held same)
+          (subst (λ (came : Stepped). IsRun (text_of p) steps came middle more after rest) is (going n p stands held)),
+    )
 over_later text items strict choices steps stepped ran middle after more rest (Err error) on started going is = tt

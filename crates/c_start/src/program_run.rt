@@ -40,14 +40,7 @@ pub fn run_program(
     if !goes_on(stepped) {
         return kept(stepped);
     }
-    let ran = run(
-        alloc,
-        text,
-        strict,
-        &mut state,
-        &mut left,
-        u64::from(steps),
-    )?;
+    let ran = run(alloc, text, strict, &mut state, &mut left, u64::from(steps))?;
     kept(ran)
 }
 
