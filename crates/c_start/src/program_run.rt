@@ -36,7 +36,8 @@ pub fn run_program(
         → (state : StateIn (text_of p)) × (rest : Items Choice) × (run_of (text_of p) choices.now steps ≡ comes_to outcome state rest)) }
 {
     let mut left = Choices::of(choices);
-    let Started { stepped, mut state } = start(alloc, text, strict, items, &mut left)?;
+    let started = start(alloc, text, strict, items, &mut left)?;
+    let Started { stepped, mut state } = started;
     if !goes_on(stepped) {
         return kept(stepped);
     }
