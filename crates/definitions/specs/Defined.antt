@@ -2,7 +2,8 @@
 --
 -- An item that ends with a body defines each name that it declares at depth 0 (C11 6.9.1). An item without a body and without
 -- `typedef` defines those of them that no `(` follows, since a head alone declares a function; and where it has `extern`, only
--- those of these that have an initialiser (C11 6.9.2).
+-- those of these that have an initialiser (C11 6.9.2). The first word of an item, storage words left out, begins its type, and is
+-- no name that it declares (C11 6.7p1, 6.7.2p2).
 use Rattle.std.specs.Prelude.{ℕ, Bool, true, false, not, ◌&&◌, ◌||◌, if◌then◌else◌, List, [], ◌∷◌, ◌++◌, map, nat_eq}
 use Rattle.std.specs.List.{flat_map}
 use Rattle.ctokens.specs.declared.item_span.ItemSpan.{ItemSpan}
@@ -15,7 +16,7 @@ use Rattle.definitions.specs.declared.form.StorageWord.TheVariants as storage
 use Rattle.definitions.specs.declared.role.Role.{Role}
 use Rattle.definitions.specs.declared.role.Role.TheVariants.{Other}
 use Rattle.definitions.specs.declared.sign.Sign.{Sign}
-use Rattle.definitions.specs.Roles.{follows_declared, is_comma, is_equals, is_left_parenthesis, is_name, is_semicolon, is_tag_word}
+use Rattle.definitions.specs.Roles.{follows_declared, is_comma, is_equals, is_left_parenthesis, is_name, is_semicolon, is_storage_word, is_tag_word}
 use Rattle.definitions.specs.Rows.{depth_after, ends_with_body, has_storage, item_row}
 
 -- the form of an item with this row: one that ends with a body, and else a declaration, by its storage word
@@ -52,14 +53,18 @@ has_initialiser depth (sign ∷ rest) =
 abbrev pub set_after : ℕ → Bool → Role → Bool
 set_after depth set role = if nat_eq depth 0 then (is_equals role || (not (is_comma role) && set)) else set
 
+-- whether a token that is no storage word stands in front, behind a token: the first of them begins the type
+abbrev pub typed_after : Bool → Role → Bool
+typed_after typed role = typed || not (is_storage_word role)
+
 -- whether an item declares the word that a row begins with, where `before` is the token before it: a word, not a keyword, at
 -- depth 0 that is followed by `(`, `[`, `=`, `,`, `;` or `asm`, stands behind no `=` at depth 0 since the last `,` at depth 0, and
--- is no tag, which stands behind `struct`, `union` or `enum` (C11 6.7.6)
-abbrev pub declares : Role → ℕ → Bool → List Sign → Bool
-declares before depth set [] = false
-declares before depth set (word ∷ []) = false
-declares before depth set (word ∷ (next ∷ rest)) =
-    (nat_eq depth 0 && not set) && ((is_name word.role && follows_declared next.role) && not (is_tag_word before))
+-- is neither a tag, which stands behind `struct`, `union` or `enum`, nor the first word that is no storage word (C11 6.7p2, 6.7.6)
+abbrev pub declares : Role → ℕ → Bool → Bool → List Sign → Bool
+declares before depth set typed [] = false
+declares before depth set typed (word ∷ []) = false
+declares before depth set typed (word ∷ (next ∷ rest)) =
+    (nat_eq depth 0 && not set) && ((is_name word.role && follows_declared next.role) && (typed && not (is_tag_word before)))
 
 -- whether a `(` stands behind the word that a row begins with
 abbrev pub is_function : List Sign → Bool
@@ -68,20 +73,21 @@ is_function (word ∷ []) = false
 is_function (word ∷ (next ∷ rest)) = is_left_parenthesis next.role
 
 -- whether an item of the form defines the word that a row begins with
-abbrev pub defines_word : Form → Role → ℕ → Bool → List Sign → Bool
-defines_word form before depth set row = declares before depth set row && defines form (is_function row) (has_initialiser depth row)
+abbrev pub defines_word : Form → Role → ℕ → Bool → Bool → List Sign → Bool
+defines_word form before depth set typed row = declares before depth set typed row && defines form (is_function row) (has_initialiser depth row)
 
 -- the words that an item of the form defines in a row; `before` is the token before the row, `depth` the number of brackets
--- that are open there, and `set` whether a `=` stands at depth 0 since the last `,` at depth 0
-abbrev pub defined_in : Form → Role → ℕ → Bool → List Sign → List Token
-defined_in form before depth set [] = []
-defined_in form before depth set (sign ∷ rest) =
-    (if defines_word form before depth set (sign ∷ rest) then sign.token ∷ [] else [])
-    ++ defined_in form sign.role (depth_after depth sign.role) (set_after depth set sign.role) rest
+-- that are open there, `set` whether a `=` stands at depth 0 since the last `,` at depth 0, and `typed` whether a token that is no
+-- storage word stands in front of the row
+abbrev pub defined_in : Form → Role → ℕ → Bool → Bool → List Sign → List Token
+defined_in form before depth set typed [] = []
+defined_in form before depth set typed (sign ∷ rest) =
+    (if defines_word form before depth set typed (sign ∷ rest) then sign.token ∷ [] else [])
+    ++ defined_in form sign.role (depth_after depth sign.role) (set_after depth set sign.role) (typed_after typed sign.role) rest
 
 -- the names that an item of the form with this row defines
 abbrev pub names_in : List ℕ → Form → List Sign → List (List ℕ)
-names_in text form row = map (token_word text) (defined_in form Other 0 false row)
+names_in text form row = map (token_word text) (defined_in form Other 0 false false row)
 
 -- those names where the form is that of an item that ends with a body, and else none
 abbrev pub bodied_in : List ℕ → Form → List Sign → List (List ℕ)

@@ -8,7 +8,7 @@ use Rattle.ctokens.specs.Symbol.{is_identifier}
 use Rattle.ctokens.specs.SymbolTables.{read_as, word_symbol}
 use Rattle.ctokens.specs.TokenSymbols.{bytes_of}
 use Rattle.definitions.specs.declared.role.Role.{Role}
-use Rattle.definitions.specs.declared.role.Role.TheVariants.{Name, TagWord, Typedef, Extern, Assembly, LeftParenthesis, RightParenthesis, LeftBracket, RightBracket, LeftBrace, RightBrace, Semicolon, Comma, Equals, Other}
+use Rattle.definitions.specs.declared.role.Role.TheVariants.{Name, TagWord, Typedef, Extern, Static, Assembly, LeftParenthesis, RightParenthesis, LeftBracket, RightBracket, LeftBrace, RightBrace, Semicolon, Comma, Equals, Other}
 
 -- a table: the bytes of words or marks, each with its role
 abbrev pub RoleRows : Type 0
@@ -18,7 +18,7 @@ RoleRows = List (List ℕ × Role)
 abbrev pub word_rows : RoleRows
 word_rows =
     (codes "struct", TagWord) ∷ (codes "union", TagWord) ∷ (codes "enum", TagWord) ∷ (codes "typedef", Typedef) ∷ (codes "extern", Extern)
-    ∷ (codes "asm", Assembly) ∷ (codes "__asm", Assembly) ∷ (codes "__asm__", Assembly) ∷ []
+    ∷ (codes "static", Static) ∷ (codes "asm", Assembly) ∷ (codes "__asm", Assembly) ∷ (codes "__asm__", Assembly) ∷ []
 
 -- the marks that matter here
 abbrev pub mark_rows : RoleRows
@@ -60,6 +60,13 @@ is_name _ = false
 abbrev pub is_tag_word : Role → Bool
 is_tag_word TagWord = true
 is_tag_word _ = false
+
+-- `typedef`, `extern` or `static`
+abbrev pub is_storage_word : Role → Bool
+is_storage_word Typedef = true
+is_storage_word Extern = true
+is_storage_word Static = true
+is_storage_word _ = false
 
 -- a bracket that opens, of the three kinds
 abbrev pub is_opening : Role → Bool

@@ -49,7 +49,8 @@ fn push_item(
 /// The names with linkage that the items of a text define (C11 6.9p5), asked of its tokens alone.
 ///
 /// An item that ends with a body defines each name that it declares at depth 0. An item without a body and without
-/// `typedef` defines those of them that no `(` follows; where it has `extern`, only those of these that have an initialiser.
+/// `typedef` defines those of them that no `(` follows; where it has `extern`, only those of these that have an initialiser. The
+/// first word of an item, storage words left out, begins its type, and is not declared.
 /// Each token of an item is looked at a fixed number of times.
 pub fn definitions(
     alloc: Global,

@@ -3,7 +3,7 @@
 ghost use Rattle.std.specs.Prelude.{◌≡◌, ◌≤◌, ◌∷◌, ◌++◌, false, length, map, OnOk};
 ghost use Rattle.std.specs.List.{All};
 ghost use Rattle.ctokens.specs.InText.{most_bytes};
-ghost use Rattle.definitions.specs.Defined.{declares, defines, defines_word, has_initialiser, is_function, names_in, set_after};
+ghost use Rattle.definitions.specs.Defined.{declares, defines, defines_word, has_initialiser, is_function, names_in, set_after, typed_after};
 ghost use Rattle.definitions.specs.Rows.{HasBytes, depth_after};
 
 use crate::form::Form;
@@ -23,6 +23,8 @@ struct Before {
     depth: u32,
     /// Whether a `=` stands at depth 0 since the last `,` at depth 0.
     set: bool,
+    /// Whether a token that is no storage word stands before it.
+    typed: bool,
     /// Whether a `=` stands at depth 0 from here on, before the next `,` or `;` there.
     initialised: bool,
 }
@@ -70,7 +72,7 @@ fn defines(form: Form, function: bool, initialised: bool) -> bool
 
 /// Whether an item declares the word that a row begins with.
 fn declares(before: Before, row: &[Sign]) -> bool
-    ensures { result ≡ declares before.role before.depth before.set row.now }
+    ensures { result ≡ declares before.role before.depth before.set before.typed row.now }
 {
     match row {
         [word, next, ..] => {
@@ -78,6 +80,7 @@ fn declares(before: Before, row: &[Sign]) -> bool
                 && !before.set
                 && word.role.is_name()
                 && next.role.follows_declared()
+                && before.typed
                 && !before.role.is_tag_word()
         }
         _ => false,
@@ -87,7 +90,7 @@ fn declares(before: Before, row: &[Sign]) -> bool
 /// Whether an item of the form defines the word that a row begins with.
 fn defines_word(form: Form, before: Before, row: &[Sign]) -> bool
     requires { before.initialised ≡ has_initialiser before.depth row.now }
-    ensures { result ≡ defines_word form before.role before.depth before.set row.now }
+    ensures { result ≡ defines_word form before.role before.depth before.set before.typed row.now }
 {
     declares(before, row) && defines(form, is_function(row), before.initialised)
 }
@@ -101,6 +104,7 @@ fn behind(before: Before, sign: Sign, rest: &[Sign]) -> Before
     ensures role { result.role ≡ sign.role }
     ensures depth { result.depth ≡ depth_after before.depth sign.role }
     ensures set { result.set ≡ set_after before.depth before.set sign.role }
+    ensures typed { result.typed ≡ typed_after before.typed sign.role }
     ensures known { result.initialised ≡ has_initialiser result.depth rest.now }
 {
     let role = sign.role;
@@ -114,6 +118,7 @@ fn behind(before: Before, sign: Sign, rest: &[Sign]) -> Before
         role,
         depth: depth_after(before.depth, role),
         set: set_after(before.depth, before.set, role),
+        typed: before.typed || !role.is_storage_word(),
         initialised,
     }
 }
@@ -134,6 +139,7 @@ pub(crate) fn push_defined(
         role: Role::Other,
         depth: 0,
         set: false,
+        typed: false,
         initialised: has_initialiser(row),
     };
     for (i, sign) in row.iter().enumerate() {

@@ -9,6 +9,8 @@ pub(crate) enum Role {
     Typedef,
     /// `extern`.
     Extern,
+    /// `static`.
+    Static,
     /// `asm`, `__asm` or `__asm__`.
     Assembly,
     /// `(`.
@@ -35,7 +37,7 @@ pub(crate) enum Role {
 
 impl Role {
     ghost use Rattle.std.specs.Prelude.{◌≡◌};
-    ghost use Rattle.definitions.specs.Roles.{follows_declared, is_closing, is_name, is_opening, is_tag_word};
+    ghost use Rattle.definitions.specs.Roles.{follows_declared, is_closing, is_name, is_opening, is_storage_word, is_tag_word};
 
     /// Whether it is a bracket that opens, of the three kinds.
     pub(crate) fn is_opening(self) -> bool
@@ -69,6 +71,13 @@ impl Role {
         ensures { result ≡ is_tag_word self }
     {
         matches!(self, Role::TagWord)
+    }
+
+    /// Whether it is `typedef`, `extern` or `static`.
+    pub(crate) fn is_storage_word(self) -> bool
+        ensures { result ≡ is_storage_word self }
+    {
+        matches!(self, Role::Typedef | Role::Extern | Role::Static)
     }
 
     /// Whether it may stand behind a word that is declared.

@@ -9,12 +9,13 @@ use crate::role::Role;
 use ctokens::{Token, TokenKind, is_identifier, read_as, same_bytes};
 
 /// The keywords that matter here.
-const WORDS: [(&'static str, Role); 8] = [
+const WORDS: [(&'static str, Role); 9] = [
     ("struct", Role::TagWord),
     ("union", Role::TagWord),
     ("enum", Role::TagWord),
     ("typedef", Role::Typedef),
     ("extern", Role::Extern),
+    ("static", Role::Static),
     ("asm", Role::Assembly),
     ("__asm", Role::Assembly),
     ("__asm__", Role::Assembly),
