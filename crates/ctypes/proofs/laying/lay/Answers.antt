@@ -91,8 +91,8 @@ returns-clause-layout c =
     let fields : List Field = fields_of c.args.types.now.types c.args.members.now in
     ap Some c.padded.ensures
     ∙ (ap (λ rest. option_map capped (fields_layout c.loop-index.before (map (λ field. layout_of Lp64 c.args.types.now.structs field.ctype) rest)))
-        (sym (drop_all c.loop-index.index fields (ended c.loop-index.index c.args.types.now.types c.args.members.now c.loop-index-test.false)))
-      ∙ c.loop-index.invariant.value)
+    (sym (drop_all c.loop-index.index fields (ended c.loop-index.index c.args.types.now.types c.args.members.now c.loop-index-test.false)))
+    ∙ c.loop-index.invariant.value)
 
 pub returns-clause-in_order : goal.returns-clause-in_order
 returns-clause-in_order c =
