@@ -1,4 +1,4 @@
-ghost use Rattle.std.specs.Prelude.{◌≤◌};
+ghost use Rattle.std.specs.Prelude.{◌≤◌, IfOk, IfSome};
 ghost use Rattle.ctokens.specs.InText.{LieInText};
 ghost use Rattle.ctokens.specs.TokenList.{AreNumbered};
 ghost use Rattle.ctrees.specs.Levels.{expr_levels};
@@ -56,8 +56,10 @@ fn answer_tokens(
     requires text { LieInText t.now }
     requires numbered { AreNumbered t.now.list }
 {
-    let scope = typedefs(alloc)?;
-    match read_expr(alloc, t, &scope, 0) {
+    let mut scope = Scope::new(alloc)?;
+    let read = read_among_types(alloc, t, &mut scope);
+    drop(scope);
+    match read {
         Ok(Some(read)) => {
             let answered = answer_read(alloc, abi, around, &read, t.list.len(), answer);
             let_go_of_expression(read.expr);
@@ -68,12 +70,19 @@ fn answer_tokens(
     }
 }
 
-/// The names of types where the expressions stand.
-fn typedefs(alloc: Global) -> Result<Scope, NoMemory> {
-    let mut scope = Scope::new(alloc)?;
+/// The expression at the first token, where the names of types are put in scope.
+fn read_among_types(
+    alloc: Global,
+    t: &Tokens,
+    scope: &mut Scope,
+) -> Result<Option<ReadExpr>, NoMemory>
+    requires text { LieInText t.now }
+    requires numbered { AreNumbered t.now.list }
+    ensures { IfOk result (λ found. IfSome found (λ read. expr_levels read.expr ≤ 1024)) }
+{
     scope.declare(alloc, b"T", true)?;
     scope.declare(alloc, b"S", true)?;
-    Ok(scope)
+    read_expr(alloc, t, scope, 0)
 }
 
 /// What is printed for an expression that is read from a text of so many tokens.
