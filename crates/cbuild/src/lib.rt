@@ -10,6 +10,7 @@ mod expressions;
 mod fields;
 mod item_trees;
 mod items;
+mod let_go;
 mod operands;
 mod pops;
 mod stack;
@@ -20,5 +21,6 @@ mod types;
 mod unbuilt;
 
 pub use item_trees::{BuiltItem, build_item};
+pub use let_go::{let_go_of_expression, let_go_of_item, let_go_of_items, let_go_of_statements};
 pub use trees::{build_block, build_expr};
 pub use unbuilt::Unbuilt;

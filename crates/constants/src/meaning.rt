@@ -9,7 +9,7 @@ use crate::letter::letter;
 use cbase::Abi;
 
 /// An integer type and a value of it.
-#[derive(Clone, Copy, Debug, PartialEq, Eq)]
+#[derive(Clone, Copy)]
 pub struct Constant {
     /// How many bytes the type has.
     pub bytes: u8,
@@ -20,7 +20,7 @@ pub struct Constant {
 }
 
 /// What bytes mean as a constant.
-#[derive(Clone, Copy, Debug, PartialEq, Eq)]
+#[derive(Clone, Copy)]
 pub enum Meaning {
     /// They are neither an integer constant nor one character between quotes.
     NoConstant,

@@ -1,5 +1,5 @@
 /// A type of C with the numbers of the types that it is built from in place of these.
-#[derive(Clone, Copy, Debug, PartialEq, Eq, Hash)]
+#[derive(Clone, Copy, PartialEq, Eq, Hash)]
 pub enum Shape {
     /// `void`.
     Void,

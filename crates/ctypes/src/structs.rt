@@ -18,7 +18,7 @@ pub struct Member {
 }
 
 /// Where a member lies in its struct.
-#[derive(Clone, Copy, Debug, PartialEq, Eq)]
+#[derive(Clone, Copy)]
 pub struct MemberAt {
     /// How many bytes lie before it; 65,537 stands for every larger number as well.
     pub offset: u32,

@@ -49,7 +49,6 @@ impl<A: Copy> Scopes<A> {
     }
 
     /// Enters a scope in which nothing is declared. Where memory is wanting all stays as it was.
-    #[tactic(auto, using(crate::proofs::Stacks::pushed, crate::proofs::KeptRight::visible_entered))]
     pub fn open(&mut self, alloc: Global) -> Result<(), NoMemory>
         ensures ok { OnOk result (self.new ≡ entered self.old) }
         ensures err { OnErr result (self.new ≡ self.old) }

@@ -8,22 +8,26 @@
 //!     void *malloc(unsigned long); void *calloc(unsigned long, unsigned long); void free(void *);
 //!     void *memset(void *, int, unsigned long); void *memcpy(void *, void *, unsigned long);
 //!
-//! The text defines all objects but `missing`, and the functions `f`, `g` and `byval`. `missing` and `lost` have no definition, `count` is an int parameter of `main`, and `args` one of another function, written `int args[3]`. The last five functions are built in. What has the type
+//! The text defines all objects but `missing`, and the functions `f`, `g` and `byval`. `missing` and `lost` have no definition, `count` is an int parameter of `main`, and `args` one of another function, written `int args[3]`, which is a pointer. The last five functions are built in. What has the type
 //! `unsigned long` here has `unsigned long long` where a long has 4 bytes, for sizes.
-use crate::naming::{
-    Body, Standing, enumerator, function, member, object, parameter, typedef, unsized_array,
-};
+use crate::naming::{Body, Kind, enumerators, functions, names, structure};
 use crate::types::{Base, Written};
-use cbase::{Abi, List, NoMemory, Rank, bytes_of_rank};
+use cbase::{Abi, NoMemory};
 use expressions::Context;
 
-const VOID: Base = Base::Void;
+const VOID: Written = Written::Of(Base::Void);
 
 const CHAR: Base = Base::Signed(1);
 
 const INT: Base = Base::Signed(4);
 
-const SIZE: Base = Base::Unsigned(8);
+const LONG: Base = Base::Long { signed: true };
+
+const UNSIGNED_LONG: Base = Base::Long { signed: false };
+
+const SIZE: Written = Written::Of(Base::Unsigned(8));
+
+const AT: Written = Written::PointerTo(Base::Void);
 
 const S: Base = Base::Struct(0);
 
@@ -36,6 +40,69 @@ const DEFINED: [&[u8]; 27] = [
     b"n", b"u", b"c", b"k", b"h", b"m", b"w", b"v", b"j", b"truth", b"p", b"q", b"r", b"row",
     b"grid", b"x", b"y", b"z", b"x2", b"y2", b"vast", b"open", b"args", b"count", b"f", b"g",
     b"byval",
+];
+
+/// The constants of the enum.
+const CONSTANTS: [(&[u8], u32); 2] = [(b"five", 5), (b"none", 0)];
+
+/// The members of `struct s`.
+const OF_S: [(&[u8], Written); 2] = [(b"a", Written::Of(INT)), (b"b", Written::PointerTo(CHAR))];
+
+/// The members of `struct o`.
+const OF_O: [(&[u8], Written); 4] = [
+    (b"d", Written::Of(CHAR)),
+    (b"e", Written::ArrayOf(INT, 4)),
+    (b"i", Written::Of(S)),
+    (b"l", Written::Of(LONG)),
+];
+
+/// The objects, the parameters and the typedefs.
+const NAMES: [(&[u8], Kind, Written); 27] = [
+    (b"T", Kind::Typedef, Written::Of(CHAR)),
+    (b"S", Kind::Typedef, Written::Of(S)),
+    (b"missing", Kind::Undefined, Written::Of(INT)),
+    (b"count", Kind::OfMain, Written::Of(INT)),
+    (b"open", Kind::Unsized, Written::Of(INT)),
+    (b"args", Kind::Parameter, Written::PointerTo(INT)),
+    (b"n", Kind::Object, Written::Of(INT)),
+    (b"u", Kind::Object, Written::Of(Base::Unsigned(4))),
+    (b"c", Kind::Object, Written::Of(CHAR)),
+    (b"k", Kind::Object, Written::Of(Base::Unsigned(1))),
+    (b"h", Kind::Object, Written::Of(Base::Signed(2))),
+    (b"m", Kind::Object, Written::Of(Base::Unsigned(2))),
+    (b"w", Kind::Object, Written::Of(LONG)),
+    (b"v", Kind::Object, Written::Of(UNSIGNED_LONG)),
+    (b"j", Kind::Object, Written::Of(Base::Signed(8))),
+    (b"truth", Kind::Object, Written::Of(Base::Bool)),
+    (b"p", Kind::Object, AT),
+    (b"q", Kind::Object, Written::PointerTo(INT)),
+    (b"r", Kind::Object, Written::PointerTo(CHAR)),
+    (b"z", Kind::Object, Written::PointerTo(T)),
+    (b"x", Kind::Object, Written::Of(S)),
+    (b"y", Kind::Object, Written::PointerTo(S)),
+    (b"x2", Kind::Object, Written::Of(O)),
+    (b"y2", Kind::Object, Written::PointerTo(O)),
+    (b"row", Kind::Object, Written::ArrayOf(CHAR, 3)),
+    (b"grid", Kind::Object, Written::GridOf(INT, 2, 3)),
+    (b"vast", Kind::Object, Written::ArrayOf(CHAR, 70_000)),
+];
+
+/// The functions: those of the text, and those that are built in.
+const FUNCTIONS: [(&[u8], Written, &[Written], Body); 9] = [
+    (
+        b"f",
+        Written::Of(INT),
+        &[Written::Of(INT), Written::PointerTo(CHAR)],
+        Body::Here,
+    ),
+    (b"g", VOID, &[], Body::Here),
+    (b"byval", Written::Of(INT), &[Written::Of(S)], Body::Here),
+    (b"lost", Written::Of(INT), &[], Body::Missing),
+    (b"malloc", AT, &[SIZE], Body::BuiltIn),
+    (b"calloc", AT, &[SIZE, SIZE], Body::BuiltIn),
+    (b"free", VOID, &[AT], Body::BuiltIn),
+    (b"memset", AT, &[AT, Written::Of(INT), SIZE], Body::BuiltIn),
+    (b"memcpy", AT, &[AT, AT, SIZE], Body::BuiltIn),
 ];
 
 /// Where the expressions stand.
@@ -52,24 +119,19 @@ pub enum Around {
 /// Declares all of this in a data layout.
 pub fn declare(context: &mut Context, abi: Abi, around: Around) -> Result<(), NoMemory> {
     let alloc = context.alloc;
-    define(context)?;
+    define(context, &DEFINED)?;
     stand(context, around)?;
     context.enter(alloc)?;
-    let long = bytes_of_rank(Rank::Long, abi);
-    declare_structs(context, long)?;
-    declare_names(context)?;
-    declare_integers(context, long)?;
-    declare_pointers(context)?;
-    declare_structures(context)?;
-    declare_arrays(context)?;
-    declare_functions(context)?;
-    declare_built_in(context)
+    declare_structs(context, abi)?;
+    enumerators(context, &CONSTANTS)?;
+    names(context, abi, &NAMES)?;
+    functions(context, abi, &FUNCTIONS)
 }
 
-/// Says what the text defines.
-fn define(context: &mut Context) -> Result<(), NoMemory> {
+/// Says that the text defines these names.
+fn define(context: &mut Context, names: &[&[u8]]) -> Result<(), NoMemory> {
     let alloc = context.alloc;
-    for name in DEFINED {
+    for name in names {
         context.define(alloc, name)?;
     }
     Ok(())
@@ -91,111 +153,10 @@ fn stand(context: &mut Context, around: Around) -> Result<(), NoMemory> {
     Ok(())
 }
 
-/// The structs: `s` has the number 0, `t` 1 and `o` 2. A long has `long` bytes.
-fn declare_structs(context: &mut Context, long: u8) -> Result<(), NoMemory> {
+/// The structs: `s` has the number 0, `t` 1 and `o` 2.
+fn declare_structs(context: &mut Context, abi: Abi) -> Result<(), NoMemory> {
     let alloc = context.alloc;
-    let s = context.declare_struct(alloc, b"s")?;
+    structure(context, abi, b"s", &OF_S)?;
     context.declare_struct(alloc, b"t")?;
-    let o = context.declare_struct(alloc, b"o")?;
-    complete_small(context, s)?;
-    complete_large(context, o, long)
-}
-
-/// Gives `struct s` its members.
-fn complete_small(context: &mut Context, number: u32) -> Result<(), NoMemory> {
-    let alloc = context.alloc;
-    let mut members = List::new(alloc);
-    member(context, &mut members, b"a", Written::Of(INT))?;
-    member(context, &mut members, b"b", Written::PointerTo(CHAR))?;
-    context.complete(alloc, number, members)?;
-    Ok(())
-}
-
-/// Gives `struct o` its members.
-fn complete_large(context: &mut Context, number: u32, long: u8) -> Result<(), NoMemory> {
-    let alloc = context.alloc;
-    let mut members = List::new(alloc);
-    member(context, &mut members, b"d", Written::Of(CHAR))?;
-    member(context, &mut members, b"e", Written::ArrayOf(INT, 4))?;
-    member(context, &mut members, b"i", Written::Of(S))?;
-    member(context, &mut members, b"l", Written::Of(Base::Signed(long)))?;
-    context.complete(alloc, number, members)?;
-    Ok(())
-}
-
-/// The enum, the typedefs, and the objects that are not defined as others are.
-fn declare_names(context: &mut Context) -> Result<(), NoMemory> {
-    enumerator(context, b"five", 5)?;
-    enumerator(context, b"none", 0)?;
-    typedef(context, b"T", Written::Of(CHAR))?;
-    typedef(context, b"S", Written::Of(S))?;
-    object(context, b"missing", Written::Of(INT), Standing::Undefined)?;
-    object(context, b"count", Written::Of(INT), Standing::OfMain)?;
-    unsized_array(context, b"open", Written::Of(INT))?;
-    parameter(context, b"args", Written::ArrayOf(INT, 3))
-}
-
-/// Declares an object as most are declared.
-fn plain(context: &mut Context, name: &[u8], written: Written) -> Result<(), NoMemory> {
-    object(context, name, written, Standing::Defined)
-}
-
-/// The objects of integers.
-fn declare_integers(context: &mut Context, long: u8) -> Result<(), NoMemory> {
-    plain(context, b"n", Written::Of(INT))?;
-    plain(context, b"u", Written::Of(Base::Unsigned(4)))?;
-    plain(context, b"c", Written::Of(CHAR))?;
-    plain(context, b"k", Written::Of(Base::Unsigned(1)))?;
-    plain(context, b"h", Written::Of(Base::Signed(2)))?;
-    plain(context, b"m", Written::Of(Base::Unsigned(2)))?;
-    plain(context, b"w", Written::Of(Base::Signed(long)))?;
-    plain(context, b"v", Written::Of(Base::Unsigned(long)))?;
-    plain(context, b"j", Written::Of(Base::Signed(8)))?;
-    plain(context, b"truth", Written::Of(Base::Bool))
-}
-
-/// The objects that are pointers, but to structs with members.
-fn declare_pointers(context: &mut Context) -> Result<(), NoMemory> {
-    plain(context, b"p", Written::PointerTo(VOID))?;
-    plain(context, b"q", Written::PointerTo(INT))?;
-    plain(context, b"r", Written::PointerTo(CHAR))?;
-    plain(context, b"z", Written::PointerTo(T))
-}
-
-/// The objects that are structs, and those that point to such.
-fn declare_structures(context: &mut Context) -> Result<(), NoMemory> {
-    plain(context, b"x", Written::Of(S))?;
-    plain(context, b"y", Written::PointerTo(S))?;
-    plain(context, b"x2", Written::Of(O))?;
-    plain(context, b"y2", Written::PointerTo(O))
-}
-
-/// The objects that are arrays.
-fn declare_arrays(context: &mut Context) -> Result<(), NoMemory> {
-    plain(context, b"row", Written::ArrayOf(CHAR, 3))?;
-    plain(context, b"grid", Written::GridOf(INT, 2, 3))?;
-    plain(context, b"vast", Written::ArrayOf(CHAR, 70_000))
-}
-
-/// The functions of the text.
-fn declare_functions(context: &mut Context) -> Result<(), NoMemory> {
-    let int = Written::Of(INT);
-    let text = Written::PointerTo(CHAR);
-    function(context, b"f", int, &[int, text], Body::Here)?;
-    function(context, b"g", Written::Of(VOID), &[], Body::Here)?;
-    function(context, b"byval", int, &[Written::Of(S)], Body::Here)?;
-    function(context, b"lost", int, &[], Body::Missing)
-}
-
-/// The functions that are built in.
-fn declare_built_in(context: &mut Context) -> Result<(), NoMemory> {
-    let int = Written::Of(INT);
-    let size = Written::Of(SIZE);
-    let void = Written::Of(VOID);
-    let at = Written::PointerTo(VOID);
-    function(context, b"malloc", at, &[size], Body::BuiltIn)?;
-    function(context, b"calloc", at, &[size, size], Body::BuiltIn)?;
-    function(context, b"free", void, &[at], Body::BuiltIn)?;
-    function(context, b"memset", at, &[at, int, size], Body::BuiltIn)?;
-    function(context, b"memcpy", at, &[at, at, size], Body::BuiltIn)
+    structure(context, abi, b"o", &OF_O)
 }

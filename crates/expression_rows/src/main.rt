@@ -16,15 +16,16 @@ mod row;
 mod types;
 
 use cbase::NoMemory;
-use row::answer_of_line;
+use row::answer_line;
 use std::io::{self, BufRead, BufReader, ErrorKind};
 
 fn main(rt: HostRuntime) -> io::Result<()> {
     let alloc = rt.alloc();
     for line in BufReader::new(alloc, rt.reader())?.lines(alloc) {
         let line = line?;
-        match answer_of_line(alloc, line.as_str()) {
-            Ok(answer) => println!(rt; "{answer}")?,
+        let mut answer = String::new(alloc);
+        match answer_line(alloc, line.as_str(), &mut answer) {
+            Ok(()) => println!(rt; "{answer}")?,
             Err(NoMemory) => return Err(io::Error::from(ErrorKind::OutOfMemory)),
         }
     }

@@ -1,21 +1,30 @@
-//! How a name is declared, or a member.
-ghost use Rattle.std.specs.Prelude.{◌<◌, length, All, OnOk};
+//! How names are declared, functions and structs.
+ghost use Rattle.std.specs.Prelude.{◌≡◌, ◌<◌, ℕ, [], List as Items, length, All, OnOk};
+ghost use Rattle.environment.specs.Bounds.{EntityBelow};
+ghost use Rattle.environment.specs.declared.entity.Entity.TheVariants.{Object};
+ghost use Rattle.environment.specs.declared.entity.Signature.{Signature as Signatures};
 
-use crate::types::{Written, adjusted, number_of, numbers_of};
-use cbase::{List, NoMemory, Text};
+use crate::types::{Written, number_of, numbers_of};
+use cbase::{Abi, List, NoMemory, Text};
 use ctypes::Member;
 use environment::{DeclaredType, Entity, Lifetime, Signature};
 use expressions::Context;
 
-/// How an object is declared.
+/// What a name with a type is declared as.
 #[derive(Clone, Copy)]
-pub enum Standing {
-    /// An object of the text.
-    Defined,
-    /// One that the text does not define.
+pub enum Kind {
+    /// An object that the text defines.
+    Object,
+    /// One that it does not define.
     Undefined,
+    /// An array of items of the type, whose size is not known.
+    Unsized,
     /// A parameter of `main`.
     OfMain,
+    /// A parameter of another function.
+    Parameter,
+    /// A typedef.
+    Typedef,
 }
 
 /// Where the body of a function stands.
@@ -29,120 +38,138 @@ pub enum Body {
     BuiltIn,
 }
 
-/// Declares an object.
-pub fn object(
+/// Declares each of these names with its type.
+pub fn names(
     context: &mut Context,
-    name: &[u8],
-    written: Written,
-    standing: Standing,
+    abi: Abi,
+    rows: &[(&[u8], Kind, Written)],
 ) -> Result<(), NoMemory> {
-    let ctype = number_of(context, written)?;
-    let lifetime = match standing {
-        Standing::OfMain => Lifetime::MainParameter,
-        Standing::Defined | Standing::Undefined => Lifetime::Static,
-    };
-    let defined = match standing {
-        Standing::Undefined => false,
-        Standing::Defined | Standing::OfMain => true,
-    };
-    let alloc = context.alloc;
-    context.declare(
-        alloc,
-        name,
-        Entity::Object {
-            ctype: DeclaredType::Whole(ctype),
-            token: 0,
-            lifetime,
-            defined,
-        },
-    )
+    for (name, kind, written) in rows {
+        typed(context, abi, name, *kind, *written)?;
+    }
+    Ok(())
 }
 
-/// Declares a parameter of a function other than `main`, which is a pointer where it is written as an array.
-pub fn parameter(context: &mut Context, name: &[u8], written: Written) -> Result<(), NoMemory> {
-    let declared = number_of(context, written)?;
-    let ctype = adjusted(context, declared)?;
+/// Declares a name with its type.
+fn typed(
+    context: &mut Context,
+    abi: Abi,
+    name: &[u8],
+    kind: Kind,
+    written: Written,
+) -> Result<(), NoMemory> {
     let alloc = context.alloc;
-    context.declare(
-        alloc,
-        name,
-        Entity::Object {
-            ctype: DeclaredType::Whole(ctype),
-            token: 0,
-            lifetime: Lifetime::Automatic,
-            defined: true,
-        },
-    )
+    let number = number_of(context, abi, written)?;
+    context.declare(alloc, name, entity_of(kind, number))
 }
 
-/// Declares an array whose size is not known.
-pub fn unsized_array(context: &mut Context, name: &[u8], item: Written) -> Result<(), NoMemory> {
-    let item = number_of(context, item)?;
-    let alloc = context.alloc;
-    context.declare(
-        alloc,
-        name,
-        Entity::Object {
-            ctype: DeclaredType::UnsizedArray(item),
-            token: 0,
-            lifetime: Lifetime::Static,
-            defined: true,
-        },
-    )
+/// What a name of a type stands for.
+fn entity_of(kind: Kind, number: u32) -> Entity
+    ensures { (count : ℕ) (signatures : Items Signatures) → number < count → EntityBelow count signatures result }
+{
+    let ctype = DeclaredType::Whole(number);
+    match kind {
+        Kind::Object => object(ctype, Lifetime::Static, true),
+        Kind::Undefined => object(ctype, Lifetime::Static, false),
+        Kind::Unsized => object(DeclaredType::UnsizedArray(number), Lifetime::Static, true),
+        Kind::OfMain => object(ctype, Lifetime::MainParameter, true),
+        Kind::Parameter => object(ctype, Lifetime::Automatic, true),
+        Kind::Typedef => Entity::Typedef { ctype },
+    }
 }
 
-/// Declares a typedef.
-pub fn typedef(context: &mut Context, name: &[u8], written: Written) -> Result<(), NoMemory> {
-    let ctype = number_of(context, written)?;
-    let alloc = context.alloc;
-    let ctype = DeclaredType::Whole(ctype);
-    context.declare(alloc, name, Entity::Typedef { ctype })
+/// An object that is declared by the first token.
+fn object(ctype: DeclaredType, lifetime: Lifetime, defined: bool) -> Entity
+    ensures { result ≡ Object ctype 0 lifetime defined }
+{
+    Entity::Object {
+        ctype,
+        token: 0,
+        lifetime,
+        defined,
+    }
 }
 
-/// Declares a constant of an enum.
-pub fn enumerator(context: &mut Context, name: &[u8], bits: u32) -> Result<(), NoMemory> {
+/// Declares constants of an enum, each with its bits.
+pub fn enumerators(context: &mut Context, rows: &[(&[u8], u32)]) -> Result<(), NoMemory> {
     let alloc = context.alloc;
-    context.declare(alloc, name, Entity::Enumerator { bits })
+    for (name, bits) in rows {
+        context.declare(alloc, name, Entity::Enumerator { bits: *bits })?;
+    }
+    Ok(())
+}
+
+/// Declares each of these functions with the type of its result and those of its parameters.
+pub fn functions(
+    context: &mut Context,
+    abi: Abi,
+    rows: &[(&[u8], Written, &[Written], Body)],
+) -> Result<(), NoMemory> {
+    for (name, returned, parameters, body) in rows {
+        function(context, abi, name, *returned, parameters, *body)?;
+    }
+    Ok(())
 }
 
 /// Declares a function.
-pub fn function(
+fn function(
     context: &mut Context,
+    abi: Abi,
     name: &[u8],
     returned: Written,
     parameters: &[Written],
     body: Body,
 ) -> Result<(), NoMemory> {
     let alloc = context.alloc;
-    let returned = number_of(context, returned)?;
+    let result = number_of(context, abi, returned)?;
     let mut numbers = List::new(alloc);
-    numbers_of(context, parameters, &mut numbers)?;
-    let number = context.add_signature(Signature {
-        result: returned,
+    numbers_of(context, abi, parameters, &mut numbers)?;
+    let signature = context.add_signature(Signature {
+        result,
         parameters: numbers,
     })?;
     context.declare(
         alloc,
         name,
         Entity::Function {
-            signature: number,
+            signature,
             defined: matches!(body, Body::Here),
             built_in: matches!(body, Body::BuiltIn),
         },
     )
 }
 
-/// Puts a member of a struct behind the others.
-pub fn member(
+/// Declares a struct with its members.
+pub fn structure(
     context: &mut Context,
+    abi: Abi,
+    tag: &[u8],
+    rows: &[(&[u8], Written)],
+) -> Result<(), NoMemory> {
+    let alloc = context.alloc;
+    let number = context.declare_struct(alloc, tag)?;
+    let mut members = List::new(alloc);
+    members_of(context, abi, rows, &mut members)?;
+    context.complete(alloc, number, members)?;
+    Ok(())
+}
+
+/// Puts the members of a struct into an empty list.
+#[tactic(auto, using(crate::proofs::Growing::one_more_below))]
+fn members_of(
+    context: &mut Context,
+    abi: Abi,
+    rows: &[(&[u8], Written)],
     members: &mut List<Member>,
-    name: &[u8],
-    written: Written,
 ) -> Result<(), NoMemory>
-    requires { All (λ member. member.ctype < length context.old.types) members.old }
+    requires { members.old ≡ [] }
     ensures { OnOk result (All (λ member. member.ctype < length context.new.types) members.new) }
 {
-    let ctype = number_of(context, written)?;
-    let name = Text::from_slice(context.alloc, name)?;
-    members.push(Member { name, ctype })
+    let alloc = context.alloc;
+    for (name, written) in rows {
+        let ctype = number_of(context, abi, *written)?;
+        let name = Text::from_slice(alloc, name)?;
+        members.push(Member { name, ctype })?;
+    }
+    Ok(())
 }

@@ -1,105 +1,98 @@
-ghost use Rattle.std.specs.Prelude.{◌<◌, length};
+//! What is printed of what is found. Each function puts its part behind what is shown so far.
+ghost use Rattle.std.specs.Prelude.{◌<◌, length, IfOk, IfSome};
 
 use arithmetic::{Size, convert};
 use cbase::NoMemory;
 use ctypes::Shape;
 use expressions::{Context, Known};
 use operators::Broken;
-use std::alloc::Global;
 use typing::Fault;
 
 /// What is refused, with the number of its token.
-pub fn shown_fault(alloc: Global, fault: Fault) -> Result<String, NoMemory> {
-    match fault.broken {
-        Broken::Construct(number) => {
-            Ok(format!(in alloc; "construct {number} at {}", fault.place.at)?)
-        }
-        Broken::Rule(number) => Ok(format!(in alloc; "rule {number} at {}", fault.place.at)?),
-    }
+pub fn push_fault(fault: Fault, shown: &mut String) -> Result<(), NoMemory> {
+    let (word, number) = match fault.broken {
+        Broken::Construct(number) => ("construct", number),
+        Broken::Rule(number) => ("rule", number),
+    };
+    let at = fault.place.at;
+    Ok(write!(shown, "{word} {number} at {at}")?)
 }
 
 /// What is known of an expression.
-pub fn shown_known(alloc: Global, context: &Context, known: Known) -> Result<String, NoMemory>
+pub fn push_known(context: &Context, known: Known, shown: &mut String) -> Result<(), NoMemory>
     requires { known.ctype < length context.now.types }
 {
-    let mut shown = String::new(alloc);
-    push_type(alloc, context, known.ctype, &mut shown)?;
-    if let Some(bits) = known.value {
-        push_value(alloc, context.shape(known.ctype), bits, &mut shown)?;
-    }
-    if known.lvalue {
-        shown.push_str(" lvalue")?;
-    }
-    if known.null {
-        shown.push_str(" null")?;
-    }
-    Ok(shown)
+    push_type(context, known.ctype, shown)?;
+    push_value(context.shape(known.ctype), known.value, shown)?;
+    push_word(known.lvalue, " lvalue", shown)?;
+    push_word(known.null, " null", shown)
 }
 
-/// Puts a type behind what is shown, outermost part first.
-fn push_type(
-    alloc: Global,
-    context: &Context,
-    number: u32,
-    shown: &mut String,
-) -> Result<(), NoMemory>
+/// A word, where what it says holds.
+fn push_word(holds: bool, word: &str, shown: &mut String) -> Result<(), NoMemory> {
+    if holds {
+        shown.push_str(word)?;
+    }
+    Ok(())
+}
+
+/// A type, outermost part first.
+fn push_type(context: &Context, number: u32, shown: &mut String) -> Result<(), NoMemory>
     requires { number < length context.now.types }
 {
     let mut inner = number;
-    loop {
-        match context.shape(inner) {
-            Shape::Pointer(item) => {
-                shown.push('*')?;
-                inner = item;
-            }
-            Shape::Array(item, count) => {
-                shown.push_str(format!(in alloc; "[{count}]")?.as_str())?;
-                inner = item;
-            }
-            base => return push_base(alloc, base, shown),
+    while let Some(item) = push_part(context, inner, shown)? {
+        inner = item;
+    }
+    Ok(())
+}
+
+/// The outermost part of a type; the number of the type below it, if there is one.
+fn push_part(context: &Context, number: u32, shown: &mut String) -> Result<Option<u32>, NoMemory>
+    requires { number < length context.now.types }
+    ensures { IfOk result (λ below. IfSome below (λ item. item < number)) }
+{
+    match context.shape(number) {
+        Shape::Pointer(item) => {
+            shown.push('*')?;
+            Ok(Some(item))
+        }
+        Shape::Array(item, count) => {
+            write!(shown, "[{count}]")?;
+            Ok(Some(item))
+        }
+        base => {
+            push_base(base, shown)?;
+            Ok(None)
         }
     }
 }
 
-/// Puts a type that is no pointer and no array behind what is shown.
-fn push_base(alloc: Global, base: Shape, shown: &mut String) -> Result<(), NoMemory> {
+/// A type that is no pointer and no array.
+fn push_base(base: Shape, shown: &mut String) -> Result<(), NoMemory> {
     match base {
-        Shape::Bool => shown.push_str("bool")?,
+        Shape::Bool => Ok(shown.push_str("bool")?),
         Shape::Int { bytes, signed } => {
             let letter = if signed { 'i' } else { 'u' };
-            shown.push_str(format!(in alloc; "{letter}{}", u32::from(bytes) * 8)?.as_str())?;
+            Ok(write!(shown, "{letter}{}", u32::from(bytes) * 8)?)
         }
-        Shape::Struct(of) => shown.push_str(format!(in alloc; "struct{of}")?.as_str())?,
-        Shape::Void | Shape::Pointer(_) | Shape::Array(_, _) => shown.push_str("void")?,
+        Shape::Struct(of) => Ok(write!(shown, "struct{of}")?),
+        Shape::Void | Shape::Pointer(_) | Shape::Array(_, _) => Ok(shown.push_str("void")?),
     }
-    Ok(())
 }
 
-/// Puts a value behind what is shown, in its type.
-fn push_value(alloc: Global, shape: Shape, bits: u64, shown: &mut String) -> Result<(), NoMemory> {
-    let word = match shape {
-        Shape::Int {
-            bytes,
-            signed: true,
-        } => extended(bytes, bits),
-        _ => bits,
-    };
-    let is_negative = is_signed(shape) && word >= 1 << 63;
-    let sign = if is_negative { "-" } else { "" };
-    let magnitude = if is_negative {
-        word.wrapping_neg()
-    } else {
-        word
-    };
-    shown.push_str(format!(in alloc; " = {sign}{magnitude}")?.as_str())?;
-    Ok(())
-}
-
-/// Whether a type is one of integers with a sign.
-fn is_signed(shape: Shape) -> bool {
-    match shape {
-        Shape::Int { signed, .. } => signed,
-        _ => false,
+/// A value in its type, where there is one.
+fn push_value(shape: Shape, value: Option<u64>, shown: &mut String) -> Result<(), NoMemory> {
+    match (value, shape) {
+        (None, _) => Ok(()),
+        (
+            Some(bits),
+            Shape::Int {
+                bytes,
+                signed: true,
+            },
+        ) => Ok(write!(shown, " = {}", extended(bytes, bits).cast_signed())?),
+        (Some(bits), _) => Ok(write!(shown, " = {bits}")?),
     }
 }
 

@@ -1,7 +1,7 @@
 //! The types of what is declared.
 ghost use Rattle.std.specs.Prelude.{◌≡◌, ◌<◌, ◌≤◌, [], length, All, IfOk, OnOk};
 
-use cbase::{List, NoMemory};
+use cbase::{Abi, List, NoMemory, Rank, bytes_of_rank};
 use expressions::Context;
 
 /// A type that is no pointer and no array.
@@ -15,6 +15,11 @@ pub enum Base {
     Signed(u8),
     /// Integers of so many bytes, without one.
     Unsigned(u8),
+    /// Integers of as many bytes as a `long` has, with a sign or without one.
+    Long {
+        /// Whether they have a sign.
+        signed: bool,
+    },
     /// The struct of that number.
     Struct(u32),
 }
@@ -34,7 +39,7 @@ pub enum Written {
 
 /// The number of a type that is no pointer and no array.
 #[tactic(auto, using(crate::proofs::Growing::is_below, crate::proofs::Growing::is_longer))]
-fn number_of_base(context: &mut Context, base: Base) -> Result<u32, NoMemory>
+fn number_of_base(context: &mut Context, abi: Abi, base: Base) -> Result<u32, NoMemory>
     ensures below { IfOk result (λ number. number < length context.new.types) }
     ensures longer { OnOk result (length context.old.types ≤ length context.new.types) }
 {
@@ -43,6 +48,7 @@ fn number_of_base(context: &mut Context, base: Base) -> Result<u32, NoMemory>
         Base::Bool => context.boolean(),
         Base::Signed(bytes) => context.integer(bytes, true),
         Base::Unsigned(bytes) => context.integer(bytes, false),
+        Base::Long { signed } => context.integer(bytes_of_rank(Rank::Long, abi), signed),
         Base::Struct(of) => context.structure(of),
     }
 }
@@ -67,33 +73,23 @@ fn array_of(context: &mut Context, item: u32, count: u64) -> Result<u32, NoMemor
     context.array_of(item, count)
 }
 
-/// The number of the type that a parameter has which is declared with the type of that number (C11 6.7.6.3p7).
-#[tactic(auto, using(crate::proofs::Growing::is_below, crate::proofs::Growing::is_longer))]
-pub fn adjusted(context: &mut Context, number: u32) -> Result<u32, NoMemory>
-    requires { number < length context.old.types }
-    ensures below { IfOk result (λ value. value < length context.new.types) }
-    ensures longer { OnOk result (length context.old.types ≤ length context.new.types) }
-{
-    context.value_type(number)
-}
-
-/// The number of a type.
-pub fn number_of(context: &mut Context, written: Written) -> Result<u32, NoMemory>
+/// The number of a type in a data layout.
+pub fn number_of(context: &mut Context, abi: Abi, written: Written) -> Result<u32, NoMemory>
     ensures below { IfOk result (λ number. number < length context.new.types) }
     ensures longer { OnOk result (length context.old.types ≤ length context.new.types) }
 {
     match written {
-        Written::Of(base) => number_of_base(context, base),
+        Written::Of(base) => number_of_base(context, abi, base),
         Written::PointerTo(base) => {
-            let item = number_of_base(context, base)?;
+            let item = number_of_base(context, abi, base)?;
             pointer_to(context, item)
         }
         Written::ArrayOf(base, count) => {
-            let item = number_of_base(context, base)?;
+            let item = number_of_base(context, abi, base)?;
             array_of(context, item, count)
         }
         Written::GridOf(base, rows, columns) => {
-            let item = number_of_base(context, base)?;
+            let item = number_of_base(context, abi, base)?;
             let row = array_of(context, item, columns)?;
             array_of(context, row, rows)
         }
@@ -103,6 +99,7 @@ pub fn number_of(context: &mut Context, written: Written) -> Result<u32, NoMemor
 /// Puts the numbers of some types into an empty list.
 pub fn numbers_of(
     context: &mut Context,
+    abi: Abi,
     written: &[Written],
     numbers: &mut List<u32>,
 ) -> Result<(), NoMemory>
@@ -111,7 +108,7 @@ pub fn numbers_of(
     ensures longer { OnOk result (length context.old.types ≤ length context.new.types) }
 {
     for one in written {
-        let number = number_of(context, *one)?;
+        let number = number_of(context, abi, *one)?;
         numbers.push(number)?;
     }
     Ok(())

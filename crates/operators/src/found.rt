@@ -16,7 +16,7 @@ pub(crate) const OPERANDS: Broken = Broken::Rule(4);
 pub(crate) const LVALUE: Broken = Broken::Rule(8);
 
 /// What is broken at an operator.
-#[derive(Clone, Copy, Debug, PartialEq, Eq)]
+#[derive(Clone, Copy)]
 pub enum Broken {
     /// The construct of that number stands there, which is given up.
     Construct(u8),
@@ -25,7 +25,7 @@ pub enum Broken {
 }
 
 /// What is answered of an operation.
-#[derive(Clone, Copy, Debug, PartialEq, Eq)]
+#[derive(Clone, Copy)]
 pub enum Outcome {
     /// It has the type of that number.
     Typed(u32),

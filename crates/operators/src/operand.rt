@@ -5,7 +5,7 @@ use crate::kind::Kind;
 use ctypes::Types;
 
 /// What is known of an operand.
-#[derive(Clone, Copy, Debug, PartialEq, Eq)]
+#[derive(Clone, Copy)]
 pub struct Operand {
     /// The number of its own type, in which an array is no pointer yet.
     pub ctype: u32,

@@ -2,7 +2,7 @@ use cbase::Place;
 use operators::Broken;
 
 /// What is broken in a text, with the place where it is.
-#[derive(Clone, Copy, Debug, PartialEq, Eq)]
+#[derive(Clone, Copy)]
 pub struct Fault {
     /// Where it stands.
     pub place: Place,

@@ -2,7 +2,7 @@
 ///
 /// The idiom is a cast to an integer type of `&` of what is made by `->`, `.` and `[constant]` from one cast of a constant 0 to
 /// a pointer type. C11 has no word for it; offsets are words of 64 bits, which wrap.
-#[derive(Clone, Copy, Debug, PartialEq, Eq)]
+#[derive(Clone, Copy)]
 pub enum Idiom {
     /// No part of it.
     Outside,

@@ -1,5 +1,5 @@
 /// What stands between the brackets of an array in a type (C11 6.7.6.2).
-#[derive(Clone, Copy, Debug, PartialEq, Eq)]
+#[derive(Clone, Copy)]
 pub enum Size {
     /// A constant: that number of items, at least one.
     Counted(u64),

@@ -1,20 +1,23 @@
-use Rattle.std.proofs.Common.{◌≡◌, ℕ, suc, ◌+◌, ◌<◌, min, List, None, Some, length, get_or, add-zero, sym, ap, subst, ◌∙◌, arith, rules}
+use Rattle.std.proofs.Common.{◌≡◌, ℕ, suc, ◌+◌, ◌<◌, ◌≤◌, min, map, nat_eq, List, Option, None, Some, length, get_or, add-zero, refl, sym, ap, subst, ◌∙◌, arith, rules}
 use Rattle.std.specs.Prelude.{option_map, slice_get, if◌then◌else◌}
 use Rattle.std.specs.Str.{bytes_eq}
-use Rattle.std.proofs.lemmas.List.{length-map}
+use Rattle.std.specs.List.{position_from}
+use Rattle.std.specs.Cmp.Lexicographic.{pointwise}
+use Rattle.std.proofs.lemmas.List.{length-map, drop_all}
 use Rattle.std.proofs.lemmas.Option.{slice_get-get_or}
 use Rattle.std.proofs.Math.ListN.{get_or-map}
 use Rattle.cbase.specs.declared.abi.Abi.TheVariants.{Lp64}
 use Rattle.cbase.specs.declared.structs.Field.{Field}
 use Rattle.cbase.specs.declared.structs.StructDef.{StructDef}
 use Rattle.cbase.specs.declared.ctype.CType.{CType}
-use Rattle.cbase.specs.Layout.{layout_of}
+use Rattle.cbase.specs.Layout.{layout_of, fields_layout}
 use Rattle.cbase.specs.Kept.{capped}
 use Rattle.cbase.specs.Offset.{offset_of}
 use Rattle.ctypes.specs.declared.structs.Member.{Member}
+use Rattle.ctypes.specs.declared.structs.MemberAt.{MemberAt}
 use Rattle.ctypes.specs.Table.{type_at}
 use Rattle.ctypes.specs.Structs.{field_of, fields_of}
-use Rattle.ctypes.specs.Places.{find_in, first_of}
+use Rattle.ctypes.specs.Places.{find_in, first_of, IsPlace, IsPlaceBefore, AreInOrder}
 use Rattle.ctypes.proofs.Closing.{member_laid, member_refused}
 use Rattle.ctypes.proofs.InOrder.{in_order_step}
 use Rattle.ctypes.proofs.Placing.{Behind, field_placed, place_step}
@@ -59,3 +62,44 @@ loop-index-preserved c =
         ctype = ctype;
       }));
     }
+
+pub loop-index-init : goal.loop-index-init
+loop-index-init c = record {
+  value = rw c.empty-before.ensures refl;
+  offset = λ k. let none : 0 + k ≡ k = omega arith in
+      rw c.empty-before.ensures (ap (λ (n : ℕ). option_map (λ offset. min offset 65537) (offset_of Lp64 c.args.types.now.structs (fields_of c.args.types.now.types c.args.members.now) n)) none);
+  place = λ name. rw c.new-places.ensures.empty refl;
+  small = rw c.empty-before.ensures (search rules);
+  inside = omega arith;
+  in_order = rw c.new-in_order.ensures.items record {
+    size = refl;
+    right = λ index at has. absurd (cc has);
+  };
+}
+
+-- behind the last member nothing is left
+ended : (index : ℕ) (types : List CType) (members : List Member) → length members ≤ index → length (fields_of types members) ≤ index
+ended index types members over = let same : length (fields_of types members) ≡ length members = length-map members (field_of types) in omega (arith, same, over)
+
+whole : (index : ℕ) (structs : List StructDef) (fields : List Field) (members : List Member) (name : List ℕ) (found : Option MemberAt) → length fields ≤ index
+    → IsPlaceBefore index structs fields members name found → IsPlace structs fields members name found
+whole index structs fields members name None over is = is ∙ ap (position_from (λ field. pointwise nat_eq field.name name) index) (drop_all index fields over)
+whole index structs fields members name (Some at) over is = is
+
+pub returns-clause-layout : goal.returns-clause-layout
+returns-clause-layout c =
+    let fields : List Field = fields_of c.args.types.now.types c.args.members.now in
+    ap Some c.padded.ensures
+    ∙ (ap (λ rest. option_map capped (fields_layout c.loop-index.before (map (λ field. layout_of Lp64 c.args.types.now.structs field.ctype) rest)))
+    (sym (drop_all c.loop-index.index fields (ended c.loop-index.index c.args.types.now.types c.args.members.now c.loop-index-test.false)))
+    ∙ c.loop-index.invariant.value)
+
+pub returns-clause-in_order : goal.returns-clause-in_order
+returns-clause-in_order c =
+    let last : c.loop-index.index ≡ length c.args.members.now = omega (arith, c.loop-index.invariant.inside, c.loop-index-test.false) in
+    subst (λ (count : ℕ). AreInOrder count c.args.types.now.structs (fields_of c.args.types.now.types c.args.members.now) c.args.members.now c.loop-index.in_order.items) last c.loop-index.invariant.in_order
+
+pub returns-clause-places : goal.returns-clause-places
+returns-clause-places c = λ name.
+    whole c.loop-index.index c.args.types.now.structs (fields_of c.args.types.now.types c.args.members.now) c.args.members.now name (find_in c.loop-index.places.entries name)
+    (ended c.loop-index.index c.args.types.now.types c.args.members.now c.loop-index-test.false) (c.loop-index.invariant.place name)
