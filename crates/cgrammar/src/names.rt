@@ -1,4 +1,4 @@
-ghost use Rattle.std.specs.Prelude.{◌≡◌, ℕ, Bool, List, [], map, IfOk, OnOk, OnErr};
+ghost use Rattle.std.specs.Prelude.{◌≡◌, ◌↔◌, ℕ, Bool, List, [], map, IsTrue, IfOk, OnOk, OnErr};
 ghost use Rattle.cgrammar.specs.NameTables.{value_in, with_value};
 
 use cbase::NoMemory;
@@ -28,6 +28,13 @@ impl Names {
         Names {
             table: IndexMap::new(alloc),
         }
+    }
+
+    /// Whether there is no name.
+    pub fn is_empty(&self) -> bool
+        ensures { IsTrue result ↔ (self.now ≡ []) }
+    {
+        self.table.is_empty()
     }
 
     /// What the scope says of a name: whether it is a typedef's, or nothing.

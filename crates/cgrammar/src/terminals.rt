@@ -61,7 +61,7 @@ fn unpassed<'a>(
     requires same { length passed.now ≡ length list.now }
     ensures { IfOk result (λ row. row.items ≡ unpassed passed.now (map (terminal_of text.now) list.now)) }
 {
-    let mut row = Vec::new(alloc);
+    let mut row = Vec::with_capacity(alloc, list.len())?;
     for (index, token) in list.iter().enumerate() {
         if passed[index] {
             continue;

@@ -7,7 +7,8 @@ ghost use Rattle.cgrammar.specs.Operators.{row_of};
 
 use ctokens::same_bytes;
 
-/// Whether bytes are one of the texts.
+/// Whether bytes are one of the texts. Where the texts are written out they are compared one by one, without a table.
+#[inline(always)]
 pub fn is_one_of(texts: &[&str], bytes: &[u8]) -> bool
     ensures { result ≡ list_any (bytes_eq bytes.now) (map text_read texts.now) }
 {

@@ -28,7 +28,7 @@ impl Typedefs {
     pub fn may_have(&self, name: &[u8]) -> bool
         ensures { result ≡ is_some (value_in name.now self.now.names) }
     {
-        self.names.found(name).is_some()
+        !self.names.is_empty() && self.names.found(name).is_some()
     }
 
     /// Notes a name that a scope is about to declare, as a typedef or as anything else. Where memory is wanting the names stay

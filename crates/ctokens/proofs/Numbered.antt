@@ -1,5 +1,5 @@
 -- A set of words in the order in which they first stand, and the numbers of the words that were put in.
-use Rattle.std.proofs.Common.{◌≡◌, ℕ, ◌+◌, ◌<◌, ◌≤◌, Bool, true, false, cond, List, [], ◌∷◌, ◌++◌, Some, length, map, get_or, refl, sym, ap, ◌∙◌, subst, arith, nat_eq, inl, inr}
+use Rattle.std.proofs.Common.{◌≡◌, ℕ, ◌+◌, ◌<◌, ◌≤◌, Bool, true, false, cond, Option, List, [], ◌∷◌, ◌++◌, Some, length, map, get_or, refl, sym, ap, ◌∙◌, subst, arith, nat_eq, inl, inr}
 use Rattle.std.proofs.lemmas.Bool.{cases_lt, false≢true}
 use denote.Ref.{Bor}
 use Rattle.std.specs.List.{All, IsDistinct, slice_get, list_any}
@@ -9,7 +9,7 @@ use Rattle.std.proofs.lemmas.List.{map-append, length-map, get_or_append_left, g
 use Rattle.std.proofs.lemmas.Option.{get_or_from_slice_get}
 use Rattle.std.proofs.lemmas.Map.Keys.{apart_from_distinct}
 use Rattle.indexmap.specs.IndexSet.{insert_key}
-use Rattle.ctokens.specs.Numbering.{name_at, IsNumbering}
+use Rattle.ctokens.specs.Numbering.{blank_behind, known, name_at, IsNumbering}
 
 -- how the set compares words
 abbrev pub is_same : Bor (List ℕ) → Bor (List ℕ) → Bool
@@ -71,6 +71,57 @@ numbered_more keys after words numbers key number known is_after inside (stored,
       distinct = distinct;
       few = rw length-append (let few = known.few in omega arith);
     }
+
+-- a number that a word has already
+pub numbered_again : (keys : List (Bor (List ℕ))) (words : List (List ℕ)) (numbers : List ℕ) (word : List ℕ) (number : ℕ)
+    → Numbered keys words numbers → number < length keys → name_at (texts keys) number ≡ word → Numbered keys (words ++ word ∷ []) (numbers ++ number ∷ [])
+numbered_again keys words numbers word number known inside here = record {
+  below = All-push (λ n. n < length keys) numbers number known.below inside;
+  named = map-append (name_at (texts keys)) numbers (number ∷ [])
+      ∙ (ap (λ xs. xs ++ name_at (texts keys) number ∷ []) known.named ∙ ap (λ x. words ++ x ∷ []) here);
+  distinct = known.distinct;
+  few = rw length-append (let few = known.few in omega arith);
+}
+
+-- a word whose number is known is the empty one
+pub known_word : (blank : Option ℕ) (word : List ℕ) (number : ℕ) → known blank word ≡ Some number → (word ≡ []) × (blank ≡ Some number)
+known_word blank [] number is = (refl, is)
+known_word blank (byte ∷ bytes) number is = absurd cc
+
+-- there are at most so many names more than one as words
+pub few_more : (keys after : List (Bor (List ℕ))) (words : List (List ℕ)) (numbers : List ℕ) (key : Bor (List ℕ)) → Numbered keys words numbers
+    → after ≡ insert_key is_same keys key → length after ≤ length words + 1
+few_more keys after words numbers key known is_after =
+    let b : Bool = list_any (is_same key) keys in
+    let few = known.few in
+    let by_one : length after ≤ length keys + 1 = subst (λ xs. length xs ≤ length keys + 1) (sym is_after) (grown_by_one keys key b) in
+    omega arith
+
+-- the empty word has that number, if there is one
+abbrev pub IsBlank : List (Bor (List ℕ)) → Option ℕ → Type 0
+IsBlank keys blank = (number : ℕ) → blank ≡ Some number → (number < length keys) × (name_at (texts keys) number ≡ [])
+
+-- it has that number still where one more word is put in, which may be the empty one
+pub blank_more : (keys after : List (Bor (List ℕ))) (key : Bor (List ℕ)) (number : ℕ) (blank : Option ℕ)
+    → IsBlank keys blank → after ≡ insert_key is_same keys key → number < length after
+    → (stored : Bor (List ℕ)) × (slice_get after number ≡ Some stored) × (is_same key stored ≡ true) → IsBlank after (blank_behind blank key.now number)
+blank_more keys after key number blank known is_after inside (stored, found, same) = step key.now refl
+  where
+    here : name_at (texts after) number ≡ key.now
+    here = get_or-map (λ (k : Bor (List ℕ)). k.now) after number stored [] inside
+        ∙ (ap (λ (k : Bor (List ℕ)). k.now) (get_or_from_slice_get after number stored stored found)
+        ∙ sym ((bytes_decides key.now stored.now).0 same))
+
+    old : (n : ℕ) → blank ≡ Some n → (n < length after) × (name_at (texts after) n ≡ [])
+    old n is =
+        let b : Bool = list_any (is_same key) keys in
+        let within : n < length keys = (known n is).0 in
+        let longer : length keys ≤ length after = subst (λ xs. length keys ≤ length xs) (sym is_after) (grown keys key b) in
+        (omega arith, ap (λ xs. name_at (texts xs) n) is_after ∙ (kept keys key b n within ∙ (known n is).1))
+
+    step : (bytes : List ℕ) → key.now ≡ bytes → IsBlank after (blank_behind blank bytes number)
+    step [] is = λ n same. (subst (λ (m : ℕ). m < length after) (cc same) inside, subst (λ (m : ℕ). name_at (texts after) m ≡ []) (cc same) (here ∙ is))
+    step (byte ∷ bytes) is = old
 
 abbrev nobody : Bor (List ℕ)
 nobody = record { ref_ptr = (0, 0); now = [] }

@@ -18,6 +18,18 @@ pub read_inside : (behind : Bool) (unclosed : ℕ) (symbol : Symbol) (rest : Lis
 read_inside behind zero symbol rest h = absurd (omega arith)
 read_inside behind (suc unclosed) symbol rest h = refl
 
+-- without an attribute each token is read as it is
+pub read_plain : (symbols : List Symbol) → list_any is_attribute symbols ≡ false → read_from false 0 symbols ≡ symbols
+read_plain [] none = refl
+read_plain (symbol ∷ rest) none = step (is_attribute symbol) refl (λ others. read_plain rest others)
+  where
+    step : (here : Bool) → is_attribute symbol ≡ here → (list_any is_attribute rest ≡ false → read_from false 0 rest ≡ rest)
+        → read_from false 0 (symbol ∷ rest) ≡ symbol ∷ rest
+    step true is others = absurd (cc (none, is))
+    step false is others =
+        let left : list_any is_attribute rest ≡ false = cc (none, is) in
+        rw is (ap (λ (r : List Symbol). symbol ∷ r) (others left))
+
 -- a test that no row of a table passes, nor what stands for the others
 untrue_in : (test : Symbol → Bool) (rows : Rows) (otherwise : Symbol) (bytes : List ℕ) → test otherwise ≡ false
     → list_any (λ row. test row.1) rows ≡ false → test (symbol_in rows otherwise bytes) ≡ false

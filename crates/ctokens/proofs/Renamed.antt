@@ -8,7 +8,7 @@ use Rattle.ctokens.specs.declared.symbol.Lexeme.{Lexeme}
 use Rattle.ctokens.specs.Symbol.{is_word, is_identifier, is_main, is_built_in, is_tag_word, is_left_brace, is_comma, is_star, is_left_parenthesis, is_passed_over, is_selector}
 use Rattle.ctokens.specs.Passed.{depth_after}
 use Rattle.ctokens.specs.ItemEnds.{ends_body, body_after}
-use Rattle.ctokens.specs.Offered.{tag_at, tags, enumerator_at, enumerators, declared_at, declared, behind_stars, pointers, is_said, says_declared, behind_brackets, bracketed, offered, is_in_enum, follows_declared, set_after, brackets_after}
+use Rattle.ctokens.specs.Offered.{tag_at, tags, enumerator_at, enumerators, declared_at, declared, behind_stars, pointers, is_said, behind_brackets, bracketed, offered, is_in_enum, follows_declared, set_after, brackets_after}
 use Rattle.ctokens.specs.Bodies.{has_body, ends_with_body}
 use Rattle.ctokens.specs.Need.{offers_main, offers_built_in, defines_main, declares_built_in, needed_by, contained}
 use Rattle.ctokens.specs.ItemRows.{lexemes, kept, item_row}

@@ -1,5 +1,5 @@
 -- The words of the tables, by how many bytes they have.
-use Rattle.std.specs.Prelude.{ℕ, nat_eq, if◌then◌else◌, List, [], ◌∷◌, ◌++◌, length}
+use Rattle.std.specs.Prelude.{ℕ, nat_eq, if◌then◌else◌, [], ◌∷◌, ◌++◌, length}
 use Rattle.ctokens.specs.SymbolTables.{Rows, passed_rows, keyword_rows, name_rows}
 
 -- all words with a symbol of their own. Each stands there once

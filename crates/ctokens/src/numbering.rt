@@ -1,7 +1,7 @@
 //! Numbers for words, so that names are compared as numbers.
 
 ghost use Rattle.std.specs.Prelude.{◌≡◌, IfOk};
-ghost use Rattle.ctokens.specs.Numbering.{IsNumbering};
+ghost use Rattle.ctokens.specs.Numbering.{IsNumbering, blank_behind, known};
 ghost use Rattle.ctokens.specs.InText.{LieInText};
 ghost use Rattle.ctokens.specs.TokenSymbols.{words};
 
@@ -20,9 +20,23 @@ pub(crate) struct Numbering {
     pub(crate) count: u32,
 }
 
+/// The number of a word where it is the empty one and that has a number.
+fn known(blank: Option<u32>, word: &[u8]) -> Option<u32>
+    ensures { result ≡ known blank word.now }
+{
+    if word.is_empty() { blank } else { None }
+}
+
+/// The number of the empty word, if it has one, where a word has this number.
+fn blank_behind(blank: Option<u32>, word: &[u8], number: u32) -> Option<u32>
+    ensures { result ≡ blank_behind blank word.now number }
+{
+    if word.is_empty() { Some(number) } else { blank }
+}
+
 /// Numbers for the words of a text's tokens, from 0 on in the order in which they first stand.
 ///
-/// Each word is hashed once.
+/// Each word is hashed once. What is no word has the empty word, which is hashed where it first stands.
 pub(crate) fn number_words(alloc: Global, t: &Tokens) -> Result<Numbering, NoMemory>
     requires { LieInText t.now }
     ensures { IfOk result (λ numbering. IsNumbering (words t.now) numbering.numbers.items numbering.count) }
@@ -31,9 +45,17 @@ pub(crate) fn number_words(alloc: Global, t: &Tokens) -> Result<Numbering, NoMem
     let list = t.list.as_slice();
     let mut names = IndexSet::new(alloc);
     let mut numbers = Vec::with_capacity(alloc, list.len())?;
+    let mut blank: Option<u32> = None;
     for token in list {
-        let found = names.insert_full(token_word(text, *token))?;
-        numbers.push(found.0 as u32)?;
+        let word = token_word(text, *token);
+        if let Some(number) = known(blank, word) {
+            numbers.push(number)?;
+            continue;
+        }
+        let found = names.insert_full(word)?;
+        let number = found.0 as u32;
+        blank = blank_behind(blank, word, number);
+        numbers.push(number)?;
     }
     Ok(Numbering {
         numbers,

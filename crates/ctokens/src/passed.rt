@@ -1,7 +1,8 @@
 ghost use Rattle.std.specs.Prelude.{◌≡◌, ◌≤◌, IfOk, length, map};
 ghost use Rattle.ctokens.specs.Passed.{depth_after, is_word_kind, passed_tokens, read_from, read_symbols};
 ghost use Rattle.ctokens.specs.InText.{LieInText, most_bytes};
-ghost use Rattle.ctokens.specs.Symbol.{is_passed_over};
+ghost use Rattle.ctokens.specs.Symbol.{is_attribute, is_passed_over};
+ghost use Rattle.std.specs.List.{list_any};
 
 use crate::symbol::Symbol;
 use crate::symbol_of::token_symbol;
@@ -23,9 +24,34 @@ pub(crate) fn depth_after(depth: u32, symbol: Symbol) -> u32
     depth
 }
 
-/// The symbols with `PassedOver` for each token that is passed over.
-#[tactic(auto, using(crate::proofs::PassedSteps::read_inside))]
+/// Whether an attribute begins at one of the tokens.
+fn has_attribute(symbols: &[Symbol]) -> bool
+    ensures { result ≡ list_any is_attribute symbols.now }
+{
+    for symbol in symbols {
+        if symbol.is_attribute() {
+            return true;
+        }
+    }
+    false
+}
+
+/// The symbols with `PassedOver` for each token that is passed over. Most texts have no attribute, and then they are those of the text.
+#[tactic(auto, using(crate::proofs::PassedSteps::read_plain))]
 pub(crate) fn read_symbols(alloc: Global, symbols: &[Symbol]) -> Result<Vec<Symbol>, NoMemory>
+    requires { length symbols.now ≤ most_bytes }
+    ensures value { IfOk result (λ read. read.items ≡ read_symbols symbols.now) }
+    ensures len { IfOk result (λ read. length read.items ≡ length symbols.now) }
+{
+    if has_attribute(symbols) {
+        return read_attributes(alloc, symbols);
+    }
+    Ok(Vec::from_slice(alloc, symbols)?)
+}
+
+/// The symbols with `PassedOver` for each token that is passed over, as each is come to.
+#[tactic(auto, using(crate::proofs::PassedSteps::read_inside))]
+fn read_attributes(alloc: Global, symbols: &[Symbol]) -> Result<Vec<Symbol>, NoMemory>
     requires { length symbols.now ≤ most_bytes }
     ensures value { IfOk result (λ read. read.items ≡ read_symbols symbols.now) }
     ensures len { IfOk result (λ read. length read.items ≡ length symbols.now) }

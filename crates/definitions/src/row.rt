@@ -41,7 +41,7 @@ pub(crate) fn signs(
     ensures len { IfOk result (λ row. length row.items ≤ length tokens.now) }
     ensures bytes { IfOk result (λ row. All (λ sign. HasBytes text.now sign.token) row.items) }
 {
-    let mut row = Vec::new(alloc);
+    let mut row = Vec::with_capacity(alloc, tokens.len())?;
     for (i, token) in tokens.iter().enumerate() {
         push_unpassed(&mut row, text, *token, passed[i])?;
     }

@@ -1,7 +1,10 @@
 use Rattle.std.proofs.Common.{map, take}
 use Rattle.ctokens.specs.TokenSymbols.{token_word}
-use Rattle.ctokens.proofs.Numbered.{Numbered}
+use Rattle.ctokens.proofs.Numbered.{IsBlank, Numbered}
 use Rattle.ctokens.proofs.numbering.number_words.Given as goal
 
 abbrev pub invariant-loop-token : goal.invariant-loop-token
-invariant-loop-token l = Numbered l.names.keys (map (token_word l.text) (take l.token-index l.list)) l.numbers.items
+invariant-loop-token l = record {
+  numbered : Numbered l.names.keys (map (token_word l.text) (take l.token-index l.list)) l.numbers.items;
+  blank : IsBlank l.names.keys l.blank;
+}

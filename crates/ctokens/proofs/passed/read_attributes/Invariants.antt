@@ -1,6 +1,6 @@
 use Rattle.std.proofs.Common.{◌≡◌, ◌≤◌, ◌++◌, drop, vec_len}
 use Rattle.ctokens.specs.Passed.{read_from, read_symbols}
-use Rattle.ctokens.proofs.passed.read_symbols.Given as goal
+use Rattle.ctokens.proofs.passed.read_attributes.Given as goal
 
 abbrev pub invariant-loop-symbol : goal.invariant-loop-symbol
 invariant-loop-symbol l = record {
