@@ -1,12 +1,13 @@
 -- What keeps a memory a memory where bytes are written, and what writes of nothing change.
-use Rattle.std.proofs.Common.{◌≡◌, ℕ, ◌+◌, ◌<◌, ◌≤◌, List, [], ◌++◌, length, take, drop, set, get_or, ℤ, pos, negsuc, Option, None, Some, ◌⊎◌, inl, inr, refl, sym, ap, ◌∙◌, subst, arith}
+use Rattle.std.proofs.Common.{◌≡◌, ℕ, nat_le, not, ◌||◌, ◌+◌, ◌<◌, ◌≤◌, List, [], ◌++◌, length, take, drop, set, get_or, ℤ, pos, negsuc, Option, None, Some, ◌⊎◌, inl, inr, refl, sym, ap, ◌∙◌, subst, arith}
 use Rattle.std.proofs.Math.Nat.{add-zero}
-use Rattle.std.proofs.lemmas.Bool.{cases_eq}
-use Rattle.std.proofs.lemmas.List.{length-set, set-get_or, take-append-drop, get_or-set_same, get_or-set_other, get_or_default}
+use Rattle.std.proofs.lemmas.Bool.{cases_eq, and_parts, or_cases, or_left, or_right}
+use Rattle.std.proofs.lemmas.List.{length-set, length_push, get_or_push, get_or_append_left, set-get_or, take-append-drop, get_or-set_same, get_or-set_other, get_or_default}
 use Rattle.std.proofs.lemmas.List.Elements.{All-nil, All-append, All-set, All-take, All-drop, All-from_recursion}
+use Rattle.std.proofs.lemmas.List.Sums.{AllPass-from_list_all}
 use Rattle.std.proofs.lemmas.Option.{slice_get_read, slice_get_within, get_or_from_slice_get}
 use Rattle.std.specs.Prelude.{Bool, true, false, ◌∷◌, if◌then◌else◌, IsTrue, IfSome, All, slice_get}
-use Rattle.std.specs.List.{AllPairs}
+use Rattle.std.specs.List.{AllPairs, list_all}
 use Rattle.bytes_core.specs.declared.byte.Byte.{Byte}
 use Rattle.bytes_core.specs.declared.byte.Byte.TheVariants.{Num, Part}
 use Rattle.bytes_core.specs.declared.word.Word.{Word}
@@ -14,7 +15,7 @@ use Rattle.bytes_core.specs.declared.word.Word.TheVariants.{Plain, To}
 use Rattle.bytes_core.specs.declared.block.Block.{Block}
 use Rattle.bytes_core.specs.Access.{overwritten, filled, written_at, with_bytes, block_bytes, bytes_at, loaded}
 use Rattle.bytes_core.specs.Copying.{copied}
-use Rattle.bytes_core.specs.Placement.{is_placed, are_compatible}
+use Rattle.bytes_core.specs.Placement.{extent, is_placed, are_compatible, can_be_placed}
 use Rattle.bytes_core.specs.Valid.{NamesBelow, WordNamesBelow, IsMemory}
 use Rattle.bytes_core.specs.Value.{word_bytes, are_parts, number_read, pointer_read}
 use Rattle.bytes_core.proofs.Written.{block_after, KeepsOtherBytes-overwritten}
@@ -161,3 +162,48 @@ copied_nothing memory to from count none = ap (copied memory to from) none ∙ a
     no_bytes : (at : Word) → bytes_at memory at 0 ≡ []
     no_bytes (Plain number) = refl
     no_bytes (To block offset) = in_block (slice_get memory block) offset
+
+wider : (count : ℕ) (byte : Byte) → NamesBelow count byte → NamesBelow (count + 1) byte
+wider count (Num number) names = tt
+wider count (Part block offset k) names = (omega (arith, names.0), names.1)
+
+compatible_back : (p q a b : Bool) → (not p || (not q || (a || b))) ≡ true → (not q || (not p || (b || a))) ≡ true
+compatible_back false false a b is = refl
+compatible_back false true a b is = refl
+compatible_back true false a b is = refl
+compatible_back true true a b is = at (or_cases a b is)
+  where
+    at : (a ≡ true) ⊎ (b ≡ true) → (b || a) ≡ true
+    at (inl one) = or_right b a one
+    at (inr other) = or_left b a other
+
+-- a memory with one more block, where it can be placed and its parts of pointers name blocks of the memory, or it
+pub IsMemory-placed : (memory : List Block) (block : Block) → IsMemory memory → IsTrue (can_be_placed memory block) → All (NamesBelow (length memory + 1)) block.bytes →
+    IsMemory (memory ++ block ∷ [])
+IsMemory-placed memory block valid lies names = record {
+  placed = All-append (λ (one : Block). IsTrue (is_placed one)) memory (block ∷ []) valid.placed
+      (All-from_recursion (λ (one : Block). IsTrue (is_placed one)) (block ∷ []) (tests.0, tt));
+  apart = λ i j d before below. pair_at i j d before below (cases_eq j (length memory));
+  named = subst (λ (count : ℕ). All (λ (one : Block). All (NamesBelow count) one.bytes) (memory ++ block ∷ [])) (sym (length_push memory block))
+      (All-append (λ (one : Block). All (NamesBelow (length memory + 1)) one.bytes) memory (block ∷ [])
+      (λ k d below. λ at byte inside. wider (length memory) (get_or (get_or memory k d).bytes at byte) (valid.named k d below at byte inside))
+      (All-from_recursion (λ (one : Block). All (NamesBelow (length memory + 1)) one.bytes) (block ∷ []) (names, tt)));
+}
+  where
+    tests : (is_placed block ≡ true) × (list_all (are_compatible block) memory ≡ true)
+    tests = and_parts (is_placed block) (list_all (are_compatible block) memory) lies
+
+    backward : (other : Block) → are_compatible block other ≡ true → are_compatible other block ≡ true
+    backward other is = compatible_back block.live other.live (nat_le (block.base + extent block) other.base) (nat_le (other.base + extent other) block.base) is
+
+    pair_at : (i j : ℕ) (d : Block) → i < j → j < length (memory ++ block ∷ []) → (j ≡ length memory) ⊎ (j ≡ length memory → ⊥) →
+        IsTrue (are_compatible (get_or (memory ++ block ∷ []) i d) (get_or (memory ++ block ∷ []) j d))
+    pair_at i j d before below (inl last) =
+        let inside : i < length memory = omega arith in
+        let each = AllPass-from_list_all (are_compatible block) memory tests.1 in
+        rw (get_or_push memory block d j (sym last), get_or_append_left memory (block ∷ []) d i inside)
+        (backward (get_or memory i d) (each i d inside))
+    pair_at i j d before below (inr differ) =
+        let inside : j < length memory = omega (arith, length_push memory block) in
+        let first : i < length memory = omega arith in
+        rw (get_or_append_left memory (block ∷ []) d i first, get_or_append_left memory (block ∷ []) d j inside) (valid.apart i j d before inside)

@@ -13,3 +13,5 @@ pub mod Kept
 pub mod Addresses
 pub mod Copies
 pub mod Marked
+pub mod Living
+pub mod Unmarked

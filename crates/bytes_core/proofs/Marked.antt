@@ -1,20 +1,16 @@
--- The blocks that are marked are just those to which chains lead.
-use Rattle.std.proofs.Common.{◌≡◌, ℕ, zero, suc, ◌+◌, ◌<◌, Bool, true, false, ◌&&◌, ◌||◌, not, List, [], ◌∷◌, ◌++◌, length, take, drop, set, get_or, replicate, nat_eq, Option, None, Some, ◌⊎◌, inl, inr, refl, sym, ap, ◌∙◌, subst, arith}
-use Rattle.std.specs.Prelude.{Contains, slice_get, if◌then◌else◌}
+-- The live blocks whose places are marked are just those to which chains lead.
+use Rattle.std.proofs.Common.{◌≡◌, ℕ, zero, suc, ◌+◌, ◌<◌, Bool, true, false, ◌&&◌, ◌||◌, List, [], ◌∷◌, ◌++◌, length, take, drop, set, get_or, replicate, nat_eq, Option, None, Some, ◌⊎◌, inl, inr, refl, sym, ap, ◌∙◌, subst, arith}
+use Rattle.std.specs.Prelude.{Contains, if◌then◌else◌}
 use Rattle.std.specs.Option.{option_to_list}
 use Rattle.std.proofs.lemmas.Bool.{and_parts, and_from, or_cases, or_left, or_right, eqb-true, eq-eqb, cases_eq, false≢true, true≢false, not-true, not-false}
-use Rattle.std.proofs.lemmas.Bool.Decides.{same_from_decides}
 use Rattle.std.proofs.lemmas.List.{length-set, length_push, length-replicate, get_or-set_same, get_or-set_other, get_or_default}
 use Rattle.std.proofs.lemmas.List.Elements.{Contains-append_left, Contains-append_right, Contains-append_cases, Contains-push, Contains-push_cases}
-use Rattle.std.proofs.lemmas.Option.{slice_get_within}
 use Rattle.bytes_core.specs.declared.byte.Byte.{Byte}
 use Rattle.bytes_core.specs.declared.byte.Byte.TheVariants.{Num, Part}
-use Rattle.bytes_core.specs.declared.block.Block.{Block}
 use Rattle.bytes_core.specs.Value.{are_parts}
-use Rattle.bytes_core.specs.Release.{is_heap}
-use Rattle.bytes_core.specs.Loss.{holds_pointer_to, some_block, is_reached, is_lost, Chain, Root, Link}
-use Rattle.bytes_core.specs.Marking.{front_target, targets, block_targets, Marking, marking, is_marked, is_open, with_mark, with_marks, AreMarks, some_unmarked}
-use Rattle.bytes_core.proofs.Chains.{reached_by_chains}
+use Rattle.bytes_core.specs.Living.{places_of, place_of}
+use Rattle.bytes_core.specs.Loss.{holds_pointer_to}
+use Rattle.bytes_core.specs.Marking.{front_target, targets, Marking, marking, is_marked, is_open, with_mark, with_marks, AreMarks, Way, Begin, Onward}
 
 -- the targets from a place on: that at the place, and those behind it
 targets_on : (bytes : List Byte) (at : ℕ) → at < length bytes → targets (drop at bytes) ≡ option_to_list (front_target (drop at bytes)) ++ targets (drop (at + 1) bytes)
@@ -24,15 +20,24 @@ targets_on (byte ∷ rest) (suc at) inside =
     let there : suc (at + 1) ≡ suc at + 1 = omega arith in
     targets_on rest at (omega arith) ∙ ap (λ (n : ℕ). option_to_list (front_target (drop at rest)) ++ targets (drop n (byte ∷ rest))) there
 
-pub marked_none : (state : Marking) (bytes : List Byte) (at : ℕ) → at < length bytes → front_target (drop at bytes) ≡ None →
-    with_marks state (targets (drop (at + 1) bytes)) ≡ with_marks state (targets (drop at bytes))
-marked_none state bytes at inside none =
-    sym (ap (with_marks state) (targets_on bytes at inside ∙ ap (λ (front : Option ℕ). option_to_list front ++ targets (drop (at + 1) bytes)) none))
+pub marked_none : (state : Marking) (numbers places : List ℕ) (bytes : List Byte) (at : ℕ) → at < length bytes → front_target (drop at bytes) ≡ None →
+    with_marks state (places_of numbers places (targets (drop (at + 1) bytes))) ≡ with_marks state (places_of numbers places (targets (drop at bytes)))
+marked_none state numbers places bytes at inside none =
+    sym (ap (λ (found : List ℕ). with_marks state (places_of numbers places found))
+    (targets_on bytes at inside ∙ ap (λ (front : Option ℕ). option_to_list front ++ targets (drop (at + 1) bytes)) none))
 
-pub marked_some : (state : Marking) (bytes : List Byte) (at target : ℕ) → at < length bytes → front_target (drop at bytes) ≡ Some target →
-    with_marks (with_mark state target) (targets (drop (at + 1) bytes)) ≡ with_marks state (targets (drop at bytes))
-marked_some state bytes at target inside some =
-    sym (ap (with_marks state) (targets_on bytes at inside ∙ ap (λ (front : Option ℕ). option_to_list front ++ targets (drop (at + 1) bytes)) some))
+-- a place that is marked before others
+pub marked_before : (state : Marking) (found : Option ℕ) (rest : List ℕ) → with_marks (with_marks state (option_to_list found)) rest ≡ with_marks state (option_to_list found ++ rest)
+marked_before state None rest = refl
+marked_before state (Some place) rest = refl
+
+pub marked_some : (state : Marking) (numbers places : List ℕ) (bytes : List Byte) (at target : ℕ) → at < length bytes → front_target (drop at bytes) ≡ Some target →
+    with_marks (with_marks state (option_to_list (place_of numbers places target))) (places_of numbers places (targets (drop (at + 1) bytes)))
+    ≡ with_marks state (places_of numbers places (targets (drop at bytes)))
+marked_some state numbers places bytes at target inside some =
+    marked_before state (place_of numbers places target) (places_of numbers places (targets (drop (at + 1) bytes)))
+    ∙ sym (ap (λ (found : List ℕ). with_marks state (places_of numbers places found))
+    (targets_on bytes at inside ∙ ap (λ (front : Option ℕ). option_to_list front ++ targets (drop (at + 1) bytes)) some))
 
 -- how many blocks are not marked
 abbrev pub unmarked : List Bool → ℕ
@@ -47,10 +52,10 @@ unmarked-set (false ∷ rest) zero is = omega arith
 unmarked-set (true ∷ rest) (suc number) is = unmarked-set rest number is
 unmarked-set (false ∷ rest) (suc number) is = let more = unmarked-set rest number is in omega arith
 
-Contains-nil : (number : ℕ) → Contains [] number → ⊥
+pub Contains-nil : (number : ℕ) → Contains [] number → ⊥
 Contains-nil number there = absurd (omega (arith, there.1))
 
-Contains-one : (one number : ℕ) → Contains (one ∷ []) number → one ≡ number
+pub Contains-one : (one number : ℕ) → Contains (one ∷ []) number → one ≡ number
 Contains-one one number there = at (Contains-push_cases [] one number there)
   where
     at : Contains [] number ⊎ (one ≡ number) → one ≡ number
@@ -175,7 +180,7 @@ pub marks_measure : (state : Marking) (numbers : List ℕ) →
 marks_measure state numbers = (Grown-marks state numbers).measure
 
 -- the targets of bytes are the blocks to which they hold whole pointers
-targets_held : (target : ℕ) (bytes : List Byte) → Contains (targets bytes) target → holds_pointer_to target bytes ≡ true
+pub targets_held : (target : ℕ) (bytes : List Byte) → Contains (targets bytes) target → holds_pointer_to target bytes ≡ true
 targets_held target [] there = absurd (Contains-nil target there)
 targets_held target (Num number ∷ rest) there = targets_held target rest there
 targets_held target (Part block offset k ∷ rest) there =
@@ -190,7 +195,7 @@ targets_held target (Part block offset k ∷ rest) there =
         by_cases (inr later) = or_right (nat_eq block target && true) (holds_pointer_to target rest) (more later)
     at false more found = or_right (nat_eq block target && false) (holds_pointer_to target rest) (more found)
 
-held_targets : (target : ℕ) (bytes : List Byte) → holds_pointer_to target bytes ≡ true → Contains (targets bytes) target
+pub held_targets : (target : ℕ) (bytes : List Byte) → holds_pointer_to target bytes ≡ true → Contains (targets bytes) target
 held_targets target [] holds = absurd (false≢true holds)
 held_targets target (Num number ∷ rest) holds = held_targets target rest holds
 held_targets target (Part block offset k ∷ rest) holds =
@@ -211,144 +216,85 @@ held_targets target (Part block offset k ∷ rest) holds =
         by_cases (inl here) = absurd (false≢true (and_parts (nat_eq block target) false here).1)
         by_cases (inr later) = more later
 
--- a chain leads on to each target of a block to which one leads
-chain_on : (memory : List Block) (roots : List ℕ) (number target : ℕ) (found : Option Block) → slice_get memory number ≡ found → Contains (block_targets found) target →
-    Chain memory roots number → Chain memory roots target
-chain_on memory roots number target None stands there chain = absurd (Contains-nil target there)
-chain_on memory roots number target (Some block) stands there chain = at block.live refl there
-  where
-    at : (live : Bool) → block.live ≡ live → Contains (if live then targets block.bytes else []) target → Chain memory roots target
-    at true live held = Link number target block chain stands live (targets_held target block.bytes held)
-    at false live held = absurd (Contains-nil target held)
-
 none_marked : (count number : ℕ) → is_marked (replicate count false) number ≡ false
 none_marked zero number = refl
 none_marked (suc count) zero = refl
 none_marked (suc count) (suc number) = none_marked count number
 
--- the roots are marked first
-pub marks_begin : (memory : List Block) (roots : List ℕ) → AreMarks memory roots (with_marks (marking (replicate (length memory) false) []) roots)
-marks_begin memory roots = record {
-  size = grown.size ∙ length-replicate (length memory) false;
-  reached = λ number is. reached_at number (grown.new number is);
-  rooted = λ root there inside. grown.all root there (rw length-replicate inside);
-  marked = λ number there. marked_at number (grown.from number there);
-  followed = λ number target is there inside. followed_at number target (grown.new number is);
+-- the first places are marked first
+pub marks_begin : (count : ℕ) (first : List ℕ) (next : ℕ → List ℕ) → AreMarks count first next (with_marks (marking (replicate count false) []) first)
+marks_begin count first next = record {
+  size = grown.size ∙ length-replicate count false;
+  reached = λ place is. reached_at place (grown.new place is);
+  begun = λ place there inside. grown.all place there (rw length-replicate inside);
+  marked = λ place there. marked_at place (grown.from place there);
+  followed = λ from place is there inside. followed_at from place (grown.new from is);
 }
   where
-    grown : Grown (marking (replicate (length memory) false) []) roots (with_marks (marking (replicate (length memory) false) []) roots)
-    grown = Grown-marks (marking (replicate (length memory) false) []) roots
+    grown : Grown (marking (replicate count false) []) first (with_marks (marking (replicate count false) []) first)
+    grown = Grown-marks (marking (replicate count false) []) first
 
-    reached_at : (number : ℕ) →
-        (is_marked (replicate (length memory) false) number ≡ true) ⊎ (Contains roots number × Contains (with_marks (marking (replicate (length memory) false) []) roots).waiting number) →
-        Chain memory roots number
-    reached_at number (inl is) = absurd (false≢true (sym (none_marked (length memory) number) ∙ is))
-    reached_at number (inr (there, waits)) = Root number there
+    reached_at : (place : ℕ) → (is_marked (replicate count false) place ≡ true) ⊎ (Contains first place × Contains (with_marks (marking (replicate count false) []) first).waiting place) →
+        Way first next place
+    reached_at place (inl is) = absurd (false≢true (sym (none_marked count place) ∙ is))
+    reached_at place (inr (there, waits)) = Begin place there
 
-    marked_at : (number : ℕ) → Contains [] number ⊎ (is_marked (with_marks (marking (replicate (length memory) false) []) roots).marks number ≡ true) →
-        is_marked (with_marks (marking (replicate (length memory) false) []) roots).marks number ≡ true
-    marked_at number (inl there) = absurd (Contains-nil number there)
-    marked_at number (inr is) = is
+    marked_at : (place : ℕ) → Contains [] place ⊎ (is_marked (with_marks (marking (replicate count false) []) first).marks place ≡ true) →
+        is_marked (with_marks (marking (replicate count false) []) first).marks place ≡ true
+    marked_at place (inl there) = absurd (Contains-nil place there)
+    marked_at place (inr is) = is
 
-    followed_at : (number target : ℕ) →
-        (is_marked (replicate (length memory) false) number ≡ true) ⊎ (Contains roots number × Contains (with_marks (marking (replicate (length memory) false) []) roots).waiting number) →
-        (is_marked (with_marks (marking (replicate (length memory) false) []) roots).marks target ≡ true) ⊎ Contains (with_marks (marking (replicate (length memory) false) []) roots).waiting number
-    followed_at number target (inl is) = absurd (false≢true (sym (none_marked (length memory) number) ∙ is))
-    followed_at number target (inr (there, waits)) = inr waits
+    followed_at : (from place : ℕ) → (is_marked (replicate count false) from ≡ true) ⊎ (Contains first from × Contains (with_marks (marking (replicate count false) []) first).waiting from) →
+        (is_marked (with_marks (marking (replicate count false) []) first).marks place ≡ true) ⊎ Contains (with_marks (marking (replicate count false) []) first).waiting from
+    followed_at from place (inl is) = absurd (false≢true (sym (none_marked count from) ∙ is))
+    followed_at from place (inr (there, waits)) = inr waits
 
--- a block that waited is looked through
-pub marks_follow : (memory : List Block) (roots : List ℕ) (marks : List Bool) (waiting rest : List ℕ) (last : ℕ) → waiting ≡ rest ++ last ∷ [] →
-    AreMarks memory roots (marking marks waiting) → AreMarks memory roots (with_marks (marking marks rest) (block_targets (slice_get memory last)))
-marks_follow memory roots marks waiting rest last is are =
-    looked memory roots marks rest last (subst (λ (items : List ℕ). AreMarks memory roots (marking marks items)) is are)
+-- a place that waited is looked through
+pub marks_follow : (count : ℕ) (first : List ℕ) (next : ℕ → List ℕ) (marks : List Bool) (waiting rest : List ℕ) (last : ℕ) → waiting ≡ rest ++ last ∷ [] →
+    AreMarks count first next (marking marks waiting) → AreMarks count first next (with_marks (marking marks rest) (next last))
+marks_follow count first next marks waiting rest last is are = looked (subst (λ (items : List ℕ). AreMarks count first next (marking marks items)) is are)
   where
-    looked : (memory : List Block) (roots : List ℕ) (marks : List Bool) (rest : List ℕ) (last : ℕ) → AreMarks memory roots (marking marks (rest ++ last ∷ [])) →
-        AreMarks memory roots (with_marks (marking marks rest) (block_targets (slice_get memory last)))
-    looked memory roots marks rest last are = record {
+    looked : AreMarks count first next (marking marks (rest ++ last ∷ [])) → AreMarks count first next (with_marks (marking marks rest) (next last))
+    looked are = record {
       size = grown.size ∙ are.size;
-      reached = λ number is. reached_at number (grown.new number is);
-      rooted = λ root there inside. grown.kept root (are.rooted root there inside);
-      marked = λ number there. marked_at number (grown.from number there);
-      followed = λ number target is there inside. followed_at number target there inside (grown.new number is);
+      reached = λ place is. reached_at place (grown.new place is);
+      begun = λ place there inside. grown.kept place (are.begun place there inside);
+      marked = λ place there. marked_at place (grown.from place there);
+      followed = λ from place is there inside. followed_at from place there inside (grown.new from is);
     }
       where
-        grown : Grown (marking marks rest) (block_targets (slice_get memory last)) (with_marks (marking marks rest) (block_targets (slice_get memory last)))
-        grown = Grown-marks (marking marks rest) (block_targets (slice_get memory last))
+        grown : Grown (marking marks rest) (next last) (with_marks (marking marks rest) (next last))
+        grown = Grown-marks (marking marks rest) (next last)
 
-        chain : Chain memory roots last
-        chain = are.reached last (are.marked last (Contains-push rest last))
+        way : Way first next last
+        way = are.reached last (are.marked last (Contains-push rest last))
 
-        reached_at : (number : ℕ) →
-            (is_marked marks number ≡ true) ⊎ (Contains (block_targets (slice_get memory last)) number × Contains (with_marks (marking marks rest) (block_targets (slice_get memory last))).waiting number) →
-            Chain memory roots number
-        reached_at number (inl is) = are.reached number is
-        reached_at number (inr (there, waits)) = chain_on memory roots last number (slice_get memory last) refl there chain
+        reached_at : (place : ℕ) →
+            (is_marked marks place ≡ true) ⊎ (Contains (next last) place × Contains (with_marks (marking marks rest) (next last)).waiting place) → Way first next place
+        reached_at place (inl is) = are.reached place is
+        reached_at place (inr (there, waits)) = Onward last place way there
 
-        marked_at : (number : ℕ) → Contains rest number ⊎ (is_marked (with_marks (marking marks rest) (block_targets (slice_get memory last))).marks number ≡ true) →
-            is_marked (with_marks (marking marks rest) (block_targets (slice_get memory last))).marks number ≡ true
-        marked_at number (inl there) = grown.kept number (are.marked number (Contains-append_left rest (last ∷ []) number there))
-        marked_at number (inr is) = is
+        marked_at : (place : ℕ) → Contains rest place ⊎ (is_marked (with_marks (marking marks rest) (next last)).marks place ≡ true) →
+            is_marked (with_marks (marking marks rest) (next last)).marks place ≡ true
+        marked_at place (inl there) = grown.kept place (are.marked place (Contains-append_left rest (last ∷ []) place there))
+        marked_at place (inr is) = is
 
-        waited_at : (number target : ℕ) → Contains (block_targets (slice_get memory number)) target → target < length memory → Contains rest number ⊎ (last ≡ number) →
-            (is_marked (with_marks (marking marks rest) (block_targets (slice_get memory last))).marks target ≡ true)
-            ⊎ Contains (with_marks (marking marks rest) (block_targets (slice_get memory last))).waiting number
-        waited_at number target there inside (inl waits) = inr (grown.waits number waits)
-        waited_at number target there inside (inr same) =
-            inl (grown.all target (subst (λ (n : ℕ). Contains (block_targets (slice_get memory n)) target) (sym same) there) (rw are.size inside))
+        waited_at : (from place : ℕ) → Contains (next from) place → place < count → Contains rest from ⊎ (last ≡ from) →
+            (is_marked (with_marks (marking marks rest) (next last)).marks place ≡ true) ⊎ Contains (with_marks (marking marks rest) (next last)).waiting from
+        waited_at from place there inside (inl waits) = inr (grown.waits from waits)
+        waited_at from place there inside (inr same) =
+            inl (grown.all place (subst (λ (n : ℕ). Contains (next n) place) (sym same) there) (rw are.size inside))
 
-        older : (number target : ℕ) → Contains (block_targets (slice_get memory number)) target → target < length memory →
-            (is_marked marks target ≡ true) ⊎ Contains (rest ++ last ∷ []) number →
-            (is_marked (with_marks (marking marks rest) (block_targets (slice_get memory last))).marks target ≡ true)
-            ⊎ Contains (with_marks (marking marks rest) (block_targets (slice_get memory last))).waiting number
-        older number target there inside (inl is) = inl (grown.kept target is)
-        older number target there inside (inr waits) = waited_at number target there inside (Contains-push_cases rest last number waits)
+        older : (from place : ℕ) → Contains (next from) place → place < count → (is_marked marks place ≡ true) ⊎ Contains (rest ++ last ∷ []) from →
+            (is_marked (with_marks (marking marks rest) (next last)).marks place ≡ true) ⊎ Contains (with_marks (marking marks rest) (next last)).waiting from
+        older from place there inside (inl is) = inl (grown.kept place is)
+        older from place there inside (inr waits) = waited_at from place there inside (Contains-push_cases rest last from waits)
 
-        followed_at : (number target : ℕ) → Contains (block_targets (slice_get memory number)) target → target < length memory →
-            (is_marked marks number ≡ true) ⊎ (Contains (block_targets (slice_get memory last)) number × Contains (with_marks (marking marks rest) (block_targets (slice_get memory last))).waiting number) →
-            (is_marked (with_marks (marking marks rest) (block_targets (slice_get memory last))).marks target ≡ true)
-            ⊎ Contains (with_marks (marking marks rest) (block_targets (slice_get memory last))).waiting number
-        followed_at number target there inside (inl is) = older number target there inside (are.followed number target is there inside)
-        followed_at number target there inside (inr (held, waits)) = inr waits
-
--- where no block waits, each to which a chain leads is marked
-marked_from_Chain : (memory : List Block) (roots : List ℕ) (marks : List Bool) → AreMarks memory roots (marking marks []) → (target : ℕ) → Chain memory roots target →
-    target < length memory → is_marked marks target ≡ true
-marked_from_Chain memory roots marks are target (Root root there) inside = are.rooted target there inside
-marked_from_Chain memory roots marks are target (Link number end block chain stands live holds) inside =
-    let before = marked_from_Chain memory roots marks are number chain (slice_get_within memory number block stands) in
-    at (are.followed number target before (rw (stands, live) (held_targets target block.bytes holds)) inside)
-  where
-    at : (is_marked marks target ≡ true) ⊎ Contains [] number → is_marked marks target ≡ true
-    at (inl is) = is
-    at (inr waits) = absurd (Contains-nil number waits)
-
-open_is_unreached : (memory : List Block) (roots : List ℕ) (marks : List Bool) → AreMarks memory roots (marking marks []) → (number : ℕ) → number < length memory →
-    is_open marks number ≡ not (is_reached memory roots number)
-open_is_unreached memory roots marks are number inside =
-    ap not (get_or_default marks number true false (rw are.size inside)
-    ∙ same_from_decides (is_marked marks number) (is_reached memory roots number) (
-      (λ is. (reached_by_chains memory roots number).1 (are.reached number is)),
-      (λ is. marked_from_Chain memory roots marks are number ((reached_by_chains memory roots number).0 is) inside),
-    ) (λ h. h, λ h. h))
-
-some_block_same : (one other : ℕ → Block → Bool) (start : ℕ) (blocks : List Block) →
-    ((place : ℕ) (block : Block) → place < length blocks → one (start + place) block ≡ other (start + place) block) →
-    some_block one start blocks ≡ some_block other start blocks
-some_block_same one other start [] same = refl
-some_block_same one other start (block ∷ rest) same =
-    let here : one start block ≡ other start block =
-    let first : start + 0 ≡ start = omega arith in subst (λ (n : ℕ). one n block ≡ other n block) first (same 0 block (omega arith)) in
-    let later : some_block one (start + 1) rest ≡ some_block other (start + 1) rest = some_block_same one other (start + 1) rest
-    (λ place found inside. let there : start + suc place ≡ start + 1 + place = omega arith in
-    subst (λ (n : ℕ). one n found ≡ other n found) there (same (suc place) found (omega arith))) in
-    ap (λ (b : Bool). b || some_block one (start + 1) rest) here ∙ ap (λ (b : Bool). other start block || b) later
-
--- where no block waits, some live heap block is not marked just where one is lost
-pub marks_end : (memory : List Block) (roots : List ℕ) (marks : List Bool) → AreMarks memory roots (marking marks []) → some_unmarked memory marks ≡ is_lost memory roots
-marks_end memory roots marks are =
-    some_block_same (λ number block. is_heap block.kind && (block.live && is_open marks number))
-    (λ number block. is_heap block.kind && (block.live && not (is_reached memory roots number))) 0 memory
-    (λ place block inside. let there : 0 + place < length memory = omega arith in rw (open_is_unreached memory roots marks are (0 + place) there) refl)
+        followed_at : (from place : ℕ) → Contains (next from) place → place < count →
+            (is_marked marks from ≡ true) ⊎ (Contains (next last) from × Contains (with_marks (marking marks rest) (next last)).waiting from) →
+            (is_marked (with_marks (marking marks rest) (next last)).marks place ≡ true) ⊎ Contains (with_marks (marking marks rest) (next last)).waiting from
+        followed_at from place there inside (inl is) = older from place there inside (are.followed from place is there inside)
+        followed_at from place there inside (inr (held, waits)) = inr waits
 
 -- a block that waited is one less that waits, or is not marked
 pub look_smaller : (marks marks' : List Bool) (waiting waiting' rest : List ℕ) (last : ℕ) (numbers : List ℕ) → waiting ≡ rest ++ last ∷ [] →

@@ -7,6 +7,7 @@ pub mod Copying
 pub mod Release
 pub mod Loss
 pub mod Marking
+pub mod Living
 pub mod Valid
 pub mod Laws
 pub mod Examples

@@ -12,6 +12,7 @@ mod byte;
 mod copying;
 mod fault;
 pub mod laws;
+mod live;
 mod loss;
 mod memory;
 mod placement;

@@ -1,11 +1,15 @@
 ghost use Rattle.std.specs.Prelude.{◌≡◌, ◌+◌, ◌<◌, ◌&&◌, ◌^◌, ◌≤◌, Bool, List as Items, ℕ, [], drop, take, length, replicate, false, slice_get, IfOk, IfSome, IsTrue, OnOk, Option, Some, None};
+ghost use Rattle.std.specs.List.{list_any};
+ghost use Rattle.std.specs.Option.{option_to_list};
+ghost use Rattle.bytes_core.specs.Living.{lives, AreLive, place_of, places_of};
 ghost use Rattle.bytes_core.specs.Loss.{is_lost};
 ghost use Rattle.bytes_core.specs.Release.{is_heap};
-ghost use Rattle.bytes_core.specs.Marking.{front_target, targets, block_targets, marking, is_open, with_mark, with_marks, AreMarks, some_unmarked};
+ghost use Rattle.bytes_core.specs.Marking.{front_target, targets, block_targets, place_targets, marking, is_open, with_mark, with_marks, AreMarks, is_heap_block, some_unmarked};
 
 use crate::access::block_at;
 use crate::block::Block;
 use crate::byte::Byte;
+use crate::live::{Live, place_of};
 use crate::release::is_heap;
 use crate::value::are_parts;
 use cbase::NoMemory;
@@ -38,134 +42,211 @@ fn target_at(bytes: &[Byte], at: usize) -> Option<u32>
     }
 }
 
-/// Whether there is a block of that number that is not marked.
-fn is_open(marks: &[bool], number: usize) -> bool
-    ensures open { result ≡ is_open marks.now number }
-    ensures stands { IsTrue result → number < length marks.now }
+/// Whether there is a place of that number that is not marked.
+fn is_open(marks: &[bool], place: usize) -> bool
+    ensures open { result ≡ is_open marks.now place }
+    ensures stands { IsTrue result → place < length marks.now }
 {
-    match marks.get(number) {
+    match marks.get(place) {
         None => false,
         Some(mark) => !*mark,
     }
 }
 
-/// Marks a block that is not marked yet, and puts it among those that are still to be looked through.
+/// Marks a place that is not marked yet, and puts it among those that are still to be looked through.
 #[tactic(auto, unfolding(crate::specs::Marking::with_mark))]
-fn mark(marks: &mut Vec<bool>, waiting: &mut Vec<u32>, number: u32) -> Result<(), NoMemory>
-    ensures { OnOk result (marking marks.new.items waiting.new.items ≡ with_mark (marking marks.old.items waiting.old.items) number) }
+fn mark(marks: &mut Vec<bool>, waiting: &mut Vec<usize>, place: usize) -> Result<(), NoMemory>
+    ensures { OnOk result (marking marks.new.items waiting.new.items ≡ with_mark (marking marks.old.items waiting.old.items) place) }
 {
-    if !is_open(marks.as_slice(), number as usize) {
+    if !is_open(marks.as_slice(), place) {
         return Ok(());
     }
-    marks[number as usize] = true;
-    waiting.push(number)?;
+    marks[place] = true;
+    waiting.push(place)?;
     Ok(())
 }
 
-/// Marks blocks, one behind the other.
-fn mark_all(marks: &mut Vec<bool>, waiting: &mut Vec<u32>, numbers: &[u32]) -> Result<(), NoMemory>
-    ensures { OnOk result (marking marks.new.items waiting.new.items ≡ with_marks (marking marks.old.items waiting.old.items) numbers.now) }
+/// Marks the place of a block, if it lives.
+fn mark_block(
+    live: &Live,
+    marks: &mut Vec<bool>,
+    waiting: &mut Vec<usize>,
+    number: u32,
+) -> Result<(), NoMemory>
+    ensures { OnOk result (marking marks.new.items waiting.new.items
+        ≡ with_marks (marking marks.old.items waiting.old.items) (option_to_list (place_of live.now.numbers.items live.now.places.items number))) }
+{
+    match place_of(live, number as usize) {
+        None => Ok(()),
+        Some(place) => mark(marks, waiting, place),
+    }
+}
+
+/// Marks the places of those of some blocks that live, one behind the other.
+#[tactic(auto, using(crate::proofs::Marked::marked_before))]
+fn mark_all(
+    live: &Live,
+    marks: &mut Vec<bool>,
+    waiting: &mut Vec<usize>,
+    numbers: &[u32],
+) -> Result<(), NoMemory>
+    ensures { OnOk result (marking marks.new.items waiting.new.items
+        ≡ with_marks (marking marks.old.items waiting.old.items) (places_of live.now.numbers.items live.now.places.items numbers.now)) }
 {
     for number in numbers {
-        mark(marks, waiting, *number)?;
+        mark_block(live, marks, waiting, *number)?;
     }
     Ok(())
 }
 
-/// Marks the block to which the whole pointer leads that begins at this place.
+/// Marks the place of the block to which the whole pointer leads that begins at this place of the bytes.
 fn mark_target(
+    live: &Live,
     marks: &mut Vec<bool>,
-    waiting: &mut Vec<u32>,
+    waiting: &mut Vec<usize>,
     bytes: &[Byte],
     at: usize,
 ) -> Result<(), NoMemory>
     requires { at < length bytes.now }
-    ensures { OnOk result (with_marks (marking marks.new.items waiting.new.items) (targets (drop (at + 1) bytes.now))
-        ≡ with_marks (marking marks.old.items waiting.old.items) (targets (drop at bytes.now))) }
+    ensures { OnOk result (
+        with_marks (marking marks.new.items waiting.new.items) (places_of live.now.numbers.items live.now.places.items (targets (drop (at + 1) bytes.now)))
+        ≡ with_marks (marking marks.old.items waiting.old.items) (places_of live.now.numbers.items live.now.places.items (targets (drop at bytes.now)))) }
 {
     match target_at(bytes, at) {
         None => Ok(()),
-        Some(target) => mark(marks, waiting, target),
+        Some(target) => mark_block(live, marks, waiting, target),
     }
 }
 
-/// Marks the blocks to which whole pointers in the bytes lead.
+/// Marks the places of the live blocks to which whole pointers in the bytes lead.
 fn mark_targets(
+    live: &Live,
     marks: &mut Vec<bool>,
-    waiting: &mut Vec<u32>,
+    waiting: &mut Vec<usize>,
     bytes: &[Byte],
 ) -> Result<(), NoMemory>
-    ensures { OnOk result (marking marks.new.items waiting.new.items ≡ with_marks (marking marks.old.items waiting.old.items) (targets bytes.now)) }
+    ensures { OnOk result (marking marks.new.items waiting.new.items
+        ≡ with_marks (marking marks.old.items waiting.old.items) (places_of live.now.numbers.items live.now.places.items (targets bytes.now))) }
 {
     for at in 0..bytes.len() {
-        mark_target(marks, waiting, bytes, at)?;
+        mark_target(live, marks, waiting, bytes, at)?;
     }
     Ok(())
 }
 
-/// Marks the blocks to which a block leads on: a dead one leads to none.
+/// Marks the places of the live blocks to which a block leads on: a dead one leads to none.
 fn look_through(
     blocks: &[Block],
+    live: &Live,
     marks: &mut Vec<bool>,
-    waiting: &mut Vec<u32>,
+    waiting: &mut Vec<usize>,
     number: usize,
 ) -> Result<(), NoMemory>
     ensures { OnOk result (marking marks.new.items waiting.new.items
-        ≡ with_marks (marking marks.old.items waiting.old.items) (block_targets (slice_get blocks.now number))) }
+        ≡ with_marks (marking marks.old.items waiting.old.items) (places_of live.now.numbers.items live.now.places.items (block_targets (slice_get blocks.now number)))) }
 {
     match block_at(blocks, number) {
         None => Ok(()),
         Some(block) => {
             if block.live {
-                return mark_targets(marks, waiting, block.bytes.as_slice());
+                return mark_targets(live, marks, waiting, block.bytes.as_slice());
             }
             Ok(())
         }
     }
 }
 
-/// Marks all blocks to which chains from the marked ones lead: each is looked through once.
-fn follow(blocks: &[Block], marks: &mut Vec<bool>, waiting: &mut Vec<u32>) -> Result<(), NoMemory>
-    ensures { (roots : Items ℕ) → AreMarks blocks.now roots (marking marks.old.items waiting.old.items) → OnOk result (AreMarks blocks.now roots (marking marks.new.items [])) }
+/// Marks the places to which a place leads on.
+fn look_through_place(
+    blocks: &[Block],
+    live: &Live,
+    marks: &mut Vec<bool>,
+    waiting: &mut Vec<usize>,
+    place: usize,
+) -> Result<(), NoMemory>
+    ensures { OnOk result (marking marks.new.items waiting.new.items
+        ≡ with_marks (marking marks.old.items waiting.old.items) (place_targets blocks.now live.now.numbers.items live.now.places.items place)) }
 {
-    while let Some(number) = waiting.pop() {
-        look_through(blocks, marks, waiting, number as usize)?;
+    match live.numbers.get(place) {
+        None => Ok(()),
+        Some(number) => look_through(blocks, live, marks, waiting, *number),
+    }
+}
+
+/// Marks all places to which ways from the marked ones lead: each is looked through once.
+fn follow(
+    blocks: &[Block],
+    live: &Live,
+    marks: &mut Vec<bool>,
+    waiting: &mut Vec<usize>,
+) -> Result<(), NoMemory>
+    ensures { (count : ℕ) (first : Items ℕ) →
+        AreMarks count first (place_targets blocks.now live.now.numbers.items live.now.places.items) (marking marks.old.items waiting.old.items) →
+        OnOk result (AreMarks count first (place_targets blocks.now live.now.numbers.items live.now.places.items) (marking marks.new.items [])) }
+{
+    while let Some(place) = waiting.pop() {
+        look_through_place(blocks, live, marks, waiting, place)?;
     }
     Ok(())
 }
 
-/// Whether a block is a live heap block that is not marked.
-fn is_unmarked(block: &Block, marks: &[bool], number: usize) -> bool
-    ensures { result ≡ (is_heap block.now.kind && (block.now.live && is_open marks.now number)) }
+/// Whether there is a block of that number, and of the heap.
+fn is_heap_block(blocks: &[Block], number: usize) -> bool
+    ensures { result ≡ is_heap_block (slice_get blocks.now number) }
 {
-    if !is_heap(block.kind) {
-        return false;
+    match block_at(blocks, number) {
+        None => false,
+        Some(block) => is_heap(block.kind),
     }
-    if !block.live {
-        return false;
-    }
-    is_open(marks, number)
 }
 
-/// Whether some live heap block is not marked.
-fn some_unmarked(blocks: &[Block], marks: &[bool]) -> bool
-    ensures { result ≡ some_unmarked blocks.now marks.now }
+/// Whether the block of a number is of the heap, and its place not marked.
+fn is_unmarked(blocks: &[Block], number: usize, marks: &[bool], place: usize) -> bool
+    ensures { result ≡ (is_heap_block (slice_get blocks.now number) && is_open marks.now place) }
 {
-    for (number, block) in blocks.iter().enumerate() {
-        if is_unmarked(block, marks, number) {
+    if !is_heap_block(blocks, number) {
+        return false;
+    }
+    is_open(marks, place)
+}
+
+/// Whether some live heap block's place is not marked.
+fn some_unmarked(blocks: &[Block], numbers: &[usize], marks: &[bool]) -> bool
+    ensures { result ≡ some_unmarked blocks.now marks.now 0 numbers.now }
+{
+    for (place, number) in numbers.iter().enumerate() {
+        if is_unmarked(blocks, *number, marks, place) {
             return true;
         }
     }
     false
 }
 
-/// Whether some live heap block is reached from none of the roots.
-pub(crate) fn some_lost(alloc: Global, blocks: &[Block], roots: &[u32]) -> Result<bool, NoMemory>
+/// Whether some of the blocks of these numbers is of the heap.
+fn some_heap(blocks: &[Block], numbers: &[usize]) -> bool
+    ensures { result ≡ list_any (λ number. is_heap_block (slice_get blocks.now number)) numbers.now }
+{
+    numbers.iter().any(|number| is_heap_block(blocks, *number))
+}
+
+/// Whether some live heap block is reached from none of the roots. It takes time for the live blocks and, where one of
+/// them is of the heap, for their bytes and the roots.
+pub(crate) fn some_lost(
+    alloc: Global,
+    blocks: &[Block],
+    live: &Live,
+    roots: &[u32],
+) -> Result<bool, NoMemory>
+    requires { AreLive (lives blocks.now) live.now.numbers.items live.now.places.items }
     ensures { IfOk result (λ lost. lost ≡ is_lost blocks.now roots.now) }
 {
-    let mut marks: Vec<bool> = vec![in alloc; false; blocks.len()]?;
-    let mut waiting: Vec<u32> = Vec::new(alloc);
-    mark_all(&mut marks, &mut waiting, roots)?;
-    follow(blocks, &mut marks, &mut waiting)?;
-    Ok(some_unmarked(blocks, marks.as_slice()))
+    let numbers = live.numbers.as_slice();
+    if !some_heap(blocks, numbers) {
+        return Ok(false);
+    }
+    let mut marks: Vec<bool> = vec![in alloc; false; numbers.len()]?;
+    let mut waiting: Vec<usize> = Vec::new(alloc);
+    mark_all(live, &mut marks, &mut waiting, roots)?;
+    follow(blocks, live, &mut marks, &mut waiting)?;
+    Ok(some_unmarked(blocks, numbers, marks.as_slice()))
 }

@@ -11,6 +11,7 @@ ghost use Rattle.bytes_core.specs.Value.{address_number};
 use crate::access::{base_of, load_at};
 use crate::block::Block;
 use crate::copying::copy_at;
+use crate::live::{Live, count_in, make_room, none_live};
 use crate::loss::some_lost;
 use crate::placement::can_be_placed;
 use crate::release::{end_block, free_at};
@@ -28,18 +29,20 @@ use std::marker::Model;
 #[derive(Drop)]
 pub struct Memory {
     blocks: Vec<Block>,
+    live: Live,
 }
 
 impl Model for Memory {
     ghost use Rattle.std.specs.Prelude.{List as Items};
     ghost use Rattle.bytes_core.specs.declared.block.Block.{Block};
+    ghost use Rattle.bytes_core.specs.Living.{lives, AreLive};
     ghost use Rattle.bytes_core.specs.Valid.{IsMemory};
 
     ghost Value = { Items Block };
 
     ghost view = { λ m. m.blocks.items };
 
-    ghost invariant = { λ m. IsMemory m.blocks.items };
+    ghost invariant = { λ m. IsMemory m.blocks.items × AreLive (lives m.blocks.items) m.live.numbers.items m.live.places.items };
 }
 
 impl Memory {
@@ -49,17 +52,18 @@ impl Memory {
     {
         Memory {
             blocks: Vec::new(alloc),
+            live: none_live(alloc),
         }
     }
 
     /// Whether a block may be put into the memory: it lies where a block may lie, and shares no address with a live
     /// one if it lives.
     ///
-    /// It takes time for the blocks of the memory, and no memory.
+    /// It takes time for the live blocks of the memory, and no memory.
     pub fn can_place(&self, block: &Block) -> bool
         ensures { result ≡ can_be_placed self.now block.now }
     {
-        can_be_placed(&self.blocks, block)
+        can_be_placed(&self.blocks, &self.live, block)
     }
 
     /// Puts a block behind the others, and gives its number.
@@ -78,7 +82,10 @@ impl Memory {
         let Ok(number) = u32::try_from(self.blocks.len()) else {
             return Ok(None);
         };
+        make_room(&mut self.live)?;
+        let lives = block.live;
         self.blocks.push(block)?;
+        count_in(&mut self.live, lives);
         Ok(Some(number))
     }
 
@@ -148,7 +155,7 @@ impl Memory {
         ensures freed { OnOk result (self.new ≡ freed self.old at) }
         ensures err { OnErr result (self.new ≡ self.old) }
     {
-        free_at(&mut self.blocks, at)
+        free_at(&mut self.blocks, &mut self.live, at)
     }
 
     /// Ends the life of a block, as of an object whose scope is left (C11 6.2.4p5). A number that names no block changes
@@ -156,7 +163,7 @@ impl Memory {
     pub fn end(&mut self, block: u32)
         ensures { self.new ≡ without self.old block (slice_get self.old block) }
     {
-        end_block(&mut self.blocks, block as usize);
+        end_block(&mut self.blocks, &mut self.live, block as usize);
     }
 
     /// The base of a block: the address of its first byte. `None` where the number names no block.
@@ -176,10 +183,11 @@ impl Memory {
     /// Whether a live heap block is lost: no chain of whole stored pointers leads to it from the root blocks, through
     /// live blocks.
     ///
-    /// It takes time for the bytes of the memory and the roots.
+    /// It takes time for the live blocks of the memory and, where one of them is of the heap, for their bytes and the
+    /// roots.
     pub fn lost(&self, alloc: Global, roots: &[u32]) -> Result<bool, NoMemory>
         ensures { IfOk result (λ lost. lost ≡ is_lost self.now roots.now) }
     {
-        some_lost(alloc, &self.blocks, roots)
+        some_lost(alloc, &self.blocks, &self.live, roots)
     }
 }

@@ -1,8 +1,11 @@
-ghost use Rattle.std.specs.Prelude.{◌≡◌, ◌+◌, nat_le};
+ghost use Rattle.std.specs.Prelude.{◌≡◌, ◌+◌, nat_le, slice_get};
 ghost use Rattle.std.specs.List.{list_all};
+ghost use Rattle.bytes_core.specs.Living.{lives, AreLive, fits_there};
 ghost use Rattle.bytes_core.specs.Placement.{extent, is_placed, are_apart, are_compatible, can_be_placed};
 
+use crate::access::block_at;
 use crate::block::Block;
+use crate::live::Live;
 
 /// Where the addresses of blocks end: 2^47.
 const END: u64 = 0x8000_0000_0000;
@@ -56,19 +59,32 @@ fn are_compatible(one: &Block, other: &Block) -> bool
     ends_before(other, one)
 }
 
-/// Whether a block may stand in one memory with each of these.
-fn fits_beside(blocks: &[Block], block: &Block) -> bool
-    ensures { result ≡ list_all (are_compatible block.now) blocks.now }
+/// Whether a block may stand in one memory with that of a number, if there is one.
+fn fits_there(blocks: &[Block], number: usize, block: &Block) -> bool
+    ensures { result ≡ fits_there block.now (slice_get blocks.now number) }
 {
-    blocks.iter().all(|other| are_compatible(block, other))
+    match block_at(blocks, number) {
+        None => true,
+        Some(other) => are_compatible(block, other),
+    }
 }
 
-/// Whether a block may be put into a memory.
-pub(crate) fn can_be_placed(blocks: &[Block], block: &Block) -> bool
+/// Whether a block may stand in one memory with each of those of these numbers.
+fn fits_beside(blocks: &[Block], numbers: &[usize], block: &Block) -> bool
+    ensures { result ≡ list_all (λ number. fits_there block.now (slice_get blocks.now number)) numbers.now }
+{
+    numbers
+        .iter()
+        .all(|number| fits_there(blocks, *number, block))
+}
+
+/// Whether a block may be put into a memory. It takes time for the live blocks.
+pub(crate) fn can_be_placed(blocks: &[Block], live: &Live, block: &Block) -> bool
+    requires { AreLive (lives blocks.now) live.now.numbers.items live.now.places.items }
     ensures { result ≡ can_be_placed blocks.now block.now }
 {
     if !is_placed(block) {
         return false;
     }
-    fits_beside(blocks, block)
+    fits_beside(blocks, live.numbers.as_slice(), block)
 }

@@ -1,11 +1,13 @@
 ghost use Rattle.std.specs.Prelude.{◌≡◌, slice_get, OnOk, OnErr, MatchResult, None, Some};
 ghost use Rattle.bytes_core.specs.Answer.{answer};
+ghost use Rattle.bytes_core.specs.Living.{lives, AreLive};
 ghost use Rattle.bytes_core.specs.Release.{is_heap, block_free_fault, free_fault, without, freed};
 ghost use Rattle.bytes_core.specs.Valid.{IsMemory};
 
 use crate::access::block_at;
 use crate::block::{Block, BlockKind};
 use crate::fault::{DOUBLE_FREE, INVALID_FREE};
+use crate::live::{Live, count_out};
 use crate::word::Word;
 
 /// Whether a block of this kind was allocated.
@@ -20,11 +22,14 @@ pub(crate) fn is_heap(kind: BlockKind) -> bool
 }
 
 /// Makes the block of that number dead, if there is one.
-pub(crate) fn end_block(blocks: &mut Vec<Block>, number: usize)
+pub(crate) fn end_block(blocks: &mut Vec<Block>, live: &mut Live, number: usize)
+    requires { AreLive (lives blocks.old.items) live.old.numbers.items live.old.places.items }
     ensures ended { blocks.new.items ≡ without blocks.old.items number (slice_get blocks.old.items number) }
     ensures memory { IsMemory blocks.old.items → IsMemory blocks.new.items }
+    ensures live { AreLive (lives blocks.new.items) live.new.numbers.items live.new.places.items }
 {
     if number < blocks.len() {
+        count_out(live, number);
         blocks[number].live = false;
     }
 }
@@ -56,11 +61,13 @@ fn check_free(blocks: &[Block], number: usize, offset: i64) -> Result<(), u8>
 }
 
 /// Frees what a word leads to, if that meets no fault.
-pub(crate) fn free_at(blocks: &mut Vec<Block>, at: Word) -> Result<(), u8>
+pub(crate) fn free_at(blocks: &mut Vec<Block>, live: &mut Live, at: Word) -> Result<(), u8>
+    requires { AreLive (lives blocks.old.items) live.old.numbers.items live.old.places.items }
     ensures answer { result ≡ answer (free_fault blocks.old.items at) tt }
     ensures freed { OnOk result (blocks.new.items ≡ freed blocks.old.items at) }
     ensures err { OnErr result (blocks.new.items ≡ blocks.old.items) }
     ensures memory { IsMemory blocks.old.items → IsMemory blocks.new.items }
+    ensures live { AreLive (lives blocks.new.items) live.new.numbers.items live.new.places.items }
 {
     match at {
         Word::Plain(number) => {
@@ -71,7 +78,7 @@ pub(crate) fn free_at(blocks: &mut Vec<Block>, at: Word) -> Result<(), u8>
         }
         Word::To { block, offset } => {
             check_free(blocks.as_slice(), block as usize, offset)?;
-            end_block(blocks, block as usize);
+            end_block(blocks, live, block as usize);
             Ok(())
         }
     }
