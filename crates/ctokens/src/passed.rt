@@ -100,24 +100,24 @@ pub fn passed_over(alloc: Global, t: &Tokens) -> Result<List<bool>, NoMemory>
     let mut unclosed: u32 = 0;
     for token in list {
         if unclosed == 0 && !behind && !is_word_kind(token.kind) {
-            passed.push(false)?;
+            passed.push_reserved(false);
             continue;
         }
         let symbol = token_symbol(text, *token);
         if unclosed > 0 {
-            passed.push(true)?;
+            passed.push_reserved(true);
             behind = false;
             unclosed = depth_after(unclosed, symbol);
             continue;
         }
         if behind && symbol.is_opening() {
-            passed.push(true)?;
+            passed.push_reserved(true);
             behind = false;
             unclosed = 1;
             continue;
         }
         behind = symbol.is_attribute();
-        passed.push(behind || symbol.is_passed_over())?;
+        passed.push_reserved(behind || symbol.is_passed_over());
     }
     Ok(List::from_vec(passed))
 }
