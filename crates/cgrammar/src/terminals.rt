@@ -66,7 +66,7 @@ fn unpassed<'a>(
         if passed[index] {
             continue;
         }
-        row.push(terminal_of(text, *token))?;
+        row.push_reserved(terminal_of(text, *token));
     }
     Ok(row)
 }

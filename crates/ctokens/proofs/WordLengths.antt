@@ -10,7 +10,7 @@ use Rattle.ctokens.specs.WordLengths.{of_length, word_rows}
 use Rattle.ctokens.proofs.Choices.{chosen_no}
 
 -- words of two lengths are not the same
-not_same : (first second : List ℕ) → nat_eq (length first) (length second) ≡ false → bytes_eq first second ≡ false
+pub not_same : (first second : List ℕ) → nat_eq (length first) (length second) ≡ false → bytes_eq first second ≡ false
 not_same first second differ = step (bytes_eq first second) refl
   where
     step : (same : Bool) → bytes_eq first second ≡ same → same ≡ false

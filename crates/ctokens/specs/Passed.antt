@@ -1,7 +1,8 @@
 -- The tokens that are passed over before items and grammar look at a text.
-use Rattle.std.specs.Prelude.{ℕ, ◌+◌, ◌-◌, Bool, true, false, ◌&&◌, if◌then◌else◌, List, [], ◌∷◌, map, zero, suc}
+use Rattle.std.specs.Prelude.{ℕ, ◌+◌, ◌-◌, Bool, true, false, ◌&&◌, if◌then◌else◌, List, [], ◌∷◌, map, nat_le, zero, suc}
 use Rattle.ctokens.specs.declared.token.TokenKind.{TokenKind}
 use Rattle.ctokens.specs.declared.token.TokenKind.TheVariants.{Word}
+use Rattle.ctokens.specs.declared.token.Token.{Token}
 use Rattle.ctokens.specs.declared.token.Tokens.{Tokens}
 use Rattle.ctokens.specs.declared.symbol.Symbol.{Symbol}
 use Rattle.ctokens.specs.declared.symbol.Symbol.TheVariants.{PassedOver}
@@ -36,6 +37,11 @@ passed_tokens t = map is_passed_over (read_symbols (symbols t))
 abbrev pub is_word_kind : TokenKind → Bool
 is_word_kind Word = true
 is_word_kind _ = false
+
+-- the token may be passed over or begin an attribute, as far as is known without its bytes: no other token is, and no word
+-- of fewer than four bytes
+abbrev pub may_pass : Token → Bool
+may_pass token = is_word_kind token.kind && nat_le 4 (token.to - token.from)
 
 -- the tokens that are not passed over, where it is said for each token whether it is
 abbrev pub unpassed : {A : Type 0} → List Bool → List A → List A

@@ -54,10 +54,10 @@ fn item_ends(alloc: Global, read: &[Symbol]) -> Result<Vec<bool>, NoMemory>
     let mut body = false;
     for symbol in read {
         if symbol.is_passed_over() {
-            ends.push(false)?;
+            ends.push_reserved(false);
             continue;
         }
-        ends.push(ends_declaration(depth, *symbol) || ends_body(depth, body, *symbol))?;
+        ends.push_reserved(ends_declaration(depth, *symbol) || ends_body(depth, body, *symbol));
         body = body_after(depth, before, body, *symbol);
         depth = depth_after(depth, *symbol);
         before = *symbol;

@@ -26,10 +26,10 @@ fn lexemes(alloc: Global, symbols: &[Symbol], words: &[u32]) -> Result<Vec<Lexem
 {
     let mut row = Vec::with_capacity(alloc, symbols.len())?;
     for i in 0..symbols.len() {
-        row.push(Lexeme {
+        row.push_reserved(Lexeme {
             symbol: symbols[i],
             word: words[i],
-        })?;
+        });
     }
     Ok(row)
 }

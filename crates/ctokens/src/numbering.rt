@@ -49,13 +49,13 @@ pub(crate) fn number_words(alloc: Global, t: &Tokens) -> Result<Numbering, NoMem
     for token in list {
         let word = token_word(text, *token);
         if let Some(number) = known(blank, word) {
-            numbers.push(number)?;
+            numbers.push_reserved(number);
             continue;
         }
         let found = names.insert_full(word)?;
         let number = found.0 as u32;
         blank = blank_behind(blank, word, number);
-        numbers.push(number)?;
+        numbers.push_reserved(number);
     }
     Ok(Numbering {
         numbers,

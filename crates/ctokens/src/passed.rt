@@ -1,12 +1,12 @@
-ghost use Rattle.std.specs.Prelude.{◌≡◌, ◌≤◌, IfOk, length, map};
-ghost use Rattle.ctokens.specs.Passed.{depth_after, is_word_kind, passed_tokens, read_from, read_symbols};
+ghost use Rattle.std.specs.Prelude.{◌≡◌, ◌<◌, ◌≤◌, IfOk, length};
+ghost use Rattle.ctokens.specs.Passed.{depth_after, may_pass, passed_tokens, read_from, read_symbols};
 ghost use Rattle.ctokens.specs.InText.{LieInText, most_bytes};
 ghost use Rattle.ctokens.specs.Symbol.{is_attribute, is_passed_over};
 ghost use Rattle.std.specs.List.{list_any};
 
 use crate::symbol::Symbol;
 use crate::symbol_of::token_symbol;
-use crate::token::{TokenKind, Tokens};
+use crate::token::{Token, TokenKind, Tokens};
 use cbase::{List, NoMemory};
 use std::alloc::Global;
 
@@ -78,15 +78,18 @@ fn read_attributes(alloc: Global, symbols: &[Symbol]) -> Result<Vec<Symbol>, NoM
     Ok(read)
 }
 
-/// Whether a token is a word by what its bytes spell.
-fn is_word_kind(kind: TokenKind) -> bool
-    ensures { result ≡ is_word_kind kind }
+/// Whether a token may be passed over or begin an attribute, as far as is known without its bytes: it is a word of four bytes
+/// or more.
+fn may_pass(token: Token) -> bool
+    requires { token.from < token.to }
+    ensures { result ≡ may_pass token }
 {
-    matches!(kind, TokenKind::Word)
+    matches!(token.kind, TokenKind::Word) && token.to - token.from >= 4
 }
 
 /// For each token of the text, whether it is passed over: qualifiers and the like, and attributes with their
-/// bracketed part. Outside of attributes only words are, so that no other token is looked at.
+/// bracketed part. Outside of attributes only words are, and none of fewer than four bytes, so that no other token is looked
+/// at.
 #[tactic(auto, using(crate::proofs::PassedSteps::read_inside))]
 pub fn passed_over(alloc: Global, t: &Tokens) -> Result<List<bool>, NoMemory>
     requires { LieInText t.now }
@@ -99,25 +102,25 @@ pub fn passed_over(alloc: Global, t: &Tokens) -> Result<List<bool>, NoMemory>
     let mut behind = false;
     let mut unclosed: u32 = 0;
     for token in list {
-        if unclosed == 0 && !behind && !is_word_kind(token.kind) {
-            passed.push(false)?;
+        if unclosed == 0 && !behind && !may_pass(*token) {
+            passed.push_reserved(false);
             continue;
         }
         let symbol = token_symbol(text, *token);
         if unclosed > 0 {
-            passed.push(true)?;
+            passed.push_reserved(true);
             behind = false;
             unclosed = depth_after(unclosed, symbol);
             continue;
         }
         if behind && symbol.is_opening() {
-            passed.push(true)?;
+            passed.push_reserved(true);
             behind = false;
             unclosed = 1;
             continue;
         }
         behind = symbol.is_attribute();
-        passed.push(behind || symbol.is_passed_over())?;
+        passed.push_reserved(behind || symbol.is_passed_over());
     }
     Ok(List::from_vec(passed))
 }

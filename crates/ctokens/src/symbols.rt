@@ -17,7 +17,7 @@ pub(crate) fn symbols(alloc: Global, t: &Tokens) -> Result<Vec<Symbol>, NoMemory
     let list = t.list.as_slice();
     let mut all = Vec::with_capacity(alloc, list.len())?;
     for token in list {
-        all.push(token_symbol(text, *token))?;
+        all.push_reserved(token_symbol(text, *token));
     }
     Ok(all)
 }

@@ -7,9 +7,7 @@
 use Rattle.std.specs.Prelude.{ℕ, Bool, true, false, not, ◌&&◌, ◌||◌, if◌then◌else◌, List, [], ◌∷◌, ◌++◌, map, nat_eq}
 use Rattle.std.specs.List.{flat_map}
 use Rattle.ctokens.specs.declared.item_span.ItemSpan.{ItemSpan}
-use Rattle.ctokens.specs.declared.token.Token.{Token}
 use Rattle.ctokens.specs.declared.token.Tokens.{Tokens}
-use Rattle.ctokens.specs.TokenSymbols.{token_word}
 use Rattle.definitions.specs.declared.form.Form.{Form}
 use Rattle.definitions.specs.declared.form.Form.TheVariants.{Body, Typedef, Extern, Plain}
 use Rattle.definitions.specs.declared.form.StorageWord.TheVariants as storage
@@ -17,7 +15,7 @@ use Rattle.definitions.specs.declared.role.Role.{Role}
 use Rattle.definitions.specs.declared.role.Role.TheVariants.{Other}
 use Rattle.definitions.specs.declared.sign.Sign.{Sign}
 use Rattle.definitions.specs.Roles.{follows_declared, is_comma, is_equals, is_left_parenthesis, is_name, is_semicolon, is_storage_word, is_tag_word}
-use Rattle.definitions.specs.Rows.{depth_after, ends_with_body, has_storage, item_row}
+use Rattle.definitions.specs.Rows.{depth_after, ends_with_body, has_storage, item_row, sign_word}
 
 -- the form of an item with this row: one that ends with a body, and else a declaration, by its storage word
 abbrev pub form_of : List Sign → Form
@@ -79,15 +77,15 @@ defines_word form before depth set typed row = declares before depth set typed r
 -- the words that an item of the form defines in a row; `before` is the token before the row, `depth` the number of brackets
 -- that are open there, `set` whether a `=` stands at depth 0 since the last `,` at depth 0, and `typed` whether a token that is no
 -- storage word stands in front of the row
-abbrev pub defined_in : Form → Role → ℕ → Bool → Bool → List Sign → List Token
+abbrev pub defined_in : Form → Role → ℕ → Bool → Bool → List Sign → List Sign
 defined_in form before depth set typed [] = []
 defined_in form before depth set typed (sign ∷ rest) =
-    (if defines_word form before depth set typed (sign ∷ rest) then sign.token ∷ [] else [])
+    (if defines_word form before depth set typed (sign ∷ rest) then sign ∷ [] else [])
     ++ defined_in form sign.role (depth_after depth sign.role) (set_after depth set sign.role) (typed_after typed sign.role) rest
 
 -- the names that an item of the form with this row defines
 abbrev pub names_in : List ℕ → Form → List Sign → List (List ℕ)
-names_in text form row = map (token_word text) (defined_in form Other 0 false false row)
+names_in text form row = map (sign_word text) (defined_in form Other 0 false false row)
 
 -- those names where the form is that of an item that ends with a body, and else none
 abbrev pub bodied_in : List ℕ → Form → List Sign → List (List ℕ)

@@ -4,6 +4,7 @@ use Rattle.ctokens.specs.declared.item_span.ItemSpan.{ItemSpan}
 use Rattle.ctokens.specs.declared.token.Token.{Token}
 use Rattle.ctokens.specs.declared.token.Tokens.{Tokens}
 use Rattle.ctokens.specs.Passed.{passed_tokens, unpassed}
+use Rattle.ctokens.specs.TokenSymbols.{word_of}
 use Rattle.definitions.specs.Roles.{is_opening, is_closing, is_left_brace, is_right_brace, is_right_parenthesis, token_role}
 use Rattle.definitions.specs.declared.form.StorageWord.{StorageWord}
 use Rattle.definitions.specs.declared.form.StorageWord.TheVariants as storage
@@ -15,9 +16,17 @@ use Rattle.definitions.specs.declared.sign.Sign.{Sign}
 abbrev pub HasBytes : List ℕ → Token → Type 0
 HasBytes text token = (token.from < token.to) × (token.to ≤ length text)
 
--- the token with its role
+-- the same of a token with its role
+abbrev pub HasSignBytes : List ℕ → Sign → Type 0
+HasSignBytes text sign = (sign.from < sign.to) × (sign.to ≤ length text)
+
+-- the token with its role, without its place
 abbrev pub sign_of : List ℕ → Token → Sign
-sign_of text token = record { role = token_role text token; token = token }
+sign_of text token = record { role = token_role text token; kind = token.kind; from = token.from; to = token.to }
+
+-- the word of such a token
+abbrev pub sign_word : List ℕ → Sign → List ℕ
+sign_word text sign = word_of sign.kind (slice_range text sign.from sign.to)
 
 -- the tokens of an item that are not passed over, with their roles
 abbrev pub item_row : Tokens → ItemSpan → List Sign

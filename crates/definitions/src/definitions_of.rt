@@ -8,13 +8,14 @@ ghost use Rattle.definitions.specs.Rows.{item_row};
 
 use crate::form::{Form, form_of};
 use crate::found::Definitions;
-use crate::names::push_defined;
+use crate::names::{defined_in, push_words};
 use crate::row::signs;
 use cbase::{List, NoMemory};
 use ctokens::{ItemSpan, Tokens, passed_over};
 use std::alloc::Global;
 
 /// Appends the names that an item of the text defines.
+#[tactic(auto, using(crate::proofs::Kept::defined_bytes))]
 fn push_item(
     alloc: Global,
     found: &mut Definitions,
@@ -39,9 +40,10 @@ fn push_item(
         &passed[first..after],
     )?;
     let form = form_of(row.as_slice());
-    push_defined(alloc, &mut found.defined, text, form, row.as_slice())?;
+    let names = defined_in(alloc, form, row.as_slice())?;
+    push_words(alloc, &mut found.defined, text, names.as_slice())?;
     if let Form::Body = form {
-        push_defined(alloc, &mut found.bodied, text, form, row.as_slice())?;
+        push_words(alloc, &mut found.bodied, text, names.as_slice())?;
     }
     Ok(())
 }

@@ -1,16 +1,17 @@
 //! Which names an item of a form defines.
 
-ghost use Rattle.std.specs.Prelude.{◌≡◌, ◌≤◌, ◌∷◌, ◌++◌, false, length, map, OnOk};
+ghost use Rattle.std.specs.Prelude.{◌≡◌, ◌≤◌, ◌∷◌, ◌++◌, false, length, map, IfOk, OnOk};
 ghost use Rattle.std.specs.List.{All};
 ghost use Rattle.ctokens.specs.InText.{most_bytes};
-ghost use Rattle.definitions.specs.Defined.{declares, defines, defines_word, has_initialiser, is_function, names_in, set_after, typed_after};
-ghost use Rattle.definitions.specs.Rows.{HasBytes, depth_after};
+ghost use Rattle.definitions.specs.Defined.{declares, defined_in, defines, defines_word, has_initialiser, is_function, set_after, typed_after};
+ghost use Rattle.definitions.specs.Rows.{HasSignBytes, depth_after, sign_word};
+ghost use Rattle.definitions.specs.declared.role.Role.TheVariants.{Other};
 
 use crate::form::Form;
 use crate::role::Role;
 use crate::sign::Sign;
 use crate::steps::{begins_initialiser, depth_after, ends_declarator, set_after};
-use crate::tables::token_word;
+use crate::tables::sign_word;
 use cbase::{List, NoMemory, Text};
 use std::alloc::Global;
 
@@ -123,18 +124,12 @@ fn behind(before: Before, sign: Sign, rest: &[Sign]) -> Before
     }
 }
 
-/// Appends the names that an item of the form with this row defines.
-pub(crate) fn push_defined(
-    alloc: Global,
-    found: &mut List<Text>,
-    text: &[u8],
-    form: Form,
-    row: &[Sign],
-) -> Result<(), NoMemory>
-    requires few { length row.now ≤ most_bytes }
-    requires bytes { All (λ sign. HasBytes text.now sign.token) row.now }
-    ensures { OnOk result (found.new ≡ found.old ++ names_in text.now form row.now) }
+/// The tokens that name what an item of the form with this row defines.
+pub(crate) fn defined_in(alloc: Global, form: Form, row: &[Sign]) -> Result<Vec<Sign>, NoMemory>
+    requires { length row.now ≤ most_bytes }
+    ensures { IfOk result (λ found. found.items ≡ defined_in form Other 0 false false row.now) }
 {
+    let mut found = Vec::new(alloc);
     let mut before = Before {
         role: Role::Other,
         depth: 0,
@@ -144,9 +139,25 @@ pub(crate) fn push_defined(
     };
     for (i, sign) in row.iter().enumerate() {
         if defines_word(form, before, row.split_at(i).1) {
-            found.push(Text::from_slice(alloc, token_word(text, sign.token))?)?;
+            found.push(*sign)?;
         }
         before = behind(before, *sign, row.split_at(i + 1).1);
+    }
+    Ok(found)
+}
+
+/// Appends the words of these tokens.
+pub(crate) fn push_words(
+    alloc: Global,
+    found: &mut List<Text>,
+    text: &[u8],
+    signs: &[Sign],
+) -> Result<(), NoMemory>
+    requires { All (HasSignBytes text.now) signs.now }
+    ensures { OnOk result (found.new ≡ found.old ++ map (sign_word text.now) signs.now) }
+{
+    for sign in signs {
+        found.push(Text::from_slice(alloc, sign_word(text, *sign))?)?;
     }
     Ok(())
 }

@@ -2,10 +2,12 @@
 
 ghost use Rattle.std.specs.Prelude.{◌≡◌, ◌<◌, ◌≤◌, ◌∷◌, [], length, map};
 ghost use Rattle.ctokens.specs.SymbolRows.{row_read};
-ghost use Rattle.ctokens.specs.TokenSymbols.{token_word, word_of};
+ghost use Rattle.ctokens.specs.TokenSymbols.{word_of};
 ghost use Rattle.definitions.specs.Roles.{mark_role, role_in, token_role, word_role};
+ghost use Rattle.definitions.specs.Rows.{HasSignBytes, sign_word};
 
 use crate::role::Role;
+use crate::sign::Sign;
 use ctokens::{Token, TokenKind, is_identifier, read_as, same_bytes};
 
 /// The keywords that matter here.
@@ -100,10 +102,9 @@ fn word_of(kind: TokenKind, bytes: &[u8]) -> &[u8]
 }
 
 /// The word of a token of the text, as it is read; none for a token of another kind.
-pub(crate) fn token_word(text: &[u8], token: Token) -> &[u8]
-    requires order { token.from < token.to }
-    requires inside { token.to ≤ length text.now }
-    ensures { result.now ≡ token_word text.now token }
+pub(crate) fn sign_word(text: &[u8], sign: Sign) -> &[u8]
+    requires { HasSignBytes text.now sign }
+    ensures { result.now ≡ sign_word text.now sign }
 {
-    word_of(token.kind, &text[token.from as usize..token.to as usize])
+    word_of(sign.kind, &text[sign.from as usize..sign.to as usize])
 }

@@ -15,7 +15,9 @@ loop-token-preserved-in-Some c =
     let longer : map (token_word text) (take i list) ++ word ∷ [] ≡ map (token_word text) (take (i + 1) list) =
     grind (arith, common_steps, c.token_word-word.ensures) in
     record {
-      numbered = same_numbered _ _ _ _ _ (numbered_again _ _ _ word c.in-Some.number c.loop-token.invariant.numbered there.0 (there.1 ∙ sym is.0)) longer c.in_ok-push.ensures.items;
+      len = omega (arith, c.loop-token.invariant.len, c.push_reserved.ensures.len);
+      room = omega (arith, c.loop-token.invariant.room, c.push_reserved.ensures.capacity);
+      numbered = same_numbered _ _ _ _ _ (numbered_again _ _ _ word c.in-Some.number c.loop-token.invariant.numbered there.0 (there.1 ∙ sym is.0)) longer c.push_reserved.ensures.items;
       blank = c.loop-token.invariant.blank;
     }
 
@@ -35,9 +37,11 @@ loop-token-preserved c =
     let longer : map (token_word text) (take i list) ++ word ∷ [] ≡ map (token_word text) (take (i + 1) list) =
     grind (arith, common_steps, c.token_word-word.ensures) in
     record {
+      len = omega (arith, c.loop-token.invariant.len, c.push_reserved-in-loop-token.ensures.len);
+      room = omega (arith, c.loop-token.invariant.room, c.push_reserved-in-loop-token.ensures.capacity);
       numbered = same_numbered _ _ _ _ _
           (numbered_more _ _ _ _ _ _ c.loop-token.invariant.numbered c.in_ok-found.ensures.keys c.in_ok-found.ensures.within c.in_ok-found.ensures.stored c.in_ok-found.ensures.unique)
-          longer c.in_ok-push-2.ensures.items;
+          longer c.push_reserved-in-loop-token.ensures.items;
       blank = rw c.blank_behind-blank.ensures (blank_more _ _ _ _ _ c.loop-token.invariant.blank c.in_ok-found.ensures.keys c.in_ok-found.ensures.within c.in_ok-found.ensures.stored);
     }
 
