@@ -25,11 +25,14 @@ GCC = ["-quiet", "-std=gnu11", "-fsyntax-only", "-fwrapv", "-fno-builtin", "-ped
 # functions that are built in, as gcc is told of them where the text has no body of theirs
 BUILT_IN = {"free": "void free(void *);", "malloc": "void *malloc(unsigned long);", "__VERIFIER_nondet_int": "int __VERIFIER_nondet_int(void);"}
 NAMES = ("a", "b", "c", "d", "e", "f", "g", "h", "T", "U", "s", "t", "N")
+# what a mistake puts in, and what it puts in the place of a word
+INSERTED = ("*", "&", "static", "extern", "typedef", "0", "-1", "int", "a", "()", "[]", "[0]", "[2]", "{}", ",", "1,", "void", ".a", "->a", "(void)", "!", "sizeof")
 TAGS = ("s", "t", "u", "T")
 MEMBERS = ("a", "b", "c", "next", "T")
 # one spelling of those that are one type here and two in C: `char` and `signed char`, `long` and `long long`
 WHOLE = ("int", "int", "int", "char", "unsigned char", "short", "unsigned short", "unsigned", "unsigned int", "long", "unsigned long", "_Bool", "long unsigned int",
          "int long", "signed", "short int signed")
+TYPES = WHOLE + ("void", "struct s", "struct t", "void *", "int *", "0", "2147483648", "-1")
 OPERATORS = ("+", "-", "*", "/", "%", "&", "|", "^", "<<", ">>", "<", ">", "<=", ">=", "==", "!=", "&&", "||", ",")
 UPDATES = ("=", "=", "=", "+=", "-=", "*=", "&=", "|=", "<<=", "%=")
 # stands in main for a mention of all names of the text, so that main needs each item
@@ -39,7 +42,7 @@ TOKEN = re.compile(r"\s*(->|\+\+|--|<<=|>>=|[-+*/%&|^<>=!]=|<<|>>|&&|\|\||\w+|'[
 
 # What gcc says of texts that pass here, and why they do: a rule that is not asked for, or another choice.
 LET = {
-    r"array type has incomplete element type": "an array of incomplete items passes where no size is asked",
+    r"array type has incomplete element type|as array of voids": "an array of incomplete items passes where no size is asked",
     r"follows non-static declaration|follows static declaration|previously declared .*redeclared": "whether linkage is internal is not asked",
     r"read-only|'const": "`const` changes nothing",
     r"useless|unnamed struct/union that defines no instances": "a declaration of nothing passes",
@@ -61,6 +64,7 @@ ASKED = {
     ("rule 9", r"\* \) 0 \)* ?[!=]=|[!=]= .*\* \) 0|! .*\* \) 0|&&|\|\|"): "a comparison of null pointers is no integer constant expression",
     ("rule 9", r"\b(\w+) [-^] \(* ?\1\b"): "gcc takes `T ^ T` as a constant",
     ("rule 9", r"\? .* :"): "`?:` on null pointers is of no form of a static initialiser",
+    ("rule 2", r"\bstatic\b"): "what has linkage has one type in all scopes, also where one of two linkages is internal",
     ("rule 5", r"\{ \{"): "more than one pair of braces round a number or a pointer",
 }
 MAIN = "int main ( ) { NEEDED ; }"
@@ -207,6 +211,9 @@ class Writer:
 
     def size(self):
         constants = self.visible("constant")
+        if self.one_in(20):
+            asked = self.pick((f"sizeof({self.place(2)[0]})", f"sizeof({self.whole(1)})", f"sizeof({self.type_name()})", self.constant(3)))
+            return f"{asked} {self.pick(('<', '==', '!=', '>='))} {self.pick((1, 2, 4, 8))} ? 1 : {self.pick((-1, 2))}"
         return self.constant(1) if self.one_in(25) else self.pick(("1", "2", "3", "4", "sizeof(int)", "1 + 1", f"({self.pick(constants)[0]} & 1) + 1" if constants else "2"))
 
     def declarator(self, name, ctype, member=False, sized=True):
@@ -564,35 +571,39 @@ def tokens(line):
 def mistaken(lines, chance):
     """The lines with one mistake."""
     lines = list(lines)
-    at = chance.randrange(10)
-    places = [i for i in range(len(lines)) if lines[i] != NEEDED]
+    at = chance.randrange(16)
+    places = [i for i, line in enumerate(lines) if line != NEEDED and " main(" not in line]
     one, other = chance.choice(places), chance.choice(places)
     if at == 0:
         del lines[one]
-        return lines
-    if at == 1:
+    elif at == 1:
         lines.insert(other, lines[one])
-        return lines
-    if at == 2:
+    elif at == 2:
         lines.insert(other, lines.pop(one))
-        return lines
-    row = tokens(lines[one])
+    elif at == 3:
+        word = next((word for word in ("static ", "extern ", "typedef ") if lines[one].startswith(word)), "")
+        lines[one] = chance.choice(("", "static ", "extern ", "typedef ")) + lines[one][len(word):]
+    else:
+        lines[one] = " ".join(exchanged(tokens(lines[one]), lines, at, chance))
+    return lines
+
+
+def exchanged(row, lines, at, chance):
+    """A line's tokens with one left out, put in, or another one in its place."""
     if not row:
-        return lines
+        return row
     where = chance.randrange(len(row))
-    words = [token for line in lines for token in tokens(line) if re.match(r"\w", token)] + list(NAMES)
-    if at == 3:
+    if at == 4:
         del row[where]
-    elif at == 4:
-        row.insert(where, chance.choice(("*", "&", "static", "extern", "typedef", "0", "-1", "int", "a", "()", "[]", "[0]", "[2]", "{}", ",", "1,", "void", ".a", "->a", "(void)", "!", "sizeof")))
     elif at == 5:
+        row.insert(where, chance.choice(INSERTED))
+    elif at == 6:
         row[where] = chance.choice([token for line in lines for token in tokens(line)])
     else:
-        spots = [i for i, token in enumerate(row) if re.match(r"\w", token)] or [where]
-        where = chance.choice(spots)
-        row[where] = chance.choice(words if at < 9 else WHOLE + ("void", "struct s", "struct t", "void *", "int *", "0", "2147483648", "-1"))
-    lines[one] = " ".join(row)
-    return lines
+        where = chance.choice([i for i, token in enumerate(row) if re.match(r"\w", token)] or [where])
+        words = [token for line in lines for token in tokens(line) if re.match(r"\w", token)] + list(NAMES)
+        row[where] = chance.choice(words if at < 13 else TYPES)
+    return row
 
 
 class Asker:
