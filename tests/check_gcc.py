@@ -3,11 +3,11 @@
 
 Usage, at the project's root: python3 tests/check_gcc.py [COUNT [SEED]]
 A program has declarations of objects, functions, types, tags and constants, one a line, functions with their bodies, and a main that needs all of
-them. Names are few, so scopes hide and repeat them. In about half of the programs one mistake is made: a token or a line left out, put in, moved or
+them. Names are few, so scopes hide and repeat them. In three of five programs one mistake is made: a token or a line left out, put in, moved or
 exchanged. gcc takes a text where it has no error, with those warnings as errors that C11 calls constraints; `./predator` takes it where it answers `not yet`
-or a verdict. What is given up and what is refused as syntax where gcc takes it is counted and not compared. A difference is cut down, line by line and
-token by token, as long as it stays the same, and printed once for each pair of answers; those that the documents name are listed in `LET` and `ASKED` below
-and counted alone. The status is 1 where there is another one. The environment variable PREDATOR may name another program.
+or a verdict. Where both refuse it, gcc has an error in the line that `./predator` names, too. What is given up, and what is refused as syntax, is counted and not
+compared. A difference is cut down, line by line and token by token, as long as it stays the same, and printed; those that the documents name are listed in
+`LET` and `ASKED` below, and counted alone. The status is 1 where there is another one. The environment variable PREDATOR may name another program.
 """
 import os
 import random
@@ -20,8 +20,9 @@ from pathlib import Path
 
 HOME = Path(__file__).resolve().parent
 PROGRAM = Path(os.environ.get("PREDATOR", HOME.parent / "predator"))
-GCC = ["-quiet", "-std=gnu11", "-fsyntax-only", "-fwrapv", "-fno-builtin", "-pedantic-errors", "-Wno-overflow", "-Wno-incompatible-pointer-types", "-Wno-pointer-sign", "-Wno-unused", "-Werror=int-conversion",
-       "-Werror=implicit-function-declaration", "-Werror=implicit-int", "-Werror=pointer-arith", "-Werror=missing-braces", "-o", os.devnull]
+GCC = ["-quiet", "-std=gnu11", "-fsyntax-only", "-fwrapv", "-fno-builtin", "-pedantic-errors", "-Wno-overflow", "-Wno-incompatible-pointer-types",
+       "-Wno-pointer-sign", "-Wno-unused", "-Werror=int-conversion", "-Werror=implicit-function-declaration", "-Werror=implicit-int",
+       "-Werror=pointer-arith", "-Werror=missing-braces", "-o", os.devnull]
 # functions that are built in, as gcc is told of them where the text has no body of theirs
 BUILT_IN = {"free": "void free(void *);", "malloc": "void *malloc(unsigned long);", "__VERIFIER_nondet_int": "int __VERIFIER_nondet_int(void);"}
 NAMES = ("a", "b", "c", "d", "e", "f", "g", "h", "T", "U", "s", "t", "N")
@@ -42,7 +43,7 @@ TOKEN = re.compile(r"\s*(->|\+\+|--|<<=|>>=|[-+*/%&|^<>=!]=|<<|>>|&&|\|\||\w+|'[
 
 # What gcc says of texts that pass here, and why they do: a rule that is not asked for, or another choice.
 LET = {
-    r"array type has incomplete element type|as array of voids": "an array of incomplete items passes where no size is asked",
+    r"array type has incomplete element type|as array of voids|formal parameter \d+ is incomplete": "an array of incomplete items passes where no size is asked",
     r"follows non-static declaration|follows static declaration|previously declared .*redeclared": "whether linkage is internal is not asked",
     r"read-only|'const": "`const` changes nothing",
     r"useless|unnamed struct/union that defines no instances": "a declaration of nothing passes",
@@ -55,18 +56,24 @@ LET = {
     r"duplicate label": "labels leave no trace",
     r"-Wmain": "main may be static, and its parameters are not asked about",
     r"braced-group within expression allowed only inside": "a statement expression may stand outside of functions",
+    r"forbids braced-groups": "a statement expression is read also without `__extension__`",
     r"extra \";\"|extra ';'": "a `;` alone is an item",
 }
+# What is refused here of texts that gcc takes, by the rule and by a form that the text, cut down, has; and why.
 ASKED = {
-    ("rule 3", r"(?:^|[;}] )(?:static |unsigned |signed |struct |long )*\w+ (?:\* )*\w+(?: \[ \])?(?: \[ \w+ \])* [;,]"): "what is declared outside of functions without `extern` is complete at once",
+    ("rule 3", r"\w \[ \](?: \[ [^\]]* \])* [;,]"): "what is declared outside of functions without `extern` is complete at once",
+    ("rule 3", r"\b(?:struct \w+|void) \w+(?: \[ \w+ \])* [;,]"): "what is declared outside of functions without `extern` is complete at once",
     ("rule 3", r"(\w+) \[ \].*\1\b.*\}"): "an array whose size its initialiser tells has none in it",
     ("rule 9", r"& \( ?\( ?\*|& \( ?\*|& \*"): "`&*a` is of no form of a static initialiser",
     ("rule 9", r"\* \) 0 \)* ?[!=]=|[!=]= .*\* \) 0|! .*\* \) 0|&&|\|\|"): "a comparison of null pointers is no integer constant expression",
-    ("rule 9", r"\b(\w+) [-^] \(* ?\1\b"): "gcc takes `T ^ T` as a constant",
+    ("rule 9", r"\b(\w+) [-^] \(* ?\1\b|[|] - 1|[&*] \(* ?0|\b0 [&*]|% 1"): "gcc takes `a ^ a` and `a | -1` as constants",
+    ("rule 9", r"& \w+(?: \[ \w+ \])* [!=]="): "an address that is compared with null is of no form of a static initialiser",
     ("rule 9", r"\? .* :"): "`?:` on null pointers is of no form of a static initialiser",
     ("rule 2", r"\bstatic\b"): "what has linkage has one type in all scopes, also where one of two linkages is internal",
     ("rule 5", r"\{ \{"): "more than one pair of braces round a number or a pointer",
 }
+# stands among the lines of gcc's errors where one of these is let
+LET_GO = "let"
 MAIN = "int main ( ) { NEEDED ; }"
 # a word by which an item offers a name
 OFFERED = re.compile(rf"\b(?!(?:{'|'.join(KEYWORDS)})\b)[A-Za-z_]\w* [(\[=,;{{}}]")
@@ -614,7 +621,8 @@ class Asker:
         self.gcc = subprocess.run(["gcc", "-print-prog-name=cc1"], capture_output=True, text=True, check=True).stdout.strip()
 
     def by_gcc(self, text):
-        """The first error that is compared, without places and names, else why those that are there are let, or nothing; and the lines of all errors."""
+        """The first error that is compared, without places and names, else why those that are there are let, or nothing; and the lines of all errors, and
+        whether one of them is let."""
         known = "".join(f"{line} " for name, line in BUILT_IN.items() if re.search(rf"\b{name}\b", text) and not re.search(rf"\b{name} ?\([^()]*\) ?\{{", text))
         said = subprocess.run([self.gcc, *GCC, "-"], input=known + text, capture_output=True, text=True, env=dict(os.environ, LC_ALL="C")).stderr
         first = let = None
@@ -624,7 +632,7 @@ class Asker:
                 let = let or f"let: {why}"
             else:
                 first = first or re.sub(r"'[^']*'", "'_'", re.sub(r"'(\W+|break|continue|void|return|static|extern)'", r'"\1"', found))
-        return first or let, {line for line, _ in errors}
+        return first or let, {line for line, _ in errors} | ({LET_GO} if let else set())
 
     def by_predator(self, text):
         """`passes`, or what is refused; and the line."""
@@ -651,7 +659,7 @@ class Asker:
         if ours == "passes":
             differ = theirs is not None and not theirs.startswith("let")
             return ours, theirs, (ours, theirs) if differ else None
-        if not ours.startswith("rule") or line in lines:
+        if not ours.startswith("rule") or line in lines or LET_GO in lines:
             return ours, theirs, None
         return ours, theirs, (ours, "elsewhere" if lines else None)
 
@@ -705,7 +713,7 @@ def known(found, text):
     text = " ".join(tokens(text))
     if found[0] == "passes" and MAIN in text and not OFFERED.search(text.replace(MAIN, "")):
         return "an item that offers no name is not needed"
-    if found[0] == "passes" and re.search("redeclared|conflicting", found[1]) and any(name in text for name in BUILT_IN):
+    if found[0] == "passes" and re.search("redeclared|conflicting|has no type", found[1]) and any(name in text for name in BUILT_IN):
         return "an item of nothing but names of built-in functions is passed over"
     if found[0] == "passes" and re.search(r"isn't known|incomplete|invalid use of undefined", found[1]) and re.search(r"\benum \w+ [^{]", text):
         return "an enum needs no constants"
