@@ -62,7 +62,7 @@ LET = {
 # What is refused here of texts that gcc takes, by the rule and by a form that the text, cut down, has; and why.
 ASKED = {
     ("rule 3", r"\w \[ \](?: \[ [^\]]* \])* [;,]"): "what is declared outside of functions without `extern` is complete at once",
-    ("rule 3", r"\b(?:struct \w+|void) \w+(?: \[ \w+ \])* [;,]"): "what is declared outside of functions without `extern` is complete at once",
+    ("rule 3", r"\b(?:struct \w+|void) (?:[^;{}]*, )?\w+(?: \[ \w+ \])* [;,]"): "what is declared outside of functions without `extern` is complete at once",
     ("rule 3", r"(\w+) \[ \].*\1\b.*\}"): "an array whose size its initialiser tells has none in it",
     ("rule 9", r"& \( ?\( ?\*|& \( ?\*|& \*"): "`&*a` is of no form of a static initialiser",
     ("rule 9", r"\* \) 0 \)* ?[!=]=|[!=]= .*\* \) 0|! .*\* \) 0|&&|\|\|"): "a comparison of null pointers is no integer constant expression",
@@ -76,7 +76,7 @@ ASKED = {
 LET_GO = "let"
 MAIN = "int main ( ) { NEEDED ; }"
 # a word by which an item offers a name
-OFFERED = re.compile(rf"\b(?!(?:{'|'.join(KEYWORDS)})\b)[A-Za-z_]\w* [(\[=,;{{}}]")
+OFFERED = re.compile(rf"\b(?!(?:{'|'.join(KEYWORDS)})\b)[A-Za-z_]\w* [(\[=,;]|\b(?:struct|enum) \w+ {{|\benum {{")
 
 
 class Type:
