@@ -2,8 +2,9 @@
 ghost use Rattle.std.specs.Prelude.{◌≡◌, ◌++◌, OnOk};
 ghost use Rattle.std.specs.List.{flat_map};
 ghost use Rattle.cbase.specs.declared.tree.expr.ExprForm.TheViews.{out-StmtForm};
-ghost use Rattle.c_machine.specs.Statics.{set_by, sets_in_clause, sets_in_item};
+ghost use Rattle.c_machine.specs.Statics.{set_by, sets_at, sets_in_clause, sets_in_item};
 
+use crate::node::{Node, NodeForm};
 use crate::set::StaticSet;
 use cbase::{Declared, Item, List, NoMemory, Stmt, StmtForm};
 
@@ -27,8 +28,18 @@ fn note_names<'a>(sets: &mut List<StaticSet<'a>>, names: &'a [Declared]) -> Resu
     Ok(())
 }
 
+/// Notes the initialisers of the names that a part declares.
+pub fn note_node<'a>(sets: &mut List<StaticSet<'a>>, node: &Node<'a>) -> Result<(), NoMemory>
+    ensures { OnOk result (sets.new ≡ sets.old ++ sets_at node.now) }
+{
+    match node.form() {
+        NodeForm::Stmt(stmt) => note_stmt(sets, stmt),
+        NodeForm::Expr(_) | NodeForm::Words(_) | NodeForm::Init(_) => Ok(()),
+    }
+}
+
 /// Notes the initialisers of the names that a statement declares.
-pub fn note_stmt<'a>(sets: &mut List<StaticSet<'a>>, stmt: &'a Stmt) -> Result<(), NoMemory>
+fn note_stmt<'a>(sets: &mut List<StaticSet<'a>>, stmt: &'a Stmt) -> Result<(), NoMemory>
     ensures { OnOk result (sets.new ≡ sets.old ++ sets_in_clause (out-StmtForm stmt.now.form)) }
 {
     match &stmt.form {

@@ -5,6 +5,7 @@ pub mod init;
 pub mod item;
 pub mod list;
 pub mod name;
+pub mod node;
 pub mod single;
 pub mod spec;
 pub mod stmt;
