@@ -17,8 +17,6 @@ pub enum Replayed {
     Waits,
     /// It still goes on.
     Running,
-    /// It calls a function that the program defines (C11 6.9.1), which is not described yet.
-    NotYet,
     /// It comes where no program of C comes.
     Stuck,
 }
@@ -43,6 +41,11 @@ pub enum ReplayAnswer {
         /// The number of the construct, from 1, goto, to 21, bit-field; each has a printed name.
         number: u8,
         /// That of the token that shows the construct.
+        place: Place,
+    },
+    /// The body of a function calls one that the program defines (C11 6.5.2.2), which is not described yet.
+    NotYet {
+        /// That of the first name in the text that is called so.
         place: Place,
     },
     /// One of the two files has more bytes than are read.

@@ -4,7 +4,7 @@ ghost use Rattle.report.specs.ReplayReport.{HasPrintableReplay, HasPrintableRun,
 
 use crate::lines::{push_kind, push_place};
 use crate::replay_answer::{ReplayAnswer, ReplayShown, Replayed};
-use crate::text::{construct_text, why_text};
+use crate::text::{construct_text, line_at, why_text};
 use cbase::{NoMemory, Place, Text};
 use std::alloc::Global;
 
@@ -33,6 +33,10 @@ pub fn replay_text(alloc: Global, shown: &ReplayShown) -> Result<Text, NoMemory>
             *number,
             *place,
         ),
+        ReplayAnswer::NotYet { place } => {
+            let between = b": not read: not yet at ";
+            line_at(alloc, &shown.file, between, shown.names.as_slice(), *place)
+        }
         ReplayAnswer::TooLong { second, .. } => {
             too_long_text(alloc, &shown.file, &shown.choices, *second)
         }
@@ -67,7 +71,6 @@ fn run_text(alloc: Global, file: &Text, names: &[Text], what: Replayed) -> Resul
         Replayed::Ended => line_of(alloc, file, b": ended"),
         Replayed::Waits => line_of(alloc, file, b": waits"),
         Replayed::Running => line_of(alloc, file, b": still running"),
-        Replayed::NotYet => line_of(alloc, file, b": not read: not yet"),
         Replayed::Stuck => line_of(alloc, file, b": gave up: no step"),
     }
 }
@@ -105,7 +108,10 @@ pub fn replay_status(answer: &ReplayAnswer) -> u8
     match answer {
         ReplayAnswer::Played { what } => status_of_run(what),
         ReplayAnswer::Construct { .. } => 2,
-        ReplayAnswer::BadChoices | ReplayAnswer::NotRead { .. } | ReplayAnswer::TooLong { .. } => 3,
+        ReplayAnswer::BadChoices
+        | ReplayAnswer::NotRead { .. }
+        | ReplayAnswer::NotYet { .. }
+        | ReplayAnswer::TooLong { .. } => 3,
         ReplayAnswer::Usage => 4,
         ReplayAnswer::ReadFault => 5,
         ReplayAnswer::OutOfMemory => 7,
@@ -120,6 +126,5 @@ fn status_of_run(what: &Replayed) -> u8
         Replayed::Ended => 0,
         Replayed::Fault { .. } => 1,
         Replayed::Waits | Replayed::Running | Replayed::Stuck => 2,
-        Replayed::NotYet => 3,
     }
 }

@@ -103,7 +103,7 @@ fn rule_text(
 
 /// A line that begins with the file and ends with a place, given what stands between the two.
 #[tactic(auto, using(std::proofs::Common::append_assoc))]
-fn line_at(
+pub(crate) fn line_at(
     alloc: Global,
     file: &Text,
     between: &[u8],
