@@ -305,6 +305,11 @@ def replay_of_a_refused_file_without_choices(folder):
     return ran(["replay", "t.c", "missing"], folder), (3, b"t.c: not read: rule 1 at t.c:1:25\n")
 
 
+def replay_of_a_call_without_choices(folder):
+    Path(folder, "t.c").write_bytes(b"int f(void) { return 1; }\nint main(void) {\n  return f();\n}\n")
+    return ran(["replay", "t.c", "missing"], folder), (3, b"t.c: not read: not yet at t.c:3:10\n")
+
+
 def replay_where_the_choices_are_a_folder(folder):
     return ran(["replay", "safe.c", "."], folder), (5, b"")
 
@@ -358,6 +363,7 @@ CASES = (a_folder, no_permission, a_missing_file, a_path_that_is_no_utf8, a_full
          as_many_statements_as_are_read, one_statement_too_many, as_many_blocks_as_are_read, one_block_too_many,
          replay_of_no_words, replay_without_choices, replay_of_three_files, replay_of_a_file_called_replay,
          replay_where_both_are_missing, replay_where_the_choices_are_missing, replay_of_a_refused_file_without_choices,
+         replay_of_a_call_without_choices,
          replay_where_the_choices_are_a_folder, replay_of_the_same_file_twice, replay_where_the_choices_are_a_pipe,
          replay_with_the_longest_choices, replay_with_one_byte_too_many, replay_of_a_million_steps, replay_where_the_output_is_full)
 

@@ -46,9 +46,6 @@ fn each_run_has_its_line(rt: HostRuntime) -> Result<(), Fail> {
     let running = ReplayAnswer::Played {
         what: Replayed::Running,
     };
-    let not_yet = ReplayAnswer::Played {
-        what: Replayed::NotYet,
-    };
     let stuck = ReplayAnswer::Played {
         what: Replayed::Stuck,
     };
@@ -56,10 +53,9 @@ fn each_run_has_its_line(rt: HostRuntime) -> Result<(), Fail> {
         tells(alloc, ended, b"t.c: ended\n")?,
         tells(alloc, waits, b"t.c: waits\n")?,
         tells(alloc, running, b"t.c: still running\n")?,
-        tells(alloc, not_yet, b"t.c: not read: not yet\n")?,
         tells(alloc, stuck, b"t.c: gave up: no step\n")?,
     ];
-    assert_eq!(rt; texts, [true; 5]);
+    assert_eq!(rt; texts, [true; 4]);
     Ok(())
 }
 
@@ -133,6 +129,22 @@ fn a_fault_has_its_place_and_kind(rt: HostRuntime) -> Result<(), Fail> {
 }
 
 #[test]
+fn a_call_has_the_place_of_its_name(rt: HostRuntime) -> Result<(), Fail> {
+    let alloc = rt.alloc();
+    let place = place_behind(3, 12);
+    let status = replay_status(&ReplayAnswer::NotYet { place });
+    let text = b"t.c: not read: not yet at a.h:3:12\n";
+    let told = tells_with(
+        alloc,
+        two_names(alloc)?,
+        ReplayAnswer::NotYet { place },
+        text,
+    )?;
+    assert_eq!(rt; (told, status), (true, 3));
+    Ok(())
+}
+
+#[test]
 fn each_run_has_its_status(rt: HostRuntime) -> Result<(), Fail> {
     let place = place_behind(7, 280);
     let statuses = [
@@ -140,10 +152,9 @@ fn each_run_has_its_status(rt: HostRuntime) -> Result<(), Fail> {
         Replayed::Ended,
         Replayed::Waits,
         Replayed::Running,
-        Replayed::NotYet,
         Replayed::Stuck,
     ]
     .map(|what| replay_status(&ReplayAnswer::Played { what }));
-    assert_eq!(rt; statuses, [1, 0, 2, 2, 3, 2]);
+    assert_eq!(rt; statuses, [1, 0, 2, 2, 2]);
     Ok(())
 }

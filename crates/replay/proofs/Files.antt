@@ -1,10 +1,12 @@
 -- What is said of the bytes of files that were read is said of the files.
-use Rattle.std.proofs.Common.{◌≡◌, ℕ, ◌≤◌, ◌⊎◌, inr, Bool, true, false, IsTrue, IfOk, Result, Ok, Err, Option, Some, List, [], ◌++◌, length, refl, sym, ◌∙◌, subst, arith}
+use Rattle.std.proofs.Common.{◌≡◌, ℕ, ◌≤◌, Bool, true, false, IsTrue, IfOk, Result, Ok, Err, Option, Some, List, [], ◌++◌, length, refl, sym, ◌∙◌, subst, arith}
 use Rattle.std.proofs.lemmas.List.{length-append}
+use Rattle.cbase.specs.declared.tree.item.Item.{Item}
 use Rattle.command_line.specs.ReplayLine.{replay_command_of}
 use Rattle.command_line.specs.declared.replay.ReplayCommand.{ReplayCommand}
 use Rattle.ctokens.specs.TokenList.{HasNamedFiles}
 use Rattle.ctokens.specs.declared.token.Tokens.{Tokens}
+use Rattle.expressions.specs.Context.{Context}
 use Rattle.ccheck.specs.declared.program.TypedProgram.{TypedProgram}
 use Rattle.outside.specs.Faults.{Rose}
 use Rattle.outside.specs.Reading.{IsWithin, Reads}
@@ -13,16 +15,16 @@ use Rattle.outside.specs.declared.reading.Reading.TheVariants.{Whole, Long}
 use Rattle.report.specs.ReplayReport.{HasPrintableReplay}
 use Rattle.report.specs.declared.replay_answer.ReplayShown.{ReplayShown}
 use Rattle.report.specs.declared.replay_answer.ReplayAnswer.{ReplayAnswer}
-use Rattle.report.specs.declared.replay_answer.ReplayAnswer.TheVariants.{Played, BadChoices, NotRead, Construct, TooLong, Usage, ReadFault, OutOfMemory}
+use Rattle.report.specs.declared.replay_answer.ReplayAnswer.TheVariants.{Played, BadChoices, NotRead, Construct, NotYet, TooLong, Usage, ReadFault, OutOfMemory}
 use Rattle.replay.specs.declared.top.Plan.{Plan}
 use Rattle.replay.specs.declared.judging.Answered.{Answered}
 use Rattle.replay.specs.declared.judging.JudgedFile.{JudgedFile}
 use Rattle.replay.specs.declared.judging.JudgedFile.TheVariants.{Holds, Refused}
 use Rattle.replay.specs.Answered.{AreBytesOf, HasTaken, IsAnswered}
-use Rattle.replay.specs.Judged.{HasProgram, IsVerdict, Judges}
+use Rattle.replay.specs.Judged.{HasRunnable, IsVerdict, Judges}
 use Rattle.replay.specs.Shown.{AreNames, choices_in, file_in, unless_nothing}
-use Rattle.replay.proofs.Told.{has_program}
-use Rattle.replay.specs.Told.{HoldsTyped, IsAboutBoth, IsAboutFile, IsAboutFiles, IsJudged, IsTold}
+use Rattle.replay.proofs.Told.{has_runnable}
+use Rattle.replay.specs.Told.{HoldsRunnable, HoldsTyped, IsAboutBoth, IsAboutFile, IsAboutFiles, IsJudged, IsTold}
 
 -- the answers but these three are verdicts
 pub is_verdict : (answer : ReplayAnswer) → (answer ≡ Usage → ⊥) → (answer ≡ ReadFault → ⊥) → (answer ≡ OutOfMemory → ⊥) → IsVerdict answer
@@ -30,6 +32,7 @@ is_verdict (Played what) usage fault memory = tt
 is_verdict BadChoices usage fault memory = tt
 is_verdict (NotRead why) usage fault memory = tt
 is_verdict (Construct number place) usage fault memory = tt
+is_verdict (NotYet place) usage fault memory = tt
 is_verdict (TooLong taken second) usage fault memory = tt
 is_verdict Usage usage fault memory = usage refl
 is_verdict ReadFault usage fault memory = fault refl
@@ -41,6 +44,7 @@ file_about (Played what) about = absurd about
 file_about BadChoices about = absurd about
 file_about (NotRead why) about = tt
 file_about (Construct number place) about = tt
+file_about (NotYet place) about = tt
 file_about (TooLong taken second) about = absurd about
 file_about Usage about = absurd about
 file_about ReadFault about = absurd about
@@ -51,6 +55,7 @@ both_about (Played what) about = tt
 both_about BadChoices about = tt
 both_about (NotRead why) about = absurd about
 both_about (Construct number place) about = absurd about
+both_about (NotYet place) about = absurd about
 both_about (TooLong taken second) about = absurd about
 both_about Usage about = absurd about
 both_about ReadFault about = absurd about
@@ -78,7 +83,7 @@ about_no_memory answer about is = subst IsAboutFiles is about
 pub rose_later : (before middle now : ℕ) → before ≤ middle → Rose middle now → Rose before now
 rose_later before middle now later rose = omega (arith, later, rose)
 
-same_bytes : (bytes others : List ℕ) → Some bytes ≡ Some others → bytes ≡ others
+pub same_bytes : (bytes others : List ℕ) → Some bytes ≡ Some others → bytes ≡ others
 same_bytes bytes others is = cc
 
 taken_of : (tells : Bool) (content : Option (List ℕ)) (bytes : List ℕ) (taken : ℕ) → IsTrue tells → content ≡ Some bytes → HasTaken tells content taken
@@ -93,12 +98,6 @@ pub result_rose : {E : Type 0} (result : Result Answered E) (before middle now :
 result_rose (Ok answered) before middle now later rose = λ is. rose_later before middle now later (rose is)
 result_rose (Err error) before middle now later rose = tt
 
--- the last opening was of CHOICES
-pub result_begun : {E : Type 0} (result : Result Answered E) (begun file choices : List ℕ) → IfOk result (λ a. a.answer ≡ ReadFault → begun ≡ choices)
-    → IfOk result (λ a. a.answer ≡ ReadFault → (begun ≡ file) ⊎ (begun ≡ choices))
-result_begun (Ok answered) begun file choices is = λ fault. inr (is fault)
-result_begun (Err error) begun file choices is = tt
-
 module _ (tells : Bool) (content other : Option (List ℕ)) (command : ReplayCommand) where
   -- an answer about FILE alone
   pub file_answered : (bytes : List ℕ) (answered : Answered) → AreBytesOf tells content bytes → IsAboutFile answered.answer
@@ -111,6 +110,7 @@ module _ (tells : Bool) (content other : Option (List ℕ)) (command : ReplayCom
       of_file BadChoices names about judged named = absurd about
       of_file (NotRead why) names about judged named = (bytes, are, judged, named)
       of_file (Construct number place) names about judged named = (bytes, are, judged, named)
+      of_file (NotYet place) names about judged named = (bytes, are, judged, named)
       of_file (TooLong taken second) names about judged named = absurd about
       of_file Usage names about judged named = absurd about
       of_file ReadFault names about judged named = absurd about
@@ -127,6 +127,7 @@ module _ (tells : Bool) (content other : Option (List ℕ)) (command : ReplayCom
       of_both BadChoices names about judged named = (bytes, second, are, those, judged, named)
       of_both (NotRead why) names about judged named = absurd about
       of_both (Construct number place) names about judged named = absurd about
+      of_both (NotYet place) names about judged named = absurd about
       of_both (TooLong taken also) names about judged named = absurd about
       of_both Usage names about judged named = absurd about
       of_both ReadFault names about judged named = absurd about
@@ -149,9 +150,11 @@ module _ (tells : Bool) (content other : Option (List ℕ)) (command : ReplayCom
       subst (λ (bs : List ℕ). Judges command bs second (NotRead why)) (same_bytes front bytes (sym (are told) ∙ one)) (judged second)
   judged_of bytes second names (Construct number place) told one two verdict (front, are, judged, named) =
       subst (λ (bs : List ℕ). Judges command bs second (Construct number place)) (same_bytes front bytes (sym (are told) ∙ one)) (judged second)
+  judged_of bytes second names (NotYet place) told one two verdict (front, are, judged, named) =
+      subst (λ (bs : List ℕ). Judges command bs second (NotYet place)) (same_bytes front bytes (sym (are told) ∙ one)) (judged second)
   judged_of bytes second names (TooLong taken false) told one two verdict (is, has, none) = (is, taken_of tells content bytes taken told one has)
   judged_of bytes second names (TooLong taken true) told one two verdict (is, has, (front, are, holds, named)) =
-      (is, taken_of tells other second taken told two has, subst (HasProgram command) (same_bytes front bytes (sym (are told) ∙ one)) holds)
+      (is, taken_of tells other second taken told two has, subst (HasRunnable command) (same_bytes front bytes (sym (are told) ∙ one)) holds)
   judged_of bytes second names Usage told one two verdict answered = absurd verdict
   judged_of bytes second names ReadFault told one two verdict answered = absurd verdict
   judged_of bytes second names OutOfMemory told one two verdict answered = absurd verdict
@@ -226,10 +229,10 @@ same_command found words first other is some also =
     cc
 
 -- what is answered where CHOICES is too long
-pub long_answered : (tells : Bool) (content other : Option (List ℕ)) (command : ReplayCommand) (t : Tokens) (typed : TypedProgram) → HoldsTyped command t typed
-    → HasTaken tells other 4194305 → AreBytesOf tells content t.text → IsAnswered tells content other command t.names (TooLong 4194305 true)
-long_answered tells content other command t typed held taken are =
-    (refl, taken, (t.text, are, has_program command t typed held, (t, held.is_read.are_tokens, refl)))
+pub long_answered : (tells : Bool) (content other : Option (List ℕ)) (command : ReplayCommand) (t : Tokens) (items : List Item) (text : Context) (strict : Bool)
+    → HoldsRunnable command t items text strict → HasTaken tells other 4194305 → AreBytesOf tells content t.text → IsAnswered tells content other command t.names (TooLong 4194305 true)
+long_answered tells content other command t items text strict held taken are =
+    (refl, taken, (t.text, are, has_runnable command t items text strict held, (t, held.is_program.holds.is_read.are_tokens, refl)))
 
 -- the names of the two files are shown
 shown_name : (name : List ℕ) (answer : ReplayAnswer) → IsAboutFiles answer → name ≡ unless_nothing name answer
@@ -237,6 +240,7 @@ shown_name name (Played what) about = refl
 shown_name name BadChoices about = refl
 shown_name name (NotRead why) about = refl
 shown_name name (Construct number place) about = refl
+shown_name name (NotYet place) about = refl
 shown_name name (TooLong taken second) about = refl
 shown_name name Usage about = absurd about
 shown_name name ReadFault about = refl

@@ -2,3 +2,4 @@ pub mod Told
 pub mod Runs
 pub mod OneVerdict
 pub mod Files
+pub mod Opened

@@ -1,11 +1,10 @@
 -- What a run comes to is answered of it.
-use Rattle.std.proofs.Common.{◌≡◌, ℕ, IfSome, List, Option, Some, ap, sym, ◌∙◌, subst}
+use Rattle.std.proofs.Common.{◌≡◌, ℕ, Bool, IfSome, List, Option, Some, ap, sym, ◌∙◌, subst}
 use Rattle.cbase.specs.declared.tree.item.Item.{Item}
 use Rattle.choices.specs.declared.choice.Choice.{Choice}
 use Rattle.ctokens.specs.declared.token.Tokens.{Tokens}
 use Rattle.expressions.specs.Context.{Context}
 use Rattle.expressions.specs.Numbers.{Numbering}
-use Rattle.ccheck.specs.declared.program.TypedProgram.{TypedProgram}
 use Rattle.c_machine.specs.Program.{Program}
 use Rattle.c_machine.specs.Run.{run_of}
 use Rattle.c_machine.specs.State.{StateIn}
@@ -19,13 +18,13 @@ use Rattle.replay.specs.Program.{what_of}
 pub text_kept : (found : Option Context) (text context : Context) → found ≡ Some text → IfSome found (λ kept. kept ≡ context) → text ≡ context
 text_kept found text context is kept = subst (λ (o : Option Context). IfSome o (λ kept. kept ≡ context)) is kept
 
-pub run_told : (t : Tokens) (typed : TypedProgram) (text : Context) (items : List Item) (choices : List Choice) (steps : ℕ) (outcome : Outcome) (what : Replayed)
-    → text ≡ typed.context → items ≡ typed.program
-    → ((n : Numbering) (p : Program) → StandsFor n text p → p.items ≡ items → p.strict ≡ typed.strict
+pub run_told : (t : Tokens) (text : Context) (items slice : List Item) (strict : Bool) (choices : List Choice) (steps : ℕ) (outcome : Outcome) (what : Replayed)
+    → slice ≡ items
+    → ((n : Numbering) (p : Program) → StandsFor n text p → p.items ≡ slice → p.strict ≡ strict
     → (state : StateIn (text_of p)) × (rest : List Choice) × (run_of (text_of p) choices steps ≡ comes_to outcome state rest))
     → ((p : Program) (state : StateIn (text_of p)) (rest : List Choice) → what_of t (comes_to outcome state rest) ≡ what)
-    → (n : Numbering) (p : Program) → StandsFor n typed.context p → p.items ≡ typed.program → p.strict ≡ typed.strict
+    → (n : Numbering) (p : Program) → StandsFor n text p → p.items ≡ items → p.strict ≡ strict
     → what_of t (run_of (text_of p) choices steps) ≡ what
-run_told t typed text items choices steps outcome what same trees runs told n p stands is_items strict =
-    let (state, rest, is) = runs n p (subst (λ (x : Context). StandsFor n x p) (sym same) stands) (is_items ∙ sym trees) strict in
+run_told t text items slice strict choices steps outcome what trees runs told n p stands is_items same =
+    let (state, rest, is) = runs n p stands (is_items ∙ sym trees) same in
     ap (what_of t) is ∙ told p state rest

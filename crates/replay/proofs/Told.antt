@@ -1,7 +1,8 @@
 -- What is found of FILE's tokens is true of its bytes, whatever is in CHOICES.
-use Rattle.std.proofs.Common.{◌≡◌, ℕ, ◌<◌, ◌≤◌, ◌∙◌, IfOk, Result, inl, inr, None, Some, Ok, Err, Option, List, length, map, slice_get, option_map, unwrap_or, refl, sym, subst}
+use Rattle.std.proofs.Common.{◌≡◌, ℕ, ◌<◌, ◌≤◌, ◌∙◌, Bool, IfOk, Result, inl, inr, None, Some, Ok, Err, Option, List, length, map, slice_get, option_map, unwrap_or, refl, sym, subst}
 use Rattle.std.proofs.lemmas.Option.{slice_get_cases, get_or_from_slice_get}
 use Rattle.cbase.specs.declared.place.Place.{Place}
+use Rattle.cbase.specs.declared.tree.item.Item.{Item}
 use Rattle.cgrammar.specs.Terminals.{no_place}
 use Rattle.choices.specs.declared.choice.Choice.{Choice}
 use Rattle.choices.specs.Answers.{IsAnswer as IsReadAs}
@@ -20,7 +21,7 @@ use Rattle.ctokens.specs.declared.item_span.ItemSpan.{ItemSpan}
 use Rattle.ctokens.specs.declared.token.Lexical.{Lexical}
 use Rattle.ctokens.specs.declared.token.Token.{Token as Lexeme}
 use Rattle.ctokens.specs.declared.token.Tokens.{Tokens}
-use Rattle.expressions.specs.Context.{Agrees, declared}
+use Rattle.expressions.specs.Context.{Agrees, Context, declared}
 use Rattle.expressions.specs.Numbers.{Numbering, handed_at}
 use Rattle.languages.specs.AtTypes.{declarations_at}
 use Rattle.languages.specs.LeadsBack.{LeadsBack}
@@ -32,6 +33,7 @@ use Rattle.ccheck.specs.declared.checking.Checked.TheVariants.{Typed as TypedAns
 use Rattle.ccheck.specs.declared.program.TypedProgram.{TypedProgram}
 use Rattle.ccheck.specs.declared.refusal.Refusal.{Refusal}
 use Rattle.ccheck.specs.declared.refusal.Refusal.TheVariants as refusal
+use Rattle.c_calls.specs.Calls.{IsFirstCallee}
 use Rattle.c_machine.specs.Program.{Program}
 use Rattle.c_machine.specs.Run.{run_of}
 use Rattle.c_machine.specs.Trees.{text_of}
@@ -40,14 +42,14 @@ use Rattle.report.specs.ReplayReport.{HasPrintableRun}
 use Rattle.report.specs.declared.answer.Why.{Why}
 use Rattle.report.specs.declared.answer.Why.TheVariants as why
 use Rattle.report.specs.declared.replay_answer.Replayed.{Replayed}
-use Rattle.report.specs.declared.replay_answer.ReplayAnswer.TheVariants.{Played, BadChoices, NotRead}
+use Rattle.report.specs.declared.replay_answer.ReplayAnswer.TheVariants.{Played, BadChoices, NotRead, NotYet}
 use Rattle.replay.specs.declared.judging.JudgedFile.{JudgedFile}
-use Rattle.replay.specs.declared.judging.JudgedFile.TheVariants.{Holds, Refused}
+use Rattle.replay.specs.declared.judging.JudgedFile.TheVariants.{Refused}
 use Rattle.replay.specs.declared.judging.Needed.{Needed}
 use Rattle.replay.specs.declared.judging.Needed.TheVariants.{None as NoItems}
-use Rattle.replay.specs.Judged.{HasProgram, HoldsProgram}
+use Rattle.replay.specs.Judged.{HasRunnable, HoldsProgram}
 use Rattle.replay.specs.Program.{what_of}
-use Rattle.replay.specs.Told.{AreNeeded, HoldsTyped, IsJudged, IsTold, answer_of}
+use Rattle.replay.specs.Told.{AreNeeded, CallsNone, HoldsProgramOf, HoldsRunnable, HoldsTyped, IsJudged, IsTold, answer_of}
 
 -- a token of a text has a name for its file, and so has the place of none
 token_named : (t : Tokens) (found : Option Lexeme) (number : ℕ) → HasNamedFiles t → slice_get t.list number ≡ found
@@ -167,11 +169,11 @@ module _ (command : ReplayCommand) (t : Tokens) (items : List ItemSpan) (numbers
       refused_told reason short are is need (subst (IsAnswer t items numbers command.model command.strict) same answer)
       (subst (AnswerIsNamed t.names) same named)
 
-  pub program_found : (typed : TypedProgram) (checked : Checked) → length t.text ≤ most_bytes → AreTokens command.file t.text t → IsItems t (Ok items)
+  pub typed_found : (typed : TypedProgram) (checked : Checked) → length t.text ≤ most_bytes → AreTokens command.file t.text t → IsItems t (Ok items)
       → IsNeed (item_rows t items) (Some numbers) → checked ≡ TypedAnswer typed → IsAnswer t items numbers command.model command.strict checked
-      → HasNamedFiles t → (n : Numbering) × Agrees n typed.context × LeadsBack n → IsJudged command t.text (Holds t typed)
-  program_found typed checked short are is need same answer named back =
-      (refl, named, typed_held typed short are is need (subst (IsAnswer t items numbers command.model command.strict) same answer) back)
+      → (n : Numbering) × Agrees n typed.context × LeadsBack n → HoldsTyped command t typed
+  typed_found typed checked short are is need same answer back =
+      typed_held typed short are is need (subst (IsAnswer t items numbers command.model command.strict) same answer) back
 
 -- what was read of CHOICES
 pub spelled : (text : List ℕ) (answer : ReadChoices) (choices : List Choice) → answer ≡ Choices choices → IsReadAs text answer → SpellsChoices text choices
@@ -208,28 +210,100 @@ module _ (command : ReplayCommand) (t : Tokens) (typed : TypedProgram) (held : H
     };
   }
 
-  stands : StandsFor held.numbering typed.context (program_by held.numbering typed)
-  stands = record { agrees = held.agrees; structs = refl; handed = refl }
+  stands : (text : Context) → text ≡ typed.context → StandsFor held.numbering text (program_by held.numbering typed)
+  stands text same = subst (λ (x : Context). StandsFor held.numbering x (program_by held.numbering typed)) (sym same)
+      (record { agrees = held.agrees; structs = refl; handed = refl })
 
-  pub has_program : HasProgram command t.text
-  has_program = (t, (program_by held.numbering typed), holds)
+module _ (command : ReplayCommand) (t : Tokens) (items : List Item) (text : Context) (strict : Bool) (held : HoldsProgramOf command t items text strict) where
+  program : Program
+  program = program_by held.holds.numbering held.typed
+
+  program_stands : StandsFor held.holds.numbering text program
+  unfolding program
+  program_stands = stands command t held.typed held.holds text held.text_is
+
+  program_holds : HoldsProgram command t.text t program
+  unfolding program
+  program_holds = holds command t held.typed held.holds
+
+  items_of_program : program.items ≡ items
+  unfolding program
+  items_of_program = sym held.items_are
+
+  strict_program : program.strict ≡ strict
+  unfolding program
+  strict_program = sym held.strict_is
+
+  -- what is found of its first callee
+  module _ (found : Option Place) (first : (n : Numbering) (p : Program) → StandsFor n text p → p.items ≡ items → IsFirstCallee p found) where
+    -- a body calls a function that the program defines
+    pub callee_told : (callee : Place) → found ≡ Some callee → HasNamedFiles t → (second : List ℕ)
+        → IsTold command t.text second (record { answer = NotYet (place_at t callee.at); names = t.names })
+    callee_told callee is named second = record {
+      judged = (
+        held.holds.is_short,
+        (
+          t,
+          program,
+          callee,
+          program_holds,
+          subst (IsFirstCallee program) is (first held.holds.numbering program program_stands items_of_program),
+          refl,
+        ),
+      );
+      named = (t, held.holds.is_read.are_tokens, refl);
+      printable = place_named t callee.at named;
+    }
+
+    -- none does: runs can be made
+    pub runnable_held : found ≡ None → HoldsRunnable command t items text strict
+    unfolding CallsNone
+    runnable_held is = record { is_program = held; calls_none = λ n p stands whole. subst (IsFirstCallee p) is (first n p stands whole) }
+
+module _ (command : ReplayCommand) (t : Tokens) (items : List Item) (text : Context) (strict : Bool) (held : HoldsRunnable command t items text strict) where
+  runnable : Program
+  runnable = program command t items text strict held.is_program
+
+  runnable_holds : HoldsProgram command t.text t runnable
+  unfolding runnable
+  runnable_holds = program_holds command t items text strict held.is_program
+
+  calls_none : IsFirstCallee runnable None
+  unfolding runnable CallsNone
+  calls_none = held.calls_none held.is_program.holds.numbering runnable (program_stands command t items text strict held.is_program)
+      (items_of_program command t items text strict held.is_program)
+
+  pub has_runnable : HasRunnable command t.text
+  has_runnable = (t, runnable, runnable_holds, calls_none)
 
   -- CHOICES spells no choices
   pub bad_told : (second : List ℕ) → length second ≤ most_bytes → ((choices : List Choice) → SpellsChoices second choices → ⊥)
       → IsTold command t.text second (record { answer = BadChoices; names = t.names })
   bad_told second short none = record {
-    judged = (short, has_program, none);
-    named = (t, held.is_read.are_tokens, refl);
+    judged = (short, has_runnable, none);
+    named = (t, held.is_program.holds.is_read.are_tokens, refl);
     printable = tt;
   }
 
   -- what the run of the program comes to is told
   pub played_told : (second : List ℕ) (choices : List Choice) (what : Replayed) → length second ≤ most_bytes → SpellsChoices second choices
-      → ((n : Numbering) (p : Program) → StandsFor n typed.context p → p.items ≡ typed.program → p.strict ≡ typed.strict
-      → what_of t (run_of (text_of p) choices command.steps) ≡ what)
+      → ((n : Numbering) (p : Program) → StandsFor n text p → p.items ≡ items → p.strict ≡ strict → what_of t (run_of (text_of p) choices command.steps) ≡ what)
       → HasPrintableRun t.names what → IsTold command t.text second (record { answer = Played what; names = t.names })
+  unfolding runnable
   played_told second choices what short spells plays printable = record {
-    judged = (short, (t, (program_by held.numbering typed), choices, holds, spells, plays held.numbering (program_by held.numbering typed) stands refl refl));
-    named = (t, held.is_read.are_tokens, refl);
+    judged = (
+      short,
+      (
+        t,
+        runnable,
+        choices,
+        runnable_holds,
+        calls_none,
+        spells,
+        plays held.is_program.holds.numbering runnable (program_stands command t items text strict held.is_program)
+            (items_of_program command t items text strict held.is_program) (strict_program command t items text strict held.is_program),
+      ),
+    );
+    named = (t, held.is_program.holds.is_read.are_tokens, refl);
     printable = printable;
   }

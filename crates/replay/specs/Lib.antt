@@ -2,4 +2,5 @@ pub mod Program
 pub mod Judged
 pub mod Shown
 pub mod Answered
+pub mod Opened
 pub mod Told

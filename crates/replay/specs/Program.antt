@@ -24,11 +24,12 @@ pub record IsProgram (t : Tokens) (items : List ItemSpan) (numbers : List ℕ) (
   pub abi_is : p.abi ≡ abi
   pub strict_is : p.strict ≡ strict
 
--- what is answered of what a run comes to. Trees keep with each place how many tokens stand before it
+-- what is answered of what a run comes to. Trees keep with each place how many tokens stand before it. A run is made only where no body calls a function that the
+-- program defines; one that comes to such a call all the same goes where none is described
 abbrev pub what_of : {E S I : Type 0} → Tokens → Outcome E S I → Replayed
 what_of t (Went state choices) = replayed.Running
 what_of t Waits = replayed.Waits
 what_of t Ended = replayed.Ended
 what_of t (Faulted kind place) = replayed.Fault kind (place_at t place.at)
-what_of t NotYet = replayed.NotYet
+what_of t NotYet = replayed.Stuck
 what_of t Stuck = replayed.Stuck

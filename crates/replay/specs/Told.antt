@@ -1,6 +1,7 @@
 -- What is known of FILE before CHOICES is read: its program with its types, or an answer that is true whatever is in CHOICES.
-use Rattle.std.specs.Prelude.{◌≡◌, ℕ, ◌≤◌, Ok, Some, List, length}
+use Rattle.std.specs.Prelude.{◌≡◌, ℕ, ◌≤◌, Bool, Ok, None, Some, List, length}
 use Rattle.std.specs.List.{All}
+use Rattle.cbase.specs.declared.tree.item.Item.{Item}
 use Rattle.command_line.specs.declared.replay.ReplayCommand.{ReplayCommand}
 use Rattle.ctokens.specs.InText.{most_bytes}
 use Rattle.ctokens.specs.Items.{IsInside, IsItems}
@@ -9,23 +10,26 @@ use Rattle.ctokens.specs.Need.{IsNeed}
 use Rattle.ctokens.specs.TokenList.{AreTokens, HasNamedFiles}
 use Rattle.ctokens.specs.declared.item_span.ItemSpan.{ItemSpan}
 use Rattle.ctokens.specs.declared.token.Tokens.{Tokens}
-use Rattle.expressions.specs.Context.{Agrees}
+use Rattle.expressions.specs.Context.{Agrees, Context}
 use Rattle.expressions.specs.Numbers.{Numbering}
 use Rattle.languages.specs.LeadsBack.{LeadsBack}
 use Rattle.ccheck.specs.Checked.{IsTyped}
 use Rattle.ccheck.specs.declared.program.TypedProgram.{TypedProgram}
 use Rattle.ccheck.specs.declared.refusal.Refusal.{Refusal}
 use Rattle.ccheck.specs.declared.refusal.Refusal.TheVariants as refusal
+use Rattle.c_calls.specs.Calls.{IsFirstCallee}
+use Rattle.c_machine.specs.Program.{Program}
+use Rattle.c_text.specs.Stands.{StandsFor}
 use Rattle.report.specs.ReplayReport.{HasPrintableReplay}
 use Rattle.report.specs.declared.answer.Why.TheVariants as why
 use Rattle.report.specs.declared.replay_answer.ReplayAnswer.{ReplayAnswer}
-use Rattle.report.specs.declared.replay_answer.ReplayAnswer.TheVariants.{Played, BadChoices, NotRead, Construct, TooLong, Usage, ReadFault, OutOfMemory}
+use Rattle.report.specs.declared.replay_answer.ReplayAnswer.TheVariants.{Played, BadChoices, NotRead, Construct, NotYet, TooLong, Usage, ReadFault, OutOfMemory}
 use Rattle.verdicts.specs.Verdict.{IsRead}
 use Rattle.replay.specs.declared.judging.Answered.{Answered}
 use Rattle.replay.specs.declared.judging.JudgedFile.{JudgedFile}
 use Rattle.replay.specs.declared.judging.JudgedFile.TheVariants.{Holds, Refused}
 use Rattle.replay.specs.declared.judging.Needed.{Needed}
-use Rattle.replay.specs.declared.judging.Needed.TheVariants.{Items, None}
+use Rattle.replay.specs.declared.judging.Needed.TheVariants.{Items, None as NoItems}
 use Rattle.replay.specs.Judged.{Judges}
 use Rattle.replay.specs.Shown.{AreNames}
 
@@ -41,6 +45,24 @@ pub record HoldsTyped (command : ReplayCommand) (t : Tokens) (typed : TypedProgr
   pub agrees : Agrees numbering typed.context
   pub leads_back : LeadsBack numbering
 
+-- these are the items of such a program, what typing hands on of them, and whether an allocated block that lives when main returns is a fault
+pub record HoldsProgramOf (command : ReplayCommand) (t : Tokens) (items : List Item) (text : Context) (strict : Bool) : Type 0 where
+  pub typed : TypedProgram
+  pub holds : HoldsTyped command t typed
+  pub items_are : items ≡ typed.program
+  pub text_is : text ≡ typed.context
+  pub strict_is : strict ≡ typed.strict
+
+-- no body of a program that these stand for calls a function that the program defines. It is a name that nothing unfolds by itself, so that no search goes
+-- through all calls of all programs
+unfoldable pub CallsNone : List Item → Context → Type 0
+CallsNone items text = (n : Numbering) (p : Program) → StandsFor n text p → p.items ≡ items → IsFirstCallee p None
+
+-- and runs of it can be made
+pub record HoldsRunnable (command : ReplayCommand) (t : Tokens) (items : List Item) (text : Context) (strict : Bool) : Type 0 where
+  pub is_program : HoldsProgramOf command t items text strict
+  pub calls_none : CallsNone items text
+
 -- the answer is true of the bytes of both files, its names are those of FILE's text, and it can be printed
 pub record IsTold (command : ReplayCommand) (bytes second : List ℕ) (answered : Answered) : Type 0 where
   pub judged : Judges command bytes second answered.answer
@@ -53,6 +75,7 @@ IsAboutFile (Played what) = ⊥
 IsAboutFile BadChoices = ⊥
 IsAboutFile (NotRead reason) = Unit {0}
 IsAboutFile (Construct number place) = Unit {0}
+IsAboutFile (NotYet place) = Unit {0}
 IsAboutFile (TooLong taken second) = ⊥
 IsAboutFile Usage = ⊥
 IsAboutFile ReadFault = ⊥
@@ -64,6 +87,7 @@ IsAboutBoth (Played what) = Unit {0}
 IsAboutBoth BadChoices = Unit {0}
 IsAboutBoth (NotRead reason) = ⊥
 IsAboutBoth (Construct number place) = ⊥
+IsAboutBoth (NotYet place) = ⊥
 IsAboutBoth (TooLong taken second) = ⊥
 IsAboutBoth Usage = ⊥
 IsAboutBoth ReadFault = ⊥
@@ -75,6 +99,7 @@ IsAboutFiles (Played what) = Unit {0}
 IsAboutFiles BadChoices = Unit {0}
 IsAboutFiles (NotRead reason) = Unit {0}
 IsAboutFiles (Construct number place) = Unit {0}
+IsAboutFiles (NotYet place) = Unit {0}
 IsAboutFiles (TooLong taken second) = Unit {0}
 IsAboutFiles Usage = ⊥
 IsAboutFiles ReadFault = Unit {0}
@@ -88,7 +113,7 @@ IsJudged command bytes (Refused answered) = IsAboutFile answered.answer × ((sec
 -- the items of a text and which of them main needs, or why there are none
 abbrev pub AreNeeded : Tokens → Needed → Type 0
 AreNeeded t (Items items numbers) = IsItems t (Ok items) × All (IsInside (length t.list)) items × IsNeed (item_rows t items) (Some numbers)
-AreNeeded t (None reason) =
+AreNeeded t (NoItems reason) =
     (command : ReplayCommand) (second : List ℕ) → length t.text ≤ most_bytes → AreTokens command.file t.text t
     → IsTold command t.text second (record { answer = NotRead reason; names = t.names })
 

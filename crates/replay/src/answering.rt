@@ -1,14 +1,19 @@
-ghost use Rattle.std.specs.Prelude.{◌≡◌, ◌≤◌, ◌⊎◌, ℕ, true, false, Option, List as Items, [], length, IfOk};
+ghost use Rattle.std.specs.Prelude.{◌≡◌, ◌≤◌, ℕ, true, false, Option, List as Items, [], length, IfOk};
 ghost use Rattle.outside.specs.Faults.{Rose};
 ghost use Rattle.ctokens.specs.InText.{most_bytes};
 ghost use Rattle.ctokens.specs.TokenList.{HasNamedFiles};
+ghost use Rattle.ccheck.specs.Refusals.{place_at};
 ghost use Rattle.report.specs.ReplayReport.{HasPrintableReplay};
 ghost use Rattle.replay.specs.Answered.{AreBytesOf, IsAnswered};
-ghost use Rattle.replay.specs.Told.{HoldsTyped, IsAboutBoth, IsAboutFiles, IsTold};
+ghost use Rattle.replay.specs.Opened.{IsOpenedLast};
+ghost use Rattle.replay.specs.Told.{HoldsProgramOf, HoldsRunnable, HoldsTyped, IsAboutBoth, IsAboutFiles, IsTold};
 
 use crate::judging::{Answered, JudgedFile, judge, with_names};
+use crate::places::place_at;
 use crate::playing::play;
-use cbase::{List, NoMemory, Text};
+use c_calls::first_callee;
+use c_text::TypedText;
+use cbase::{Item, List, NoMemory, Place, Text};
 use ccheck::TypedProgram;
 use choices::{ReadChoices, read_choices};
 use command_line::ReplayCommand;
@@ -20,7 +25,7 @@ use std::alloc::Global;
 /// How many bytes a file has at most, if it is to be read to its end.
 const MOST_BYTES: u32 = 4_194_304;
 
-/// The answer to a command: FILE is read and judged, and where it holds a program CHOICES is.
+/// The answer to a command: FILE is read and judged, and where runs of its program can be made CHOICES is.
 pub(crate) fn answer_of_command<F: Files>(
     alloc: Global,
     command: &ReplayCommand,
@@ -30,8 +35,8 @@ pub(crate) fn answer_of_command<F: Files>(
     ensures printable { IfOk result (λ a. HasPrintableReplay a.names a.answer) }
     ensures rose { IfOk result (λ a. a.answer ≡ ReplayAnswer.ReadFault → Rose (F.faults files.old) (F.faults files.new)) }
     ensures failed { IfOk result (λ a. a.answer ≡ ReplayAnswer.ReadFault → F.failed files.new ≡ true) }
-    ensures begun { IfOk result (λ a. a.answer ≡ ReplayAnswer.ReadFault
-        → (F.begun files.new ≡ command.now.file) ⊎ (F.begun files.new ≡ command.now.choices)) }
+    ensures begun { IfOk result (λ a. IsOpenedLast (F.tells files.old) (F.bytes_of files.old command.now.file) command.now
+        (F.begun files.new) a.answer) }
     ensures judged { IfOk result (λ a. IsAnswered (F.tells files.old) (F.bytes_of files.old command.now.file)
         (F.bytes_of files.old command.now.choices) command.now a.names a.answer) }
 {
@@ -73,24 +78,28 @@ fn answer_of_text<F: Files>(
     text: &[u8],
     files: &mut F,
 ) -> Result<Answered, NoMemory>
-    requires { length text.now ≤ most_bytes }
+    requires short { length text.now ≤ most_bytes }
+    requires opened { F.begun files.old ≡ command.now.file }
     ensures about { IfOk result (λ a. IsAboutFiles a.answer) }
     ensures printable { IfOk result (λ a. HasPrintableReplay a.names a.answer) }
     ensures rose { IfOk result (λ a. a.answer ≡ ReplayAnswer.ReadFault → Rose (F.faults files.old) (F.faults files.new)) }
     ensures failed { IfOk result (λ a. a.answer ≡ ReplayAnswer.ReadFault → F.failed files.new ≡ true) }
-    ensures begun { IfOk result (λ a. a.answer ≡ ReplayAnswer.ReadFault → F.begun files.new ≡ command.now.choices) }
+    ensures begun { (content : Option (Items ℕ)) → AreBytesOf (F.tells files.old) content text.now
+        → IfOk result (λ a. IsOpenedLast (F.tells files.old) content command.now (F.begun files.new) a.answer) }
     ensures judged { (content : Option (Items ℕ)) → AreBytesOf (F.tells files.old) content text.now
         → IfOk result (λ a. IsAnswered (F.tells files.old) content (F.bytes_of files.old command.now.choices)
         command.now a.names a.answer) }
 {
     match judge(alloc, command, text)? {
         JudgedFile::Refused(answered) => Ok(answered),
-        JudgedFile::Holds(t, typed) => answer_of_program(alloc, command, t, typed, files),
+        JudgedFile::Holds(t, typed) => answer_of_typed(alloc, command, t, typed, files),
     }
 }
 
-/// The answer where FILE holds this program.
-fn answer_of_program<F: Files>(
+/// The answer where FILE holds this program, in which each item passes.
+///
+/// That a context names only types and signatures which it has is not proved of checked programs: where it does not, the answer is want of memory.
+fn answer_of_typed<F: Files>(
     alloc: Global,
     command: &ReplayCommand,
     t: Tokens,
@@ -99,28 +108,103 @@ fn answer_of_program<F: Files>(
 ) -> Result<Answered, NoMemory>
     requires named { HasNamedFiles t }
     requires holds { HoldsTyped command.now t typed }
+    requires opened { F.begun files.old ≡ command.now.file }
     ensures about { IfOk result (λ a. IsAboutFiles a.answer) }
     ensures printable { IfOk result (λ a. HasPrintableReplay a.names a.answer) }
     ensures rose { IfOk result (λ a. a.answer ≡ ReplayAnswer.ReadFault → Rose (F.faults files.old) (F.faults files.new)) }
     ensures failed { IfOk result (λ a. a.answer ≡ ReplayAnswer.ReadFault → F.failed files.new ≡ true) }
-    ensures begun { IfOk result (λ a. a.answer ≡ ReplayAnswer.ReadFault → F.begun files.new ≡ command.now.choices) }
+    ensures begun { (content : Option (Items ℕ)) → AreBytesOf (F.tells files.old) content t.text
+        → IfOk result (λ a. IsOpenedLast (F.tells files.old) content command.now (F.begun files.new) a.answer) }
+    ensures judged { (content : Option (Items ℕ)) → AreBytesOf (F.tells files.old) content t.text
+        → IfOk result (λ a. IsAnswered (F.tells files.old) content (F.bytes_of files.old command.now.choices)
+        command.now a.names a.answer) }
+{
+    let TypedProgram {
+        program,
+        context,
+        abi: _,
+        strict,
+    } = typed;
+    let Some(text) = TypedText::of(alloc, context)? else {
+        return Err(NoMemory);
+    };
+    let answered = answer_of_program(alloc, command, t, program.as_slice(), &text, strict, files);
+    drop(text);
+    answered
+}
+
+/// The answer where FILE holds the program with these items and this text.
+fn answer_of_program<F: Files>(
+    alloc: Global,
+    command: &ReplayCommand,
+    t: Tokens,
+    program: &[Item],
+    text: &TypedText,
+    strict: bool,
+    files: &mut F,
+) -> Result<Answered, NoMemory>
+    requires named { HasNamedFiles t }
+    requires holds { HoldsProgramOf command.now t program.now text.now strict }
+    requires opened { F.begun files.old ≡ command.now.file }
+    ensures about { IfOk result (λ a. IsAboutFiles a.answer) }
+    ensures printable { IfOk result (λ a. HasPrintableReplay a.names a.answer) }
+    ensures rose { IfOk result (λ a. a.answer ≡ ReplayAnswer.ReadFault → Rose (F.faults files.old) (F.faults files.new)) }
+    ensures failed { IfOk result (λ a. a.answer ≡ ReplayAnswer.ReadFault → F.failed files.new ≡ true) }
+    ensures begun { (content : Option (Items ℕ)) → AreBytesOf (F.tells files.old) content t.text
+        → IfOk result (λ a. IsOpenedLast (F.tells files.old) content command.now (F.begun files.new) a.answer) }
+    ensures judged { (content : Option (Items ℕ)) → AreBytesOf (F.tells files.old) content t.text
+        → IfOk result (λ a. IsAnswered (F.tells files.old) content (F.bytes_of files.old command.now.choices)
+        command.now a.names a.answer) }
+{
+    match first_callee(alloc, program, text)? {
+        Some(callee) => Ok(not_yet(t, callee)),
+        None => answer_of_runnable(alloc, command, t, program, text, strict, files),
+    }
+}
+
+/// The answer where this is the first name by which a body calls a function that the program defines.
+fn not_yet(t: Tokens, callee: Place) -> Answered
+    requires { HasNamedFiles t }
+    ensures { result ≡ record { answer = ReplayAnswer.NotYet (place_at t callee.at); names = t.names } }
+{
+    let place = place_at(&t, callee.at);
+    with_names(ReplayAnswer::NotYet { place }, t)
+}
+
+/// The answer where FILE holds this program, and no body in it calls a function that it defines.
+fn answer_of_runnable<F: Files>(
+    alloc: Global,
+    command: &ReplayCommand,
+    t: Tokens,
+    program: &[Item],
+    text: &TypedText,
+    strict: bool,
+    files: &mut F,
+) -> Result<Answered, NoMemory>
+    requires named { HasNamedFiles t }
+    requires holds { HoldsRunnable command.now t program.now text.now strict }
+    ensures about { IfOk result (λ a. IsAboutFiles a.answer) }
+    ensures printable { IfOk result (λ a. HasPrintableReplay a.names a.answer) }
+    ensures rose { IfOk result (λ a. a.answer ≡ ReplayAnswer.ReadFault → Rose (F.faults files.old) (F.faults files.new)) }
+    ensures failed { IfOk result (λ a. a.answer ≡ ReplayAnswer.ReadFault → F.failed files.new ≡ true) }
+    ensures begun { (content : Option (Items ℕ)) → AreBytesOf (F.tells files.old) content t.text
+        → IfOk result (λ a. IsOpenedLast (F.tells files.old) content command.now (F.begun files.new) a.answer) }
     ensures judged { (content : Option (Items ℕ)) → AreBytesOf (F.tells files.old) content t.text
         → IfOk result (λ a. IsAnswered (F.tells files.old) content (F.bytes_of files.old command.now.choices)
         command.now a.names a.answer) }
 {
     let name = Text::from_slice(alloc, command.choices.as_slice())?;
     match read_file(alloc, files, name, MOST_BYTES)? {
-        Reading::Whole(second) => answer_of_both(alloc, command, t, typed, second.as_slice()),
-        Reading::Long(_) => {
-            drop(typed);
-            Ok(with_names(
-                ReplayAnswer::TooLong {
-                    taken: MOST_BYTES + 1,
-                    second: true,
-                },
-                t,
-            ))
+        Reading::Whole(second) => {
+            answer_of_both(alloc, command, t, program, text, strict, second.as_slice())
         }
+        Reading::Long(_) => Ok(with_names(
+            ReplayAnswer::TooLong {
+                taken: MOST_BYTES + 1,
+                second: true,
+            },
+            t,
+        )),
         Reading::Failed => Ok(read_fault(alloc)),
     }
 }
@@ -130,23 +214,30 @@ fn answer_of_both(
     alloc: Global,
     command: &ReplayCommand,
     t: Tokens,
-    typed: TypedProgram,
+    program: &[Item],
+    text: &TypedText,
+    strict: bool,
     second: &[u8],
 ) -> Result<Answered, NoMemory>
     requires named { HasNamedFiles t }
-    requires holds { HoldsTyped command.now t typed }
+    requires holds { HoldsRunnable command.now t program.now text.now strict }
     requires short { length second.now ≤ most_bytes }
     ensures about { IfOk result (λ a. IsAboutBoth a.answer) }
     ensures told { IfOk result (IsTold command.now t.text second.now) }
 {
     match read_choices(alloc, second)? {
         ReadChoices::Choices(choices) => {
-            let what = play(alloc, &t, typed, choices.as_slice(), command.steps)?;
+            let what = play(
+                alloc,
+                &t,
+                program,
+                text,
+                strict,
+                choices.as_slice(),
+                command.steps,
+            )?;
             Ok(with_names(ReplayAnswer::Played { what }, t))
         }
-        ReadChoices::Refused(_) => {
-            drop(typed);
-            Ok(with_names(ReplayAnswer::BadChoices, t))
-        }
+        ReadChoices::Refused(_) => Ok(with_names(ReplayAnswer::BadChoices, t)),
     }
 }

@@ -28,9 +28,9 @@ pub(crate) struct Answered {
 /// What FILE is found to hold.
 #[derive(Drop)]
 pub(crate) enum JudgedFile {
-    /// A program: the tokens of its text, and the items that main needs with their types.
+    /// A program in which each item passes, with the tokens of its text.
     Holds(Tokens, TypedProgram),
-    /// No program that is read.
+    /// None.
     Refused(Answered),
 }
 
@@ -43,7 +43,7 @@ pub(crate) enum Needed {
     None(Why),
 }
 
-/// What the bytes of a whole FILE hold: its tokens with the typed program, or why it is not read.
+/// What the bytes of a whole FILE hold: its tokens with the program, or why they hold none.
 ///
 /// It is refused where there is a place without a token, a bracket at depth 257 or no main, the first of these; and else where an item that main needs is
 /// refused, for the first of them.

@@ -6,6 +6,7 @@
 
 mod answering;
 mod judging;
+mod places;
 mod playing;
 mod top;
 

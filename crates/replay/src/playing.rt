@@ -1,8 +1,7 @@
-ghost use Rattle.std.specs.Prelude.{◌≡◌, ◌<◌, List as Items, length, IfOk};
+ghost use Rattle.std.specs.Prelude.{◌≡◌, List as Items, IfOk};
 ghost use Rattle.choices.specs.declared.choice.Choice.{Choice};
 ghost use Rattle.expressions.specs.Numbers.{Numbering};
 ghost use Rattle.ctokens.specs.TokenList.{HasNamedFiles};
-ghost use Rattle.ccheck.specs.Refusals.{place_at};
 ghost use Rattle.c_machine.specs.Program.{Program};
 ghost use Rattle.c_machine.specs.Run.{run_of};
 ghost use Rattle.c_machine.specs.State.{StateIn};
@@ -12,43 +11,35 @@ ghost use Rattle.c_steps.specs.ComesTo.{comes_to};
 ghost use Rattle.report.specs.ReplayReport.{HasPrintableRun};
 ghost use Rattle.replay.specs.Program.{what_of};
 
+use crate::places::place_at;
 use c_start::run_program;
 use c_steps::Outcome;
 use c_text::TypedText;
-use cbase::{NoMemory, Place};
-use ccheck::TypedProgram;
+use cbase::{Item, NoMemory};
 use choices::Choice;
 use ctokens::Tokens;
 use report::Replayed;
 use std::alloc::Global;
 
-/// What a run of a typed program does with these choices within so many steps.
+/// What a run of a program does with these choices within so many steps.
 ///
-/// The contract speaks of each program that the context stands for by some numbering. That a context names only types and signatures which it has is not
-/// proved of checked programs: where it does not, the answer is want of memory.
+/// The contract speaks of each program that the text stands for by some numbering.
 pub(crate) fn play(
     alloc: Global,
     t: &Tokens,
-    typed: TypedProgram,
+    program: &[Item],
+    text: &TypedText,
+    strict: bool,
     choices: &[Choice],
     steps: u32,
 ) -> Result<Replayed, NoMemory>
     requires { HasNamedFiles t.now }
-    ensures is { IfOk result (λ what. (n : Numbering) (p : Program) → StandsFor n typed.context p
-        → p.items ≡ typed.program → p.strict ≡ typed.strict
+    ensures is { IfOk result (λ what. (n : Numbering) (p : Program) → StandsFor n text.now p
+        → p.items ≡ program.now → p.strict ≡ strict
         → what_of t.now (run_of (text_of p) choices.now steps) ≡ what) }
     ensures printable { IfOk result (HasPrintableRun t.now.names) }
 {
-    let TypedProgram {
-        program,
-        context,
-        abi: _,
-        strict,
-    } = typed;
-    let Some(text) = TypedText::of(alloc, context)? else {
-        return Err(NoMemory);
-    };
-    let outcome = run_program(alloc, program.as_slice(), &text, strict, choices, steps)?;
+    let outcome = run_program(alloc, program, text, strict, choices, steps)?;
     Ok(replayed(t, outcome))
 }
 
@@ -67,20 +58,6 @@ fn replayed(t: &Tokens, outcome: Outcome) -> Replayed
             kind,
             place: place_at(t, place.at),
         },
-        Outcome::NotYet => Replayed::NotYet,
-        Outcome::Stuck => Replayed::Stuck,
-    }
-}
-
-/// The place of the token before which so many stand; past the last one that of none.
-#[tactic(auto, using(crate::proofs::Told::place_named))]
-fn place_at(t: &Tokens, number: u32) -> Place
-    requires { HasNamedFiles t.now }
-    ensures is { result ≡ place_at t.now number }
-    ensures named { result.file < length t.now.names }
-{
-    match t.list.as_slice().get(number as usize) {
-        Some(token) => token.place,
-        None => Place::NONE,
+        Outcome::NotYet | Outcome::Stuck => Replayed::Stuck,
     }
 }

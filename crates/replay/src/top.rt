@@ -8,6 +8,7 @@ ghost use Rattle.report.specs.ReplayReport.{HasPrintableReplay, replay_bytes, re
 ghost use Rattle.report.specs.declared.replay_answer.ReplayAnswer.{ReplayAnswer};
 ghost use Rattle.replay.specs.Judged.{IsVerdict, Judges};
 ghost use Rattle.replay.specs.Answered.{IsAnswered};
+ghost use Rattle.replay.specs.Opened.{IsOfFileAlone, IsOpenedLast};
 ghost use Rattle.replay.specs.Shown.{choices_in, file_in, unless_nothing};
 ghost use Rattle.replay.specs.Told.{IsAboutFiles};
 
@@ -47,8 +48,8 @@ struct Plan {
 
 /// Reads the program and the choices of the two files that the words give, says what a run of the program does with them, and writes the report.
 ///
-/// The words are those behind the word `replay`. CHOICES is read only where FILE holds a program. Where memory is wanting
-/// the answer is `OutOfMemory`, and nothing is written.
+/// The words are those behind the word `replay`. CHOICES is read only where FILE holds a program in which no body calls a function
+/// that it defines. Where memory is wanting the answer is `OutOfMemory`, and nothing is written.
 #[tactic(auto, using(crate::proofs::Files::is_verdict))]
 pub fn replay<F: Files, K: Sink>(
     alloc: Global,
@@ -70,12 +71,16 @@ pub fn replay<F: Files, K: Sink>(
         ≡ unless_nothing (choices_in (replay_command_of (map string_bytes words.now))) result.shown.answer }
     ensures no_names { replay_command_of (map string_bytes words.now) ≡ None → result.shown.names ≡ [] }
 
-    // ReadFault comes only where the last call, on one of the two files, failed.
+    // ReadFault comes only where the last call, on one of the two files, failed. The last file that is opened is FILE where the answer is about
+    // FILE alone, so also where it is refused; and a fault at CHOICES comes only where FILE holds a program of which runs can be made.
     ensures rose { result.shown.answer ≡ ReplayAnswer.ReadFault → Rose (F.faults files.old) (F.faults files.new) }
     ensures failed { result.shown.answer ≡ ReplayAnswer.ReadFault → F.failed files.new ≡ true }
     ensures begun { (command : ReplayCommand) → replay_command_of (map string_bytes words.now) ≡ Some command
-        → result.shown.answer ≡ ReplayAnswer.ReadFault
-        → (F.begun files.new ≡ command.file) ⊎ (F.begun files.new ≡ command.choices) }
+        → IsOpenedLast (F.tells files.old) (F.bytes_of files.old command.file) command (F.begun files.new) result.shown.answer }
+    ensures unopened { (command : ReplayCommand) (whole second : Items ℕ) (other : ReplayAnswer)
+        → replay_command_of (map string_bytes words.now) ≡ Some command → IsTrue (F.tells files.old)
+        → F.bytes_of files.old command.file ≡ Some whole → IsOfFileAlone other → Judges command whole second other
+        → result.shown.answer ≡ ReplayAnswer.ReadFault → F.begun files.new ≡ command.file }
 
     // The other answers say what is true of the bytes of both files, each exactly where it is true. The names are those
     // of the files of the text.
@@ -161,8 +166,8 @@ fn planned<F: Files>(alloc: Global, words: &[String], files: &mut F) -> Result<P
         → Rose (F.faults files.old) (F.faults files.new)) }
     ensures failed { IfOk result (λ plan. plan.shown.answer ≡ ReplayAnswer.ReadFault → F.failed files.new ≡ true) }
     ensures begun { (command : ReplayCommand) → replay_command_of (map string_bytes words.now) ≡ Some command
-        → IfOk result (λ plan. plan.shown.answer ≡ ReplayAnswer.ReadFault
-        → (F.begun files.new ≡ command.file) ⊎ (F.begun files.new ≡ command.choices)) }
+        → IfOk result (λ plan. IsOpenedLast (F.tells files.old) (F.bytes_of files.old command.file) command (F.begun files.new)
+        plan.shown.answer) }
     ensures judged { (command : ReplayCommand) → replay_command_of (map string_bytes words.now) ≡ Some command
         → IfOk result (λ plan. IsAnswered (F.tells files.old) (F.bytes_of files.old command.file)
         (F.bytes_of files.old command.choices) command plan.shown.names plan.shown.answer) }
@@ -198,8 +203,8 @@ fn planned_command<F: Files>(
     ensures rose { IfOk result (λ plan. plan.shown.answer ≡ ReplayAnswer.ReadFault
         → Rose (F.faults files.old) (F.faults files.new)) }
     ensures failed { IfOk result (λ plan. plan.shown.answer ≡ ReplayAnswer.ReadFault → F.failed files.new ≡ true) }
-    ensures begun { IfOk result (λ plan. plan.shown.answer ≡ ReplayAnswer.ReadFault
-        → (F.begun files.new ≡ command.file) ⊎ (F.begun files.new ≡ command.choices)) }
+    ensures begun { IfOk result (λ plan. IsOpenedLast (F.tells files.old) (F.bytes_of files.old command.file) command
+        (F.begun files.new) plan.shown.answer) }
     ensures judged { IfOk result (λ plan. IsAnswered (F.tells files.old) (F.bytes_of files.old command.file)
         (F.bytes_of files.old command.choices) command plan.shown.names plan.shown.answer) }
 {

@@ -1,6 +1,7 @@
-use Rattle.std.proofs.Common.{refl, ap, sym, ◌∙◌}
+use Rattle.std.proofs.Common.{inl, refl, ap, sym, ◌∙◌}
 use Rattle.outside.specs.declared.reading.Reading.TheVariants.{Whole}
-use Rattle.replay.proofs.Files.{long_taken, result_begun, result_rose, whole_answered}
+use Rattle.replay.proofs.Files.{long_taken, result_rose, whole_answered}
+use Rattle.replay.proofs.Opened.{whole_opened}
 use Rattle.replay.proofs.answering.answer_of_command.Goals as goal
 
 -- what is true of the bytes that were read is said of the files
@@ -22,7 +23,14 @@ returns-in-Whole-clause-rose g c =
     result_rose c.answer_of_text.result (F.faults c.args.files.now) (F.faults c.read_file.new.files) _ c.read_file.ensures.later c.answer_of_text.ensures.rose
 
 pub returns-in-Whole-clause-begun : goal.returns-in-Whole-clause-begun
-returns-in-Whole-clause-begun g c = result_begun c.answer_of_text.result _ c.args.command.now.file c.args.command.now.choices c.answer_of_text.ensures.begun
+returns-in-Whole-clause-begun g c =
+    let F = g.F.Files in
+    let files = c.args.files.now in
+    let later = c.read_file.new.files in
+    let command = c.args.command.now in
+    whole_opened command c.answer_of_text.result _ (F.tells files) (F.tells later) (F.bytes_of files) c.in_ok-name.name command.file (F.left later)
+    c.as_slice-in-Whole.result.now _ (c.in_ok-name.ensures ∙ c.as_slice.ensures) (c.in-Whole.is ∙ ap Whole (sym c.as_slice-in-Whole.ensures))
+    c.in_ok-text.ensures.told c.read_file.ensures.tells c.answer_of_text.ensures.begun
 
 pub returns-in-Long-clause-judged : goal.returns-in-Long-clause-judged
 returns-in-Long-clause-judged g c =
@@ -34,3 +42,9 @@ returns-in-Long-clause-judged g c =
           (c.in_ok-name.ensures ∙ c.as_slice.ensures) c.in-Long.is c.in_ok-text.ensures.within c.in_ok-text.ensures.told,
       refl,
     )
+
+pub returns-in-Long-clause-begun : goal.returns-in-Long-clause-begun
+returns-in-Long-clause-begun g c = rw c.too_long.ensures (c.read_file.ensures.begun ∙ (c.in_ok-name.ensures ∙ c.as_slice.ensures))
+
+pub returns-clause-begun : goal.returns-clause-begun
+returns-clause-begun g c = rw c.read_fault.ensures (inl (c.read_file.ensures.begun ∙ (c.in_ok-name.ensures ∙ c.as_slice.ensures)))

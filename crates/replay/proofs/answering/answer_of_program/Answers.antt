@@ -1,39 +1,40 @@
-use Rattle.std.proofs.Common.{ap, sym, ◌∙◌}
-use Rattle.outside.specs.declared.reading.Reading.TheVariants.{Whole}
-use Rattle.replay.proofs.Files.{both_about_files, both_no_fault, both_printable, both_result, long_answered, long_taken}
+-- A body calls a function that the program defines, or runs can be made.
+use Rattle.std.proofs.Common.{[]}
+use Rattle.replay.proofs.Files.{file_answered, file_no_fault}
+use Rattle.replay.proofs.Opened.{file_opened}
+use Rattle.replay.proofs.Told.{callee_told, runnable_held}
 use Rattle.replay.proofs.answering.answer_of_program.Goals as goal
 
--- what is true of the bytes that were read of CHOICES is said of the files
-pub returns-in-Whole-clause-judged : goal.returns-in-Whole-clause-judged
-returns-in-Whole-clause-judged g c = λ content are.
+pub returns-in-Some-clause-about : goal.returns-in-Some-clause-about
+returns-in-Some-clause-about g c = rw c.not_yet.ensures tt
+
+pub returns-in-Some-clause-printable : goal.returns-in-Some-clause-printable
+returns-in-Some-clause-printable g c =
+    rw c.not_yet.ensures
+    (callee_told c.args.command.now c.args.t c.args.program.now c.args.text.now c.args.strict c.requires.holds _ c.in_ok-callee.ensures c.in-Some.callee c.in-Some.is
+    c.requires.named []).printable
+
+pub returns-in-Some-clause-rose : goal.returns-in-Some-clause-rose
+returns-in-Some-clause-rose g c = file_no_fault _ c.not_yet.result.answer (rw c.not_yet.ensures tt)
+
+pub returns-in-Some-clause-failed : goal.returns-in-Some-clause-failed
+returns-in-Some-clause-failed g c = file_no_fault _ c.not_yet.result.answer (rw c.not_yet.ensures tt)
+
+pub returns-in-Some-clause-begun : goal.returns-in-Some-clause-begun
+returns-in-Some-clause-begun g c = λ content are.
     let F = g.F.Files in
-    let files = c.args.files.now in
-    both_result c.args.command.now c.answer_of_both.result (F.tells files) content (F.bytes_of files) c.in_ok-name.name c.args.command.now.choices c.args.t.text
-    c.as_slice-in-Whole.result.now (F.left c.read_file.new.files) _ (c.in_ok-name.ensures ∙ c.as_slice.ensures)
-    (c.in-Whole.is ∙ ap Whole (sym c.as_slice-in-Whole.ensures)) c.in_ok-second.ensures.told are c.answer_of_both.ensures.about c.answer_of_both.ensures.told
+    file_opened (F.tells c.args.files.now) content c.args.command.now _ c.not_yet.result.answer c.requires.opened (rw c.not_yet.ensures tt)
 
-pub returns-in-Whole-clause-printable : goal.returns-in-Whole-clause-printable
-returns-in-Whole-clause-printable g c =
-    both_printable c.args.command.now c.answer_of_both.result c.args.t.text c.as_slice-in-Whole.result.now c.answer_of_both.ensures.told
-
-pub returns-in-Long-clause-judged : goal.returns-in-Long-clause-judged
-returns-in-Long-clause-judged g c = λ content are.
+-- the call is told of FILE
+pub returns-in-Some-clause-judged : goal.returns-in-Some-clause-judged
+returns-in-Some-clause-judged g c = λ content are.
     let F = g.F.Files in
-    let files = c.args.files.now in
-    let choices = c.args.command.now.choices in
-    rw c.with_names.ensures
-    (long_answered (F.tells files) content (F.bytes_of files choices) c.args.command.now c.args.t c.args.typed c.requires.holds
-    (long_taken (F.tells files) (F.bytes_of files) c.in_ok-name.name choices (F.left c.read_file.new.files) _ _ (c.in_ok-name.ensures ∙ c.as_slice.ensures)
-    c.in-Long.is c.in_ok-second.ensures.within c.in_ok-second.ensures.told) are)
+    let command = c.args.command.now in
+    file_answered (F.tells c.args.files.now) content (F.bytes_of c.args.files.now command.choices) command c.args.t.text c.not_yet.result are (rw c.not_yet.ensures tt)
+    (λ second. rw c.not_yet.ensures
+    (callee_told command c.args.t c.args.program.now c.args.text.now c.args.strict c.requires.holds _ c.in_ok-callee.ensures c.in-Some.callee c.in-Some.is
+    c.requires.named second))
 
-pub returns-in-Whole-clause-about : goal.returns-in-Whole-clause-about
-returns-in-Whole-clause-about g c = both_about_files c.answer_of_both.result c.answer_of_both.ensures.about
-
-pub returns-in-Whole-clause-rose : goal.returns-in-Whole-clause-rose
-returns-in-Whole-clause-rose g c = both_no_fault _ c.answer_of_both.result c.answer_of_both.ensures.about
-
-pub returns-in-Whole-clause-failed : goal.returns-in-Whole-clause-failed
-returns-in-Whole-clause-failed g c = both_no_fault _ c.answer_of_both.result c.answer_of_both.ensures.about
-
-pub returns-in-Whole-clause-begun : goal.returns-in-Whole-clause-begun
-returns-in-Whole-clause-begun g c = both_no_fault _ c.answer_of_both.result c.answer_of_both.ensures.about
+pub answer_of_runnable-requires-clause-holds : goal.answer_of_runnable-requires-clause-holds
+answer_of_runnable-requires-clause-holds g c =
+    runnable_held c.args.command.now c.args.t c.args.program.now c.args.text.now c.args.strict c.requires.holds _ c.in_ok-callee.ensures c.in-None.is

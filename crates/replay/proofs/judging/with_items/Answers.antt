@@ -1,5 +1,6 @@
 -- What the check answers of the items that main needs is told of FILE, or held.
-use Rattle.replay.proofs.Told.{program_found, refusal_found}
+use Rattle.std.proofs.Common.{refl}
+use Rattle.replay.proofs.Told.{refusal_found, typed_found}
 use Rattle.replay.proofs.judging.with_items.Goals as goal
 
 pub returns-in-Refused : goal.returns-in-Refused
@@ -12,6 +13,9 @@ returns-in-Refused c =
 
 pub returns-in-Typed : goal.returns-in-Typed
 returns-in-Typed c =
-    let r = c.requires in
-    program_found c.args.command.now c.args.t c.args.items.now c.args.numbers.now c.in-Typed.program _ r.short r.tokens r.spans r.needed c.in-Typed.is
-    c.in_ok-refusal.ensures.answer r.named c.leads_back.ensures
+    let r = c.requires in (
+      refl,
+      r.named,
+      typed_found c.args.command.now c.args.t c.args.items.now c.args.numbers.now c.in-Typed.program _ r.short r.tokens r.spans r.needed c.in-Typed.is
+          c.in_ok-refusal.ensures.answer c.leads_back.ensures,
+    )

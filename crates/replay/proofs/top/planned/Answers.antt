@@ -1,8 +1,8 @@
 -- What is said of the command is so of the one that the words ask for.
-use Rattle.std.proofs.Common.{◌≡◌, ◌⊎◌, IfOk, map, string_bytes, subst}
+use Rattle.std.proofs.Common.{IfOk, map, string_bytes, subst}
 use Rattle.command_line.specs.declared.replay.ReplayCommand.{ReplayCommand}
-use Rattle.report.specs.declared.replay_answer.ReplayAnswer.TheVariants.{ReadFault}
 use Rattle.replay.specs.Answered.{IsAnswered}
+use Rattle.replay.specs.Opened.{IsOpenedLast}
 use Rattle.replay.proofs.Files.{plan_choices_named, plan_known, plan_named, plan_no_usage, same_command}
 use Rattle.replay.proofs.top.planned.Goals as goal
 
@@ -18,9 +18,10 @@ returns-in-Some-clause-judged g c = λ command words.
 pub returns-in-Some-clause-begun : goal.returns-in-Some-clause-begun
 returns-in-Some-clause-begun g c = λ command words.
     let F = g.F.Files in
+    let files = c.args.files.now in
     let same = same_command _ (map string_bytes c.args.words.now) c.in-Some.command command c.in_ok-command.ensures c.in-Some.is words in
     subst
-    (λ (x : ReplayCommand). IfOk c.planned_command.result (λ plan. plan.shown.answer ≡ ReadFault → (F.begun c.planned_command.new.files ≡ x.file) ⊎ (F.begun c.planned_command.new.files ≡ x.choices)))
+    (λ (x : ReplayCommand). IfOk c.planned_command.result (λ plan. IsOpenedLast (F.tells files) (F.bytes_of files x.file) x (F.begun c.planned_command.new.files) plan.shown.answer))
     same c.planned_command.ensures.begun
 
 pub returns-in-Some-clause-known : goal.returns-in-Some-clause-known

@@ -1,4 +1,5 @@
 use Rattle.replay.proofs.Files.{plan_about, plan_answered}
+use Rattle.replay.proofs.Opened.{plan_opened}
 use Rattle.replay.proofs.top.planned_command.Goals as goal
 
 -- what is said of the answer is said of the plan
@@ -7,3 +8,6 @@ returns-clause-judged g c = plan_answered _ _ _ _ c.reported.result _ c.in_ok-an
 
 pub returns-clause-about : goal.returns-clause-about
 returns-clause-about g c = plan_about c.reported.result _ c.in_ok-answer.ensures.about c.reported.ensures.shown
+
+pub returns-clause-begun : goal.returns-clause-begun
+returns-clause-begun g c = plan_opened _ _ _ _ c.reported.result _ c.in_ok-answer.ensures.begun c.reported.ensures.shown
