@@ -106,7 +106,6 @@ const FUNCTIONS: [(&[u8], Written, &[Written], Body); 9] = [
 ];
 
 /// Where the expressions stand.
-#[derive(Clone, Copy)]
 pub enum Around {
     /// In the body of a function whose result is an `int`.
     IntFunction,
@@ -117,7 +116,7 @@ pub enum Around {
 }
 
 /// Declares all of this in a data layout.
-pub fn declare(context: &mut Context, abi: Abi, around: Around) -> Result<(), NoMemory> {
+pub fn declare(context: &mut Context, abi: Abi, around: &Around) -> Result<(), NoMemory> {
     let alloc = context.alloc;
     define(context, &DEFINED)?;
     stand(context, around)?;
@@ -138,7 +137,7 @@ fn define(context: &mut Context, names: &[&[u8]]) -> Result<(), NoMemory> {
 }
 
 /// Goes into the function around the expressions, if there is one.
-fn stand(context: &mut Context, around: Around) -> Result<(), NoMemory> {
+fn stand(context: &mut Context, around: &Around) -> Result<(), NoMemory> {
     match around {
         Around::IntFunction => {
             let result = context.integer(4, true)?;

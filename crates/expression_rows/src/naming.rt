@@ -11,7 +11,6 @@ use environment::{DeclaredType, Entity, Lifetime, Signature};
 use expressions::Context;
 
 /// What a name with a type is declared as.
-#[derive(Clone, Copy)]
 pub enum Kind {
     /// An object that the text defines.
     Object,
@@ -28,7 +27,6 @@ pub enum Kind {
 }
 
 /// Where the body of a function stands.
-#[derive(Clone, Copy)]
 pub enum Body {
     /// In the text.
     Here,
@@ -45,7 +43,7 @@ pub fn names(
     rows: &[(&[u8], Kind, Written)],
 ) -> Result<(), NoMemory> {
     for (name, kind, written) in rows {
-        typed(context, abi, name, *kind, *written)?;
+        typed(context, abi, name, kind, written)?;
     }
     Ok(())
 }
@@ -55,8 +53,8 @@ fn typed(
     context: &mut Context,
     abi: Abi,
     name: &[u8],
-    kind: Kind,
-    written: Written,
+    kind: &Kind,
+    written: &Written,
 ) -> Result<(), NoMemory> {
     let alloc = context.alloc;
     let number = number_of(context, abi, written)?;
@@ -64,7 +62,7 @@ fn typed(
 }
 
 /// What a name of a type stands for.
-fn entity_of(kind: Kind, number: u32) -> Entity
+fn entity_of(kind: &Kind, number: u32) -> Entity
     ensures { (count : ℕ) (signatures : Items Signatures) → number < count → EntityBelow count signatures result }
 {
     let ctype = DeclaredType::Whole(number);
@@ -106,7 +104,7 @@ pub fn functions(
     rows: &[(&[u8], Written, &[Written], Body)],
 ) -> Result<(), NoMemory> {
     for (name, returned, parameters, body) in rows {
-        function(context, abi, name, *returned, parameters, *body)?;
+        function(context, abi, name, returned, parameters, body)?;
     }
     Ok(())
 }
@@ -116,9 +114,9 @@ fn function(
     context: &mut Context,
     abi: Abi,
     name: &[u8],
-    returned: Written,
+    returned: &Written,
     parameters: &[Written],
-    body: Body,
+    body: &Body,
 ) -> Result<(), NoMemory> {
     let alloc = context.alloc;
     let result = number_of(context, abi, returned)?;
@@ -167,7 +165,7 @@ fn members_of(
 {
     let alloc = context.alloc;
     for (name, written) in rows {
-        let ctype = number_of(context, abi, *written)?;
+        let ctype = number_of(context, abi, written)?;
         let name = Text::from_slice(alloc, name)?;
         members.push(Member { name, ctype })?;
     }

@@ -23,10 +23,10 @@ pub fn answer_line(alloc: Global, line: &str, answer: &mut String) -> Result<(),
         return Ok(answer.push_str("no row")?);
     };
     match layout {
-        "lp64" => answer_text(alloc, Abi::Lp64, Around::IntFunction, text, answer),
-        "llp64" => answer_text(alloc, Abi::Llp64, Around::IntFunction, text, answer),
-        "void" => answer_text(alloc, Abi::Lp64, Around::VoidFunction, text, answer),
-        "file" => answer_text(alloc, Abi::Lp64, Around::File, text, answer),
+        "lp64" => answer_text(alloc, Abi::Lp64, &Around::IntFunction, text, answer),
+        "llp64" => answer_text(alloc, Abi::Llp64, &Around::IntFunction, text, answer),
+        "void" => answer_text(alloc, Abi::Lp64, &Around::VoidFunction, text, answer),
+        "file" => answer_text(alloc, Abi::Lp64, &Around::File, text, answer),
         _ => Ok(answer.push_str("no layout")?),
     }
 }
@@ -35,7 +35,7 @@ pub fn answer_line(alloc: Global, line: &str, answer: &mut String) -> Result<(),
 fn answer_text(
     alloc: Global,
     abi: Abi,
-    around: Around,
+    around: &Around,
     text: &str,
     answer: &mut String,
 ) -> Result<(), NoMemory> {
@@ -49,7 +49,7 @@ fn answer_text(
 fn answer_tokens(
     alloc: Global,
     abi: Abi,
-    around: Around,
+    around: &Around,
     t: &Tokens,
     answer: &mut String,
 ) -> Result<(), NoMemory>
@@ -89,7 +89,7 @@ fn read_among_types(
 fn answer_read(
     alloc: Global,
     abi: Abi,
-    around: Around,
+    around: &Around,
     read: &ReadExpr,
     count: usize,
     answer: &mut String,
@@ -109,7 +109,7 @@ fn answer_read(
 fn answer_expression(
     context: &mut Context,
     abi: Abi,
-    around: Around,
+    around: &Around,
     expr: &Expr,
     answer: &mut String,
 ) -> Result<(), NoMemory>

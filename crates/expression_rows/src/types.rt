@@ -5,7 +5,6 @@ use cbase::{Abi, List, NoMemory, Rank, bytes_of_rank};
 use expressions::Context;
 
 /// A type that is no pointer and no array.
-#[derive(Clone, Copy)]
 pub enum Base {
     /// `void`.
     Void,
@@ -25,7 +24,6 @@ pub enum Base {
 }
 
 /// A type of what is declared.
-#[derive(Clone, Copy)]
 pub enum Written {
     /// The type itself.
     Of(Base),
@@ -38,18 +36,17 @@ pub enum Written {
 }
 
 /// The number of a type that is no pointer and no array.
-#[tactic(auto, using(crate::proofs::Growing::is_below, crate::proofs::Growing::is_longer))]
-fn number_of_base(context: &mut Context, abi: Abi, base: Base) -> Result<u32, NoMemory>
+fn number_of_base(context: &mut Context, abi: Abi, base: &Base) -> Result<u32, NoMemory>
     ensures below { IfOk result (λ number. number < length context.new.types) }
     ensures longer { OnOk result (length context.old.types ≤ length context.new.types) }
 {
     match base {
         Base::Void => context.void(),
         Base::Bool => context.boolean(),
-        Base::Signed(bytes) => context.integer(bytes, true),
-        Base::Unsigned(bytes) => context.integer(bytes, false),
-        Base::Long { signed } => context.integer(bytes_of_rank(Rank::Long, abi), signed),
-        Base::Struct(of) => context.structure(of),
+        Base::Signed(bytes) => context.integer(*bytes, true),
+        Base::Unsigned(bytes) => context.integer(*bytes, false),
+        Base::Long { signed } => context.integer(bytes_of_rank(Rank::Long, abi), *signed),
+        Base::Struct(of) => context.structure(*of),
     }
 }
 
@@ -74,7 +71,7 @@ fn array_of(context: &mut Context, item: u32, count: u64) -> Result<u32, NoMemor
 }
 
 /// The number of a type in a data layout.
-pub fn number_of(context: &mut Context, abi: Abi, written: Written) -> Result<u32, NoMemory>
+pub fn number_of(context: &mut Context, abi: Abi, written: &Written) -> Result<u32, NoMemory>
     ensures below { IfOk result (λ number. number < length context.new.types) }
     ensures longer { OnOk result (length context.old.types ≤ length context.new.types) }
 {
@@ -86,12 +83,12 @@ pub fn number_of(context: &mut Context, abi: Abi, written: Written) -> Result<u3
         }
         Written::ArrayOf(base, count) => {
             let item = number_of_base(context, abi, base)?;
-            array_of(context, item, count)
+            array_of(context, item, *count)
         }
         Written::GridOf(base, rows, columns) => {
             let item = number_of_base(context, abi, base)?;
-            let row = array_of(context, item, columns)?;
-            array_of(context, row, rows)
+            let row = array_of(context, item, *columns)?;
+            array_of(context, row, *rows)
         }
     }
 }
@@ -108,7 +105,7 @@ pub fn numbers_of(
     ensures longer { OnOk result (length context.old.types ≤ length context.new.types) }
 {
     for one in written {
-        let number = number_of(context, abi, *one)?;
+        let number = number_of(context, abi, one)?;
         numbers.push(number)?;
     }
     Ok(())
