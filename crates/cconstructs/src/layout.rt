@@ -34,7 +34,7 @@ fn first_attribute(text: &[u8], list: &[Token], from: u32) -> Option<u32>
     let mut part = outside(false);
     let mut number = from;
     for token in list {
-        let terminal = terminal_of(text, *token);
+        let terminal = terminal_of(text, token);
         if shows_layout(part, &terminal) {
             return Some(number);
         }

@@ -18,13 +18,11 @@ use std::marker::Model;
 /// A token as the grammar sees it: what it is, its bytes as it is read, and where it stands.
 #[derive(Drop)]
 pub struct Terminal<'a> {
-    /// What the token is.
-    pub kind: TokenKind,
+    /// The token of the text. Its number there counts the tokens that are passed over too.
+    pub token: &'a Token,
     /// Its bytes as it is read: those of the text, but that `__signed__` is read as `signed`, and `__typeof__` and
     /// `__typeof` as `typeof`.
     pub bytes: &'a [u8],
-    /// Where it stands in the text. Its number there counts the tokens that are passed over too.
-    pub place: Place,
 }
 
 impl<'a> Model for Terminal<'a> {
@@ -32,7 +30,7 @@ impl<'a> Model for Terminal<'a> {
 
     ghost Value = { Seen };
 
-    ghost view = { λ token. record { kind = token.kind; bytes = token.bytes.now; place = token.place } };
+    ghost view = { λ terminal. record { kind = terminal.token.now.kind; bytes = terminal.bytes.now; place = terminal.token.now.place } };
 }
 
 impl<'a> Terminal<'a> {
@@ -40,7 +38,7 @@ impl<'a> Terminal<'a> {
     pub fn kind(&self) -> TokenKind
         ensures { result ≡ self.now.kind }
     {
-        self.kind
+        self.token.kind
     }
 
     /// Its bytes as it is read.
@@ -54,21 +52,21 @@ impl<'a> Terminal<'a> {
     pub fn place(&self) -> Place
         ensures { result ≡ self.now.place }
     {
-        self.place
+        self.token.place
     }
 
     /// Whether it is a word, a keyword or not.
     pub fn is_any_word(&self) -> bool
         ensures { result ≡ is_any_word self.now }
     {
-        matches!(self.kind, TokenKind::Word)
+        matches!(self.token.kind, TokenKind::Word)
     }
 
     /// Whether it is the word with these bytes.
     pub fn is_word(&self, bytes: &[u8]) -> bool
         ensures { result ≡ is_word bytes.now self.now }
     {
-        matches!(self.kind, TokenKind::Word) && same_bytes(self.bytes, bytes)
+        matches!(self.token.kind, TokenKind::Word) && same_bytes(self.bytes, bytes)
     }
 
     /// Whether it is an identifier (C11 6.4.2): a word that is no keyword, and none of those of GNU C that no rule speaks
@@ -165,7 +163,7 @@ impl<'a> Terminal<'a> {
     pub fn is_constant(&self) -> bool
         ensures { result ≡ is_constant self.now }
     {
-        match self.kind {
+        match self.token.kind {
             TokenKind::Number => has_integer_parts(self.bytes),
             TokenKind::Letter => true,
             TokenKind::Word | TokenKind::Quoted | TokenKind::Mark => false,
@@ -176,14 +174,14 @@ impl<'a> Terminal<'a> {
     fn is_any_mark(&self) -> bool
         ensures { result ≡ is_mark_kind self.now.kind }
     {
-        matches!(self.kind, TokenKind::Mark)
+        matches!(self.token.kind, TokenKind::Mark)
     }
 
     /// Whether it is the mark with these bytes.
     pub fn is_mark(&self, bytes: &[u8]) -> bool
         ensures { result ≡ is_mark bytes.now self.now }
     {
-        matches!(self.kind, TokenKind::Mark) && same_bytes(self.bytes, bytes)
+        matches!(self.token.kind, TokenKind::Mark) && same_bytes(self.bytes, bytes)
     }
 }
 
@@ -198,14 +196,13 @@ fn bytes_read<'a>(kind: TokenKind, bytes: &'a [u8]) -> &'a [u8]
 }
 
 /// A token of the text as the grammar sees it.
-pub fn terminal_of<'a>(text: &'a [u8], token: Token) -> Terminal<'a>
-    requires order { token.from < token.to }
-    requires inside { token.to ≤ length text.now }
-    ensures { result ≡ terminal_of text.now token }
+pub fn terminal_of<'a>(text: &'a [u8], token: &'a Token) -> Terminal<'a>
+    requires order { token.now.from < token.now.to }
+    requires inside { token.now.to ≤ length text.now }
+    ensures { result ≡ terminal_of text.now token.now }
 {
     Terminal {
-        kind: token.kind,
+        token,
         bytes: bytes_read(token.kind, &text[token.from as usize..token.to as usize]),
-        place: token.place,
     }
 }

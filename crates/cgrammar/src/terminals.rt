@@ -54,7 +54,7 @@ pub fn row_of_part<'a>(
 fn unpassed<'a>(
     alloc: Global,
     text: &'a [u8],
-    list: &[Token],
+    list: &'a [Token],
     passed: &[bool],
 ) -> Result<Vec<Terminal<'a>>, NoMemory>
     requires ranges { All (λ (token : Token). (token.from < token.to) × (token.to ≤ length text.now)) list.now }
@@ -66,7 +66,7 @@ fn unpassed<'a>(
         if passed[index] {
             continue;
         }
-        row.push_reserved(terminal_of(text, *token));
+        row.push_reserved(terminal_of(text, token));
     }
     Ok(row)
 }

@@ -3,29 +3,42 @@ ghost use Rattle.ctokens.specs.InText.{LieInText};
 
 use cbase::{NoMemory, Place};
 use cgrammar::{Scope, Terminal, begins_with_label, read_basic_words, row_of, stars_length};
-use ctokens::{TokenKind, Tokens};
+use ctokens::{Token, TokenKind, Tokens};
 use std::alloc::Global;
 
-/// A token that stands in no text.
-fn alone<'a>(kind: TokenKind, bytes: &'a [u8]) -> Terminal<'a> {
+/// A token of the kind that stands in no text.
+fn alone(kind: TokenKind) -> Token {
     let place = Place {
         file: 0,
         line: 1,
         column: 1,
         at: 0,
     };
-    Terminal { kind, bytes, place }
+    Token {
+        kind,
+        from: 0,
+        to: 1,
+        place,
+    }
 }
 
 /// Whether the bytes are an integer constant.
 pub fn constant(alloc: Global, bytes: &[u8]) -> Result<String, NoMemory> {
-    let number = alone(TokenKind::Number, bytes);
+    let token = alone(TokenKind::Number);
+    let number = Terminal {
+        token: &token,
+        bytes,
+    };
     Ok(format!(in alloc; "{}", number.is_constant())?)
 }
 
 /// Which operator of the kind the bytes of a mark are.
 pub fn mark(alloc: Global, kind: &str, bytes: &[u8]) -> Result<String, NoMemory> {
-    let mark = alone(TokenKind::Mark, bytes);
+    let token = alone(TokenKind::Mark);
+    let mark = Terminal {
+        token: &token,
+        bytes,
+    };
     let shown = match kind {
         "binary" => format!(in alloc; "{:?}", mark.binary())?,
         "unary" => format!(in alloc; "{:?}", mark.unary())?,
