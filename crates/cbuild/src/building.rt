@@ -1,4 +1,4 @@
-ghost use Rattle.std.specs.Prelude.{◌≡◌, IfOk, Some};
+ghost use Rattle.std.specs.Prelude.{◌≡◌, ◌≤◌, drop, IfOk, Some};
 ghost use Rattle.cevents.specs.Building.{built, built_all};
 ghost use Rattle.cevents.specs.Workshop.{left_by};
 
@@ -6,6 +6,15 @@ use crate::builder::Builder;
 use cbase::NoMemory;
 use cevents::Event;
 use cgrammar::Terminal;
+
+/// What is made of a row of events.
+#[derive(Clone, Copy)]
+struct Turn {
+    /// Whether they make something.
+    made: bool,
+    /// How many events it is made of.
+    count: usize,
+}
 
 impl Builder {
     /// Makes what the event says of the pieces on top.
@@ -91,6 +100,35 @@ impl Builder {
         }
     }
 
+    /// Makes what the first of the events says; where it is an expression statement and the next one puts that behind other
+    /// statements, as nearly all do, what both say.
+    #[tactic(auto, unfolding(cevents::specs::Building::built_all))]
+    fn build_first(&mut self, row: &[Terminal<'_>], events: &[Event]) -> Result<Turn, NoMemory>
+        ensures some { IfOk result (λ turn. 1 ≤ turn.count) }
+        ensures made { IfOk result (λ turn. built_all row.now events.now (Some self.old) ≡ built_all row.now (drop turn.count events.now) (left_by turn.made self.new)) }
+    {
+        match events {
+            [] => Ok(Turn {
+                made: true,
+                count: 1,
+            }),
+            [event] => Ok(Turn {
+                made: self.build(row, *event)?,
+                count: 1,
+            }),
+            [event, next, ..] => match (*event, *next) {
+                (Event::Eval { first, last }, Event::Statement) => Ok(Turn {
+                    made: self.eval_behind(row, first, last)?,
+                    count: 2,
+                }),
+                (event, _) => Ok(Turn {
+                    made: self.build(row, event)?,
+                    count: 1,
+                }),
+            },
+        }
+    }
+
     /// Makes what the events say, one after the other.
     #[tactic(auto, using(crate::proofs::Made::made_of_nothing))]
     pub(crate) fn build_all(
@@ -100,10 +138,13 @@ impl Builder {
     ) -> Result<bool, NoMemory>
         ensures { IfOk result (λ made. left_by made self.new ≡ built_all row.now events.now (Some self.old)) }
     {
-        for event in events {
-            if !self.build(row, *event)? {
+        let mut index: usize = 0;
+        while index < events.len() {
+            let turn = self.build_first(row, &events[index..])?;
+            if !turn.made {
                 return Ok(false);
             }
+            index = index.saturating_add(turn.count);
         }
         Ok(true)
     }

@@ -1,10 +1,10 @@
 ghost use Rattle.std.specs.Prelude.{◌≡◌, IfOk};
-ghost use Rattle.cevents.specs.Building.{built};
+ghost use Rattle.cevents.specs.Building.{built, built_next};
 ghost use Rattle.cevents.specs.Workshop.{left_by};
 
 use crate::builder::Builder;
 use crate::texts::appended;
-use cbase::{List, NoMemory, StmtForm};
+use cbase::{List, NoMemory, Stmt, StmtForm};
 use cevents::{Event, Piece, place_at};
 use cgrammar::Terminal;
 
@@ -66,6 +66,32 @@ impl Builder {
             place_at(row, last),
             StmtForm::Eval(expr),
         )
+    }
+
+    /// An expression, or nothing, before a `;`, as one more statement: what `eval` and then `statement` make, with no box for
+    /// the statement in between.
+    pub(crate) fn eval_behind(
+        &mut self,
+        row: &[Terminal<'_>],
+        first: usize,
+        last: usize,
+    ) -> Result<bool, NoMemory>
+        ensures { IfOk result (λ made. left_by made self.new ≡ built_next row.now Event.Statement (built row.now (Event.Eval first last) self.old.count self.old.pieces)) }
+    {
+        let Some(expr) = self.pop_maybe() else {
+            return Ok(false);
+        };
+        let Some(body) = self.pop_statements() else {
+            drop(expr);
+            return Ok(false);
+        };
+        let stmt = Stmt {
+            place: place_at(row, first),
+            after: place_at(row, last),
+            form: StmtForm::Eval(expr),
+        };
+        let longer = appended(body, stmt)?;
+        self.put(Piece::Statements(longer))
     }
 
     /// A block (C11 6.8.2).
