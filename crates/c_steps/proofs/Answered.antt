@@ -1,13 +1,15 @@
 -- What a call answers says which fault is met.
-use Rattle.std.proofs.Common.{◌≡◌, ◌∙◌, ℕ, Bool, List, Option, None, Some, refl, ap}
-use Rattle.std.specs.Prelude.{Ok, Err}
+use Rattle.std.proofs.Common.{◌≡◌, ◌∙◌, ℕ, Bool, List, Option, None, Some, refl, sym, ap, subst}
+use Rattle.std.specs.Prelude.{Result, Ok, Err, OnOk}
 use Rattle.cbase.specs.declared.place.Place.{Place}
 use Rattle.bytes_core.specs.declared.block.Block.{Block}
 use Rattle.bytes_core.specs.declared.word.Word.{Word}
 use Rattle.bytes_core.specs.Access.{loaded}
 use Rattle.bytes_core.specs.Answer.{answer}
 use Rattle.c_machine.specs.declared.kind.Kind.{Kind}
-use Rattle.c_machine.specs.State.{Outcome, Faulted, unless_fault}
+use Rattle.choices.specs.declared.choice.Choice.{Choice}
+use Rattle.c_machine.specs.State.{State, Outcome, Went, Faulted, unless_fault, with_operand}
+use Rattle.c_machine.specs.Step.{or_ended}
 use Rattle.c_machine.specs.Words.{is_pointer}
 
 pub faulted : {T E S I : Type 0} (fault : Option ℕ) (value : T) (kind : ℕ) (place : Place) (onward : Outcome E S I) →
@@ -40,3 +42,18 @@ loaded_as fault memory at bytes kind pointer found same is =
 pub never_answered : {T : Type 0} (fault : Option ℕ) (value : T) (kind : ℕ) → fault ≡ None → Err kind ≡ answer fault value → ⊥
 never_answered None value kind free is = absurd cc
 never_answered (Some other) value kind free is = absurd cc
+
+-- the step went on
+pub went_unless : {T E S I : Type 0} (fault : Option ℕ) (value found : T) (place : Place) (new next : State E S I) (choices : List Choice) →
+    new ≡ next → Ok found ≡ answer fault value → Went new choices ≡ unless_fault fault place (Went next choices)
+went_unless {T} {E} {S} {I} fault value found place new next choices same is =
+    ap (λ (state : State E S I). Went state choices) same ∙ sym (passed fault value found place (Went next choices) is)
+
+pub went_or_ended : {E S I : Type 0} (value : Word) (found : Option Word) (state new : State E S I) (choices : List Choice) →
+    new ≡ with_operand value state → Some value ≡ found → Went new choices ≡ or_ended found state choices
+went_or_ended {E} {S} {I} value found state new choices same is =
+    ap (λ (next : State E S I). Went next choices) same ∙ ap (λ (made : Option Word). or_ended made state choices) is
+
+-- what a call ensures where it succeeds
+pub on_ok : {T R : Type 0} {P : Type 0} (result : Result T R) (found : T) → result ≡ Ok found → OnOk result P → P
+on_ok {T} {R} {P} result found is holds = subst (λ (one : Result T R). OnOk one P) is holds

@@ -1,14 +1,17 @@
 -- Contents of new blocks.
-use Rattle.std.proofs.Common.{◌≡◌, ℕ, zero, suc, ◌<◌, Bool, true, false, ◌&&◌, ◌||◌, not, List, [], ◌∷◌, length, map, get_or, nat_eq, nat_lt, refl, arith}
+use Rattle.std.proofs.Common.{◌≡◌, ℕ, zero, suc, ◌+◌, ◌<◌, ◌≤◌, Bool, true, false, ◌&&◌, ◌||◌, not, List, [], ◌∷◌, ◌++◌, length, map, drop, get_or, nat_eq, nat_lt, refl, sym, ap, ◌∙◌, append_assoc, add-one, drop-cons, arith}
 use Rattle.std.proofs.lemmas.Bool.{lt-ltb, eq-eqb}
+use Rattle.std.proofs.lemmas.List.{append-nil}
 use Rattle.std.specs.Prelude.{All}
 use Rattle.std.specs.List.{list_all}
+use Rattle.bytes_core.specs.declared.byte.Byte.{Byte}
 use Rattle.bytes_core.specs.declared.byte.Byte.TheVariants.{Num}
 use Rattle.bytes_core.specs.declared.block.Block.{Block}
 use Rattle.bytes_core.specs.declared.block.BlockKind.{BlockKind}
 use Rattle.bytes_core.specs.Placement.{can_be_placed, new_block}
 use Rattle.bytes_core.specs.Valid.{NamesBelow}
 use Rattle.c_steps.specs.Making.{is_choice}
+use Rattle.c_steps.proofs.Behind.{none_left}
 
 pub names_of_numbers : (count : ℕ) (contents : List ℕ) → All (NamesBelow count) (map Num contents)
 names_of_numbers count [] k d inside = absurd (omega arith)
@@ -32,3 +35,17 @@ choice_made memory kind size zeroed base contents sized fits placed asked =
     (both (nat_eq (length contents) size) _ (eq-eqb (length contents) size sized)
     (both (list_all (λ byte. nat_lt byte 256) contents) (can_be_placed memory (new_block kind base contents)) (below_256 contents fits) placed))
     asked
+
+-- one more byte is there, and at the end all are
+pub one_more_byte : (bytes more : List Byte) (contents : List ℕ) (at : ℕ) → at < length contents → more ≡ bytes ++ Num (get_or contents at 0) ∷ [] →
+    more ++ map Num (drop (at + 1) contents) ≡ bytes ++ map Num (drop at contents)
+one_more_byte bytes more contents at inside is =
+    let byte = get_or contents at 0 in
+    let rest = drop (at + 1) contents in
+    ap (λ (all : List Byte). all ++ map Num rest) is
+    ∙ (append_assoc bytes (Num byte ∷ []) (map Num rest)
+    ∙ ap (λ (left : List ℕ). bytes ++ map Num left) (ap (λ (n : ℕ). byte ∷ drop n contents) (add-one at) ∙ sym (drop-cons contents at 0 inside)))
+
+pub all_bytes : (bytes : List Byte) (contents : List ℕ) (at : ℕ) → length contents ≤ at → bytes ++ map Num (drop at contents) ≡ map Num contents → bytes ≡ map Num contents
+all_bytes bytes contents at past is =
+    sym (append-nil bytes) ∙ (ap (λ (left : List ℕ). bytes ++ map Num left) (sym (none_left contents at past)) ∙ is)

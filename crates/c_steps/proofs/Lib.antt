@@ -12,4 +12,5 @@ pub mod Contents
 pub mod Making
 pub mod Popping
 pub mod PlainSteps
+pub mod StepsOfKinds
 pub mod Passing

@@ -1,5 +1,6 @@
 -- What is made of words names no block but those that they name.
-use Rattle.std.proofs.Common.{◌≡◌, ℕ, List, Bool, true, false, Option, None, Some, option_map, ℤ, subst}
+use Rattle.std.proofs.Common.{◌≡◌, ℕ, List, Bool, true, false, Option, None, Some, option_map, ℤ, sym, subst}
+use Rattle.std.specs.Prelude.{IfSome}
 use Rattle.cbase.specs.declared.tree.operators.BinaryOp.{BinaryOp}
 use Rattle.cbase.specs.declared.tree.operators.BinaryOp.TheVariants as op
 use Rattle.cbase.specs.declared.tree.operators.UnaryOp.{UnaryOp}
@@ -94,6 +95,12 @@ pub names_of_operated : (count : ℕ) (memory : List Block) (what : BinaryOp) (l
     operated memory what left right one other ≡ Some value → WordNamesBelow count value
 names_of_operated count memory what left right one other value first second is =
     subst (OperatedNames count) is (operated_names count memory what left right one other first second)
+
+pub names_if_operated : (count : ℕ) (memory : List Block) (what : BinaryOp) (left right : Kind) (one other : Word) (found : Option Word) →
+    WordNamesBelow count one → WordNamesBelow count other → found ≡ operated memory what left right one other → IfSome found (WordNamesBelow count)
+names_if_operated count memory what left right one other None first second is = tt
+names_if_operated count memory what left right one other (Some value) first second is =
+    names_of_operated count memory what left right one other value first second (sym is)
 
 pub names_of_counted : (count : ℕ) (keeps_old : Bool) (old new : Word) → WordNamesBelow count old → WordNamesBelow count new → WordNamesBelow count (counted keeps_old old new)
 names_of_counted count true old new first second = first

@@ -56,7 +56,6 @@ pub fn load<E: Drop, S: Drop, I: Drop>(
 }
 
 /// A value is stored at an address, and is the value of the assignment (C11 6.5.16p3).
-#[tactic(auto, using(crate::proofs::Answered::faulted, crate::proofs::Answered::passed))]
 pub fn store<E: Drop, S: Drop, I: Drop>(
     state: &mut State<E, S, I>,
     place: Place,
@@ -83,7 +82,6 @@ pub fn store<E: Drop, S: Drop, I: Drop>(
 }
 
 /// A struct of so many bytes is copied from one address to another.
-#[tactic(auto, using(crate::proofs::Answered::faulted, crate::proofs::Answered::passed))]
 pub fn copy_struct<E: Drop, S: Drop, I: Drop>(
     alloc: Global,
     state: &mut State<E, S, I>,

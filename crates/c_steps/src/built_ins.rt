@@ -151,7 +151,6 @@ fn memset<E: Drop, S: Drop, I: Drop>(
 }
 
 /// `memcpy` and `memmove` (C11 7.24.2.1, 7.24.2.2): they answer their first argument.
-#[tactic(auto, using(crate::proofs::Answered::faulted, crate::proofs::Answered::passed))]
 fn copy<E: Drop, S: Drop, I: Drop>(
     alloc: Global,
     state: &mut State<E, S, I>,

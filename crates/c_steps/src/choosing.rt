@@ -18,7 +18,6 @@ use std::alloc::Global;
 
 /// A new block of a kind and size, of zeros alone where that is asked: its base and its contents are a choice. It is the number of the block, or what the
 /// step comes to where there is none.
-#[tactic(auto, using(crate::proofs::Making::makes_block))]
 pub(crate) fn with_block<E: Drop, S: Drop, I: Drop>(
     alloc: Global,
     state: &mut State<E, S, I>,

@@ -105,7 +105,6 @@ pub fn apply<E: Drop, S: Drop, I: Drop>(
 }
 
 /// A binary operator on two values (C11 6.5.5 to 6.5.12). Where it has no value the run ends.
-#[tactic(auto, using(crate::proofs::NamedWords::names_of_operated))]
 pub fn operate<E: Drop, S: Drop, I: Drop>(
     state: &mut State<E, S, I>,
     op: BinaryOp,

@@ -34,8 +34,6 @@ pub fn plain_step<E: Drop, S: Drop, I: Drop>(
     ensures other { IfNone (plain_step strict task state.old choices.old) ((result ≡ Ok Stuck) × ((state.new ≡ state.old) × (choices.new ≡ choices.old))) }
 {
     match task {
-        Task::ValueOf(_) => Ok(Outcome::Stuck),
-        Task::AddressOf(_) => Ok(Outcome::Stuck),
         Task::Push(number) => push(state, number),
         Task::ObjectAt(token) => object_at(state, token),
         Task::Shift(bytes) => shift(state, bytes),
@@ -46,7 +44,6 @@ pub fn plain_step<E: Drop, S: Drop, I: Drop>(
         Task::Answer(holds) => answer(state, holds),
         Task::AndThen(right) => and_then(state, right),
         Task::OrElse(right) => or_else(state, right),
-        Task::Pick { .. } => Ok(Outcome::Stuck),
         Task::Drop => Ok(let_go(state)),
         Task::Store { place, kind } => store(state, place, kind),
         Task::Update {
@@ -71,19 +68,11 @@ pub fn plain_step<E: Drop, S: Drop, I: Drop>(
         Task::EndRun => Ok(Outcome::Ended),
         Task::Finish(place) => finish(alloc, state, place),
         Task::Keep(place) => keep(alloc, state, place),
-        Task::Execute(_) => Ok(Outcome::Stuck),
-        Task::Branch(_) => Ok(Outcome::Stuck),
-        Task::Test(_) => Ok(Outcome::Stuck),
-        Task::Again { .. } => Ok(Outcome::Stuck),
         Task::OpenBlock => open_block(alloc, state),
         Task::MakeObject(object) => make_object(alloc, state, choices, object),
         Task::MakeStatic(object) => make_static(alloc, state, choices, object),
         Task::LeaveBlock(place) => leave_block(alloc, state, place),
         Task::Zero { place, bytes } => Ok(zero(state, place, bytes)),
-        Task::Initialise { .. } => Ok(Outcome::Stuck),
-        Task::BreakAt(_) => Ok(Outcome::Stuck),
-        Task::ContinueAt(_) => Ok(Outcome::Stuck),
-        Task::GiveBack { .. } => Ok(Outcome::Stuck),
         Task::LeaveFunction(place) => leave_function(alloc, state, strict, place),
         Task::EndOfBody {
             main,
@@ -91,6 +80,17 @@ pub fn plain_step<E: Drop, S: Drop, I: Drop>(
             close,
             held: _,
         } => end_of_body(state, choices, main, result, close),
-        Task::Unknown => Ok(Outcome::Stuck),
+        Task::ValueOf(_)
+        | Task::AddressOf(_)
+        | Task::Pick { .. }
+        | Task::Execute(_)
+        | Task::Branch(_)
+        | Task::Test(_)
+        | Task::Again { .. }
+        | Task::Initialise { .. }
+        | Task::BreakAt(_)
+        | Task::ContinueAt(_)
+        | Task::GiveBack { .. }
+        | Task::Unknown => Ok(Outcome::Stuck),
     }
 }

@@ -48,7 +48,6 @@ fn old_value<E: Drop, S: Drop, I: Drop>(
 }
 
 /// What an operator makes of the old value and of one on the right.
-#[tactic(auto, using(crate::proofs::NamedWords::names_of_operated))]
 fn made_value<E: Drop, S: Drop, I: Drop>(
     state: &State<E, S, I>,
     op: BinaryOp,

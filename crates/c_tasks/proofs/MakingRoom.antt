@@ -62,6 +62,21 @@ speaks_of_two tasks one other kind next before after is there-is kinds made = (
   kinds (there one kind is) (there other next there-is),
 )
 
+pub room_with_one : (tasks : Kind → Tasks) (own kind : Kind) (room : Room) (before after : Running) →
+    Some kind ≡ kept own → (are_kept (kind ∷ []) ≡ true → MakesRoom (tasks kind) room before after) → MakesRoom (tasks own) room before after
+room_with_one tasks own kind room before after is made =
+    let same : own ≡ kind = is_kept own kind is in
+    subst (λ (kind : Kind). MakesRoom (tasks kind) room before after) (sym same)
+    (made (ap (λ (kind : Kind). are_kept (kind ∷ [])) (sym same) ∙ one_there own (there own kind is)))
+
+pub room_with_two : (tasks : Kind → Kind → Tasks) (one other kind next : Kind) (room : Room) (before after : Running) →
+    Some kind ≡ kept one → Some next ≡ kept other → (are_kept (kind ∷ next ∷ []) ≡ true → MakesRoom (tasks kind next) room before after)
+    → MakesRoom (tasks one other) room before after
+room_with_two tasks one other kind next room before after is there-is made =
+    room_with_one (λ (kind : Kind). tasks kind other) one kind room before after is
+    (λ first. room_with_one (tasks kind) other next room before after there-is
+    (λ second. made (ap (λ (fits : Bool). is_there (kept kind) && fits) second ∙ first)))
+
 pub on_ok : {A E : Type 0} (P Q : A → Type 0) (result : Result A E) → ((value : A) → P value → Q value) → IfOk result P → IfOk result Q
 on_ok P Q (Ok value) onward is = onward value is
 on_ok P Q (Err error) onward is = tt

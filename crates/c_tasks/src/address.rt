@@ -12,7 +12,7 @@ ghost use Rattle.c_text.specs.Stands.{StandsFor};
 ghost use Rattle.c_tasks.specs.Room.{MakesRoom};
 
 use crate::operations::operated;
-use crate::pushes::{do_address, do_value, unknown, value_alone};
+use crate::pushes::{address_then, alone, unknown, value_alone, value_then};
 use crate::room::Room;
 use crate::standing::object_named;
 use crate::state::TreeState;
@@ -61,10 +61,7 @@ fn object_address<'a>(
 {
     match object_named(text, expr) {
         None => unknown(state),
-        Some(token) => {
-            state.do_first(Task::ObjectAt(token))?;
-            Ok(Room::Made)
-        }
+        Some(token) => alone(state, Task::ObjectAt(token)),
     }
 }
 
@@ -90,9 +87,8 @@ fn member_address<'a>(
 ) -> Result<Room, NoMemory>
     ensures { IfOk result (λ room. (n : Numbering) (p : Program) → StandsFor n text.now p → MakesRoom (address_parts (text_of p) expr.now (form_of p expr.now (tree.ExprForm::Member base.now name.now false))) room state.old state.new) }
 {
-    state.do_first(Task::Shift(text.member_offset(base.number, name.name.as_slice())))?;
-    do_address(state, base)?;
-    Ok(Room::Made)
+    let offset = text.member_offset(base.number, name.name.as_slice());
+    address_then(state, base, Task::Shift(offset))
 }
 
 /// The address of a member of the struct to which an expression leads (C11 6.5.2.3p4).
@@ -105,7 +101,6 @@ fn pointed_address<'a>(
 ) -> Result<Room, NoMemory>
     ensures { IfOk result (λ room. (n : Numbering) (p : Program) → StandsFor n text.now p → MakesRoom (address_parts (text_of p) expr.now (form_of p expr.now (tree.ExprForm::Member base.now name.now true))) room state.old state.new) }
 {
-    state.do_first(Task::Shift(text.pointed_offset(base.number, name.name.as_slice())))?;
-    do_value(state, base)?;
-    Ok(Room::Made)
+    let offset = text.pointed_offset(base.number, name.name.as_slice());
+    value_then(state, base, Task::Shift(offset))
 }

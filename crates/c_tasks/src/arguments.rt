@@ -10,7 +10,7 @@ ghost use Rattle.c_text.specs.Stands.{StandsFor};
 ghost use Rattle.c_tasks.specs.Room.{MakesRoom};
 
 use crate::kinds::value_kind;
-use crate::pushes::do_value;
+use crate::pushes::value_then;
 use crate::room::Room;
 use crate::state::TreeState;
 use c_machine::Task;
@@ -77,7 +77,5 @@ fn argument<'a>(
     let Some(to) = text.parameter_kind(signature, index) else {
         return Ok(Room::NotKept);
     };
-    state.do_first(Task::Convert { from, to })?;
-    do_value(state, arg)?;
-    Ok(Room::Made)
+    value_then(state, arg, Task::Convert { from, to })
 }

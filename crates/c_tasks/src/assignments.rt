@@ -11,10 +11,11 @@ ghost use Rattle.c_text.specs.Stands.{StandsFor};
 ghost use Rattle.c_tasks.specs.Room.{MakesRoom};
 
 use crate::kinds::{own_kind, struct_bytes, value_kind};
-use crate::pushes::{do_address, do_sides};
+use crate::pushes::{address_then, do_address, do_sides};
 use crate::room::Room;
 use crate::state::TreeState;
 use c_machine::{Kind, Task};
+use c_steps::Tree;
 use c_text::TypedText;
 use cbase::{BinaryOp, Expr, NoMemory, Place};
 
@@ -131,8 +132,7 @@ fn updated<'a>(
         kind,
         right: other,
     })?;
-    do_sides(state, left, right)?;
-    Ok(Room::Made)
+    address_then(state, left, Task::ValueOf(Tree::of(right)))
 }
 
 /// What is to be done for `++` and `--`, before their operand or behind it (C11 6.5.2.4, 6.5.3.1).
@@ -149,12 +149,14 @@ pub fn counted<'a>(
     let Some(kind) = own_kind(text, arg) else {
         return Ok(Room::NotKept);
     };
-    state.do_first(Task::CountBy {
-        up,
-        after,
-        place: arg.place,
-        kind,
-    })?;
-    do_address(state, arg)?;
-    Ok(Room::Made)
+    address_then(
+        state,
+        arg,
+        Task::CountBy {
+            up,
+            after,
+            place: arg.place,
+            kind,
+        },
+    )
 }

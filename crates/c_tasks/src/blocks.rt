@@ -11,7 +11,8 @@ ghost use Rattle.c_machine.specs.Trees.{name_of, text_of};
 ghost use Rattle.c_text.specs.Stands.{StandsFor};
 ghost use Rattle.c_tasks.specs.Room.{MakesRoom};
 
-use crate::pushes::{do_statement, do_value};
+use crate::loops::opened;
+use crate::pushes::{alone, do_statement, do_value};
 use crate::room::Room;
 use crate::state::TreeState;
 use c_machine::Task;
@@ -56,10 +57,7 @@ fn open_block<'a>(
 {
     match entered(text, state, body)? {
         Room::NotKept => Ok(Room::NotKept),
-        Room::Made => {
-            state.do_first(Task::OpenBlock)?;
-            Ok(Room::Made)
-        }
+        Room::Made => opened(state),
     }
 }
 
@@ -124,10 +122,7 @@ fn object_of(text: &TypedText, state: &mut TreeState, name: &Declared) -> Result
     match text.automatic(name.place.at) {
         None => Ok(Room::NotKept),
         Some(None) => Ok(Room::Made),
-        Some(Some(object)) => {
-            state.do_first(Task::MakeObject(object))?;
-            Ok(Room::Made)
-        }
+        Some(Some(object)) => alone(state, Task::MakeObject(object)),
     }
 }
 

@@ -7,7 +7,7 @@ ghost use Rattle.c_machine.specs.Trees.{text_of};
 ghost use Rattle.c_tasks.specs.Room.{MakesRoom};
 
 use crate::loops::turn;
-use crate::pushes::{do_value, statement_alone, unknown};
+use crate::pushes::{statement_alone, unknown, value_then};
 use crate::room::Room;
 use crate::state::TreeState;
 use c_machine::Task;
@@ -90,7 +90,5 @@ pub(crate) fn tested<'a>(
 ) -> Result<Room, NoMemory>
     ensures { IfOk result (λ room. MakesRoom (ValueOf test.now ∷ Branch stmt.now ∷ []) room state.old state.new) }
 {
-    state.do_first(Task::Branch(Tree::of(stmt)))?;
-    do_value(state, test)?;
-    Ok(Room::Made)
+    value_then(state, test, Task::Branch(Tree::of(stmt)))
 }

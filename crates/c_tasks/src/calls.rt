@@ -13,7 +13,7 @@ ghost use Rattle.c_tasks.specs.Room.{MakesRoom};
 
 use crate::arguments::arguments;
 use crate::functions::built_in;
-use crate::pushes::unknown;
+use crate::pushes::{alone, unknown};
 use crate::room::Room;
 use crate::state::TreeState;
 use c_machine::Task;
@@ -84,6 +84,5 @@ fn built_in_call<'a>(
 fn defined_call(state: &mut TreeState) -> Result<Room, NoMemory>
     ensures { IfOk result (λ room. MakesRoom (CallDefined ∷ []) room state.old state.new) }
 {
-    state.do_first(Task::CallDefined)?;
-    Ok(Room::Made)
+    alone(state, Task::CallDefined)
 }

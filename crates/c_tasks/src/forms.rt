@@ -11,7 +11,7 @@ ghost use Rattle.c_tasks.specs.Room.{MakesRoom};
 
 use crate::kinds::{own_kind, value_kind};
 use crate::loads::loaded;
-use crate::pushes::do_value;
+use crate::pushes::{alone, value_then};
 use crate::room::Room;
 use crate::state::TreeState;
 use c_machine::Task;
@@ -33,13 +33,15 @@ pub fn chosen<'a>(
     let Some(kind) = value_kind(text, expr) else {
         return Ok(Room::NotKept);
     };
-    state.do_first(Task::Pick {
-        kind,
-        one: Tree::of(one),
-        other: Tree::of(other),
-    })?;
-    do_value(state, test)?;
-    Ok(Room::Made)
+    value_then(
+        state,
+        test,
+        Task::Pick {
+            kind,
+            one: Tree::of(one),
+            other: Tree::of(other),
+        },
+    )
 }
 
 /// What is to be done for a cast (C11 6.5.4).
@@ -57,9 +59,7 @@ pub fn cast<'a>(
     let Some(to) = own_kind(text, expr) else {
         return Ok(Room::NotKept);
     };
-    state.do_first(Task::Convert { from, to })?;
-    do_value(state, arg)?;
-    Ok(Room::Made)
+    value_then(state, arg, Task::Convert { from, to })
 }
 
 /// What is to be done for the value of an item of an array (C11 6.5.2.1).
@@ -88,6 +88,5 @@ pub fn member<'a>(
 pub fn assert_failed(state: &mut TreeState) -> Result<Room, NoMemory>
     ensures { IfOk result (λ room. (p : Program) (expr : Expr) → MakesRoom (value_parts (text_of p) expr AssertFail) room state.old state.new) }
 {
-    state.do_first(Task::EndRun)?;
-    Ok(Room::Made)
+    alone(state, Task::EndRun)
 }

@@ -16,7 +16,7 @@ ghost use Rattle.c_text.specs.Stands.{StandsFor};
 ghost use Rattle.c_tasks.specs.Room.{MakesRoom};
 
 use crate::kinds::{struct_bytes, value_kind};
-use crate::pushes::{do_address, do_value, unknown};
+use crate::pushes::{alone, do_address, do_value, unknown};
 use crate::room::Room;
 use crate::state::TreeState;
 use c_machine::{Kind, Object, Task};
@@ -77,8 +77,7 @@ fn initialised_object<'a>(
                 place,
                 bytes: object.bytes,
             })?;
-            state.do_first(Task::ObjectAt(text.first_token(place.at)))?;
-            Ok(Room::Made)
+            alone(state, Task::ObjectAt(text.first_token(place.at)))
         }
     }
 }
@@ -93,13 +92,13 @@ fn initialised_large<'a>(
         → MakesRoom (zeroed (text_of p) place object ((text_of p).initialiser init.now) ++ Initialise place init.now ∷ []) room state.old state.new) }
 {
     match init {
-        Init::Value { .. } => {
-            state.do_first(Task::Initialise {
+        Init::Value { .. } => alone(
+            state,
+            Task::Initialise {
                 place,
                 init: Tree::of(init),
-            })?;
-            Ok(Room::Made)
-        }
+            },
+        ),
         Init::Braces(_) => Ok(Room::NotKept),
     }
 }

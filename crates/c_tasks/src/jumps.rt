@@ -9,7 +9,7 @@ ghost use Rattle.c_text.specs.Stands.{StandsFor};
 ghost use Rattle.c_tasks.specs.Room.{MakesRoom};
 
 use crate::kinds::value_kind;
-use crate::pushes::do_value;
+use crate::pushes::{alone, value_then};
 use crate::room::Room;
 use crate::state::TreeState;
 use c_machine::{Kind, Task};
@@ -20,16 +20,14 @@ use cbase::{Boxed, Expr, NoMemory, Place};
 pub(crate) fn broken_off(state: &mut TreeState, word: Place) -> Result<Room, NoMemory>
     ensures { IfOk result (λ room. MakesRoom (BreakAt word ∷ []) room state.old state.new) }
 {
-    state.do_first(Task::BreakAt(word))?;
-    Ok(Room::Made)
+    alone(state, Task::BreakAt(word))
 }
 
 /// `continue` (C11 6.8.6.2).
 pub(crate) fn continued(state: &mut TreeState, word: Place) -> Result<Room, NoMemory>
     ensures { IfOk result (λ room. MakesRoom (ContinueAt word ∷ []) room state.old state.new) }
 {
-    state.do_first(Task::ContinueAt(word))?;
-    Ok(Room::Made)
+    alone(state, Task::ContinueAt(word))
 }
 
 /// `return`, with a value or without one (C11 6.8.6.4).
@@ -55,8 +53,7 @@ fn returned_nothing(state: &mut TreeState, word: Place) -> Result<Room, NoMemory
         place: word,
         kind: Kind::Void,
     })?;
-    state.do_first(Task::Push(0))?;
-    Ok(Room::Made)
+    alone(state, Task::Push(0))
 }
 
 /// `return` with a value.
@@ -71,7 +68,5 @@ fn returned_value<'a>(
     let Some(kind) = value_kind(text, expr) else {
         return Ok(Room::NotKept);
     };
-    state.do_first(Task::GiveBack { place: word, kind })?;
-    do_value(state, expr)?;
-    Ok(Room::Made)
+    value_then(state, expr, Task::GiveBack { place: word, kind })
 }

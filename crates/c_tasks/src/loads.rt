@@ -8,7 +8,7 @@ ghost use Rattle.c_text.specs.Stands.{StandsFor};
 ghost use Rattle.c_tasks.specs.Room.{MakesRoom};
 
 use crate::kinds::own_kind;
-use crate::pushes::do_address;
+use crate::pushes::address_then;
 use crate::room::Room;
 use crate::state::TreeState;
 use c_machine::Task;
@@ -26,10 +26,12 @@ pub fn loaded<'a>(
     let Some(kind) = own_kind(text, expr) else {
         return Ok(Room::NotKept);
     };
-    state.do_first(Task::Load {
-        place: expr.place,
-        kind,
-    })?;
-    do_address(state, expr)?;
-    Ok(Room::Made)
+    address_then(
+        state,
+        expr,
+        Task::Load {
+            place: expr.place,
+            kind,
+        },
+    )
 }

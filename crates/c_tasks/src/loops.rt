@@ -13,7 +13,7 @@ ghost use Rattle.c_tasks.specs.Room.{MakesRoom};
 
 use crate::blocks::objects_in;
 use crate::branches::tested;
-use crate::pushes::{do_statement, unknown};
+use crate::pushes::{alone, do_statement, statement_alone, unknown};
 use crate::room::Room;
 use crate::state::TreeState;
 use crate::statements::evaluated;
@@ -71,8 +71,7 @@ pub(crate) fn do_test<'a>(state: &mut TreeState<'a>, stmt: &'a Stmt) -> Result<(
 pub(crate) fn test_alone<'a>(state: &mut TreeState<'a>, stmt: &'a Stmt) -> Result<Room, NoMemory>
     ensures { IfOk result (λ room. MakesRoom (Test stmt.now ∷ []) room state.old state.new) }
 {
-    do_test(state, stmt)?;
-    Ok(Room::Made)
+    alone(state, Task::Test(Tree::of(stmt)))
 }
 
 /// A turn of a loop.
@@ -88,8 +87,7 @@ pub(crate) fn turn<'a>(
         stmt: Tree::of(stmt),
         held,
     })?;
-    do_statement(state, body)?;
-    Ok(Room::Made)
+    statement_alone(state, body)
 }
 
 /// The condition of a `for`, or a turn where it has none (C11 6.8.5.3p2).
@@ -148,9 +146,8 @@ fn do_run<'a>(state: &mut TreeState<'a>, stmt: &'a Stmt, first: &'a Stmt) -> Res
 }
 
 /// A block begins.
-fn opened(state: &mut TreeState) -> Result<Room, NoMemory>
+pub(crate) fn opened(state: &mut TreeState) -> Result<Room, NoMemory>
     ensures { IfOk result (λ room. MakesRoom (OpenBlock ∷ []) room state.old state.new) }
 {
-    state.do_first(Task::OpenBlock)?;
-    Ok(Room::Made)
+    alone(state, Task::OpenBlock)
 }

@@ -10,7 +10,7 @@ ghost use Rattle.c_text.specs.Stands.{StandsFor};
 ghost use Rattle.c_tasks.specs.Room.{MakesRoom};
 
 use crate::loads::loaded;
-use crate::pushes::unknown;
+use crate::pushes::{alone, unknown};
 use crate::room::Room;
 use crate::standing::constant_named;
 use crate::state::TreeState;
@@ -28,10 +28,7 @@ pub fn named_value<'a>(
 {
     match constant_named(text, expr) {
         None => loaded(text, state, expr),
-        Some(bits) => {
-            state.do_first(Task::Push(u64::from(bits)))?;
-            Ok(Room::Made)
-        }
+        Some(bits) => alone(state, Task::Push(u64::from(bits))),
     }
 }
 
@@ -45,9 +42,6 @@ pub fn known_value<'a>(
 {
     match text.constant(expr.number) {
         None => unknown(state),
-        Some(bits) => {
-            state.do_first(Task::Push(bits))?;
-            Ok(Room::Made)
-        }
+        Some(bits) => alone(state, Task::Push(bits)),
     }
 }

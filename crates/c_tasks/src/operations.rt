@@ -11,7 +11,7 @@ ghost use Rattle.c_tasks.specs.Room.{MakesRoom};
 
 use crate::kinds::value_kind;
 use crate::loads::loaded;
-use crate::pushes::{address_alone, do_value, do_values};
+use crate::pushes::{address_alone, do_value, value_then};
 use crate::room::Room;
 use crate::state::TreeState;
 use c_machine::Task;
@@ -41,9 +41,7 @@ pub fn unary<'a>(
 fn denied<'a>(state: &mut TreeState<'a>, arg: &'a Expr) -> Result<Room, NoMemory>
     ensures { IfOk result (λ room. MakesRoom (ValueOf arg.now ∷ Answer false ∷ []) room state.old state.new) }
 {
-    state.do_first(Task::Answer(false))?;
-    do_value(state, arg)?;
-    Ok(Room::Made)
+    value_then(state, arg, Task::Answer(false))
 }
 
 /// An operator of arithmetic on one value.
@@ -58,9 +56,7 @@ fn applied<'a>(
     let Some(kind) = value_kind(text, arg) else {
         return Ok(Room::NotKept);
     };
-    state.do_first(Task::Apply { op, kind })?;
-    do_value(state, arg)?;
-    Ok(Room::Made)
+    value_then(state, arg, Task::Apply { op, kind })
 }
 
 /// What is to be done for the value of a binary operator or the comma with its operands.
@@ -86,18 +82,14 @@ pub fn binary<'a>(
 fn both<'a>(state: &mut TreeState<'a>, left: &'a Expr, right: &'a Expr) -> Result<Room, NoMemory>
     ensures { IfOk result (λ room. MakesRoom (ValueOf left.now ∷ AndThen right.now ∷ []) room state.old state.new) }
 {
-    state.do_first(Task::AndThen(Tree::of(right)))?;
-    do_value(state, left)?;
-    Ok(Room::Made)
+    value_then(state, left, Task::AndThen(Tree::of(right)))
 }
 
 /// `||` (C11 6.5.14p4).
 fn either<'a>(state: &mut TreeState<'a>, left: &'a Expr, right: &'a Expr) -> Result<Room, NoMemory>
     ensures { IfOk result (λ room. MakesRoom (ValueOf left.now ∷ OrElse right.now ∷ []) room state.old state.new) }
 {
-    state.do_first(Task::OrElse(Tree::of(right)))?;
-    do_value(state, left)?;
-    Ok(Room::Made)
+    value_then(state, left, Task::OrElse(Tree::of(right)))
 }
 
 /// `,`: the left value goes (C11 6.5.17p2).
@@ -109,9 +101,7 @@ fn behind_comma<'a>(
     ensures { IfOk result (λ room. MakesRoom (ValueOf left.now ∷ Drop ∷ ValueOf right.now ∷ []) room state.old state.new) }
 {
     do_value(state, right)?;
-    state.do_first(Task::Drop)?;
-    do_value(state, left)?;
-    Ok(Room::Made)
+    value_then(state, left, Task::Drop)
 }
 
 /// An operator on two values.
@@ -135,6 +125,5 @@ pub(crate) fn operated<'a>(
         left: one,
         right: other,
     })?;
-    do_values(state, left, right)?;
-    Ok(Room::Made)
+    value_then(state, left, Task::ValueOf(Tree::of(right)))
 }

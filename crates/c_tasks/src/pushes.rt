@@ -1,11 +1,11 @@
 //! Things to do that ask nothing of a program.
-ghost use Rattle.std.specs.Prelude.{◌≡◌, [], ◌∷◌, IfOk, OnOk};
+ghost use Rattle.std.specs.Prelude.{◌≡◌, [], ◌∷◌, true, IfOk, OnOk};
 ghost use Rattle.c_machine.specs.declared.task.Task.TheVariants.{AddressOf, Execute, Unknown, ValueOf};
 ghost use Rattle.c_machine.specs.State.{doing};
-ghost use Rattle.c_tasks.specs.Room.{MakesRoom};
+ghost use Rattle.c_tasks.specs.Room.{are_kept, kinds_in, MakesRoom};
 
 use crate::room::Room;
-use crate::state::TreeState;
+use crate::state::{TreeState, TreeTask};
 use c_machine::Task;
 use c_steps::Tree;
 use cbase::{Expr, NoMemory, Stmt};
@@ -22,18 +22,6 @@ pub(crate) fn do_address<'a>(state: &mut TreeState<'a>, expr: &'a Expr) -> Resul
     ensures { OnOk result (state.new ≡ doing (AddressOf expr.now ∷ []) state.old) }
 {
     state.do_first(Task::AddressOf(Tree::of(expr)))
-}
-
-/// The values of two expressions, from left to right.
-pub(crate) fn do_values<'a>(
-    state: &mut TreeState<'a>,
-    left: &'a Expr,
-    right: &'a Expr,
-) -> Result<(), NoMemory>
-    ensures { OnOk result (state.new ≡ doing (ValueOf left.now ∷ ValueOf right.now ∷ []) state.old) }
-{
-    do_value(state, right)?;
-    do_value(state, left)
 }
 
 /// An address, and then a value.
@@ -55,6 +43,14 @@ pub(crate) fn do_statement<'a>(state: &mut TreeState<'a>, stmt: &'a Stmt) -> Res
     state.do_first(Task::Execute(Tree::of(stmt)))
 }
 
+/// A thing to do alone.
+pub(crate) fn alone<'a>(state: &mut TreeState<'a>, task: TreeTask<'a>) -> Result<Room, NoMemory>
+    ensures { IfOk result (λ room. are_kept (kinds_in (task.entry ∷ [])) ≡ true → MakesRoom (task.entry ∷ []) room state.old state.new) }
+{
+    state.do_first(task)?;
+    Ok(Room::Made)
+}
+
 /// A statement alone.
 pub(crate) fn statement_alone<'a>(
     state: &mut TreeState<'a>,
@@ -62,30 +58,50 @@ pub(crate) fn statement_alone<'a>(
 ) -> Result<Room, NoMemory>
     ensures { IfOk result (λ room. MakesRoom (Execute stmt.now ∷ []) room state.old state.new) }
 {
-    do_statement(state, stmt)?;
-    Ok(Room::Made)
+    alone(state, Task::Execute(Tree::of(stmt)))
 }
 
 /// The value of an expression alone.
 pub(crate) fn value_alone<'a>(state: &mut TreeState<'a>, expr: &'a Expr) -> Result<Room, NoMemory>
     ensures { IfOk result (λ room. MakesRoom (ValueOf expr.now ∷ []) room state.old state.new) }
 {
-    do_value(state, expr)?;
-    Ok(Room::Made)
+    alone(state, Task::ValueOf(Tree::of(expr)))
 }
 
 /// The address of an expression alone.
 pub(crate) fn address_alone<'a>(state: &mut TreeState<'a>, expr: &'a Expr) -> Result<Room, NoMemory>
     ensures { IfOk result (λ room. MakesRoom (AddressOf expr.now ∷ []) room state.old state.new) }
 {
-    do_address(state, expr)?;
-    Ok(Room::Made)
+    alone(state, Task::AddressOf(Tree::of(expr)))
+}
+
+/// The value of an expression, and then another thing.
+pub(crate) fn value_then<'a>(
+    state: &mut TreeState<'a>,
+    expr: &'a Expr,
+    task: TreeTask<'a>,
+) -> Result<Room, NoMemory>
+    ensures { IfOk result (λ room. are_kept (kinds_in (task.entry ∷ [])) ≡ true → MakesRoom (ValueOf expr.now ∷ task.entry ∷ []) room state.old state.new) }
+{
+    state.do_first(task)?;
+    value_alone(state, expr)
+}
+
+/// The address of an expression, and then another thing.
+pub(crate) fn address_then<'a>(
+    state: &mut TreeState<'a>,
+    expr: &'a Expr,
+    task: TreeTask<'a>,
+) -> Result<Room, NoMemory>
+    ensures { IfOk result (λ room. are_kept (kinds_in (task.entry ∷ [])) ≡ true → MakesRoom (AddressOf expr.now ∷ task.entry ∷ []) room state.old state.new) }
+{
+    state.do_first(task)?;
+    address_alone(state, expr)
 }
 
 /// Nothing that a program of C does.
 pub(crate) fn unknown(state: &mut TreeState) -> Result<Room, NoMemory>
     ensures { IfOk result (λ room. MakesRoom (Unknown ∷ []) room state.old state.new) }
 {
-    state.do_first(Task::Unknown)?;
-    Ok(Room::Made)
+    alone(state, Task::Unknown)
 }

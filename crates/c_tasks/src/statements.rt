@@ -12,7 +12,7 @@ use crate::branches::tested;
 use crate::declarations::declared_names;
 use crate::jumps::{broken_off, continued, returned};
 use crate::loops::{for_loop, test_alone, turn};
-use crate::pushes::do_value;
+use crate::pushes::value_then;
 use crate::room::Room;
 use crate::state::TreeState;
 use c_machine::Task;
@@ -54,10 +54,6 @@ pub(crate) fn evaluated<'a>(
 {
     match expr {
         None => Ok(Room::Made),
-        Some(expr) => {
-            state.do_first(Task::Finish(after))?;
-            do_value(state, expr.get())?;
-            Ok(Room::Made)
-        }
+        Some(expr) => value_then(state, expr.get(), Task::Finish(after)),
     }
 }

@@ -63,3 +63,14 @@ pub first_and_rest : (path : List Part) (first : Part) → 1 ≤ length path →
 first_and_rest [] first some is = absurd (omega (arith, some))
 first_and_rest (part ∷ path) first some is =
     λ i. out-Part (is i) ∷ map out-Part (take_all (length (part ∷ path) - 1) path (omega arith) i)
+
+-- the indices behind a first part that has none
+pub rest_counted : (path : List Part) (first : Part) (count : ℕ) → 1 ≤ length path → first ≡ get_or path 0 first → length (index_in (out-Part first)) ≡ 0
+    → count ≡ length (indices_in path) → count ≡ length (indices_in (take (length path - 1) (drop 1 path)))
+rest_counted [] first count some is none counted = absurd (omega (arith, some))
+rest_counted (part ∷ path) first count some is none counted =
+    let behind : take (length (part ∷ path) - 1) path ≡ path = take_all (length (part ∷ path) - 1) path (omega arith) in
+    let parts : length (indices_in (part ∷ path)) ≡ length (index_in (out-Part part)) + length (indices_in path) = length-append (index_in (out-Part part)) (indices_in path) in
+    let here : length (index_in (out-Part part)) ≡ 0 = ap (λ (p : Part). length (index_in (out-Part p))) (sym is) ∙ none in
+    let left : count ≡ length (indices_in path) = omega (arith, counted, parts, here) in
+    left ∙ ap (λ (ps : List Part). length (indices_in ps)) (sym behind)

@@ -84,7 +84,8 @@ impl<F: Fn(&mut Context, Within, Part<'_>) -> Result<Found<Told>, NoMemory>> Che
         requires deep { enumerator_levels constant.now ≤ self.now.depth }
         ensures { IfOk result (λ found. IsEnumerated self.now.abi next constant.now context.old context.new found) }
     {
-        if context.is_declared_here(constant.name.as_slice()) {
+        let name = constant.name.as_slice();
+        if context.is_declared_here(name) {
             return Ok(Found::Refused(twice(constant.place)));
         }
         let bits = match self.enumerator_value(context, constant.place, next, &constant.value) {
@@ -92,10 +93,10 @@ impl<F: Fn(&mut Context, Within, Part<'_>) -> Result<Found<Told>, NoMemory>> Che
             Ok(Found::Refused(fault)) => return Ok(Found::Refused(fault)),
             Err(error) => return Err(error),
         };
-        if context.is_declared_here(constant.name.as_slice()) {
+        if context.is_declared_here(name) {
             return Ok(Found::Refused(twice(constant.place)));
         }
-        context.declare(alloc, constant.name.as_slice(), Entity::Enumerator { bits })?;
+        context.declare(alloc, name, Entity::Enumerator { bits })?;
         Ok(Found::Passes(bits))
     }
 

@@ -2,7 +2,6 @@
 use Rattle.std.proofs.Common.{[], ◌∷◌, refl, sym, ◌∙◌}
 use Rattle.c_machine.specs.declared.task.Task.TheVariants.{ObjectAt}
 use Rattle.c_machine.specs.Trees.{text_of}
-use Rattle.c_tasks.specs.declared.room.Room.TheVariants.{Made}
 use Rattle.c_tasks.proofs.MakingRoom.{on_ok, same_room}
 use Rattle.c_tasks.proofs.NamedThings.{object_of_name, no_object_of_name}
 use Rattle.c_tasks.proofs.address.object_address.Goals as goal
@@ -13,8 +12,8 @@ returns-in-None c = on_ok _ _ c.unknown.result
     (no_object_of_name (text_of p) ((text_of p).stands c.args.expr.now) (sym c.in-None.is ∙ c.object_named.ensures n p stands)) made)
     c.unknown.ensures
 
-pub returns-in_ok-do_first-in-Some : goal.returns-in_ok-do_first-in-Some
-returns-in_ok-do_first-in-Some c = λ n p stands.
-    same_room _ (ObjectAt c.in-Some.token ∷ []) Made c.args.state.now c.do_first.new.self
-    (object_of_name (text_of p) ((text_of p).stands c.args.expr.now) c.in-Some.token (sym c.in-Some.is ∙ c.object_named.ensures n p stands))
-    (c.in_ok-do_first-in-Some.ensures.ok, refl)
+pub returns-in-Some : goal.returns-in-Some
+returns-in-Some c = on_ok _ _ c.alone.result
+    (λ room made. λ n p stands. same_room _ (ObjectAt c.in-Some.token ∷ []) room c.args.state.now c.alone.new.state
+    (object_of_name (text_of p) ((text_of p).stands c.args.expr.now) c.in-Some.token (sym c.in-Some.is ∙ c.object_named.ensures n p stands)) (made refl))
+    c.alone.ensures

@@ -5,8 +5,14 @@ use Rattle.c_machine.specs.declared.task.Task.TheVariants.{AddressOf, Convert, S
 use Rattle.c_machine.specs.Expressions.{value_kind}
 use Rattle.c_machine.specs.Program.{type_of}
 use Rattle.c_machine.specs.Trees.{kind_in, text_of}
-use Rattle.c_tasks.proofs.MakingRoom.{speaks_of_two, three_there}
+use Rattle.c_tasks.proofs.MakingRoom.{lacks_one, lacks_second, speaks_of_two, three_there}
 use Rattle.c_tasks.proofs.assignments.stored.Goals as goal
+
+pub returns-in_default : goal.returns-in_default
+returns-in_default c = λ n p stands. lacks_one (value_kind (text_of p) c.args.right.now) (kind_in p (type_of p c.args.left.now) ∷ kind_in p (type_of p c.args.left.now) ∷ []) (sym c.in_default.is ∙ c.value_kind.ensures n p stands)
+
+pub returns-in_default-own_kind : goal.returns-in_default-own_kind
+returns-in_default-own_kind c = λ n p stands. lacks_second (value_kind (text_of p) c.args.right.now) (kind_in p (type_of p c.args.left.now)) (kind_in p (type_of p c.args.left.now) ∷ []) (sym c.in_default-own_kind.is ∙ c.own_kind.ensures n p stands)
 
 pub returns : goal.returns
 returns c = λ n p stands.

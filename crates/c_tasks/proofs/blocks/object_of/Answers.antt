@@ -4,7 +4,7 @@ use Rattle.c_machine.specs.declared.task.Task.TheVariants.{MakeObject}
 use Rattle.c_machine.specs.Trees.{name_of, text_of}
 use Rattle.c_tasks.specs.declared.room.Room.TheVariants.{Made}
 use Rattle.c_tasks.proofs.BlocksEntered.{large_lacks, no_made, one_made}
-use Rattle.c_tasks.proofs.MakingRoom.{same_room}
+use Rattle.c_tasks.proofs.MakingRoom.{on_ok, same_room}
 use Rattle.c_tasks.proofs.blocks.object_of.Goals as goal
 
 pub returns-in-None : goal.returns-in-None
@@ -17,8 +17,10 @@ returns-in-Some-None c = λ n p stands.
     (ap Some (sym c.in-Some-None.field-0-is) ∙ sym c.in-Some-None.is ∙ c.automatic.ensures n p stands))
     (refl, refl)
 
-pub returns-in_ok-do_first-in-Some-Some : goal.returns-in_ok-do_first-in-Some-Some
-returns-in_ok-do_first-in-Some-Some c = λ n p stands.
+pub returns-in-Some-Some : goal.returns-in-Some-Some
+returns-in-Some-Some c = on_ok _ _ c.alone.result
+    (λ room made. λ n p stands.
     let one = one_made (text_of p) ((text_of p).automatic (name_of c.args.name.now).place) c.in-Some-Some.object
     (ap Some (sym c.in-Some-Some.field-0-is) ∙ sym c.in-Some-Some.is ∙ c.automatic.ensures n p stands) in
-    same_room _ (MakeObject c.in-Some-Some.object ∷ []) Made c.args.state.now c.do_first.new.self one.0 (c.in_ok-do_first-in-Some-Some.ensures.ok, one.1)
+    same_room _ (MakeObject c.in-Some-Some.object ∷ []) room c.args.state.now c.alone.new.state one.0 (made one.1))
+    c.alone.ensures

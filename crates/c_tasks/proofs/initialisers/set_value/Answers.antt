@@ -5,8 +5,12 @@ use Rattle.c_machine.specs.declared.task.Task.TheVariants.{Convert, Finish, Obje
 use Rattle.c_machine.specs.Expressions.{value_kind}
 use Rattle.c_machine.specs.State.{doing}
 use Rattle.c_machine.specs.Trees.{text_of}
-use Rattle.c_tasks.proofs.MakingRoom.{speaks_of_two, three_there}
+use Rattle.c_tasks.proofs.MakingRoom.{speaks_of_two, three_there, lacks_one}
 use Rattle.c_tasks.proofs.initialisers.set_value.Goals as goal
+
+pub returns-in_default : goal.returns-in_default
+returns-in_default c = λ n p kind stands is.
+    lacks_one (value_kind (text_of p) c.args.value.now) (kind ∷ kind ∷ []) (sym c.in_default.is ∙ c.value_kind.ensures n p stands)
 
 pub returns : goal.returns
 returns c = λ n p kind stands is.

@@ -1,5 +1,8 @@
 -- Sizes, one behind the other.
-use Rattle.std.proofs.Common.{ap, arith, ◌+◌}
+use Rattle.std.proofs.Common.{Option, ap, arith, subst, ◌+◌, ◌≤◌}
+use Rattle.cbase.specs.declared.tree.expr.Expr.{Expr}
+use Rattle.ctrees.specs.Levels.{maybe_levels}
+use Rattle.expressions.proofs.EachItem.{each_item}
 use Rattle.expressions.proofs.checker.Checker.sizes.Goals as goal
 use Rattle.expressions.proofs.checker.Checker.sizes.Goals.{in-None+in_ok-push-in-None, in-Some+in-Ok-Passes+in_ok-push-in-Ok-Passes}
 use Rattle.expressions.proofs.TypeNames.{sizes_start, sizes_kept, sizes_skip, sizes_next, sizes_refused, sizes_end}
@@ -26,3 +29,7 @@ returns-in-Ok-Refused g c = sizes_refused c.args.self.now.abi c.args.sizes.now c
 
 pub array_size-requires-clause-nests : goal.array_size-requires-clause-nests
 array_size-requires-clause-nests g c = c.requires.nests
+
+pub array_size-requires-clause-deep : goal.array_size-requires-clause-deep
+array_size-requires-clause-deep g c = subst (λ (size : Option Expr). maybe_levels size ≤ c.args.self.now.depth) c.in-Some.is
+    (each_item maybe_levels c.args.self.now.depth c.args.sizes.now c.loop-size.size-index c.size-item.result c.requires.deep c.loop-size-test.true c.size-item.is)

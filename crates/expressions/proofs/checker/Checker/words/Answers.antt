@@ -1,6 +1,11 @@
 -- The words of a type, by what they are.
 use Rattle.cbase.specs.declared.tree.expr.ExprForm.TheOpen.{Basic, Named, Struct, Enum, OfExpr}
-use Rattle.std.proofs.Common.{Some, None}
+use Rattle.cbase.specs.declared.tree.spec.FieldDecl.{FieldDecl}
+use Rattle.cbase.specs.declared.tree.spec.Enumerator.{Enumerator}
+use Rattle.cbase.specs.declared.tree.spec.TypeSpec.{TypeSpec}
+use Rattle.cbase.specs.declared.tree.spec.TypeSpec.TheVariants.{Struct as StructSpec, Enum as EnumSpec}
+use Rattle.ctrees.specs.Levels.{spec_levels}
+use Rattle.std.proofs.Common.{◌≤◌, ◌∙◌, List, Option, Some, None, ap, subst}
 use Rattle.expressions.proofs.checker.Checker.words.Goals as goal
 use Rattle.expressions.proofs.TypeParts.{typeof_told}
 use Rattle.expressions.proofs.TypeWords.{layered, typeof_type, struct_layer, enum_layer, struct_alone_layer, enum_alone_layer, basic_layer, named_layer, typeof_expr_layer, typeof_layer}
@@ -65,3 +70,11 @@ ask_type-requires-in-OfType-clause-of_type g c = tt
 
 pub ask_expression-requires-clause-nests : goal.ask_expression-requires-clause-nests
 ask_expression-requires-clause-nests g c = c.requires.nests
+
+pub ask_type-requires-clause-deep : goal.ask_type-requires-clause-deep
+ask_type-requires-clause-deep g c = subst (λ (spec : TypeSpec). spec_levels spec ≤ c.args.self.now.depth)
+    (c.in-Struct.is ∙ ap (λ (fields : Option (List FieldDecl)). StructSpec c.in-Struct.name fields) c.in-Some.is) c.requires.deep
+
+pub ask_type-requires-in-Some-values-clause-deep : goal.ask_type-requires-in-Some-values-clause-deep
+ask_type-requires-in-Some-values-clause-deep g c = subst (λ (spec : TypeSpec). spec_levels spec ≤ c.args.self.now.depth)
+    (c.in-Enum.is ∙ ap (λ (values : Option (List Enumerator)). EnumSpec c.in-Enum.name values) c.in-Some-values.is) c.requires.deep

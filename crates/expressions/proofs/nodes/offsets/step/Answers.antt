@@ -47,3 +47,16 @@ returns-in-Member-clause-below c = c.member_step.ensures.below
 
 pub returns-in-At-clause-below : goal.returns-in-At-clause-below
 returns-in-At-clause-below c = c.item_step.ensures.below
+
+pub returns-in-Member-clause-indices : goal.returns-in-Member-clause-indices
+returns-in-Member-clause-indices c =
+    let none : length (index_in (out-Part c.args.part.now)) ≡ 0 = ap (λ (step : Step). length (index_in step)) (ap out-Part c.in-Member.is ∙ outs-Part::Member c.in-Member.name) in
+    IfOk-weaker c.member_step.result _ _ (λ reached same. omega (arith, same, none)) c.member_step.ensures.indices
+
+pub returns-in-At-clause-indices : goal.returns-in-At-clause-indices
+returns-in-At-clause-indices c =
+    let one : length (index_in (out-Part c.args.part.now)) ≡ 1 = ap (λ (step : Step). length (index_in step)) (ap out-Part c.in-At.is ∙ outs-At c.in-At.field-0) in
+    IfOk-weaker c.item_step.result _ _ (λ reached same. omega (arith, same, one)) c.item_step.ensures.indices
+
+pub bounds-indices-from : goal.bounds-indices-from
+bounds-indices-from c = omega (arith, c.requires.indices, ap (λ (step : Step). length (index_in step)) (ap out-Part c.in-At.is ∙ outs-At c.in-At.field-0))

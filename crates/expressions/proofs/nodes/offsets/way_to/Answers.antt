@@ -1,11 +1,12 @@
-use Rattle.std.proofs.Common.{refl, ◌≡◌, ◌-◌, List, ◌∷◌, drop, take, map, length, sym, ap, ◌∙◌, subst}
+use Rattle.std.proofs.Common.{refl, ◌≡◌, ◌-◌, List, ◌∷◌, drop, take, map, length, sym, ap, ◌∙◌, subst, arith}
 use Rattle.cbase.specs.declared.tree.expr.ExprForm.TheOpen.{Part::Member as NamedStep, At as IndexedStep}
 use Rattle.cbase.specs.declared.tree.expr.ExprForm.TheViews.{out-Part, outs-Part::Member, outs-At}
 use Rattle.cbase.specs.declared.tree.expr.Part.{Part}
 use Rattle.typing.specs.Forms.{Step}
 use Rattle.typing.specs.Paths.{Leads, LeadsFrom, FromItem, Stops}
+use Rattle.typing.specs.Pieces.{index_in}
 use Rattle.expressions.specs.Ways.{way_of}
-use Rattle.expressions.proofs.Stepping.{no_parts, first_and_rest}
+use Rattle.expressions.proofs.Stepping.{no_parts, first_and_rest, rest_counted}
 use Rattle.expressions.proofs.nodes.offsets.way_to.Goals as goal
 
 pub returns-in-empty : goal.returns-in-empty
@@ -65,3 +66,20 @@ leads-requires-clause-ctype c = c.in-Ok.ensures.below
 
 pub leads-requires-clause-none : goal.leads-requires-clause-none
 leads-requires-clause-none c = c.in-Ok.ensures.indices
+
+pub leads-requires-clause-indices : goal.leads-requires-clause-indices
+leads-requires-clause-indices c =
+    rest_counted c.args.path.now c.first-item.result (length c.args.indices.now) c.in-len1-up.len_at_least c.first-item.is
+    (ap (λ (step : Step). length (index_in step)) (ap out-Part c.in-Member.is ∙ outs-Part::Member c.in-Member.name)) c.requires.indices
+
+pub bounds-path-0 : goal.bounds-path-0
+bounds-path-0 c = omega (arith, c.in-len1-up.len_at_least)
+
+pub slice_bounds-rest-count : goal.slice_bounds-rest-count
+slice_bounds-rest-count c = omega (arith, c.in-len1-up.len_at_least)
+
+pub slice_bounds-rest-start : goal.slice_bounds-rest-start
+slice_bounds-rest-start c = omega (arith, c.in-len1-up.len_at_least)
+
+pub slice_bounds-rest-end : goal.slice_bounds-rest-end
+slice_bounds-rest-end c = omega (arith, c.in-len1-up.len_at_least)

@@ -1,5 +1,5 @@
 -- A name as the name of a type.
-use Rattle.std.proofs.Common.{◌≡◌, ◌<◌, ◌∙◌, sym, Some, None, refl, length}
+use Rattle.std.proofs.Common.{◌≡◌, ◌<◌, ◌∙◌, ap, sym, Some, None, refl, length}
 use Rattle.environment.specs.declared.entity.DeclaredType.TheVariants.{Whole}
 use Rattle.environment.specs.declared.entity.Entity.TheVariants.{Typedef}
 use Rattle.environment.specs.Environment.{name_found}
@@ -12,7 +12,9 @@ use Rattle.expressions.proofs.TypeWords.{whole_name, untyped_name}
 pub returns-in-Some-Typedef-Whole : goal.returns-in-Some-Typedef-Whole
 returns-in-Some-Typedef-Whole c = λ abi.
     let arm = c.in-Some-Typedef-Whole in
-    let found : name_found c.args.name.now c.args.context.now.environment ≡ Some (Typedef (Whole arm.number)) = cc in
+    let found : name_found c.args.name.now c.args.context.now.environment ≡ Some (Typedef (Whole arm.number)) =
+    sym c.look_up.ensures.is ∙ arm.is ∙ ap Some (arm.field-0-is ∙ ap Typedef arm.field-0-0-is)
+    in
     let below : arm.number < length c.args.context.now.types = rw (arm.field-0-is, arm.field-0-0-is) at c.in-Some-Typedef-Whole.ensures.below in
     rw c.whole.ensures (whole_name abi c.args.context.now c.args.context.now c.args.name.now arm.number found (only_types_same c.args.context.now) below)
 
