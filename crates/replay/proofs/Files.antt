@@ -12,7 +12,6 @@ use Rattle.outside.specs.Faults.{Rose}
 use Rattle.outside.specs.Reading.{IsWithin, Reads}
 use Rattle.outside.specs.declared.reading.Reading.{Reading}
 use Rattle.outside.specs.declared.reading.Reading.TheVariants.{Whole, Long}
-use Rattle.report.specs.ReplayReport.{HasPrintableReplay}
 use Rattle.report.specs.declared.replay_answer.ReplayShown.{ReplayShown}
 use Rattle.report.specs.declared.replay_answer.ReplayAnswer.{ReplayAnswer}
 use Rattle.report.specs.declared.replay_answer.ReplayAnswer.TheVariants.{Played, BadChoices, NotRead, Construct, NotYet, TooLong, Usage, ReadFault, OutOfMemory}
@@ -50,7 +49,7 @@ file_about Usage about = absurd about
 file_about ReadFault about = absurd about
 file_about OutOfMemory about = absurd about
 
-both_about : (answer : ReplayAnswer) → IsAboutBoth answer → IsAboutFiles answer
+pub both_about : (answer : ReplayAnswer) → IsAboutBoth answer → IsAboutFiles answer
 both_about (Played what) about = tt
 both_about BadChoices about = tt
 both_about (NotRead why) about = absurd about
@@ -64,13 +63,8 @@ both_about OutOfMemory about = absurd about
 pub file_no_fault : (P : Type 0) (answer : ReplayAnswer) → IsAboutFile answer → answer ≡ ReadFault → P
 file_no_fault P answer about is = absurd (subst IsAboutFile is about)
 
-pub both_no_fault : {E : Type 0} (P : Type 0) (result : Result Answered E) → IfOk result (λ a. IsAboutBoth a.answer) → IfOk result (λ a. a.answer ≡ ReadFault → P)
-both_no_fault P (Ok answered) about = λ is. absurd (subst IsAboutBoth is about)
-both_no_fault P (Err error) about = tt
-
-pub both_about_files : {E : Type 0} (result : Result Answered E) → IfOk result (λ a. IsAboutBoth a.answer) → IfOk result (λ a. IsAboutFiles a.answer)
-both_about_files (Ok answered) about = both_about answered.answer about
-both_about_files (Err error) about = tt
+pub both_no_fault : (P : Type 0) (answer : ReplayAnswer) → IsAboutBoth answer → answer ≡ ReadFault → P
+both_no_fault P answer about is = absurd (subst IsAboutBoth is about)
 
 -- an answer about files is none of these two
 pub about_no_usage : (answer : ReplayAnswer) → IsAboutFiles answer → answer ≡ Usage → ⊥
@@ -92,11 +86,6 @@ taken_of tells content bytes taken told one has =
     let (front, rest, counted, is) = has told in
     let whole : bytes ≡ front ++ rest = same_bytes bytes (front ++ rest) (sym one ∙ is) in
     rw whole (omega (arith, length-append front rest, counted))
-
-pub result_rose : {E : Type 0} (result : Result Answered E) (before middle now : ℕ) → before ≤ middle
-    → IfOk result (λ a. a.answer ≡ ReadFault → Rose middle now) → IfOk result (λ a. a.answer ≡ ReadFault → Rose before now)
-result_rose (Ok answered) before middle now later rose = λ is. rose_later before middle now later (rose is)
-result_rose (Err error) before middle now later rose = tt
 
 module _ (tells : Bool) (content other : Option (List ℕ)) (command : ReplayCommand) where
   -- an answer about FILE alone
@@ -181,27 +170,6 @@ module _ {E : Type 0} (command : ReplayCommand) (result : Result Answered E) whe
       (subst (λ (told : Bool). ((whole : Option (List ℕ)) → AreBytesOf told whole text → IfOk result (λ a. IsAnswered told whole kept command a.names a.answer)))
       same answered (bytes_of file)
       (λ told. subst (λ (x : List ℕ). bytes_of x ≡ Some text) named (subst (Reads (bytes_of name) left) is (reads told)).0))
-
-  -- an answer about both files
-  pub both_result : (tells : Bool) (content : Option (List ℕ)) (bytes_of : List ℕ → Option (List ℕ)) (name choices bytes second left : List ℕ)
-      (reading : Reading) → name ≡ choices → reading ≡ Whole second → (IsTrue tells → Reads (bytes_of name) left reading) → AreBytesOf tells content bytes
-      → IfOk result (λ a. IsAboutBoth a.answer) → IfOk result (IsTold command bytes second)
-      → IfOk result (λ a. IsAnswered tells content (bytes_of choices) command a.names a.answer)
-  both_result tells content bytes_of name choices bytes second left reading named is reads are about told = of_result result about told
-    where
-      of_result : (r : Result Answered E) → IfOk r (λ a. IsAboutBoth a.answer) → IfOk r (IsTold command bytes second)
-          → IfOk r (λ a. IsAnswered tells content (bytes_of choices) command a.names a.answer)
-      of_result (Ok answered) about told =
-          both_answered tells content (bytes_of choices) command bytes second answered are
-          (λ yes. subst (λ (x : List ℕ). bytes_of x ≡ Some second) named (subst (Reads (bytes_of name) left) is (reads yes)).0) about told
-      of_result (Err error) about told = tt
-
-  pub both_printable : (bytes second : List ℕ) → IfOk result (IsTold command bytes second) → IfOk result (λ a. HasPrintableReplay a.names a.answer)
-  both_printable bytes second told = of_result result told
-    where
-      of_result : (r : Result Answered E) → IfOk r (IsTold command bytes second) → IfOk r (λ a. HasPrintableReplay a.names a.answer)
-      of_result (Ok answered) told = told.printable
-      of_result (Err error) told = tt
 
 -- so many bytes were taken of a file that is too long
 pub long_taken : (tells : Bool) (bytes_of : List ℕ → Option (List ℕ)) (name file left taken : List ℕ) (reading : Reading) → name ≡ file → reading ≡ Long taken

@@ -1,3 +1,4 @@
+pub mod Around
 pub mod Told
 pub mod Runs
 pub mod OneVerdict

@@ -31,7 +31,7 @@ module _ (tells : Bool) (content : Option (List ℕ)) (command : ReplayCommand) 
   file_opened OutOfMemory is about = absurd about
 
   -- CHOICES was, and the answer is about both
-  choices_opened : (answer : ReplayAnswer) → name ≡ command.choices → IsAboutBoth answer → IsOpenedLast tells content command name answer
+  pub choices_opened : (answer : ReplayAnswer) → name ≡ command.choices → IsAboutBoth answer → IsOpenedLast tells content command name answer
   choices_opened (Played what) is about = is
   choices_opened BadChoices is about = is
   choices_opened (NotRead reason) is about = absurd about
@@ -41,11 +41,6 @@ module _ (tells : Bool) (content : Option (List ℕ)) (command : ReplayCommand) 
   choices_opened Usage is about = absurd about
   choices_opened ReadFault is about = absurd about
   choices_opened OutOfMemory is about = absurd about
-
-  pub both_opened : {E : Type 0} (result : Result Answered E) → name ≡ command.choices → IfOk result (λ a. IsAboutBoth a.answer)
-      → IfOk result (λ a. IsOpenedLast tells content command name a.answer)
-  both_opened (Ok answered) is about = choices_opened answered.answer is about
-  both_opened (Err error) is about = tt
 
   -- CHOICES was, and cannot be read
   pub fault_opened : (t : Tokens) (items : List Item) (text : Context) (strict : Bool) → name ≡ command.choices → AreBytesOf tells content t.text

@@ -1,10 +1,11 @@
-ghost use Rattle.std.specs.Prelude.{◌≡◌, ◌≤◌, ℕ, true, false, Option, List as Items, [], length, IfOk};
+ghost use Rattle.std.specs.Prelude.{◌≡◌, ◌≤◌, true, false, [], length, IfOk};
 ghost use Rattle.outside.specs.Faults.{Rose};
 ghost use Rattle.ctokens.specs.InText.{most_bytes};
 ghost use Rattle.ctokens.specs.TokenList.{HasNamedFiles};
 ghost use Rattle.ccheck.specs.Refusals.{place_at};
 ghost use Rattle.report.specs.ReplayReport.{HasPrintableReplay};
-ghost use Rattle.replay.specs.Answered.{AreBytesOf, IsAnswered};
+ghost use Rattle.replay.specs.Answered.{IsAnswered};
+ghost use Rattle.replay.specs.Around.{IsAnswerOf};
 ghost use Rattle.replay.specs.Opened.{IsOpenedLast};
 ghost use Rattle.replay.specs.Told.{HoldsProgramOf, HoldsRunnable, HoldsTyped, IsAboutBoth, IsAboutFiles, IsTold};
 
@@ -80,15 +81,14 @@ fn answer_of_text<F: Files>(
 ) -> Result<Answered, NoMemory>
     requires short { length text.now ≤ most_bytes }
     requires opened { F.begun files.old ≡ command.now.file }
-    ensures about { IfOk result (λ a. IsAboutFiles a.answer) }
-    ensures printable { IfOk result (λ a. HasPrintableReplay a.names a.answer) }
-    ensures rose { IfOk result (λ a. a.answer ≡ ReplayAnswer.ReadFault → Rose (F.faults files.old) (F.faults files.new)) }
-    ensures failed { IfOk result (λ a. a.answer ≡ ReplayAnswer.ReadFault → F.failed files.new ≡ true) }
-    ensures begun { (content : Option (Items ℕ)) → AreBytesOf (F.tells files.old) content text.now
-        → IfOk result (λ a. IsOpenedLast (F.tells files.old) content command.now (F.begun files.new) a.answer) }
-    ensures judged { (content : Option (Items ℕ)) → AreBytesOf (F.tells files.old) content text.now
-        → IfOk result (λ a. IsAnswered (F.tells files.old) content (F.bytes_of files.old command.now.choices)
-        command.now a.names a.answer) }
+    ensures { IfOk result (IsAnswerOf (record {
+      tells = F.tells files.old;
+      choices = F.bytes_of files.old command.now.choices;
+      faults = F.faults files.old;
+      faults_behind = F.faults files.new;
+      failed = F.failed files.new;
+      opened = F.begun files.new;
+    }) command.now text.now) }
 {
     match judge(alloc, command, text)? {
         JudgedFile::Refused(answered) => Ok(answered),
@@ -109,15 +109,14 @@ fn answer_of_typed<F: Files>(
     requires named { HasNamedFiles t }
     requires holds { HoldsTyped command.now t typed }
     requires opened { F.begun files.old ≡ command.now.file }
-    ensures about { IfOk result (λ a. IsAboutFiles a.answer) }
-    ensures printable { IfOk result (λ a. HasPrintableReplay a.names a.answer) }
-    ensures rose { IfOk result (λ a. a.answer ≡ ReplayAnswer.ReadFault → Rose (F.faults files.old) (F.faults files.new)) }
-    ensures failed { IfOk result (λ a. a.answer ≡ ReplayAnswer.ReadFault → F.failed files.new ≡ true) }
-    ensures begun { (content : Option (Items ℕ)) → AreBytesOf (F.tells files.old) content t.text
-        → IfOk result (λ a. IsOpenedLast (F.tells files.old) content command.now (F.begun files.new) a.answer) }
-    ensures judged { (content : Option (Items ℕ)) → AreBytesOf (F.tells files.old) content t.text
-        → IfOk result (λ a. IsAnswered (F.tells files.old) content (F.bytes_of files.old command.now.choices)
-        command.now a.names a.answer) }
+    ensures { IfOk result (IsAnswerOf (record {
+      tells = F.tells files.old;
+      choices = F.bytes_of files.old command.now.choices;
+      faults = F.faults files.old;
+      faults_behind = F.faults files.new;
+      failed = F.failed files.new;
+      opened = F.begun files.new;
+    }) command.now t.text) }
 {
     let TypedProgram {
         program,
@@ -146,15 +145,14 @@ fn answer_of_program<F: Files>(
     requires named { HasNamedFiles t }
     requires holds { HoldsProgramOf command.now t program.now text.now strict }
     requires opened { F.begun files.old ≡ command.now.file }
-    ensures about { IfOk result (λ a. IsAboutFiles a.answer) }
-    ensures printable { IfOk result (λ a. HasPrintableReplay a.names a.answer) }
-    ensures rose { IfOk result (λ a. a.answer ≡ ReplayAnswer.ReadFault → Rose (F.faults files.old) (F.faults files.new)) }
-    ensures failed { IfOk result (λ a. a.answer ≡ ReplayAnswer.ReadFault → F.failed files.new ≡ true) }
-    ensures begun { (content : Option (Items ℕ)) → AreBytesOf (F.tells files.old) content t.text
-        → IfOk result (λ a. IsOpenedLast (F.tells files.old) content command.now (F.begun files.new) a.answer) }
-    ensures judged { (content : Option (Items ℕ)) → AreBytesOf (F.tells files.old) content t.text
-        → IfOk result (λ a. IsAnswered (F.tells files.old) content (F.bytes_of files.old command.now.choices)
-        command.now a.names a.answer) }
+    ensures { IfOk result (IsAnswerOf (record {
+      tells = F.tells files.old;
+      choices = F.bytes_of files.old command.now.choices;
+      faults = F.faults files.old;
+      faults_behind = F.faults files.new;
+      failed = F.failed files.new;
+      opened = F.begun files.new;
+    }) command.now t.text) }
 {
     match first_callee(alloc, program, text)? {
         Some(callee) => Ok(not_yet(t, callee)),
@@ -183,15 +181,14 @@ fn answer_of_runnable<F: Files>(
 ) -> Result<Answered, NoMemory>
     requires named { HasNamedFiles t }
     requires holds { HoldsRunnable command.now t program.now text.now strict }
-    ensures about { IfOk result (λ a. IsAboutFiles a.answer) }
-    ensures printable { IfOk result (λ a. HasPrintableReplay a.names a.answer) }
-    ensures rose { IfOk result (λ a. a.answer ≡ ReplayAnswer.ReadFault → Rose (F.faults files.old) (F.faults files.new)) }
-    ensures failed { IfOk result (λ a. a.answer ≡ ReplayAnswer.ReadFault → F.failed files.new ≡ true) }
-    ensures begun { (content : Option (Items ℕ)) → AreBytesOf (F.tells files.old) content t.text
-        → IfOk result (λ a. IsOpenedLast (F.tells files.old) content command.now (F.begun files.new) a.answer) }
-    ensures judged { (content : Option (Items ℕ)) → AreBytesOf (F.tells files.old) content t.text
-        → IfOk result (λ a. IsAnswered (F.tells files.old) content (F.bytes_of files.old command.now.choices)
-        command.now a.names a.answer) }
+    ensures { IfOk result (IsAnswerOf (record {
+      tells = F.tells files.old;
+      choices = F.bytes_of files.old command.now.choices;
+      faults = F.faults files.old;
+      faults_behind = F.faults files.new;
+      failed = F.failed files.new;
+      opened = F.begun files.new;
+    }) command.now t.text) }
 {
     let name = Text::from_slice(alloc, command.choices.as_slice())?;
     match read_file(alloc, files, name, MOST_BYTES)? {

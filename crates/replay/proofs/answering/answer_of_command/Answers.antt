@@ -1,8 +1,26 @@
+-- FILE is read, is too long, or cannot be read.
 use Rattle.std.proofs.Common.{inl, refl, ap, sym, ◌∙◌}
 use Rattle.outside.specs.declared.reading.Reading.TheVariants.{Whole}
-use Rattle.replay.proofs.Files.{long_taken, result_rose, whole_answered}
+use Rattle.replay.proofs.Around.{each_answer}
+use Rattle.replay.proofs.Files.{long_taken, rose_later, whole_answered}
 use Rattle.replay.proofs.Opened.{whole_opened}
 use Rattle.replay.proofs.answering.answer_of_command.Goals as goal
+
+pub returns-in-Whole-clause-about : goal.returns-in-Whole-clause-about
+returns-in-Whole-clause-about g c = each_answer c.answer_of_text.result (λ a is. is.about) c.answer_of_text.ensures
+
+pub returns-in-Whole-clause-printable : goal.returns-in-Whole-clause-printable
+returns-in-Whole-clause-printable g c = each_answer c.answer_of_text.result (λ a is. is.printable) c.answer_of_text.ensures
+
+-- FILE was read before CHOICES
+pub returns-in-Whole-clause-rose : goal.returns-in-Whole-clause-rose
+returns-in-Whole-clause-rose g c =
+    let F = g.F.Files in
+    each_answer c.answer_of_text.result
+    (λ a is. λ fault. rose_later (F.faults c.args.files.now) (F.faults c.read_file.new.files) _ c.read_file.ensures.later (is.rose fault)) c.answer_of_text.ensures
+
+pub returns-in-Whole-clause-failed : goal.returns-in-Whole-clause-failed
+returns-in-Whole-clause-failed g c = each_answer c.answer_of_text.result (λ a is. is.failed) c.answer_of_text.ensures
 
 -- what is true of the bytes that were read is said of the files
 pub returns-in-Whole-clause-judged : goal.returns-in-Whole-clause-judged
@@ -14,13 +32,8 @@ returns-in-Whole-clause-judged g c =
     whole_answered command c.answer_of_text.result (F.tells files) (F.tells later) (F.bytes_of files) c.in_ok-name.name command.file
     (F.bytes_of files command.choices) (F.bytes_of later command.choices) (F.left later) c.as_slice-in-Whole.result.now _
     (c.in_ok-name.ensures ∙ c.as_slice.ensures) (c.in-Whole.is ∙ ap Whole (sym c.as_slice-in-Whole.ensures)) c.in_ok-text.ensures.told
-    c.read_file.ensures.tells (c.read_file.ensures.kept command.choices) c.answer_of_text.ensures.judged
-
--- FILE was read before CHOICES
-pub returns-in-Whole-clause-rose : goal.returns-in-Whole-clause-rose
-returns-in-Whole-clause-rose g c =
-    let F = g.F.Files in
-    result_rose c.answer_of_text.result (F.faults c.args.files.now) (F.faults c.read_file.new.files) _ c.read_file.ensures.later c.answer_of_text.ensures.rose
+    c.read_file.ensures.tells (c.read_file.ensures.kept command.choices)
+    (λ whole are. each_answer c.answer_of_text.result (λ a is. is.judged whole are) c.answer_of_text.ensures)
 
 pub returns-in-Whole-clause-begun : goal.returns-in-Whole-clause-begun
 returns-in-Whole-clause-begun g c =
@@ -30,7 +43,7 @@ returns-in-Whole-clause-begun g c =
     let command = c.args.command.now in
     whole_opened command c.answer_of_text.result _ (F.tells files) (F.tells later) (F.bytes_of files) c.in_ok-name.name command.file (F.left later)
     c.as_slice-in-Whole.result.now _ (c.in_ok-name.ensures ∙ c.as_slice.ensures) (c.in-Whole.is ∙ ap Whole (sym c.as_slice-in-Whole.ensures))
-    c.in_ok-text.ensures.told c.read_file.ensures.tells c.answer_of_text.ensures.begun
+    c.in_ok-text.ensures.told c.read_file.ensures.tells (λ whole are. each_answer c.answer_of_text.result (λ a is. is.opened whole are) c.answer_of_text.ensures)
 
 pub returns-in-Long-clause-judged : goal.returns-in-Long-clause-judged
 returns-in-Long-clause-judged g c =
