@@ -18,6 +18,14 @@ use Rattle.c_text.specs.Rows.{row_here, row_in, or_else, stands_known, is_known,
 use Rattle.c_text.specs.Stands.{StandsFor}
 use Rattle.c_text.proofs.NamesStand.{signature_below}
 
+pub or_none : (found : Option ExpressionRow) → or_else found None ≡ found
+or_none None = refl
+or_none (Some row) = refl
+
+pub or_or : (one other third : Option ExpressionRow) → or_else (or_else one other) third ≡ or_else one (or_else other third)
+or_or None other third = refl
+or_or (Some row) other third = refl
+
 -- a row as a numbering reads it
 abbrev row_by : Numbering → ExpressionRow → Row
 row_by n row = record { number = row.number; ctype = n.ctype row.ctype; stands = option_map (entity_at n) row.stands; value = row.value }

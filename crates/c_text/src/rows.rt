@@ -18,6 +18,7 @@ pub(crate) fn row_at(rows: &[Option<ExpressionRow>], number: u32) -> Option<Expr
 }
 
 /// Puts each row of an expression at the place of its number, in a list that is empty.
+#[tactic(auto, using(crate::proofs::RowsFound::or_none, crate::proofs::RowsFound::or_or))]
 pub(crate) fn gather_rows(
     rows: &mut Vec<Option<ExpressionRow>>,
     handed: &[HandedRow],

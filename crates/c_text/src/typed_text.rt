@@ -1,4 +1,4 @@
-ghost use Rattle.std.specs.Prelude.{◌≡◌, ◌+◌, ◌<◌, ◌∷◌, true, false, drop, length, option_map, IfOk, IfSome, IfNone};
+ghost use Rattle.std.specs.Prelude.{◌≡◌, ◌+◌, ◌<◌, ◌∷◌, true, false, drop, length, option_map, IfOk, OnOk, IfSome, IfNone};
 ghost use Rattle.cbase.specs.declared.tree.expr.Expr.{Expr};
 ghost use Rattle.expressions.specs.Numbers.{Numbering, entity_at};
 ghost use Rattle.c_machine.specs.Program.{Program, type_of, entity_of, constant_of};
@@ -9,6 +9,7 @@ ghost use Rattle.typing.specs.Nodes.{pointed_offset};
 ghost use Rattle.c_text.specs.Kept.{kept};
 ghost use Rattle.c_text.specs.Rows.{row_in, stands_known, is_known, are_known};
 ghost use Rattle.c_text.specs.Stands.{StandsFor};
+ghost use Rattle.c_text.specs.Tables.{AreEmpty, AreGathered};
 
 mod objects;
 mod parameters;
@@ -61,11 +62,18 @@ impl TypedText {
         ensures none { IfOk result (λ found. IfNone found (are_known (length context.types) (length context.environment.signatures) context.handed ≡ false)) }
     {
         let mut tables = Tables::new(alloc);
-        gather(&mut tables, context.handed())?;
-        if are_known(&context, context.handed()) {
-            Ok(Some(TypedText { context, tables }))
-        } else {
-            Ok(None)
+        match fill(&mut tables, &context) {
+            Ok(true) => Ok(Some(TypedText { context, tables })),
+            Ok(false) => {
+                drop(tables);
+                drop(context);
+                Ok(None)
+            }
+            Err(error) => {
+                drop(tables);
+                drop(context);
+                Err(error)
+            }
         }
     }
 
@@ -142,6 +150,16 @@ impl TypedText {
     {
         self.context.handed()[at]
     }
+}
+
+/// Puts what was handed on of a context into tables that are empty, and says whether each type and each signature that a row names is one of the context.
+fn fill(tables: &mut Tables, context: &Context) -> Result<bool, NoMemory>
+    requires { AreEmpty tables.old }
+    ensures gathered { OnOk result (AreGathered context.now.handed tables.new) }
+    ensures known { IfOk result (λ known. known ≡ are_known (length context.now.types) (length context.now.environment.signatures) context.now.handed) }
+{
+    gather(tables, context.handed())?;
+    Ok(are_known(context, context.handed()))
 }
 
 /// A number of bytes that is found, or 0.
