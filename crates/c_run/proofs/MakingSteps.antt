@@ -1,5 +1,6 @@
 -- Steps that make room.
-use Rattle.std.proofs.Common.{◌≡◌, ℕ, Bool, true, false, List, [], ◌∷◌, length, None, Some, refl, sym, ap, ◌∙◌, subst}
+use Rattle.std.proofs.Common.{◌≡◌, ℕ, Bool, true, false, List, [], ◌∷◌, length, None, Some, Result, Ok, Err, refl, sym, ap, ◌∙◌, subst}
+use Rattle.std.specs.Prelude.{IfOk, MatchResult}
 use Rattle.choices.specs.declared.choice.Choice.{Choice}
 use Rattle.c_machine.specs.State.{TaskIn, StateIn, State, Went, doing}
 use Rattle.c_machine.specs.declared.task.Task.{Task}
@@ -94,3 +95,14 @@ first_done t task (Came outcome) before middle after choices rest is done =
     subst (λ (before : StateIn t). IsStep t (Came outcome) before choices after rest) (sym is) done
 first_done t task NoAnswer before middle after choices rest is done =
     subst (λ (before : StateIn t). IsStep t NoAnswer before choices after rest) (sym is) done
+
+-- what an answer says, of a step that it makes
+pub answered_by : {A E : Type 0} (steps : A → Stepped) (P : A → Type 0) (Q : Stepped → Type 0) (answer : Result A E) (result : Result Stepped E) → ((value : A) → P value → Q (steps value)) →
+    MatchResult answer (λ value. result ≡ Ok (steps value)) (λ error. result ≡ Err error) → IfOk answer P → IfOk result Q
+answered_by {A} {E} steps P Q (Ok value) result onward is says = subst (λ (came : Result Stepped E). IfOk came Q) (sym is) (onward value says)
+answered_by {A} {E} steps P Q (Err error) result onward is says = subst (λ (came : Result Stepped E). IfOk came Q) (sym is) tt
+
+-- a step of the same thing
+pub same_task : (t : Text) (task other : TaskIn t) (stepped : Stepped) (before after : StateIn t) (choices rest : List Choice) → task ≡ other →
+    IsStepOf t task stepped before choices after rest → IsStepOf t other stepped before choices after rest
+same_task t task other stepped before after choices rest is done = subst (λ (this : TaskIn t). IsStepOf t this stepped before choices after rest) is done

@@ -1,10 +1,10 @@
 //! Conditions of `if`, of loops and of `?:`, and what is done behind them (C11 6.5.15, 6.8.4, 6.8.5).
-ghost use Rattle.std.specs.Prelude.{◌≡◌, ℕ, List as Items, IfOk, OnOk, length};
+ghost use Rattle.std.specs.Prelude.{◌≡◌, ℕ, List as Items, IfOk, length};
 ghost use Rattle.choices.specs.declared.choice.Choice.{Choice};
 ghost use Rattle.c_machine.specs.declared.task.Task.TheVariants.{Again, Branch, Pick, Test};
 ghost use Rattle.c_machine.specs.Program.{Program};
 ghost use Rattle.c_machine.specs.State.{doing};
-ghost use Rattle.c_machine.specs.Statements.{again_tasks, branch_place, branch_tasks, test_tasks};
+ghost use Rattle.c_machine.specs.Statements.{branch_place, branch_tasks};
 ghost use Rattle.c_machine.specs.Step.{unless_lost};
 ghost use Rattle.c_machine.specs.Trees.{text_of};
 ghost use Rattle.c_steps.specs.ComesTo.{comes_to};
@@ -12,7 +12,7 @@ ghost use Rattle.expressions.specs.Numbers.{Numbering};
 ghost use Rattle.c_text.specs.Stands.{StandsFor};
 ghost use Rattle.c_run.specs.Stepped.{IsStepOf};
 
-use crate::stepped::Stepped;
+use crate::stepped::{Stepped, came, stepped_by};
 use c_machine::Kind;
 use c_steps::branches::pick;
 use c_steps::{Outcome, Tree, keep};
@@ -22,30 +22,13 @@ use c_words::is_true;
 use cbase::{Expr, NoMemory, Stmt};
 use std::alloc::Global;
 
-/// The condition of a loop is to be done. It speaks of no type.
-fn do_test<'a>(state: &mut TreeState<'a>, stmt: &'a Stmt) -> Result<(), NoMemory>
-    ensures { OnOk result ((p : Program) → state.new ≡ doing (test_tasks (text_of p) stmt.now (length state.old.operands)) state.old) }
-{
-    let held = state.held();
-    test_tasks(state, stmt, held)?;
-    Ok(())
-}
-
 /// The condition of a loop.
 pub(crate) fn test_step<'a>(state: &mut TreeState<'a>, stmt: &'a Stmt) -> Result<Stepped, NoMemory>
     ensures { IfOk result (λ stepped. (p : Program) (choices : Items Choice) →
         IsStepOf (text_of p) (Test stmt.now) stepped state.old choices state.new choices) }
 {
-    do_test(state, stmt)?;
-    Ok(Stepped::Came(Outcome::Went))
-}
-
-/// What is done behind the body of a loop is to be done. It speaks of no type.
-fn do_again<'a>(state: &mut TreeState<'a>, stmt: &'a Stmt) -> Result<(), NoMemory>
-    ensures { OnOk result ((p : Program) → state.new ≡ doing (again_tasks (text_of p) stmt.now) state.old) }
-{
-    again_tasks(state, stmt)?;
-    Ok(())
+    let held = state.held();
+    stepped_by(test_tasks(state, stmt, held))
 }
 
 /// What a loop does behind its body, however many operands unfinished expressions around it hold.
@@ -53,17 +36,7 @@ pub(crate) fn again_step<'a>(state: &mut TreeState<'a>, stmt: &'a Stmt) -> Resul
     ensures { IfOk result (λ stepped. (p : Program) (held : ℕ) (choices : Items Choice) →
         IsStepOf (text_of p) (Again stmt.now held) stepped state.old choices state.new choices) }
 {
-    do_again(state, stmt)?;
-    Ok(Stepped::Came(Outcome::Went))
-}
-
-/// A branch behind a condition is to be done, if there is one. It speaks of no type.
-fn do_branch<'a>(state: &mut TreeState<'a>, stmt: &'a Stmt, holds: bool) -> Result<(), NoMemory>
-    ensures { OnOk result ((p : Program) → state.new ≡ doing (branch_tasks (text_of p) stmt.now (length state.old.operands) holds) state.old) }
-{
-    let held = state.held();
-    branch_tasks(state, stmt, held, holds)?;
-    Ok(())
+    stepped_by(again_tasks(state, stmt))
 }
 
 /// An `if` or a loop behind its condition, which does or does not hold: the condition was a full expression (C11 6.8p4).
@@ -77,7 +50,8 @@ fn branched<'a>(
         comes_to outcome state.new choices
         ≡ unless_lost (branch_place (text_of p) stmt.now) (doing (branch_tasks (text_of p) stmt.now (length state.old.operands) holds) state.old) choices) }
 {
-    do_branch(state, stmt, holds)?;
+    let held = state.held();
+    branch_tasks(state, stmt, held, holds)?;
     keep(alloc, state, branch_place(stmt))
 }
 
@@ -94,8 +68,7 @@ pub(crate) fn branch_step<'a>(
         return Ok(Stepped::Came(Outcome::Stuck));
     };
     let holds = is_true(state.memory(), word);
-    let outcome = branched(alloc, state, stmt, holds)?;
-    Ok(Stepped::Came(outcome))
+    came(branched(alloc, state, stmt, holds))
 }
 
 /// `?:` behind its test.
@@ -115,13 +88,12 @@ pub(crate) fn pick_step<'a>(
     let Some(other_kind) = value_kind(text, other) else {
         return Ok(Stepped::NotKept);
     };
-    let outcome = pick(
+    came(pick(
         state,
         kind,
         Tree::of(one),
         one_kind,
         Tree::of(other),
         other_kind,
-    )?;
-    Ok(Stepped::Came(outcome))
+    ))
 }

@@ -9,7 +9,7 @@ ghost use Rattle.c_machine.specs.Trees.{text_of};
 ghost use Rattle.c_steps.specs.ComesTo.{comes_to};
 ghost use Rattle.c_run.specs.Stepped.{IsStepOf};
 
-use crate::stepped::Stepped;
+use crate::stepped::{Stepped, came};
 use c_machine::Kind;
 use c_steps::Outcome;
 use c_steps::leaving::{break_at, continue_at, give_back};
@@ -38,8 +38,7 @@ pub(crate) fn break_step(
     ensures { IfOk result (λ stepped. (p : Program) (choices : Items Choice) →
         IsStepOf (text_of p) (BreakAt word) stepped state.old choices state.new choices) }
 {
-    let outcome = broken_off(alloc, state, word)?;
-    Ok(Stepped::Came(outcome))
+    came(broken_off(alloc, state, word))
 }
 
 /// `continue`.
@@ -51,8 +50,7 @@ pub(crate) fn continue_step(
     ensures { IfOk result (λ stepped. (p : Program) (choices : Items Choice) →
         IsStepOf (text_of p) (ContinueAt word) stepped state.old choices state.new choices) }
 {
-    let outcome = continue_at(alloc, state, word)?;
-    Ok(Stepped::Came(outcome))
+    came(continue_at(alloc, state, word))
 }
 
 /// `return` behind its value.
@@ -65,6 +63,5 @@ pub(crate) fn return_step(
     ensures { IfOk result (λ stepped. (p : Program) (choices : Items Choice) →
         IsStepOf (text_of p) (GiveBack word kind) stepped state.old choices state.new choices) }
 {
-    let outcome = give_back(alloc, state, word, kind)?;
-    Ok(Stepped::Came(outcome))
+    came(give_back(alloc, state, word, kind))
 }

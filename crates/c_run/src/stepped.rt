@@ -1,8 +1,10 @@
-ghost use Rattle.std.specs.Prelude.{◌≡◌};
+ghost use Rattle.std.specs.Prelude.{◌≡◌, MatchResult, Ok, Err};
+ghost use Rattle.c_run.specs.declared.stepped.Stepped.TheVariants.{Came};
 ghost use Rattle.c_run.specs.Stepped.{goes_on, stepped_by};
 
 use c_steps::Outcome;
 use c_tasks::Room;
+use cbase::NoMemory;
 
 /// What a step of a program comes to.
 #[derive(Clone, Copy, Debug, PartialEq, Eq)]
@@ -14,12 +16,23 @@ pub enum Stepped {
 }
 
 /// What a step that makes room comes to.
-pub(crate) fn stepped_by(room: Room) -> Stepped
-    ensures { result ≡ stepped_by room }
+pub(crate) fn stepped_by(answer: Result<Room, NoMemory>) -> Result<Stepped, NoMemory>
+    ensures { MatchResult answer (λ room. result ≡ Ok (stepped_by room)) (λ error. result ≡ Err error) }
 {
-    match room {
-        Room::Made => Stepped::Came(Outcome::Went),
-        Room::NotKept => Stepped::NotKept,
+    match answer {
+        Ok(Room::Made) => Ok(Stepped::Came(Outcome::Went)),
+        Ok(Room::NotKept) => Ok(Stepped::NotKept),
+        Err(error) => Err(error),
+    }
+}
+
+/// What a step that is done comes to.
+pub(crate) fn came(answer: Result<Outcome, NoMemory>) -> Result<Stepped, NoMemory>
+    ensures { MatchResult answer (λ outcome. result ≡ Ok (Came outcome)) (λ error. result ≡ Err error) }
+{
+    match answer {
+        Ok(outcome) => Ok(Stepped::Came(outcome)),
+        Err(error) => Err(error),
     }
 }
 

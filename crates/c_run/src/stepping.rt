@@ -8,7 +8,7 @@ ghost use Rattle.c_run.specs.Stepped.{IsStep, IsStepOf};
 
 use crate::conditions::{again_step, branch_step, pick_step, test_step};
 use crate::jumps::{break_step, continue_step, return_step};
-use crate::stepped::Stepped;
+use crate::stepped::{Stepped, came};
 use crate::trees::{address_step, initialiser_step, statement_step, value_step};
 use c_machine::Task;
 use c_steps::{Choices, Outcome, Tree, plain_step};
@@ -77,6 +77,5 @@ fn other_step<'a>(
     ensures { IfOk result (λ stepped. (p : Program) → p.strict ≡ strict
         → IfSome (plain_step strict task.entry state.old choices.old) (λ comes. IsStepOf (text_of p) task.entry stepped state.old choices.old state.new choices.new)) }
 {
-    let outcome = plain_step(alloc, state, choices, strict, task)?;
-    Ok(Stepped::Came(outcome))
+    came(plain_step(alloc, state, choices, strict, task))
 }

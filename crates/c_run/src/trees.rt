@@ -22,8 +22,7 @@ pub(crate) fn value_step<'a>(
     ensures { IfOk result (λ stepped. (n : Numbering) (p : Program) (choices : Items Choice) → StandsFor n text.now p
         → IsStepOf (text_of p) (ValueOf expr.now) stepped state.old choices state.new choices) }
 {
-    let room = value_tasks(text, state, expr)?;
-    Ok(stepped_by(room))
+    stepped_by(value_tasks(text, state, expr))
 }
 
 /// The address of an lvalue.
@@ -35,8 +34,7 @@ pub(crate) fn address_step<'a>(
     ensures { IfOk result (λ stepped. (n : Numbering) (p : Program) (choices : Items Choice) → StandsFor n text.now p
         → IsStepOf (text_of p) (AddressOf expr.now) stepped state.old choices state.new choices) }
 {
-    let room = address_tasks(text, state, expr)?;
-    Ok(stepped_by(room))
+    stepped_by(address_tasks(text, state, expr))
 }
 
 /// A statement.
@@ -49,8 +47,7 @@ pub(crate) fn statement_step<'a>(
         → IsStepOf (text_of p) (Execute stmt.now) stepped state.old choices state.new choices) }
 {
     let held = state.held();
-    let room = statement_tasks(text, state, stmt, held)?;
-    Ok(stepped_by(room))
+    stepped_by(statement_tasks(text, state, stmt, held))
 }
 
 /// An initialiser of the object whose name stands at that place.
@@ -63,6 +60,5 @@ pub(crate) fn initialiser_step<'a>(
     ensures { IfOk result (λ stepped. (n : Numbering) (p : Program) (choices : Items Choice) → StandsFor n text.now p
         → IsStepOf (text_of p) (Initialise place init.now) stepped state.old choices state.new choices) }
 {
-    let room = initialiser_tasks(text, state, place, init)?;
-    Ok(stepped_by(room))
+    stepped_by(initialiser_tasks(text, state, place, init))
 }

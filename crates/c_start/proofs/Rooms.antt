@@ -1,5 +1,5 @@
 -- Room for things to do that stand one behind the other.
-use Rattle.std.proofs.Common.{◌≡◌, ℕ, Bool, true, false, ◌&&◌, List, [], ◌∷◌, ◌++◌, map, subst, Option, None, Some, if◌then◌else◌, refl, sym, ap, ◌∙◌, append_assoc}
+use Rattle.std.proofs.Common.{◌≡◌, ℕ, zero, suc, get_or, Bool, true, false, ◌&&◌, List, [], ◌∷◌, ◌++◌, map, subst, Option, None, Some, if◌then◌else◌, refl, sym, ap, ◌∙◌, append_assoc}
 use Rattle.std.specs.Prelude.{nat_le, option_map, Result, Ok, Err, IfOk}
 use Rattle.std.specs.List.{list_all}
 use Rattle.cbase.specs.declared.tree.expr.Expr.{Expr}
@@ -42,10 +42,14 @@ kinds_behind (task ∷ front) back = ap (λ (kinds : List Kind). kinds_of task +
 pub both_kept : (front back : Tasks) → are_kept (kinds_in (front ++ back)) ≡ (are_kept (kinds_in front) && are_kept (kinds_in back))
 both_kept front back = ap are_kept (kinds_behind front back) ∙ kept_behind (kinds_in front) (kinds_in back)
 
+-- things to do in front of others are all of them
+pub done_behind : (front back : Tasks) (state : Running) → doing front (doing back state) ≡ doing (front ++ back) state
+done_behind front back state = ap (λ (tasks : Tasks). record state { tasks = tasks }) (sym (append_assoc front back state.tasks))
+
 -- room in front of other room
 pub in_front : (front back : Tasks) (room : Room) (before mid after : Running) → MakesRoom front room mid after → MakesRoom back Made before mid → MakesRoom (front ++ back) room before after
 in_front front back Made before mid after made behind = (
-  made.0 ∙ ap (doing front) behind.0 ∙ ap (λ (tasks : Tasks). record before { tasks = tasks }) (sym (append_assoc front back before.tasks)),
+  made.0 ∙ ap (doing front) behind.0 ∙ done_behind front back before,
   both_kept front back ∙ ap (λ (are : Bool). are && are_kept (kinds_in back)) made.1 ∙ behind.1,
 )
 in_front front back NotKept before mid after not behind = both_kept front back ∙ ap (λ (are : Bool). are && are_kept (kinds_in back)) not
@@ -106,3 +110,9 @@ body_kept task body end none nothing =
 pub on_ok : {A E : Type 0} (P Q : A → Type 0) (result : Result A E) → ((value : A) → P value → Q value) → IfOk result P → IfOk result Q
 on_ok P Q (Ok value) onward is = onward value is
 on_ok P Q (Err error) onward is = tt
+
+-- an item of a list, where it stands for itself where there is none
+pub get_or_twice : {A : Type 0} (items : List A) (k : ℕ) (none : A) → get_or items k none ≡ get_or items k (get_or items k none)
+get_or_twice [] k none = refl
+get_or_twice (item ∷ items) zero none = refl
+get_or_twice (item ∷ items) (suc k) none = get_or_twice items k none

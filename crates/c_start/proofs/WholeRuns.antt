@@ -1,5 +1,5 @@
 -- A run from the start is what the start comes to, and what the steps behind it come to.
-use Rattle.std.proofs.Common.{◌≡◌, ℕ, Bool, true, false, List, Result, Ok, Err, sym, ap, ◌∙◌, subst}
+use Rattle.std.proofs.Common.{◌≡◌, ℕ, Bool, true, false, List, [], Result, Ok, Err, refl, sym, ap, ◌∙◌, subst}
 use Rattle.std.specs.Prelude.{IfOk}
 use Rattle.cbase.specs.declared.tree.expr.Expr.{Expr}
 use Rattle.cbase.specs.declared.tree.init.Init.{Init}
@@ -7,7 +7,7 @@ use Rattle.cbase.specs.declared.tree.item.Item.{Item}
 use Rattle.cbase.specs.declared.tree.stmt.Stmt.{Stmt}
 use Rattle.choices.specs.declared.choice.Choice.{Choice}
 use Rattle.c_machine.specs.Program.{Program}
-use Rattle.c_machine.specs.Run.{run, run_of, then_go}
+use Rattle.c_machine.specs.Run.{blank, run, run_of, then_go}
 use Rattle.c_machine.specs.State.{State, StateIn, OutcomeIn}
 use Rattle.c_machine.specs.Text.{Text}
 use Rattle.c_machine.specs.Trees.{text_of}
@@ -51,35 +51,44 @@ goes_so t steps (Came Stuck) outcome middle after choices more rest on started r
 goes_so t steps NotKept outcome middle after choices more rest on started ran = absurd cc
 
 -- what is told of each program for which a text stands
-abbrev pub Started : Context → List Item → Bool → Stepped → List Choice → State Expr Stmt Init → List Choice → Type 0
-Started text items strict stepped choices after rest =
-    (n : Numbering) (p : Program) → StandsFor n text p → p.strict ≡ strict → p.items ≡ items → IsStart (text_of p) stepped choices after rest
+abbrev pub Started : Context → List Item → Bool → Stepped → State Expr Stmt Init → List Choice → State Expr Stmt Init → List Choice → Type 0
+Started text items strict stepped before choices after rest =
+    (n : Numbering) (p : Program) → StandsFor n text p → p.strict ≡ strict → p.items ≡ items → before ≡ blank (text_of p) [] → IsStart (text_of p) stepped choices after rest
 
 abbrev pub Ran : Context → Bool → ℕ → Stepped → State Expr Stmt Init → List Choice → State Expr Stmt Init → List Choice → Type 0
 Ran text strict steps stepped before choices after rest =
     (n : Numbering) (p : Program) → StandsFor n text p → p.strict ≡ strict → IsRun (text_of p) steps stepped before choices after rest
+
+abbrev pub Runs : Context → List Item → Bool → List Choice → ℕ → State Expr Stmt Init → State Expr Stmt Init → Stepped → Type 0
+Runs text items strict choices steps before after stepped =
+    (n : Numbering) (p : Program) → StandsFor n text p → p.items ≡ items → p.strict ≡ strict → before ≡ blank (text_of p) []
+    → (outcome : Answer) → stepped ≡ Came outcome → (rest : List Choice) × (run_of (text_of p) choices steps ≡ comes_to outcome after rest)
 
 abbrev pub ComesSo : Context → List Item → Bool → List Choice → ℕ → Answer → Type 0
 ComesSo text items strict choices steps outcome =
     (n : Numbering) (p : Program) → StandsFor n text p → p.items ≡ items → p.strict ≡ strict
     → (state : StateIn (text_of p)) × (rest : List Choice) × (run_of (text_of p) choices steps ≡ comes_to outcome state rest)
 
-pub over_at_start : {E : Type 0} (text : Context) (items : List Item) (strict : Bool) (choices : List Choice) (steps : ℕ) (stepped : Stepped)
-    (after : State Expr Stmt Init) (rest : List Choice) (result : Result Answer E) → goes_on stepped ≡ false → Started text items strict stepped choices after rest →
-    IfOk result (λ outcome. stepped ≡ Came outcome) → IfOk result (ComesSo text items strict choices steps)
-over_at_start text items strict choices steps stepped after rest (Ok outcome) over started is =
-    λ n p stands same held. (after, rest, run_ends (text_of p) steps stepped outcome after choices rest over is (started n p stands held same))
-over_at_start text items strict choices steps stepped after rest (Err error) over started is = tt
+pub over_at_start : (text : Context) (items : List Item) (strict : Bool) (choices : List Choice) (steps : ℕ) (stepped : Stepped) (before after : State Expr Stmt Init) (rest : List Choice) →
+    goes_on stepped ≡ false → Started text items strict stepped before choices after rest → Runs text items strict choices steps before after stepped
+over_at_start text items strict choices steps stepped before after rest over started =
+    λ n p stands same held none outcome is. (rest, run_ends (text_of p) steps stepped outcome after choices rest over is (started n p stands held same none))
 
-pub over_later : {E : Type 0} (text : Context) (items : List Item) (strict : Bool) (choices : List Choice) (steps : ℕ) (stepped ran : Stepped)
-    (middle after : State Expr Stmt Init) (more rest : List Choice) (result : Result Answer E) → goes_on stepped ≡ true →
-    Started text items strict stepped choices middle more → Ran text strict steps ran middle more after rest →
-    IfOk result (λ outcome. ran ≡ Came outcome) → IfOk result (ComesSo text items strict choices steps)
-over_later text items strict choices steps stepped ran middle after more rest (Ok outcome) on started going is =
-    λ n p stands same held. (
-      after,
+pub over_later : (text : Context) (items : List Item) (strict : Bool) (choices : List Choice) (steps : ℕ) (stepped ran : Stepped) (before middle after : State Expr Stmt Init)
+    (more rest : List Choice) → goes_on stepped ≡ true → Started text items strict stepped before choices middle more → Ran text strict steps ran middle more after rest →
+    Runs text items strict choices steps before after ran
+over_later text items strict choices steps stepped ran before middle after more rest on started going =
+    λ n p stands same held none outcome is. (
       rest,
-      goes_so (text_of p) steps stepped outcome middle after choices more rest on (started n p stands held same)
+      goes_so (text_of p) steps stepped outcome middle after choices more rest on (started n p stands held same none)
           (subst (λ (came : Stepped). IsRun (text_of p) steps came middle more after rest) is (going n p stands held)),
     )
-over_later text items strict choices steps stepped ran middle after more rest (Err error) on started going is = tt
+
+-- the run that is kept
+pub whole_run : {E : Type 0} (text : Context) (items : List Item) (strict : Bool) (choices : List Choice) (steps : ℕ) (before after : State Expr Stmt Init)
+    (ran : Result Stepped E) (result : Result Answer E) → ((p : Program) → before ≡ blank (text_of p) []) → IfOk ran (Runs text items strict choices steps before after) →
+    IfOk result (λ outcome. ran ≡ Ok (Came outcome)) → IfOk result (ComesSo text items strict choices steps)
+whole_run {E} text items strict choices steps before after ran (Ok outcome) none runs is =
+    let told : Runs text items strict choices steps before after (Came outcome) = subst (λ (came : Result Stepped E). IfOk came (Runs text items strict choices steps before after)) is runs in
+    λ n p stands same held. let found = told n p stands same held (none p) outcome refl in (after, found.0, found.1)
+whole_run text items strict choices steps before after ran (Err error) none runs is = tt

@@ -40,12 +40,14 @@ pub fn start<'a>(
         → IsStart (text_of p) started.stepped choices.old started.state choices.new) }
 {
     let mut state = State::blank(alloc);
-    let stepped = start_from(alloc, text, strict, items, &mut state, choices)?;
-    Ok(Started { stepped, state })
+    match start_from(alloc, text, strict, items, &mut state, choices) {
+        Ok(stepped) => Ok(Started { stepped, state }),
+        Err(error) => Err(error),
+    }
 }
 
 /// The start of a run in a state in which nothing is made.
-fn start_from<'a>(
+pub(crate) fn start_from<'a>(
     alloc: Global,
     text: &TypedText,
     strict: bool,

@@ -1,5 +1,5 @@
 //! Several things to do of one kind, put in front of all else that is to be done, in order.
-ghost use Rattle.std.specs.Prelude.{◌≡◌, [], ◌∷◌, map, OnOk};
+ghost use Rattle.std.specs.Prelude.{◌≡◌, map, OnOk};
 ghost use Rattle.c_machine.specs.declared.task.Task.TheVariants.{Execute, Initialise, MakeObject, MakeStatic};
 ghost use Rattle.c_machine.specs.State.{doing};
 
@@ -43,19 +43,13 @@ pub fn initialise_each<'a>(
     let mut left = sets.len();
     while left > 0 {
         left -= 1;
-        initialise(state, &sets[left])?;
+        let set = &sets[left];
+        state.do_first(Task::Initialise {
+            place: set.place(),
+            init: Tree::of(set.init()),
+        })?;
     }
     Ok(())
-}
-
-/// An object is initialised.
-fn initialise<'a>(state: &mut TreeState<'a>, set: &StaticSet<'a>) -> Result<(), NoMemory>
-    ensures { OnOk result (state.new ≡ doing (Initialise set.now.place set.now.init ∷ []) state.old) }
-{
-    state.do_first(Task::Initialise {
-        place: set.place(),
-        init: Tree::of(set.init()),
-    })
 }
 
 /// Statements are executed (C11 6.8p3).

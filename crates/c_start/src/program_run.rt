@@ -1,19 +1,21 @@
 //! Runs of programs from their start, with given choices (C11 5.1.2).
-ghost use Rattle.std.specs.Prelude.{◌≡◌, IfOk, List as Items};
+ghost use Rattle.std.specs.Prelude.{◌≡◌, [], IfOk, List as Items, Ok};
 ghost use Rattle.choices.specs.declared.choice.Choice.{Choice};
 ghost use Rattle.c_machine.specs.Program.{Program};
-ghost use Rattle.c_machine.specs.Run.{run_of};
+ghost use Rattle.c_machine.specs.Run.{blank, run_of};
 ghost use Rattle.c_machine.specs.State.{StateIn};
 ghost use Rattle.c_machine.specs.Trees.{text_of};
 ghost use Rattle.c_run.specs.declared.stepped.Stepped.TheVariants.{Came};
+ghost use Rattle.c_steps.specs.declared.outcome.Outcome.{Outcome as Answer};
 ghost use Rattle.c_steps.specs.ComesTo.{comes_to};
 ghost use Rattle.c_text.specs.Stands.{StandsFor};
 ghost use Rattle.expressions.specs.Numbers.{Numbering};
 
-use crate::beginning::{Started, start};
+use crate::beginning::start_from;
 use crate::finishing::goes_on;
 use c_run::{Stepped, run};
-use c_steps::{Choices, Outcome};
+use c_steps::{Choices, Outcome, State};
+use c_tasks::TreeState;
 use c_text::TypedText;
 use cbase::{Item, NoMemory};
 use choices::Choice;
@@ -35,22 +37,39 @@ pub fn run_program(
     ensures { IfOk result (λ outcome. (n : Numbering) (p : Program) → StandsFor n text.now p → p.items ≡ items.now → p.strict ≡ strict
         → (state : StateIn (text_of p)) × (rest : Items Choice) × (run_of (text_of p) choices.now steps ≡ comes_to outcome state rest)) }
 {
+    let mut state = State::blank(alloc);
+    let came = run_from(alloc, items, text, strict, &mut state, choices, steps);
+    kept(came)
+}
+
+/// A run in a state in which nothing is made.
+fn run_from<'a>(
+    alloc: Global,
+    items: &'a [Item],
+    text: &TypedText,
+    strict: bool,
+    state: &mut TreeState<'a>,
+    choices: &[Choice],
+    steps: u32,
+) -> Result<Stepped, NoMemory>
+    ensures { IfOk result (λ stepped. (n : Numbering) (p : Program) → StandsFor n text.now p → p.items ≡ items.now → p.strict ≡ strict → state.old ≡ blank (text_of p) []
+        → (outcome : Answer) → stepped ≡ Came outcome → (rest : Items Choice) × (run_of (text_of p) choices.now steps ≡ comes_to outcome state.new rest)) }
+{
     let mut left = Choices::of(choices);
-    let started = start(alloc, text, strict, items, &mut left)?;
-    let Started { stepped, mut state } = started;
+    let stepped = start_from(alloc, text, strict, items, state, &mut left)?;
     if !goes_on(stepped) {
-        return kept(stepped);
+        return Ok(stepped);
     }
-    let ran = run(alloc, text, strict, &mut state, &mut left, u64::from(steps))?;
-    kept(ran)
+    run(alloc, text, strict, state, &mut left, u64::from(steps))
 }
 
 /// What a step or a run came to. Where it speaks of a type that is not kept, memory is wanting.
-fn kept(stepped: Stepped) -> Result<Outcome, NoMemory>
-    ensures { IfOk result (λ outcome. stepped ≡ Came outcome) }
+fn kept(came: Result<Stepped, NoMemory>) -> Result<Outcome, NoMemory>
+    ensures { IfOk result (λ outcome. came ≡ Ok (Came outcome)) }
 {
-    match stepped {
-        Stepped::Came(outcome) => Ok(outcome),
-        Stepped::NotKept => Err(NoMemory),
+    match came {
+        Ok(Stepped::Came(outcome)) => Ok(outcome),
+        Ok(Stepped::NotKept) => Err(NoMemory),
+        Err(error) => Err(error),
     }
 }

@@ -1,5 +1,5 @@
 //! What a program does first: it makes and initialises the objects that live as long as it runs, and then calls main (C11 5.1.2p1, 5.1.2.2.1).
-ghost use Rattle.std.specs.Prelude.{◌≡◌, [], ◌∷◌, ◌++◌, map, true, IfOk, OnOk};
+ghost use Rattle.std.specs.Prelude.{◌≡◌, [], ◌∷◌, ◌++◌, map, true, IfOk};
 ghost use Rattle.std.specs.List.{list_all};
 ghost use Rattle.operators.specs.Integers.{int};
 ghost use Rattle.expressions.specs.Numbers.{Numbering};
@@ -8,7 +8,6 @@ ghost use Rattle.c_machine.specs.declared.task.Task.TheVariants.{EndOfBody, Exec
 ghost use Rattle.c_machine.specs.Blocks.{entered};
 ghost use Rattle.c_machine.specs.Program.{Program};
 ghost use Rattle.c_machine.specs.Run.{main_tasks};
-ghost use Rattle.c_machine.specs.State.{doing};
 ghost use Rattle.c_machine.specs.Trees.{main_as, text_of};
 ghost use Rattle.c_text.specs.Stands.{StandsFor};
 ghost use Rattle.c_start.specs.Started.{MakesStatics};
@@ -91,23 +90,12 @@ fn body_tasks<'a>(
     ensures { IfOk result (λ room. (n : Numbering) (p : Program) → StandsFor n text.now p
         → MakesRoom (entered (text_of p) body.now ++ (map Execute body.now ++ EndOfBody true (Integer int) close 0 ∷ [])) room state.old state.new) }
 {
-    statements_to_end(state, body, close)?;
-    entered(text, state, body)
-}
-
-/// The statements of the body of main, and its end.
-fn statements_to_end<'a>(
-    state: &mut TreeState<'a>,
-    body: &'a [Stmt],
-    close: Place,
-) -> Result<(), NoMemory>
-    ensures { OnOk result (state.new ≡ doing (map Execute body.now ++ EndOfBody true (Integer int) close 0 ∷ []) state.old) }
-{
     state.do_first(Task::EndOfBody {
         main: true,
         result: Kind::Integer(WholeType::int()),
         close,
         held: 0,
     })?;
-    execute_each(state, body)
+    execute_each(state, body)?;
+    entered(text, state, body)
 }

@@ -1,3 +1,6 @@
+pub mod ByForm
+pub mod EachNoted
+pub mod InFront
 pub mod Static
 pub mod Walking
 pub mod Weights

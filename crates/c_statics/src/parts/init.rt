@@ -1,5 +1,5 @@
 //! What stands directly in an initialiser (C11 6.7.9).
-ghost use Rattle.std.specs.Prelude.{◌≡◌, ◌∷◌, ◌++◌, map, OnOk};
+ghost use Rattle.std.specs.Prelude.{◌≡◌, ◌++◌, map, OnOk};
 ghost use Rattle.cbase.specs.declared.tree.expr.ExprForm.TheViews.{out-Init, out-InitPart};
 ghost use Rattle.c_machine.specs.Statics.{AnInit, in_initialiser};
 
@@ -24,14 +24,7 @@ fn push_parts<'a>(nodes: &mut Nodes<'a>, parts: &'a [InitPart]) -> Result<(), No
     let mut left = parts.len();
     while left > 0 {
         left -= 1;
-        push_part(nodes, &parts[left])?;
+        push_init(nodes, &parts[left].init)?;
     }
     Ok(())
-}
-
-/// A part of an initialiser in braces.
-fn push_part<'a>(nodes: &mut Nodes<'a>, part: &'a InitPart) -> Result<(), NoMemory>
-    ensures { OnOk result (nodes.new ≡ AnInit (out-InitPart part.now).init ∷ nodes.old) }
-{
-    push_init(nodes, &part.init)
 }

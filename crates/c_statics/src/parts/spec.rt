@@ -98,14 +98,7 @@ fn push_in_each_value<'a>(nodes: &mut Nodes<'a>, values: &'a [Enumerator]) -> Re
     let mut left = values.len();
     while left > 0 {
         left -= 1;
-        push_in_value(nodes, &values[left])?;
+        push_optional(nodes, &values[left].value)?;
     }
     Ok(())
-}
-
-/// What stands in a constant of an enum.
-fn push_in_value<'a>(nodes: &mut Nodes<'a>, value: &'a Enumerator) -> Result<(), NoMemory>
-    ensures { OnOk result (nodes.new ≡ optional (out-Enumerator value.now).value ++ nodes.old) }
-{
-    push_optional(nodes, &value.value)
 }

@@ -2,10 +2,13 @@
 use Rattle.std.proofs.Common.{refl}
 use Rattle.c_machine.specs.declared.task.Task.TheVariants.{AddressOf}
 use Rattle.c_machine.specs.Trees.{text_of}
-use Rattle.c_run.proofs.MakingSteps.{room_step}
+use Rattle.c_run.specs.Stepped.{stepped_by}
+use Rattle.c_run.proofs.MakingSteps.{answered_by, room_step}
 use Rattle.c_run.proofs.trees.address_step.Goals as goal
 
 pub returns : goal.returns
-returns c = λ n p choices stands.
-    room_step (text_of p) (AddressOf c.args.expr.now) _ _ _ c.args.state.now c.address_tasks.new.state choices c.stepped_by.ensures refl refl
-    (c.in_ok-room.ensures n p stands)
+returns c = answered_by stepped_by _ _ c.address_tasks.result c.stepped_by.result
+    (λ room made. λ n p choices stands.
+    room_step (text_of p) (AddressOf c.args.expr.now) _ room (stepped_by room) c.args.state.now c.address_tasks.new.state choices refl refl refl
+    (made n p stands))
+    c.stepped_by.ensures c.address_tasks.ensures
