@@ -1,15 +1,17 @@
 ghost use Rattle.std.specs.Prelude.{◌≡◌, [], ◌++◌, IfOk, OnOk, OnErr};
 
 use crate::no_memory::NoMemory;
+use smallvec::SmallVec;
 use std::alloc::Global;
 use std::marker::Model;
 
 /// A row of bytes that contracts see as the list of their values.
 ///
-/// It need not be UTF-8: the name of a file and the bytes of a C source are texts.
+/// It need not be UTF-8: the name of a file and the bytes of a C source are texts. Most are names of a few bytes, so that up
+/// to 16 bytes lie in the text itself, and more in an allocation.
 #[derive(Drop)]
 pub struct Text {
-    bytes: Vec<u8>,
+    bytes: SmallVec<u8, 16>,
 }
 
 impl Model for Text {
@@ -26,7 +28,7 @@ impl Text {
         ensures { result ≡ [] }
     {
         Text {
-            bytes: Vec::new(alloc),
+            bytes: SmallVec::new(alloc),
         }
     }
 
@@ -34,7 +36,9 @@ impl Text {
     pub fn from_vec(bytes: Vec<u8>) -> Text
         ensures { result ≡ bytes.items }
     {
-        Text { bytes }
+        Text {
+            bytes: SmallVec::from_vec(bytes),
+        }
     }
 
     /// A text with the bytes of `bytes`.
@@ -42,16 +46,8 @@ impl Text {
         ensures { IfOk result (λ t. t ≡ bytes.now) }
     {
         Ok(Text {
-            bytes: Vec::from_slice(alloc, bytes)?,
+            bytes: SmallVec::from_slice(alloc, bytes)?,
         })
-    }
-
-    /// The vector of the text's bytes. It takes no memory.
-    pub fn into_vec(self) -> Vec<u8>
-        ensures { result.items ≡ self }
-    {
-        let Text { bytes } = self;
-        bytes
     }
 
     /// The bytes, in order.
