@@ -19,6 +19,7 @@ pub mod Matching
 pub mod Scopes
 pub mod TypedefNames
 pub mod Stacks
+pub mod ShortWords
 pub mod StarRows
 pub mod TokenReadings
 pub mod Starting

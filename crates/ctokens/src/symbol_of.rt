@@ -135,9 +135,21 @@ pub(crate) fn symbol_in(rows: &[(&str, Symbol)], otherwise: Symbol, bytes: &[u8]
     otherwise
 }
 
-/// A word as C spells it: `__signed__` is read as `signed`, `__typeof__` and `__typeof` as `typeof`.
-#[tactic(auto, unfolding(crate::specs::SymbolTables::read_as))]
+/// A word as C spells it: `__signed__` is read as `signed`, `__typeof__` and `__typeof` as `typeof`. None of these has fewer
+/// than eight bytes.
+#[tactic(auto)]
 pub fn read_as(bytes: &[u8]) -> &[u8]
+    ensures { result.now ≡ read_as bytes.now }
+{
+    if bytes.len() < 8 {
+        return bytes;
+    }
+    long_read_as(bytes)
+}
+
+/// The same, where the word is long.
+#[tactic(auto, unfolding(crate::specs::SymbolTables::read_as))]
+fn long_read_as(bytes: &[u8]) -> &[u8]
     ensures { result.now ≡ read_as bytes.now }
 {
     if same_bytes(bytes, b"__signed__") {

@@ -238,10 +238,15 @@ pub fn begins_type(scope: &Scope, token: &Terminal<'_>) -> bool
     is_type_word(token) || token.is_typedef(scope)
 }
 
-/// Whether a declaration begins with the token, where these names are in scope (C11 6.7).
+/// Whether a declaration begins with the token, where these names are in scope (C11 6.7). No keyword that it begins with has
+/// fewer than three bytes.
+#[tactic(auto, using(crate::proofs::ShortWords::short_declaration))]
 pub fn begins_declaration(scope: &Scope, token: &Terminal<'_>) -> bool
     ensures { result ≡ begins_declaration scope.now token.now }
 {
+    if token.bytes().len() < 3 {
+        return token.is_typedef(scope);
+    }
     is_storage_word(token) || begins_type(scope, token)
 }
 
