@@ -297,6 +297,7 @@ fn faults_after(faults: u64, failed: bool) -> u64
 struct Torn {
     begun: Option<Text>,
     reads: u64,
+    openings: u64,
     faults: u64,
     failed: bool,
 }
@@ -312,6 +313,8 @@ impl Files for Torn {
 
     ghost faults = { λ s. s.faults };
 
+    ghost openings = { λ s. s.openings };
+
     ghost begun = { λ s. unwrap_or s.begun [] };
 
     ghost ready = { λ s. is_some s.begun };
@@ -320,6 +323,7 @@ impl Files for Torn {
 
     fn begin(&mut self, name: Text) -> Began {
         self.begun = Some(name);
+        self.openings = self.openings.saturating_add(1);
         self.reads = 0;
         self.failed = false;
         let _faults = self.faults;
@@ -343,6 +347,7 @@ fn reads_torn(alloc: Global, most: u32, want: Wanted) -> Result<bool, NoMemory> 
     let mut files = Torn {
         begun: None,
         reads: 0,
+        openings: 0,
         faults: 0,
         failed: false,
     };

@@ -1,4 +1,5 @@
 pub mod Appended
 pub mod Answer
 pub mod Known
+pub mod Opened
 pub mod Places

@@ -3,6 +3,7 @@ pub mod Files
 pub mod Known
 pub mod MemoryFiles
 pub mod MemorySink
+pub mod Opened
 pub mod Reading
 pub mod Sink
 pub mod Steady

@@ -12,7 +12,7 @@ use Rattle.outside.specs.declared.memory_files.NamedFile.{NamedFile}
 
 -- Files in memory: the files, how many bytes a call gives at most, the numbers of the calls that fail, the
 -- name of the last opening and whether it succeeded, what is left of the open file, whether the last call
--- failed, and the counts of calls and of faults.
+-- failed, and the counts of calls, of openings and of faults.
 pub record FilesMemory : Type 0 where
   pub files : List NamedFile
   pub step : ℕ
@@ -22,6 +22,7 @@ pub record FilesMemory : Type 0 where
   pub left : List ℕ
   pub failed : Bool
   pub calls : ℕ
+  pub openings : ℕ
   pub faults : ℕ
 
 -- the file has the name
@@ -57,8 +58,16 @@ began_of s name = if begin_fails s name then Refused else Ready
 abbrev pub after_begin : FilesMemory → List ℕ → FilesMemory
 after_begin s name =
     if begin_fails s name
-    then record s { begun = name; ready = false; left = []; failed = true; calls = counted s.calls; faults = counted s.faults }
-    else record s { begun = name; ready = true; left = unwrap_or (content_of s.files name) []; failed = false; calls = counted s.calls }
+    then record s {
+      begun = name;
+      ready = false;
+      left = [];
+      failed = true;
+      calls = counted s.calls;
+      openings = counted s.openings;
+      faults = counted s.faults;
+    }
+    else record s { begun = name; ready = true; left = unwrap_or (content_of s.files name) []; failed = false; calls = counted s.calls; openings = counted s.openings }
 
 -- how many bytes the next call, a `take` into `buffer`, gives, if it does not fail
 abbrev pub count_of : FilesMemory → List ℕ → ℕ

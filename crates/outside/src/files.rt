@@ -1,5 +1,5 @@
 ghost use Rattle.std.specs.Prelude.{◌≡◌, ℕ, ◌^◌, ◌<◌, ◌≤◌, Bool, true, IsTrue, List, Option, Some, length};
-ghost use Rattle.outside.specs.Faults.{Rose};
+ghost use Rattle.outside.specs.Faults.{Rose, counted};
 ghost use Rattle.outside.specs.Files.{Takes, is_ready, is_refused, is_failed};
 
 use cbase::Text;
@@ -28,11 +28,11 @@ pub enum Taken {
 ///
 /// The ghost members say what contracts know of them:
 /// whether their content is told (`tells`), the bytes of each name where it is (`bytes_of`), what is left of
-/// the file that was opened last (`left`), the count of faults (`faults`), the name of the last opening,
-/// empty at first (`begun`), whether that opening succeeded (`ready`) and whether the last call failed
-/// (`failed`).
+/// the file that was opened last (`left`), the count of faults (`faults`), the count of openings, of which each
+/// succeeded or not (`openings`), the name of the last opening, empty at first (`begun`), whether that opening
+/// succeeded (`ready`) and whether the last call failed (`failed`).
 ///
-/// The count of faults is at most 2^64 - 1, where it stands still.
+/// Both counts are at most 2^64 - 1, where they stand still.
 pub trait Files {
     ghost tells: { Self → Bool };
 
@@ -41,6 +41,8 @@ pub trait Files {
     ghost left: { Self → List ℕ };
 
     ghost faults: { Self → ℕ };
+
+    ghost openings: { Self → ℕ };
 
     ghost begun: { Self → List ℕ };
 
@@ -54,6 +56,7 @@ pub trait Files {
     fn begin(&mut self, name: Text) -> Began
         ensures tells { tells self.new ≡ tells self.old }
         ensures kept { (other : List ℕ) → bytes_of self.new other ≡ bytes_of self.old other }
+        ensures openings { openings self.new ≡ counted (openings self.old) }
         ensures begun { begun self.new ≡ name }
         ensures ready { ready self.new ≡ is_ready result }
         ensures failed { failed self.new ≡ is_refused result }
@@ -72,6 +75,7 @@ pub trait Files {
         requires ready { ready self.old ≡ true }
         ensures tells { tells self.new ≡ tells self.old }
         ensures kept { (other : List ℕ) → bytes_of self.new other ≡ bytes_of self.old other }
+        ensures openings { openings self.new ≡ openings self.old }
         ensures begun { begun self.new ≡ begun self.old }
         ensures ready { ready self.new ≡ ready self.old }
         ensures failed { failed self.new ≡ is_failed result }

@@ -25,8 +25,8 @@ pub struct NamedFile {
 /// Where two files have one name the first counts. A call of `take` gives at most `step` bytes. The calls of
 /// `begin` and `take` are numbered together from 1, and those whose numbers stand in `failing` fail, as does
 /// the opening of a name that no file has. After a `begin` that failed no file is open. After a `take` that
-/// failed, what is left stays as it was. The counts of calls and of faults stand still at 2^64 - 1. No call
-/// takes memory.
+/// failed, what is left stays as it was. The counts of calls, of openings and of faults stand still at 2^64 - 1.
+/// No call takes memory.
 #[derive(Drop)]
 pub struct MemoryFiles {
     files: List<NamedFile>,
@@ -37,6 +37,7 @@ pub struct MemoryFiles {
     position: usize,
     failed: bool,
     calls: u64,
+    openings: u64,
     faults: u64,
 }
 
@@ -46,7 +47,7 @@ impl Model for MemoryFiles {
 
     ghost Value = { FilesMemory };
 
-    ghost view = { λ s. record { files = s.files; step = s.step; failing = s.failing; begun = s.begun; ready = is_some s.place; left = left_at s.files s.place s.position; failed = s.failed; calls = s.calls; faults = s.faults } };
+    ghost view = { λ s. record { files = s.files; step = s.step; failing = s.failing; begun = s.begun; ready = is_some s.place; left = left_at s.files s.place s.position; failed = s.failed; calls = s.calls; openings = s.openings; faults = s.faults } };
 
     ghost invariant = { λ s. 1 ≤ s.step };
 }
@@ -55,7 +56,7 @@ impl MemoryFiles {
     /// The files, of which none is open. It takes no memory.
     pub fn new(alloc: Global, files: List<NamedFile>, step: u32, failing: List<u32>) -> MemoryFiles
         requires { 1 ≤ step }
-        ensures { result ≡ record { files = files; step = step; failing = failing; begun = []; ready = false; left = []; failed = false; calls = 0; faults = 0 } }
+        ensures { result ≡ record { files = files; step = step; failing = failing; begun = []; ready = false; left = []; failed = false; calls = 0; openings = 0; faults = 0 } }
     {
         MemoryFiles {
             files,
@@ -66,6 +67,7 @@ impl MemoryFiles {
             position: 0,
             failed: false,
             calls: 0,
+            openings: 0,
             faults: 0,
         }
     }
@@ -83,6 +85,8 @@ impl Files for MemoryFiles {
 
     ghost faults = { λ s. s.faults };
 
+    ghost openings = { λ s. s.openings };
+
     ghost begun = { λ s. s.begun };
 
     ghost ready = { λ s. s.ready };
@@ -96,6 +100,7 @@ impl Files for MemoryFiles {
         ensures later { self.old.faults ≤ self.new.faults }
     {
         self.calls = counted(self.calls);
+        self.openings = counted(self.openings);
         self.place = place_to_open(
             self.files.as_slice(),
             name.as_slice(),

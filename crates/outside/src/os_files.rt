@@ -3,7 +3,7 @@ ghost use Rattle.outside.specs.Faults.{Rose};
 ghost use Rattle.outside.specs.Files.{Takes, is_failed};
 ghost use Rattle.outside.specs.Known.{TakesFrom};
 
-use crate::faults::faults_after;
+use crate::faults::{counted, faults_after};
 use crate::files::{Began, Files, Taken};
 use cbase::Text;
 use std::io::{ErrorKind, Read};
@@ -16,7 +16,8 @@ pub(crate) const MOST_TRIES: u32 = 64;
 ///
 /// Their content is not told. An error of the system counts as a fault and is answered by `Failed`, and so
 /// is a name that is not UTF-8, which cannot be opened. A call that is interrupted is tried again, up to
-/// 64 tries. The count of faults stands still at 2^64 - 1.
+/// 64 tries, and is one opening or one read all the same. The counts of faults and of openings stand still at
+/// 2^64 - 1.
 #[derive(Drop)]
 pub struct OsFiles<'a, R: rt::Files> {
     runtime: &'a R,
@@ -24,6 +25,7 @@ pub struct OsFiles<'a, R: rt::Files> {
     begun: Option<Text>,
     failed: bool,
     faults: u64,
+    openings: u64,
 }
 
 impl<'a, R: rt::Files> OsFiles<'a, R> {
@@ -34,6 +36,7 @@ impl<'a, R: rt::Files> OsFiles<'a, R> {
         ensures ready { ⟦<OsFiles<'a, R> as Files>⟧.ready result ≡ false }
         ensures failed { ⟦<OsFiles<'a, R> as Files>⟧.failed result ≡ false }
         ensures faults { ⟦<OsFiles<'a, R> as Files>⟧.faults result ≡ 0 }
+        ensures openings { ⟦<OsFiles<'a, R> as Files>⟧.openings result ≡ 0 }
     {
         OsFiles {
             runtime,
@@ -41,6 +44,7 @@ impl<'a, R: rt::Files> OsFiles<'a, R> {
             begun: None,
             failed: false,
             faults: 0,
+            openings: 0,
         }
     }
 }
@@ -56,6 +60,8 @@ impl<'a, R: rt::Files> Files for OsFiles<'a, R> {
 
     ghost faults = { λ s. s.faults };
 
+    ghost openings = { λ s. s.openings };
+
     ghost begun = { λ s. unwrap_or s.begun [] };
 
     ghost ready = { λ s. is_some s.file };
@@ -65,6 +71,7 @@ impl<'a, R: rt::Files> Files for OsFiles<'a, R> {
     fn begin(&mut self, name: Text) -> Began {
         self.file = open(self.runtime, name.as_slice());
         self.begun = Some(name);
+        self.openings = counted(self.openings);
         self.failed = self.file.is_none();
         self.faults = faults_after(self.faults, self.failed);
         if self.failed {
@@ -77,6 +84,7 @@ impl<'a, R: rt::Files> Files for OsFiles<'a, R> {
     fn take(&mut self, into: &mut [u8]) -> Taken
         requires room { 0 < length into.old }
         requires ready { is_some self.old.file ≡ true }
+        ensures openings { self.new.openings ≡ self.old.openings }
         ensures begun { self.new.begun ≡ self.old.begun }
         ensures ready { is_some self.new.file ≡ true }
         ensures failed { self.new.failed ≡ is_failed result }

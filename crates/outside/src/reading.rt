@@ -1,5 +1,5 @@
 ghost use Rattle.std.specs.Prelude.{◌≡◌, ◌≢◌, ℕ, ◌+◌, ◌≤◌, true, false, IsTrue, IfOk, OnErr, Some, List, ◌++◌, length};
-ghost use Rattle.outside.specs.Faults.{Rose};
+ghost use Rattle.outside.specs.Faults.{Rose, counted};
 ghost use Rattle.outside.specs.Reading.{IsWithin, LeavesAtMost, Reads, is_failed, reading_of};
 
 use crate::files::{Began, Files, Taken};
@@ -23,7 +23,8 @@ const PIECE: usize = 4096;
 /// Reads the file `name` to its end, or until `most + 1` bytes were read, so that no further byte is taken.
 ///
 /// `Failed` comes only where the count of faults rose, at the last call. Where the content of the files is
-/// told, `Whole` comes for a file of at most `most` bytes and `Long` for a longer one.
+/// told, `Whole` comes for a file of at most `most` bytes and `Long` for a longer one. The file is opened once, and
+/// no other is.
 #[tactic(auto, using(crate::proofs::Answer::reading_is))]
 pub fn read_file<F: Files>(
     alloc: Global,
@@ -33,6 +34,7 @@ pub fn read_file<F: Files>(
 ) -> Result<Reading, NoMemory>
     ensures tells { F.tells files.new ≡ F.tells files.old }
     ensures kept { (other : List ℕ) → F.bytes_of files.new other ≡ F.bytes_of files.old other }
+    ensures openings { F.openings files.new ≡ counted (F.openings files.old) }
     ensures begun { F.begun files.new ≡ name }
     ensures later { F.faults files.old ≤ F.faults files.new }
     ensures failed { IfOk result (λ reading. F.failed files.new ≡ is_failed reading) }
@@ -55,6 +57,7 @@ fn read_open<F: Files>(alloc: Global, files: &mut F, most: u32) -> Result<Readin
     requires unfailed { F.failed files.old ≡ false }
     ensures tells { F.tells files.new ≡ F.tells files.old }
     ensures kept { (other : List ℕ) → F.bytes_of files.new other ≡ F.bytes_of files.old other }
+    ensures openings { F.openings files.new ≡ F.openings files.old }
     ensures begun { F.begun files.new ≡ F.begun files.old }
     ensures later { F.faults files.old ≤ F.faults files.new }
     ensures failed { IfOk result (λ reading. F.failed files.new ≡ is_failed reading) }

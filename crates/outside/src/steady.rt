@@ -1,20 +1,24 @@
 ghost use Rattle.std.specs.Prelude.{◌≡◌, ◌<◌, ℕ, true, false, Some, None, List, [], drop, length};
+ghost use Rattle.outside.specs.Faults.{counted};
 ghost use Rattle.outside.specs.Files.{Takes, is_failed};
 
 use crate::copying::copy_front;
+use crate::faults::counted;
 use crate::files::{Began, Files, Taken};
 use crate::sink::{Given, Sink};
 use cbase::Text;
 
 /// Files that answer every name with the same bytes and never fail.
 ///
-/// Their content is told, and the count of faults is always 0. No call takes memory.
+/// Their content is told, and the count of faults is always 0. That of openings stands still at 2^64 - 1. No call
+/// takes memory.
 #[derive(Drop)]
 pub struct SteadyFiles {
     name: Text,
     bytes: Text,
     begun: Option<Text>,
     position: usize,
+    openings: u64,
 }
 
 impl SteadyFiles {
@@ -29,12 +33,14 @@ impl SteadyFiles {
         ensures ready { ⟦<SteadyFiles as Files>⟧.ready result ≡ false }
         ensures failed { ⟦<SteadyFiles as Files>⟧.failed result ≡ false }
         ensures faults { ⟦<SteadyFiles as Files>⟧.faults result ≡ 0 }
+        ensures openings { ⟦<SteadyFiles as Files>⟧.openings result ≡ 0 }
     {
         SteadyFiles {
             name,
             bytes,
             begun: None,
             position: 0,
+            openings: 0,
         }
     }
 
@@ -57,6 +63,8 @@ impl Files for SteadyFiles {
 
     ghost faults = { λ _. 0 };
 
+    ghost openings = { λ s. s.openings };
+
     ghost begun = { λ s. unwrap_or s.begun [] };
 
     ghost ready = { λ s. is_some s.begun };
@@ -65,10 +73,11 @@ impl Files for SteadyFiles {
 
     fn begin(&mut self, name: Text) -> Began
         ensures answer { result ≡ Began.Ready }
-        ensures after { self.new ≡ record self.old { begun = Some name; position = 0 } }
+        ensures after { self.new ≡ record self.old { begun = Some name; position = 0; openings = counted self.old.openings } }
     {
         self.begun = Some(name);
         self.position = 0;
+        self.openings = counted(self.openings);
         Began::Ready
     }
 

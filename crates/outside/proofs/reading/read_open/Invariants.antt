@@ -6,6 +6,7 @@ invariant-pieces g l = record {
   ready : g.F.Files.ready l.files ≡ true;
   unfailed : g.F.Files.failed l.files ≡ false;
   later : g.F.Files.faults l.fn.files ≤ g.F.Files.faults l.files;
+  openings : g.F.Files.openings l.files ≡ g.F.Files.openings l.fn.files;
   begun : g.F.Files.begun l.files ≡ g.F.Files.begun l.fn.files;
   tells : g.F.Files.tells l.files ≡ g.F.Files.tells l.fn.files;
   kept : (other : List ℕ) → g.F.Files.bytes_of l.files other ≡ g.F.Files.bytes_of l.fn.files other;
