@@ -3,7 +3,7 @@ ghost use Rattle.cevents.specs.Building.{built};
 ghost use Rattle.cevents.specs.Workshop.{left_by};
 
 use crate::builder::Builder;
-use crate::texts::{appended, count_of, maybe_identifier_at, text_at};
+use crate::texts::{appended, maybe_identifier_at, text_at};
 use cbase::{Boxed, Decl, Declared, List, NoMemory, Param, Storage};
 use cevents::{Event, Piece, place_at};
 use cgrammar::Terminal;
@@ -20,13 +20,12 @@ impl Builder {
     pub(crate) fn parameter(
         &mut self,
         row: &[Terminal<'_>],
-        name: Option<usize>,
-        stars: usize,
+        name: Option<u32>,
+        stars: u32,
     ) -> Result<bool, NoMemory>
         ensures { IfOk result (λ made. left_by made self.new ≡ built row.now (Event.Parameter name stars) self.old.count self.old.pieces) }
     {
         let name = maybe_identifier_at(self.alloc, row, name)?;
-        let stars = count_of(stars)?;
         let Some(sizes) = self.pop_sizes() else {
             return Ok(false);
         };
@@ -60,14 +59,13 @@ impl Builder {
     pub(crate) fn object(
         &mut self,
         row: &[Terminal<'_>],
-        name: usize,
-        stars: usize,
+        name: u32,
+        stars: u32,
     ) -> Result<bool, NoMemory>
         ensures { IfOk result (λ made. left_by made self.new ≡ built row.now (Event.Object name stars) self.old.count self.old.pieces) }
     {
         let place = place_at(row, name);
         let name = text_at(self.alloc, row, name)?;
-        let stars = count_of(stars)?;
         let Some(sizes) = self.pop_sizes() else {
             return Ok(false);
         };
@@ -90,14 +88,13 @@ impl Builder {
     pub(crate) fn initialized_object(
         &mut self,
         row: &[Terminal<'_>],
-        name: usize,
-        stars: usize,
+        name: u32,
+        stars: u32,
     ) -> Result<bool, NoMemory>
         ensures { IfOk result (λ made. left_by made self.new ≡ built row.now (Event.InitializedObject name stars) self.old.count self.old.pieces) }
     {
         let place = place_at(row, name);
         let name = text_at(self.alloc, row, name)?;
-        let stars = count_of(stars)?;
         let Some(init) = self.pop_init() else {
             return Ok(false);
         };
@@ -125,14 +122,13 @@ impl Builder {
     pub(crate) fn function(
         &mut self,
         row: &[Terminal<'_>],
-        name: usize,
-        stars: usize,
+        name: u32,
+        stars: u32,
     ) -> Result<bool, NoMemory>
         ensures { IfOk result (λ made. left_by made self.new ≡ built row.now (Event.Function name stars) self.old.count self.old.pieces) }
     {
         let place = place_at(row, name);
         let name = text_at(self.alloc, row, name)?;
-        let stars = count_of(stars)?;
         let Some(params) = self.pop_parameters() else {
             return Ok(false);
         };

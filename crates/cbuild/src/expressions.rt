@@ -10,7 +10,7 @@ use cgrammar::Terminal;
 
 impl Builder {
     /// An identifier as an expression (C11 6.5.1).
-    pub(crate) fn name(&mut self, row: &[Terminal<'_>], at: usize) -> Result<bool, NoMemory>
+    pub(crate) fn name(&mut self, row: &[Terminal<'_>], at: u32) -> Result<bool, NoMemory>
         ensures { IfOk result (λ made. left_by made self.new ≡ built row.now (Event.Name at) self.old.count self.old.pieces) }
     {
         let name = text_at(self.alloc, row, at)?;
@@ -18,7 +18,7 @@ impl Builder {
     }
 
     /// A constant (C11 6.4.4).
-    pub(crate) fn constant(&mut self, row: &[Terminal<'_>], at: usize) -> Result<bool, NoMemory>
+    pub(crate) fn constant(&mut self, row: &[Terminal<'_>], at: u32) -> Result<bool, NoMemory>
         ensures { IfOk result (λ made. left_by made self.new ≡ built row.now (Event.Constant at) self.old.count self.old.pieces) }
     {
         let spelling = text_at(self.alloc, row, at)?;
@@ -26,7 +26,7 @@ impl Builder {
     }
 
     /// A call of `__assert_fail`.
-    pub(crate) fn assert_fail(&mut self, row: &[Terminal<'_>], at: usize) -> Result<bool, NoMemory>
+    pub(crate) fn assert_fail(&mut self, row: &[Terminal<'_>], at: u32) -> Result<bool, NoMemory>
         ensures { IfOk result (λ made. left_by made self.new ≡ built row.now (Event.AssertFail at) self.old.count self.old.pieces) }
     {
         self.express(place_at(row, at), ExprForm::AssertFail)
@@ -37,7 +37,7 @@ impl Builder {
         &mut self,
         row: &[Terminal<'_>],
         op: UnaryOp,
-        at: usize,
+        at: u32,
     ) -> Result<bool, NoMemory>
         ensures { IfOk result (λ made. left_by made self.new ≡ built row.now (Event.Unary op at) self.old.count self.old.pieces) }
     {
@@ -53,7 +53,7 @@ impl Builder {
         row: &[Terminal<'_>],
         up: bool,
         after: bool,
-        at: usize,
+        at: u32,
     ) -> Result<bool, NoMemory>
         ensures { IfOk result (λ made. left_by made self.new ≡ built row.now (Event.Count up after at) self.old.count self.old.pieces) }
     {
@@ -64,7 +64,7 @@ impl Builder {
     }
 
     /// `sizeof` of an expression (C11 6.5.3.4).
-    pub(crate) fn size_of(&mut self, row: &[Terminal<'_>], at: usize) -> Result<bool, NoMemory>
+    pub(crate) fn size_of(&mut self, row: &[Terminal<'_>], at: u32) -> Result<bool, NoMemory>
         ensures { IfOk result (λ made. left_by made self.new ≡ built row.now (Event.SizeOf at) self.old.count self.old.pieces) }
     {
         let Some(arg) = self.pop_expr() else {
@@ -74,7 +74,7 @@ impl Builder {
     }
 
     /// `sizeof` of a type (C11 6.5.3.4).
-    pub(crate) fn size_of_type(&mut self, row: &[Terminal<'_>], at: usize) -> Result<bool, NoMemory>
+    pub(crate) fn size_of_type(&mut self, row: &[Terminal<'_>], at: u32) -> Result<bool, NoMemory>
         ensures { IfOk result (λ made. left_by made self.new ≡ built row.now (Event.SizeOfType at) self.old.count self.old.pieces) }
     {
         let Some(to) = self.pop_type_name() else {
@@ -84,7 +84,7 @@ impl Builder {
     }
 
     /// `__builtin_offsetof` of a member of a type.
-    pub(crate) fn offset_of(&mut self, row: &[Terminal<'_>], at: usize) -> Result<bool, NoMemory>
+    pub(crate) fn offset_of(&mut self, row: &[Terminal<'_>], at: u32) -> Result<bool, NoMemory>
         ensures { IfOk result (λ made. left_by made self.new ≡ built row.now (Event.OffsetOf at) self.old.count self.old.pieces) }
     {
         let Some(path) = self.pop_path() else {
@@ -97,7 +97,7 @@ impl Builder {
     }
 
     /// A cast (C11 6.5.4).
-    pub(crate) fn cast(&mut self, row: &[Terminal<'_>], at: usize) -> Result<bool, NoMemory>
+    pub(crate) fn cast(&mut self, row: &[Terminal<'_>], at: u32) -> Result<bool, NoMemory>
         ensures { IfOk result (λ made. left_by made self.new ≡ built row.now (Event.Cast at) self.old.count self.old.pieces) }
     {
         let Some(arg) = self.pop_expr() else {
@@ -110,7 +110,7 @@ impl Builder {
     }
 
     /// An item of an array (C11 6.5.2.1).
-    pub(crate) fn index(&mut self, row: &[Terminal<'_>], at: usize) -> Result<bool, NoMemory>
+    pub(crate) fn index(&mut self, row: &[Terminal<'_>], at: u32) -> Result<bool, NoMemory>
         ensures { IfOk result (λ made. left_by made self.new ≡ built row.now (Event.Index at) self.old.count self.old.pieces) }
     {
         let Some(index) = self.pop_expr() else {
@@ -127,8 +127,8 @@ impl Builder {
         &mut self,
         row: &[Terminal<'_>],
         through: bool,
-        at: usize,
-        name: usize,
+        at: u32,
+        name: u32,
     ) -> Result<bool, NoMemory>
         ensures { IfOk result (λ made. left_by made self.new ≡ built row.now (Event.Member through at name) self.old.count self.old.pieces) }
     {
@@ -147,7 +147,7 @@ impl Builder {
     }
 
     /// A call (C11 6.5.2.2).
-    pub(crate) fn call(&mut self, row: &[Terminal<'_>], at: usize) -> Result<bool, NoMemory>
+    pub(crate) fn call(&mut self, row: &[Terminal<'_>], at: u32) -> Result<bool, NoMemory>
         ensures { IfOk result (λ made. left_by made self.new ≡ built row.now (Event.Call at) self.old.count self.old.pieces) }
     {
         let Some(args) = self.pop_arguments() else {
@@ -163,8 +163,8 @@ impl Builder {
     pub(crate) fn inner(
         &mut self,
         row: &[Terminal<'_>],
-        at: usize,
-        close: usize,
+        at: u32,
+        close: u32,
     ) -> Result<bool, NoMemory>
         ensures { IfOk result (λ made. left_by made self.new ≡ built row.now (Event.Inner at close) self.old.count self.old.pieces) }
     {
@@ -180,7 +180,7 @@ impl Builder {
         &mut self,
         row: &[Terminal<'_>],
         op: BinaryOp,
-        at: usize,
+        at: u32,
     ) -> Result<bool, NoMemory>
         ensures { IfOk result (λ made. left_by made self.new ≡ built row.now (Event.Binary op at) self.old.count self.old.pieces) }
     {
@@ -198,7 +198,7 @@ impl Builder {
         &mut self,
         row: &[Terminal<'_>],
         op: Option<BinaryOp>,
-        at: usize,
+        at: u32,
     ) -> Result<bool, NoMemory>
         ensures { IfOk result (λ made. left_by made self.new ≡ built row.now (Event.Assign op at) self.old.count self.old.pieces) }
     {
@@ -212,7 +212,7 @@ impl Builder {
     }
 
     /// `?` and `:` (C11 6.5.15).
-    pub(crate) fn choose(&mut self, row: &[Terminal<'_>], at: usize) -> Result<bool, NoMemory>
+    pub(crate) fn choose(&mut self, row: &[Terminal<'_>], at: u32) -> Result<bool, NoMemory>
         ensures { IfOk result (λ made. left_by made self.new ≡ built row.now (Event.Choose at) self.old.count self.old.pieces) }
     {
         let Some(no) = self.pop_expr() else {

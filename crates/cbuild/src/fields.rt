@@ -3,7 +3,7 @@ ghost use Rattle.cevents.specs.Building.{built};
 ghost use Rattle.cevents.specs.Workshop.{left_by};
 
 use crate::builder::Builder;
-use crate::texts::{appended, count_of, text_at};
+use crate::texts::{appended, text_at};
 use cbase::{Enumerator, FieldDecl, FieldName, List, NoMemory};
 use cevents::{Event, Piece, place_at};
 use cgrammar::Terminal;
@@ -20,14 +20,13 @@ impl Builder {
     pub(crate) fn field(
         &mut self,
         row: &[Terminal<'_>],
-        name: usize,
-        stars: usize,
+        name: u32,
+        stars: u32,
     ) -> Result<bool, NoMemory>
         ensures { IfOk result (λ made. left_by made self.new ≡ built row.now (Event.Field name stars) self.old.count self.old.pieces) }
     {
         let place = place_at(row, name);
         let name = text_at(self.alloc, row, name)?;
-        let stars = count_of(stars)?;
         let Some(sizes) = self.pop_sizes() else {
             return Ok(false);
         };
@@ -49,14 +48,13 @@ impl Builder {
     pub(crate) fn bit_field(
         &mut self,
         row: &[Terminal<'_>],
-        name: usize,
-        stars: usize,
+        name: u32,
+        stars: u32,
     ) -> Result<bool, NoMemory>
         ensures { IfOk result (λ made. left_by made self.new ≡ built row.now (Event.BitField name stars) self.old.count self.old.pieces) }
     {
         let place = place_at(row, name);
         let name = text_at(self.alloc, row, name)?;
-        let stars = count_of(stars)?;
         let Some(bits) = self.pop_expr() else {
             return Ok(false);
         };
@@ -78,7 +76,7 @@ impl Builder {
     }
 
     /// One more field of bits without a name.
-    pub(crate) fn padding(&mut self, row: &[Terminal<'_>], colon: usize) -> Result<bool, NoMemory>
+    pub(crate) fn padding(&mut self, row: &[Terminal<'_>], colon: u32) -> Result<bool, NoMemory>
         ensures { IfOk result (λ made. left_by made self.new ≡ built row.now (Event.Padding colon) self.old.count self.old.pieces) }
     {
         let place = place_at(row, colon);
@@ -132,7 +130,7 @@ impl Builder {
     }
 
     /// One more enumerator without a value.
-    pub(crate) fn enumerator(&mut self, row: &[Terminal<'_>], name: usize) -> Result<bool, NoMemory>
+    pub(crate) fn enumerator(&mut self, row: &[Terminal<'_>], name: u32) -> Result<bool, NoMemory>
         ensures { IfOk result (λ made. left_by made self.new ≡ built row.now (Event.Enumerator name) self.old.count self.old.pieces) }
     {
         let place = place_at(row, name);
@@ -155,7 +153,7 @@ impl Builder {
     pub(crate) fn enumerator_value(
         &mut self,
         row: &[Terminal<'_>],
-        name: usize,
+        name: u32,
     ) -> Result<bool, NoMemory>
         ensures { IfOk result (λ made. left_by made self.new ≡ built row.now (Event.EnumeratorValue name) self.old.count self.old.pieces) }
     {

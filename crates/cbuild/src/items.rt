@@ -30,7 +30,7 @@ impl Builder {
         &mut self,
         row: &[Terminal<'_>],
         storage: Storage,
-        close: usize,
+        close: u32,
     ) -> Result<bool, NoMemory>
         ensures { IfOk result (λ made. left_by made self.new ≡ built row.now (Event.FunctionItem storage close) self.old.count self.old.pieces) }
     {

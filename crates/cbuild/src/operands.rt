@@ -31,7 +31,7 @@ impl Builder {
     }
 
     /// A path with one member.
-    pub(crate) fn path(&mut self, row: &[Terminal<'_>], name: usize) -> Result<bool, NoMemory>
+    pub(crate) fn path(&mut self, row: &[Terminal<'_>], name: u32) -> Result<bool, NoMemory>
         ensures { IfOk result (λ made. left_by made self.new ≡ built row.now (Event.Path name) self.old.count self.old.pieces) }
     {
         let name = identifier_at(self.alloc, row, name)?;
@@ -40,11 +40,7 @@ impl Builder {
     }
 
     /// One more member of a path.
-    pub(crate) fn path_member(
-        &mut self,
-        row: &[Terminal<'_>],
-        name: usize,
-    ) -> Result<bool, NoMemory>
+    pub(crate) fn path_member(&mut self, row: &[Terminal<'_>], name: u32) -> Result<bool, NoMemory>
         ensures { IfOk result (λ made. left_by made self.new ≡ built row.now (Event.PathMember name) self.old.count self.old.pieces) }
     {
         let name = identifier_at(self.alloc, row, name)?;
@@ -70,7 +66,7 @@ impl Builder {
     }
 
     /// An expression as an initialiser (C11 6.7.9).
-    pub(crate) fn value(&mut self, row: &[Terminal<'_>], after: usize) -> Result<bool, NoMemory>
+    pub(crate) fn value(&mut self, row: &[Terminal<'_>], after: u32) -> Result<bool, NoMemory>
         ensures { IfOk result (λ made. left_by made self.new ≡ built row.now (Event.Value after) self.old.count self.old.pieces) }
     {
         let after = place_at(row, after);
@@ -94,7 +90,7 @@ impl Builder {
     pub(crate) fn part(
         &mut self,
         row: &[Terminal<'_>],
-        member: Option<usize>,
+        member: Option<u32>,
     ) -> Result<bool, NoMemory>
         ensures { IfOk result (λ made. left_by made self.new ≡ built row.now (Event.Part member) self.old.count self.old.pieces) }
     {

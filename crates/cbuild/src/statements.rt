@@ -34,8 +34,8 @@ impl Builder {
     pub(crate) fn declare(
         &mut self,
         row: &[Terminal<'_>],
-        first: usize,
-        last: usize,
+        first: u32,
+        last: u32,
     ) -> Result<bool, NoMemory>
         ensures { IfOk result (λ made. left_by made self.new ≡ built row.now (Event.Declare first last) self.old.count self.old.pieces) }
     {
@@ -53,8 +53,8 @@ impl Builder {
     pub(crate) fn eval(
         &mut self,
         row: &[Terminal<'_>],
-        first: usize,
-        last: usize,
+        first: u32,
+        last: u32,
     ) -> Result<bool, NoMemory>
         ensures { IfOk result (λ made. left_by made self.new ≡ built row.now (Event.Eval first last) self.old.count self.old.pieces) }
     {
@@ -73,8 +73,8 @@ impl Builder {
     pub(crate) fn eval_behind(
         &mut self,
         row: &[Terminal<'_>],
-        first: usize,
-        last: usize,
+        first: u32,
+        last: u32,
     ) -> Result<bool, NoMemory>
         ensures { IfOk result (λ made. left_by made self.new ≡ built_next row.now Event.Statement (built row.now (Event.Eval first last) self.old.count self.old.pieces)) }
     {
@@ -98,8 +98,8 @@ impl Builder {
     pub(crate) fn block(
         &mut self,
         row: &[Terminal<'_>],
-        first: usize,
-        last: usize,
+        first: u32,
+        last: u32,
     ) -> Result<bool, NoMemory>
         ensures { IfOk result (λ made. left_by made self.new ≡ built row.now (Event.Block first last) self.old.count self.old.pieces) }
     {
@@ -117,8 +117,8 @@ impl Builder {
     pub(crate) fn if_alone(
         &mut self,
         row: &[Terminal<'_>],
-        first: usize,
-        close: usize,
+        first: u32,
+        close: u32,
     ) -> Result<bool, NoMemory>
         ensures { IfOk result (λ made. left_by made self.new ≡ built row.now (Event.If first close) self.old.count self.old.pieces) }
     {
@@ -146,8 +146,8 @@ impl Builder {
     pub(crate) fn if_else(
         &mut self,
         row: &[Terminal<'_>],
-        first: usize,
-        close: usize,
+        first: u32,
+        close: u32,
     ) -> Result<bool, NoMemory>
         ensures { IfOk result (λ made. left_by made self.new ≡ built row.now (Event.IfElse first close) self.old.count self.old.pieces) }
     {
@@ -178,8 +178,8 @@ impl Builder {
     pub(crate) fn while_loop(
         &mut self,
         row: &[Terminal<'_>],
-        first: usize,
-        close: usize,
+        first: u32,
+        close: u32,
     ) -> Result<bool, NoMemory>
         ensures { IfOk result (λ made. left_by made self.new ≡ built row.now (Event.While first close) self.old.count self.old.pieces) }
     {
@@ -202,9 +202,9 @@ impl Builder {
     pub(crate) fn do_loop(
         &mut self,
         row: &[Terminal<'_>],
-        first: usize,
-        close: usize,
-        last: usize,
+        first: u32,
+        close: u32,
+        last: u32,
     ) -> Result<bool, NoMemory>
         ensures { IfOk result (λ made. left_by made self.new ≡ built row.now (Event.Do first close last) self.old.count self.old.pieces) }
     {
@@ -226,9 +226,9 @@ impl Builder {
     pub(crate) fn for_loop(
         &mut self,
         row: &[Terminal<'_>],
-        first: usize,
-        semicolon: usize,
-        close: usize,
+        first: u32,
+        semicolon: u32,
+        close: u32,
     ) -> Result<bool, NoMemory>
         ensures { IfOk result (λ made. left_by made self.new ≡ built row.now (Event.For first semicolon close) self.old.count self.old.pieces) }
     {
@@ -268,8 +268,8 @@ impl Builder {
     pub(crate) fn break_out(
         &mut self,
         row: &[Terminal<'_>],
-        first: usize,
-        last: usize,
+        first: u32,
+        last: u32,
     ) -> Result<bool, NoMemory>
         ensures { IfOk result (λ made. left_by made self.new ≡ built row.now (Event.Break first last) self.old.count self.old.pieces) }
     {
@@ -280,8 +280,8 @@ impl Builder {
     pub(crate) fn continue_on(
         &mut self,
         row: &[Terminal<'_>],
-        first: usize,
-        last: usize,
+        first: u32,
+        last: u32,
     ) -> Result<bool, NoMemory>
         ensures { IfOk result (λ made. left_by made self.new ≡ built row.now (Event.Continue first last) self.old.count self.old.pieces) }
     {
@@ -296,8 +296,8 @@ impl Builder {
     pub(crate) fn give_back(
         &mut self,
         row: &[Terminal<'_>],
-        first: usize,
-        last: usize,
+        first: u32,
+        last: u32,
     ) -> Result<bool, NoMemory>
         ensures { IfOk result (λ made. left_by made self.new ≡ built row.now (Event.Return first last) self.old.count self.old.pieces) }
     {

@@ -7,7 +7,7 @@ use cgrammar::Terminal;
 use std::alloc::Global;
 
 /// A text with the bytes of the token with the number.
-pub(crate) fn text_at(alloc: Global, row: &[Terminal<'_>], at: usize) -> Result<Text, NoMemory>
+pub(crate) fn text_at(alloc: Global, row: &[Terminal<'_>], at: u32) -> Result<Text, NoMemory>
     ensures { IfOk result (λ text. text ≡ bytes_at row.now at) }
 {
     Text::from_slice(alloc, bytes_at(row, at))
@@ -17,7 +17,7 @@ pub(crate) fn text_at(alloc: Global, row: &[Terminal<'_>], at: usize) -> Result<
 pub(crate) fn identifier_at(
     alloc: Global,
     row: &[Terminal<'_>],
-    at: usize,
+    at: u32,
 ) -> Result<Identifier, NoMemory>
     ensures { IfOk result (λ name. name ≡ identifier_at row.now at) }
 {
@@ -32,7 +32,7 @@ pub(crate) fn identifier_at(
 pub(crate) fn maybe_identifier_at(
     alloc: Global,
     row: &[Terminal<'_>],
-    at: Option<usize>,
+    at: Option<u32>,
 ) -> Result<Option<Identifier>, NoMemory>
     ensures { IfOk result (λ name. name ≡ maybe_identifier_at row.now at) }
 {
@@ -59,15 +59,4 @@ pub(crate) fn list_of_one<T: Drop>(alloc: Global, item: T) -> Result<List<T>, No
     ensures { IfOk result (λ list. list ≡ item ∷ []) }
 {
     appended(List::new(alloc), item)
-}
-
-/// How many `*` there are, as a number of a tree. A count that fits no such number is told as want of memory: it needs more
-/// tokens than memory holds.
-pub(crate) fn count_of(stars: usize) -> Result<u32, NoMemory>
-    ensures { IfOk result (λ count. count ≡ stars) }
-{
-    match u32::try_from(stars) {
-        Ok(count) => Ok(count),
-        Err(_) => Err(NoMemory),
-    }
 }

@@ -3,7 +3,7 @@ ghost use Rattle.cevents.specs.Building.{built};
 ghost use Rattle.cevents.specs.Workshop.{left_by};
 
 use crate::builder::Builder;
-use crate::texts::{appended, count_of, identifier_at, maybe_identifier_at, text_at};
+use crate::texts::{appended, identifier_at, maybe_identifier_at, text_at};
 use cbase::{BasicType, Boxed, List, NoMemory, TypeName, TypeSpec};
 use cevents::{Event, Piece};
 use cgrammar::Terminal;
@@ -17,7 +17,7 @@ impl Builder {
     }
 
     /// A type that a typedef names (C11 6.7.8).
-    pub(crate) fn named(&mut self, row: &[Terminal<'_>], at: usize) -> Result<bool, NoMemory>
+    pub(crate) fn named(&mut self, row: &[Terminal<'_>], at: u32) -> Result<bool, NoMemory>
         ensures { IfOk result (λ made. left_by made self.new ≡ built row.now (Event.Named at) self.old.count self.old.pieces) }
     {
         let name = text_at(self.alloc, row, at)?;
@@ -25,7 +25,7 @@ impl Builder {
     }
 
     /// A struct by its tag alone (C11 6.7.2.3).
-    pub(crate) fn struct_tag(&mut self, row: &[Terminal<'_>], tag: usize) -> Result<bool, NoMemory>
+    pub(crate) fn struct_tag(&mut self, row: &[Terminal<'_>], tag: u32) -> Result<bool, NoMemory>
         ensures { IfOk result (λ made. left_by made self.new ≡ built row.now (Event.StructTag tag) self.old.count self.old.pieces) }
     {
         let name = identifier_at(self.alloc, row, tag)?;
@@ -36,7 +36,7 @@ impl Builder {
     }
 
     /// An enum by its tag alone (C11 6.7.2.3).
-    pub(crate) fn enum_tag(&mut self, row: &[Terminal<'_>], tag: usize) -> Result<bool, NoMemory>
+    pub(crate) fn enum_tag(&mut self, row: &[Terminal<'_>], tag: u32) -> Result<bool, NoMemory>
         ensures { IfOk result (λ made. left_by made self.new ≡ built row.now (Event.EnumTag tag) self.old.count self.old.pieces) }
     {
         let name = identifier_at(self.alloc, row, tag)?;
@@ -50,7 +50,7 @@ impl Builder {
     pub(crate) fn struct_with_fields(
         &mut self,
         row: &[Terminal<'_>],
-        tag: Option<usize>,
+        tag: Option<u32>,
     ) -> Result<bool, NoMemory>
         ensures { IfOk result (λ made. left_by made self.new ≡ built row.now (Event.Struct tag) self.old.count self.old.pieces) }
     {
@@ -68,7 +68,7 @@ impl Builder {
     pub(crate) fn enum_with_values(
         &mut self,
         row: &[Terminal<'_>],
-        tag: Option<usize>,
+        tag: Option<u32>,
     ) -> Result<bool, NoMemory>
         ensures { IfOk result (λ made. left_by made self.new ≡ built row.now (Event.Enum tag) self.old.count self.old.pieces) }
     {
@@ -135,10 +135,9 @@ impl Builder {
     }
 
     /// The name of a type (C11 6.7.7).
-    pub(crate) fn type_name(&mut self, row: &[Terminal<'_>], stars: usize) -> Result<bool, NoMemory>
+    pub(crate) fn type_name(&mut self, row: &[Terminal<'_>], stars: u32) -> Result<bool, NoMemory>
         ensures { IfOk result (λ made. left_by made self.new ≡ built row.now (Event.TypeName stars) self.old.count self.old.pieces) }
     {
-        let stars = count_of(stars)?;
         let Some(sizes) = self.pop_sizes() else {
             return Ok(false);
         };

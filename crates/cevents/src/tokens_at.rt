@@ -6,9 +6,10 @@ use cgrammar::Terminal;
 
 /// Where the token of the row with the number `at` stands in its text. Where there is no such token it is the place of none,
 /// in column 0, which no token has.
-pub fn place_at(row: &[Terminal<'_>], at: usize) -> Place
+pub fn place_at(row: &[Terminal<'_>], at: u32) -> Place
     ensures { result ≡ place_at row.now at }
 {
+    let at = at as usize;
     if at < row.len() {
         return row[at].place();
     }
@@ -16,9 +17,10 @@ pub fn place_at(row: &[Terminal<'_>], at: usize) -> Place
 }
 
 /// The bytes of the token of the row with the number `at` as it is read, and none where there is no such token.
-pub fn bytes_at<'a>(row: &[Terminal<'a>], at: usize) -> &'a [u8]
+pub fn bytes_at<'a>(row: &[Terminal<'a>], at: u32) -> &'a [u8]
     ensures { result.now ≡ bytes_at row.now at }
 {
+    let at = at as usize;
     if at < row.len() {
         return row[at].bytes();
     }

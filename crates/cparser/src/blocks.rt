@@ -50,7 +50,7 @@ impl<F: Fn(&mut Reader<'_>, u32, Wanted) -> Result<(), NoMemory>> Grammar<F> {
         requires { Nests self.now.depth (F.pre self.now.inner) (F.post self.now.inner) }
         ensures { OnOk result (reader.new ≡ block_statement (inner_at self.now.depth) reader.old) }
     {
-        let first = reader.at;
+        let first = reader.here()?;
         self.block(reader)?;
         reader.blocked(first)
     }

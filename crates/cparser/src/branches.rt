@@ -28,8 +28,8 @@ impl<F: Fn(&mut Reader<'_>, u32, Wanted) -> Result<(), NoMemory>> Grammar<F> {
     fn otherwise_behind(
         &self,
         reader: &mut Reader<'_>,
-        first: usize,
-        close: usize,
+        first: u32,
+        close: u32,
     ) -> Result<(), NoMemory>
         requires { Nests self.now.depth (F.pre self.now.inner) (F.post self.now.inner) }
         ensures { OnOk result (reader.new ≡ otherwise_behind (inner_at self.now.depth) first close reader.old) }
@@ -47,18 +47,18 @@ impl<F: Fn(&mut Reader<'_>, u32, Wanted) -> Result<(), NoMemory>> Grammar<F> {
 
     /// Reads an `if` from behind its test on, whose `)` was read last (C11 6.8.4.1).
     #[tactic(auto, unfolding(crate::specs::StatementSteps::if_tested))]
-    fn if_tested(&self, reader: &mut Reader<'_>, first: usize) -> Result<(), NoMemory>
+    fn if_tested(&self, reader: &mut Reader<'_>, first: u32) -> Result<(), NoMemory>
         requires { Nests self.now.depth (F.pre self.now.inner) (F.post self.now.inner) }
         ensures { OnOk result (reader.new ≡ if_tested (inner_at self.now.depth) first reader.old) }
     {
-        let close = reader.last();
+        let close = reader.last()?;
         self.substatement(reader)?;
         self.otherwise_behind(reader, first, close)
     }
 
     /// Reads an `if` from behind its word on, a scope of its own (C11 6.8.4.1).
     #[tactic(auto, unfolding(crate::specs::StatementSteps::if_behind))]
-    pub fn if_behind(&self, reader: &mut Reader<'_>, first: usize) -> Result<(), NoMemory>
+    pub fn if_behind(&self, reader: &mut Reader<'_>, first: u32) -> Result<(), NoMemory>
         requires { Nests self.now.depth (F.pre self.now.inner) (F.post self.now.inner) }
         ensures { OnOk result (reader.new ≡ if_behind (inner_at self.now.depth) first reader.old) }
     {
@@ -71,18 +71,18 @@ impl<F: Fn(&mut Reader<'_>, u32, Wanted) -> Result<(), NoMemory>> Grammar<F> {
 
     /// Reads a `while` from behind its test on, whose `)` was read last (C11 6.8.5.1).
     #[tactic(auto, unfolding(crate::specs::StatementSteps::while_tested))]
-    fn while_tested(&self, reader: &mut Reader<'_>, first: usize) -> Result<(), NoMemory>
+    fn while_tested(&self, reader: &mut Reader<'_>, first: u32) -> Result<(), NoMemory>
         requires { Nests self.now.depth (F.pre self.now.inner) (F.post self.now.inner) }
         ensures { OnOk result (reader.new ≡ while_tested (inner_at self.now.depth) first reader.old) }
     {
-        let close = reader.last();
+        let close = reader.last()?;
         self.substatement(reader)?;
         reader.make(Event::While { first, close })
     }
 
     /// Reads a `while` from behind its word on, a scope of its own (C11 6.8.5.1).
     #[tactic(auto, unfolding(crate::specs::StatementSteps::while_behind))]
-    pub fn while_behind(&self, reader: &mut Reader<'_>, first: usize) -> Result<(), NoMemory>
+    pub fn while_behind(&self, reader: &mut Reader<'_>, first: u32) -> Result<(), NoMemory>
         requires { Nests self.now.depth (F.pre self.now.inner) (F.post self.now.inner) }
         ensures { OnOk result (reader.new ≡ while_behind (inner_at self.now.depth) first reader.old) }
     {
@@ -95,7 +95,7 @@ impl<F: Fn(&mut Reader<'_>, u32, Wanted) -> Result<(), NoMemory>> Grammar<F> {
 
     /// Reads a `do` from behind its word on, a scope of its own (C11 6.8.5.2).
     #[tactic(auto, unfolding(crate::specs::StatementSteps::do_behind))]
-    pub fn do_behind(&self, reader: &mut Reader<'_>, first: usize) -> Result<(), NoMemory>
+    pub fn do_behind(&self, reader: &mut Reader<'_>, first: u32) -> Result<(), NoMemory>
         requires { Nests self.now.depth (F.pre self.now.inner) (F.post self.now.inner) }
         ensures { OnOk result (reader.new ≡ do_behind (inner_at self.now.depth) first reader.old) }
     {
@@ -113,13 +113,13 @@ impl<F: Fn(&mut Reader<'_>, u32, Wanted) -> Result<(), NoMemory>> Grammar<F> {
     fn for_closed(
         &self,
         reader: &mut Reader<'_>,
-        first: usize,
-        semicolon: usize,
+        first: u32,
+        semicolon: u32,
     ) -> Result<(), NoMemory>
         requires { Nests self.now.depth (F.pre self.now.inner) (F.post self.now.inner) }
         ensures { OnOk result (reader.new ≡ for_closed (inner_at self.now.depth) first semicolon reader.old) }
     {
-        let close = reader.last();
+        let close = reader.last()?;
         self.substatement(reader)?;
         reader.make(Event::For {
             first,
@@ -130,11 +130,11 @@ impl<F: Fn(&mut Reader<'_>, u32, Wanted) -> Result<(), NoMemory>> Grammar<F> {
 
     /// Reads a `for` from behind its second `;` on, which was read last (C11 6.8.5.3).
     #[tactic(auto, unfolding(crate::specs::StatementSteps::for_next))]
-    fn for_next(&self, reader: &mut Reader<'_>, first: usize) -> Result<(), NoMemory>
+    fn for_next(&self, reader: &mut Reader<'_>, first: u32) -> Result<(), NoMemory>
         requires { Nests self.now.depth (F.pre self.now.inner) (F.post self.now.inner) }
         ensures { OnOk result (reader.new ≡ for_next (inner_at self.now.depth) first reader.old) }
     {
-        let semicolon = reader.last();
+        let semicolon = reader.last()?;
         self.maybe(reader, b")")?;
         reader.mark(b")");
         self.for_closed(reader, first, semicolon)
@@ -142,7 +142,7 @@ impl<F: Fn(&mut Reader<'_>, u32, Wanted) -> Result<(), NoMemory>> Grammar<F> {
 
     /// Reads a `for` from behind its word on, a scope of its own (C11 6.8.5.3).
     #[tactic(auto, unfolding(crate::specs::StatementSteps::for_behind))]
-    pub fn for_behind(&self, reader: &mut Reader<'_>, first: usize) -> Result<(), NoMemory>
+    pub fn for_behind(&self, reader: &mut Reader<'_>, first: u32) -> Result<(), NoMemory>
         requires { Nests self.now.depth (F.pre self.now.inner) (F.post self.now.inner) }
         ensures { OnOk result (reader.new ≡ for_behind (inner_at self.now.depth) first reader.old) }
     {
@@ -158,7 +158,7 @@ impl<F: Fn(&mut Reader<'_>, u32, Wanted) -> Result<(), NoMemory>> Grammar<F> {
 
     /// Reads a `return` from behind its word on (C11 6.8.6.4).
     #[tactic(auto, unfolding(crate::specs::StatementSteps::return_behind))]
-    pub fn return_behind(&self, reader: &mut Reader<'_>, first: usize) -> Result<(), NoMemory>
+    pub fn return_behind(&self, reader: &mut Reader<'_>, first: u32) -> Result<(), NoMemory>
         requires { Nests self.now.depth (F.pre self.now.inner) (F.post self.now.inner) }
         ensures { OnOk result (reader.new ≡ return_behind (inner_at self.now.depth) first reader.old) }
     {

@@ -36,7 +36,7 @@ impl<F: Fn(&mut Reader<'_>, u32, Wanted) -> Result<(), NoMemory>> Grammar<F> {
         requires { Nests self.now.depth (F.pre self.now.inner) (F.post self.now.inner) }
         ensures { OnOk result (reader.new ≡ declared_statement (inner_at self.now.depth) reader.old) }
     {
-        let first = reader.at;
+        let first = reader.here()?;
         self.declaration(reader)?;
         reader.declared(first)
     }
@@ -47,7 +47,7 @@ impl<F: Fn(&mut Reader<'_>, u32, Wanted) -> Result<(), NoMemory>> Grammar<F> {
         requires { Nests self.now.depth (F.pre self.now.inner) (F.post self.now.inner) }
         ensures { OnOk result (reader.new ≡ expression_statement (inner_at self.now.depth) reader.old) }
     {
-        let first = reader.at;
+        let first = reader.here()?;
         self.ask_whole(reader, Wanted::Expression)?;
         reader.write(Event::OneExpression)?;
         reader.mark(b";");

@@ -16,8 +16,8 @@ impl<F: Fn(&mut Reader<'_>, u32, Wanted) -> Result<(), NoMemory>> Grammar<F> {
         &self,
         reader: &mut Reader<'_>,
         typedef: bool,
-        at: usize,
-        stars: usize,
+        at: u32,
+        stars: u32,
     ) -> Result<(), NoMemory>
         requires { Nests self.now.depth (F.pre self.now.inner) (F.post self.now.inner) }
         ensures { OnOk result (reader.new ≡ object_initialized (inner_at self.now.depth) typedef at stars reader.old) }
@@ -33,8 +33,8 @@ impl<F: Fn(&mut Reader<'_>, u32, Wanted) -> Result<(), NoMemory>> Grammar<F> {
         &self,
         reader: &mut Reader<'_>,
         typedef: bool,
-        at: usize,
-        stars: usize,
+        at: u32,
+        stars: u32,
     ) -> Result<(), NoMemory>
         requires { Nests self.now.depth (F.pre self.now.inner) (F.post self.now.inner) }
         ensures { OnOk result (reader.new ≡ object_behind (inner_at self.now.depth) typedef at stars reader.old) }
@@ -55,8 +55,8 @@ impl<F: Fn(&mut Reader<'_>, u32, Wanted) -> Result<(), NoMemory>> Grammar<F> {
         &self,
         reader: &mut Reader<'_>,
         typedef: bool,
-        at: usize,
-        stars: usize,
+        at: u32,
+        stars: u32,
     ) -> Result<(), NoMemory>
         requires { Nests self.now.depth (F.pre self.now.inner) (F.post self.now.inner) }
         ensures { OnOk result (reader.new ≡ function_behind (inner_at self.now.depth) typedef at stars reader.old) }
@@ -73,8 +73,8 @@ impl<F: Fn(&mut Reader<'_>, u32, Wanted) -> Result<(), NoMemory>> Grammar<F> {
         &self,
         reader: &mut Reader<'_>,
         typedef: bool,
-        at: usize,
-        stars: usize,
+        at: u32,
+        stars: u32,
     ) -> Result<(), NoMemory>
         requires { Nests self.now.depth (F.pre self.now.inner) (F.post self.now.inner) }
         ensures { OnOk result (reader.new ≡ declarator_behind (inner_at self.now.depth) typedef at stars reader.old) }
@@ -92,7 +92,7 @@ impl<F: Fn(&mut Reader<'_>, u32, Wanted) -> Result<(), NoMemory>> Grammar<F> {
         &self,
         reader: &mut Reader<'_>,
         typedef: bool,
-        stars: usize,
+        stars: u32,
     ) -> Result<(), NoMemory>
         requires { Nests self.now.depth (F.pre self.now.inner) (F.post self.now.inner) }
         ensures { OnOk result (reader.new ≡ declarator_named (inner_at self.now.depth) typedef stars reader.old) }
@@ -101,7 +101,7 @@ impl<F: Fn(&mut Reader<'_>, u32, Wanted) -> Result<(), NoMemory>> Grammar<F> {
             reader.lose();
             return Ok(());
         }
-        let at = reader.at;
+        let at = reader.here()?;
         reader.skip(1);
         self.declarator_behind(reader, typedef, at, stars)
     }
@@ -115,8 +115,8 @@ impl<F: Fn(&mut Reader<'_>, u32, Wanted) -> Result<(), NoMemory>> Grammar<F> {
         if !reader.goes() {
             return Ok(());
         }
-        let stars = reader.stars();
-        reader.skip(stars);
+        let stars = reader.stars()?;
+        reader.skip(stars as usize);
         self.declarator_named(reader, typedef, stars)
     }
 

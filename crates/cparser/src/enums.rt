@@ -23,7 +23,7 @@ impl<'a> Reader<'a> {
     }
 
     /// Reads an enum by its tag alone.
-    fn enum_by_tag(&mut self, tag: Option<usize>) -> Result<(), NoMemory>
+    fn enum_by_tag(&mut self, tag: Option<u32>) -> Result<(), NoMemory>
         ensures { OnOk result (self.new ≡ enum_by_tag tag self.old) }
     {
         match tag {
@@ -38,7 +38,7 @@ impl<'a> Reader<'a> {
 
 impl<F: Fn(&mut Reader<'_>, u32, Wanted) -> Result<(), NoMemory>> Grammar<F> {
     /// Reads the value of an enumeration constant, from behind its `=` on.
-    fn enumerator_valued(&self, reader: &mut Reader<'_>, at: usize) -> Result<(), NoMemory>
+    fn enumerator_valued(&self, reader: &mut Reader<'_>, at: u32) -> Result<(), NoMemory>
         requires { Nests self.now.depth (F.pre self.now.inner) (F.post self.now.inner) }
         ensures { OnOk result (reader.new ≡ enumerator_valued (inner_at self.now.depth) at reader.old) }
     {
@@ -49,7 +49,7 @@ impl<F: Fn(&mut Reader<'_>, u32, Wanted) -> Result<(), NoMemory>> Grammar<F> {
 
     /// Reads what stands behind the name of an enumeration constant.
     #[tactic(auto, unfolding(crate::specs::TypeSteps::enumerator_behind))]
-    fn enumerator_behind(&self, reader: &mut Reader<'_>, at: usize) -> Result<(), NoMemory>
+    fn enumerator_behind(&self, reader: &mut Reader<'_>, at: u32) -> Result<(), NoMemory>
         requires { Nests self.now.depth (F.pre self.now.inner) (F.post self.now.inner) }
         ensures { OnOk result (reader.new ≡ enumerator_behind (inner_at self.now.depth) at reader.old) }
     {
@@ -74,7 +74,7 @@ impl<F: Fn(&mut Reader<'_>, u32, Wanted) -> Result<(), NoMemory>> Grammar<F> {
             reader.lose();
             return Ok(());
         }
-        let at = reader.at;
+        let at = reader.here()?;
         reader.skip(1);
         self.enumerator_behind(reader, at)
     }
@@ -90,7 +90,7 @@ impl<F: Fn(&mut Reader<'_>, u32, Wanted) -> Result<(), NoMemory>> Grammar<F> {
     }
 
     /// Reads an enum from behind its `{` on.
-    fn enum_braces(&self, reader: &mut Reader<'_>, tag: Option<usize>) -> Result<(), NoMemory>
+    fn enum_braces(&self, reader: &mut Reader<'_>, tag: Option<u32>) -> Result<(), NoMemory>
         requires { Nests self.now.depth (F.pre self.now.inner) (F.post self.now.inner) }
         ensures { OnOk result (reader.new ≡ enum_braces (inner_at self.now.depth) tag reader.old) }
     {
@@ -102,7 +102,7 @@ impl<F: Fn(&mut Reader<'_>, u32, Wanted) -> Result<(), NoMemory>> Grammar<F> {
 
     /// Reads an enum from behind its tag on.
     #[tactic(auto, unfolding(crate::specs::TypeSteps::enum_with))]
-    fn enum_with(&self, reader: &mut Reader<'_>, tag: Option<usize>) -> Result<(), NoMemory>
+    fn enum_with(&self, reader: &mut Reader<'_>, tag: Option<u32>) -> Result<(), NoMemory>
         requires { Nests self.now.depth (F.pre self.now.inner) (F.post self.now.inner) }
         ensures { OnOk result (reader.new ≡ enum_with (inner_at self.now.depth) tag reader.old) }
     {
@@ -119,7 +119,7 @@ impl<F: Fn(&mut Reader<'_>, u32, Wanted) -> Result<(), NoMemory>> Grammar<F> {
         requires { Nests self.now.depth (F.pre self.now.inner) (F.post self.now.inner) }
         ensures { OnOk result (reader.new ≡ enum_behind (inner_at self.now.depth) reader.old) }
     {
-        let tag = reader.tag();
+        let tag = reader.tag()?;
         reader.over_tag()?;
         self.enum_with(reader, tag)
     }

@@ -13,7 +13,7 @@ use cevents::Event;
 
 impl<F: Fn(&mut Reader<'_>, u32, Wanted) -> Result<(), NoMemory>> Grammar<F> {
     /// Reads the bits of a field with a name, from behind its `:` on.
-    fn bit_field(&self, reader: &mut Reader<'_>, at: usize, stars: usize) -> Result<(), NoMemory>
+    fn bit_field(&self, reader: &mut Reader<'_>, at: u32, stars: u32) -> Result<(), NoMemory>
         requires { Nests self.now.depth (F.pre self.now.inner) (F.post self.now.inner) }
         ensures { OnOk result (reader.new ≡ bit_field (inner_at self.now.depth) at stars reader.old) }
     {
@@ -23,7 +23,7 @@ impl<F: Fn(&mut Reader<'_>, u32, Wanted) -> Result<(), NoMemory>> Grammar<F> {
 
     /// Reads what stands behind the sizes of a field: the bits that it takes, or nothing (C11 6.7.2.1).
     #[tactic(auto, unfolding(crate::specs::TypeSteps::bits_behind))]
-    fn bits_behind(&self, reader: &mut Reader<'_>, at: usize, stars: usize) -> Result<(), NoMemory>
+    fn bits_behind(&self, reader: &mut Reader<'_>, at: u32, stars: u32) -> Result<(), NoMemory>
         requires { Nests self.now.depth (F.pre self.now.inner) (F.post self.now.inner) }
         ensures { OnOk result (reader.new ≡ bits_behind (inner_at self.now.depth) at stars reader.old) }
     {
@@ -38,7 +38,7 @@ impl<F: Fn(&mut Reader<'_>, u32, Wanted) -> Result<(), NoMemory>> Grammar<F> {
     }
 
     /// Reads a field from its name on.
-    fn named_field(&self, reader: &mut Reader<'_>, stars: usize) -> Result<(), NoMemory>
+    fn named_field(&self, reader: &mut Reader<'_>, stars: u32) -> Result<(), NoMemory>
         requires { Nests self.now.depth (F.pre self.now.inner) (F.post self.now.inner) }
         ensures { OnOk result (reader.new ≡ named_field (inner_at self.now.depth) stars reader.old) }
     {
@@ -46,14 +46,14 @@ impl<F: Fn(&mut Reader<'_>, u32, Wanted) -> Result<(), NoMemory>> Grammar<F> {
             reader.lose();
             return Ok(());
         }
-        let at = reader.at;
+        let at = reader.here()?;
         reader.skip(1);
         self.all_sizes(reader, false)?;
         self.bits_behind(reader, at, stars)
     }
 
     /// Reads a field without a name, from behind its `:` on.
-    fn padding(&self, reader: &mut Reader<'_>, at: usize) -> Result<(), NoMemory>
+    fn padding(&self, reader: &mut Reader<'_>, at: u32) -> Result<(), NoMemory>
         requires { Nests self.now.depth (F.pre self.now.inner) (F.post self.now.inner) }
         ensures { OnOk result (reader.new ≡ padding (inner_at self.now.depth) at reader.old) }
     {
@@ -71,12 +71,12 @@ impl<F: Fn(&mut Reader<'_>, u32, Wanted) -> Result<(), NoMemory>> Grammar<F> {
             return Ok(());
         }
         if reader.has_mark(b":") {
-            let at = reader.at;
+            let at = reader.here()?;
             reader.skip(1);
             return self.padding(reader, at);
         }
-        let stars = reader.stars();
-        reader.skip(stars);
+        let stars = reader.stars()?;
+        reader.skip(stars as usize);
         self.named_field(reader, stars)
     }
 

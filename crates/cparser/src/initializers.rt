@@ -28,7 +28,7 @@ impl<'a> Reader<'a> {
     fn valued(&mut self) -> Result<(), NoMemory>
         ensures { OnOk result (self.new ≡ valued self.old) }
     {
-        let after = self.at;
+        let after = self.here()?;
         self.make(Event::Value { after })
     }
 }
@@ -44,7 +44,7 @@ impl<F: Fn(&mut Reader<'_>, u32, Wanted) -> Result<(), NoMemory>> Grammar<F> {
             reader.lose();
             return Ok(());
         }
-        let at = reader.at;
+        let at = reader.here()?;
         reader.skip(1);
         reader.mark(b"=");
         self.ask_whole(reader, Wanted::Initializer)?;

@@ -14,7 +14,7 @@ use cgrammar::declares_typedef;
 impl<'a> Reader<'a> {
     /// Declares the name of a function around its parameters, in whose scope its body lies (C11 6.2.1p4, 6.2.1p7).
     #[tactic(auto, unfolding(crate::specs::ItemSteps::declare_around))]
-    fn declare_around(&mut self, at: usize, typedef: bool) -> Result<(), NoMemory>
+    fn declare_around(&mut self, at: u32, typedef: bool) -> Result<(), NoMemory>
         ensures { OnOk result (self.new ≡ declare_around at typedef self.old) }
     {
         if self.goes() {
@@ -29,7 +29,7 @@ impl<'a> Reader<'a> {
     fn defined(&mut self, storage: Storage) -> Result<(), NoMemory>
         ensures { OnOk result (self.new ≡ defined storage self.old) }
     {
-        let close = self.last();
+        let close = self.last()?;
         self.write(Event::FunctionItem { storage, close })
     }
 
@@ -66,7 +66,7 @@ impl<F: Fn(&mut Reader<'_>, u32, Wanted) -> Result<(), NoMemory>> Grammar<F> {
         &self,
         reader: &mut Reader<'_>,
         storage: Storage,
-        at: usize,
+        at: u32,
     ) -> Result<(), NoMemory>
         requires { Nests self.now.depth (F.pre self.now.inner) (F.post self.now.inner) }
         ensures { OnOk result (reader.new ≡ definition_inside (inner_at self.now.depth) storage at reader.old) }
@@ -84,7 +84,7 @@ impl<F: Fn(&mut Reader<'_>, u32, Wanted) -> Result<(), NoMemory>> Grammar<F> {
         &self,
         reader: &mut Reader<'_>,
         storage: Storage,
-        at: usize,
+        at: u32,
     ) -> Result<(), NoMemory>
         requires { Nests self.now.depth (F.pre self.now.inner) (F.post self.now.inner) }
         ensures { OnOk result (reader.new ≡ definition_body (inner_at self.now.depth) storage at reader.old) }
@@ -99,8 +99,8 @@ impl<F: Fn(&mut Reader<'_>, u32, Wanted) -> Result<(), NoMemory>> Grammar<F> {
         &self,
         reader: &mut Reader<'_>,
         storage: Storage,
-        at: usize,
-        stars: usize,
+        at: u32,
+        stars: u32,
     ) -> Result<(), NoMemory>
         requires { Nests self.now.depth (F.pre self.now.inner) (F.post self.now.inner) }
         ensures { OnOk result (reader.new ≡ definition_with (inner_at self.now.depth) storage at stars reader.old) }
@@ -117,7 +117,7 @@ impl<F: Fn(&mut Reader<'_>, u32, Wanted) -> Result<(), NoMemory>> Grammar<F> {
         &self,
         reader: &mut Reader<'_>,
         storage: Storage,
-        stars: usize,
+        stars: u32,
     ) -> Result<(), NoMemory>
         requires { Nests self.now.depth (F.pre self.now.inner) (F.post self.now.inner) }
         ensures { OnOk result (reader.new ≡ definition_named (inner_at self.now.depth) storage stars reader.old) }
@@ -126,7 +126,7 @@ impl<F: Fn(&mut Reader<'_>, u32, Wanted) -> Result<(), NoMemory>> Grammar<F> {
             reader.lose();
             return Ok(());
         }
-        let at = reader.at;
+        let at = reader.here()?;
         reader.skip(1);
         self.definition_with(reader, storage, at, stars)
     }
@@ -140,8 +140,8 @@ impl<F: Fn(&mut Reader<'_>, u32, Wanted) -> Result<(), NoMemory>> Grammar<F> {
         if !reader.goes() {
             return Ok(());
         }
-        let stars = reader.stars();
-        reader.skip(stars);
+        let stars = reader.stars()?;
+        reader.skip(stars as usize);
         self.definition_named(reader, storage, stars)
     }
 

@@ -22,6 +22,7 @@ mod labels;
 mod levels;
 mod listed;
 mod lists;
+mod numbers;
 mod offsets;
 mod operands;
 mod operators;

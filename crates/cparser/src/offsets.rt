@@ -20,7 +20,7 @@ impl<'a> Reader<'a> {
             self.lose();
             return Ok(());
         }
-        let name = self.at;
+        let name = self.here()?;
         self.skip(1);
         self.write(Event::PathMember { name })
     }
@@ -79,7 +79,7 @@ impl<F: Fn(&mut Reader<'_>, u32, Wanted) -> Result<(), NoMemory>> Grammar<F> {
 
     /// `__builtin_offsetof` from behind its `,` on (C11 7.19).
     #[tactic(auto, unfolding(crate::specs::OperandSteps::offset_path))]
-    fn offset_path(&self, reader: &mut Reader<'_>, at: usize) -> Result<(), NoMemory>
+    fn offset_path(&self, reader: &mut Reader<'_>, at: u32) -> Result<(), NoMemory>
         requires { Nests self.now.depth (F.pre self.now.inner) (F.post self.now.inner) }
         ensures { OnOk result (reader.new ≡ offset_path (inner_at self.now.depth) at reader.old) }
     {
@@ -90,18 +90,18 @@ impl<F: Fn(&mut Reader<'_>, u32, Wanted) -> Result<(), NoMemory>> Grammar<F> {
             reader.lose();
             return Ok(());
         }
-        let name = reader.at;
+        let name = reader.here()?;
         reader.skip(1);
         reader.write(Event::Path { name })?;
         self.path(reader)?;
         reader.mark(b")");
         reader.make(Event::OffsetOf { at })?;
-        self.postfixes_from(reader, at)
+        self.postfixes_from(reader, at as usize)
     }
 
     /// `__builtin_offsetof` behind its word (C11 7.19).
     #[tactic(auto, unfolding(crate::specs::OperandSteps::offset_of))]
-    pub fn offset_of(&self, reader: &mut Reader<'_>, at: usize) -> Result<(), NoMemory>
+    pub fn offset_of(&self, reader: &mut Reader<'_>, at: u32) -> Result<(), NoMemory>
         requires { Nests self.now.depth (F.pre self.now.inner) (F.post self.now.inner) }
         ensures { OnOk result (reader.new ≡ offset_of (inner_at self.now.depth) at reader.old) }
     {

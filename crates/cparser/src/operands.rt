@@ -31,10 +31,10 @@ impl<'a> Reader<'a> {
 
     /// Reads a statement expression that begins with the `(` at `at`, from behind its block on, whose `}` was read last.
     #[tactic(auto, unfolding(crate::specs::OperandSteps::inner_closed))]
-    fn inner_closed(&mut self, at: usize) -> Result<(), NoMemory>
+    fn inner_closed(&mut self, at: u32) -> Result<(), NoMemory>
         ensures { OnOk result (self.new ≡ inner_closed at self.old) }
     {
-        let close = self.last();
+        let close = self.last()?;
         self.mark(b")");
         self.make(Event::Inner { at, close })
     }
@@ -54,18 +54,18 @@ impl<'a> Reader<'a> {
 impl<F: Fn(&mut Reader<'_>, u32, Wanted) -> Result<(), NoMemory>> Grammar<F> {
     /// A block in a statement expression, behind its `(` (a GNU form).
     #[tactic(auto, unfolding(crate::specs::OperandSteps::statement_expression))]
-    fn statement_expression(&self, reader: &mut Reader<'_>, at: usize) -> Result<(), NoMemory>
+    fn statement_expression(&self, reader: &mut Reader<'_>, at: u32) -> Result<(), NoMemory>
         requires { Nests self.now.depth (F.pre self.now.inner) (F.post self.now.inner) }
         ensures { OnOk result (reader.new ≡ statement_expression (inner_at self.now.depth) at reader.old) }
     {
         self.block(reader)?;
         reader.inner_closed(at)?;
-        self.postfixes_from(reader, at)
+        self.postfixes_from(reader, at as usize)
     }
 
     /// A cast behind its `(` (C11 6.5.4).
     #[tactic(auto, unfolding(crate::specs::OperandSteps::cast_to))]
-    fn cast_to(&self, reader: &mut Reader<'_>, at: usize) -> Result<(), NoMemory>
+    fn cast_to(&self, reader: &mut Reader<'_>, at: u32) -> Result<(), NoMemory>
         requires { Nests self.now.depth (F.pre self.now.inner) (F.post self.now.inner) }
         ensures { OnOk result (reader.new ≡ cast_to (inner_at self.now.depth) at reader.old) }
     {
@@ -79,7 +79,7 @@ impl<F: Fn(&mut Reader<'_>, u32, Wanted) -> Result<(), NoMemory>> Grammar<F> {
 
     /// What begins with a `(` at the token `at` and is no expression in brackets, behind the `(`.
     #[tactic(auto, unfolding(crate::specs::OperandSteps::bracket))]
-    fn bracket(&self, reader: &mut Reader<'_>, at: usize) -> Result<(), NoMemory>
+    fn bracket(&self, reader: &mut Reader<'_>, at: u32) -> Result<(), NoMemory>
         requires { Nests self.now.depth (F.pre self.now.inner) (F.post self.now.inner) }
         ensures { OnOk result (reader.new ≡ bracket (inner_at self.now.depth) at reader.old) }
     {
@@ -91,7 +91,7 @@ impl<F: Fn(&mut Reader<'_>, u32, Wanted) -> Result<(), NoMemory>> Grammar<F> {
 
     /// `sizeof` behind its word (C11 6.5.3.4).
     #[tactic(auto, unfolding(crate::specs::OperandSteps::size_of))]
-    fn size_of(&self, reader: &mut Reader<'_>, at: usize) -> Result<(), NoMemory>
+    fn size_of(&self, reader: &mut Reader<'_>, at: u32) -> Result<(), NoMemory>
         requires { Nests self.now.depth (F.pre self.now.inner) (F.post self.now.inner) }
         ensures { OnOk result (reader.new ≡ size_of (inner_at self.now.depth) at reader.old) }
     {
@@ -107,7 +107,7 @@ impl<F: Fn(&mut Reader<'_>, u32, Wanted) -> Result<(), NoMemory>> Grammar<F> {
     }
 
     /// `sizeof` of a type, behind the `(` (C11 6.5.3.4).
-    fn size_of_type(&self, reader: &mut Reader<'_>, at: usize) -> Result<(), NoMemory>
+    fn size_of_type(&self, reader: &mut Reader<'_>, at: u32) -> Result<(), NoMemory>
         requires { Nests self.now.depth (F.pre self.now.inner) (F.post self.now.inner) }
         ensures { OnOk result (reader.new ≡ size_of_type (inner_at self.now.depth) at reader.old) }
     {
@@ -120,18 +120,18 @@ impl<F: Fn(&mut Reader<'_>, u32, Wanted) -> Result<(), NoMemory>> Grammar<F> {
 
     /// A call of `__assert_fail` behind its word.
     #[tactic(auto, unfolding(crate::specs::OperandSteps::assert_fail))]
-    fn assert_fail(&self, reader: &mut Reader<'_>, at: usize) -> Result<(), NoMemory>
+    fn assert_fail(&self, reader: &mut Reader<'_>, at: u32) -> Result<(), NoMemory>
         requires { Nests self.now.depth (F.pre self.now.inner) (F.post self.now.inner) }
         ensures { OnOk result (reader.new ≡ assert_fail (inner_at self.now.depth) at reader.old) }
     {
         reader.mark(b"(");
         reader.over_matched()?;
         reader.make(Event::AssertFail { at })?;
-        self.postfixes_from(reader, at)
+        self.postfixes_from(reader, at as usize)
     }
 
     /// A unary expression behind the `++` or `--` at the token `at` (C11 6.5.3.1).
-    fn counted(&self, reader: &mut Reader<'_>, up: bool, at: usize) -> Result<(), NoMemory>
+    fn counted(&self, reader: &mut Reader<'_>, up: bool, at: u32) -> Result<(), NoMemory>
         requires { Nests self.now.depth (F.pre self.now.inner) (F.post self.now.inner) }
         ensures { OnOk result (reader.new ≡ counted (inner_at self.now.depth) up at reader.old) }
     {
@@ -147,7 +147,7 @@ impl<F: Fn(&mut Reader<'_>, u32, Wanted) -> Result<(), NoMemory>> Grammar<F> {
     }
 
     /// An operand behind the prefix operator at the token `at` (C11 6.5.3.2, 6.5.3.3).
-    fn unary(&self, reader: &mut Reader<'_>, op: UnaryOp, at: usize) -> Result<(), NoMemory>
+    fn unary(&self, reader: &mut Reader<'_>, op: UnaryOp, at: u32) -> Result<(), NoMemory>
         requires { Nests self.now.depth (F.pre self.now.inner) (F.post self.now.inner) }
         ensures { OnOk result (reader.new ≡ unary (inner_at self.now.depth) op at reader.old) }
     {
@@ -173,7 +173,7 @@ impl<F: Fn(&mut Reader<'_>, u32, Wanted) -> Result<(), NoMemory>> Grammar<F> {
     fn prefixed(
         &self,
         reader: &mut Reader<'_>,
-        at: usize,
+        at: u32,
         start: OperandStart,
     ) -> Result<(), NoMemory>
         requires { Nests self.now.depth (F.pre self.now.inner) (F.post self.now.inner) }
@@ -209,7 +209,7 @@ impl<F: Fn(&mut Reader<'_>, u32, Wanted) -> Result<(), NoMemory>> Grammar<F> {
         requires there { IsTrue (begins start) → 1 ≤ length (rest reader.old) }
         ensures { OnOk result (reader.new ≡ plain_with (inner_at self.now.depth) reader.old start) }
     {
-        let at = reader.at;
+        let at = reader.here()?;
         match start {
             OperandStart::Name => self.primary(reader, Event::Name { at }),
             OperandStart::Constant => self.primary(reader, Event::Constant { at }),

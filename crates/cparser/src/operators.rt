@@ -63,7 +63,10 @@ impl<F: Fn(&mut Reader<'_>, u32, Wanted) -> Result<(), NoMemory>> Grammar<F> {
             return Ok(false);
         }
         let point = reader.point();
-        let event = Event::Binary { op, at: reader.at };
+        let event = Event::Binary {
+            op,
+            at: reader.here()?,
+        };
         let wanted = Wanted::Operation {
             loosest: u32::from(level) + 1,
         };
@@ -74,12 +77,7 @@ impl<F: Fn(&mut Reader<'_>, u32, Wanted) -> Result<(), NoMemory>> Grammar<F> {
 
     /// What stands behind a `?`, up to the end of what stands behind the `:`.
     #[tactic(auto, unfolding(crate::specs::OperatorSteps::choice_behind))]
-    fn choice_behind(
-        &self,
-        reader: &mut Reader<'_>,
-        point: Point,
-        at: usize,
-    ) -> Result<(), NoMemory>
+    fn choice_behind(&self, reader: &mut Reader<'_>, point: Point, at: u32) -> Result<(), NoMemory>
         requires { Nests self.now.depth (F.pre self.now.inner) (F.post self.now.inner) }
         ensures { OnOk result (reader.new ≡ choice_behind (inner_at self.now.depth) point at reader.old) }
     {
@@ -106,7 +104,7 @@ impl<F: Fn(&mut Reader<'_>, u32, Wanted) -> Result<(), NoMemory>> Grammar<F> {
             return Ok(());
         }
         let point = reader.point();
-        let at = reader.at;
+        let at = reader.here()?;
         reader.skip(1);
         self.choice_behind(reader, point, at)
     }
@@ -154,7 +152,10 @@ impl<F: Fn(&mut Reader<'_>, u32, Wanted) -> Result<(), NoMemory>> Grammar<F> {
             return Ok(());
         }
         let point = reader.point();
-        let event = Event::Assign { op, at: reader.at };
+        let event = Event::Assign {
+            op,
+            at: reader.here()?,
+        };
         reader.skip(1);
         self.ask_right(reader, Wanted::Assignment, point, event)
     }
@@ -204,7 +205,7 @@ impl<F: Fn(&mut Reader<'_>, u32, Wanted) -> Result<(), NoMemory>> Grammar<F> {
         let point = reader.point();
         let event = Event::Binary {
             op: BinaryOp::Comma,
-            at: reader.at,
+            at: reader.here()?,
         };
         reader.skip(1);
         self.ask_right(reader, Wanted::Assignment, point, event)?;

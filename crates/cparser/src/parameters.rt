@@ -27,12 +27,7 @@ impl<'a> Reader<'a> {
 
 impl<F: Fn(&mut Reader<'_>, u32, Wanted) -> Result<(), NoMemory>> Grammar<F> {
     /// Reads a parameter from behind its name on.
-    fn known_parameter(
-        &self,
-        reader: &mut Reader<'_>,
-        at: usize,
-        stars: usize,
-    ) -> Result<(), NoMemory>
+    fn known_parameter(&self, reader: &mut Reader<'_>, at: u32, stars: u32) -> Result<(), NoMemory>
         requires { Nests self.now.depth (F.pre self.now.inner) (F.post self.now.inner) }
         ensures { OnOk result (reader.new ≡ known_parameter (inner_at self.now.depth) at stars reader.old) }
     {
@@ -45,7 +40,7 @@ impl<F: Fn(&mut Reader<'_>, u32, Wanted) -> Result<(), NoMemory>> Grammar<F> {
     }
 
     /// Reads a parameter without a name.
-    fn unnamed_parameter(&self, reader: &mut Reader<'_>, stars: usize) -> Result<(), NoMemory>
+    fn unnamed_parameter(&self, reader: &mut Reader<'_>, stars: u32) -> Result<(), NoMemory>
         requires { Nests self.now.depth (F.pre self.now.inner) (F.post self.now.inner) }
         ensures { OnOk result (reader.new ≡ unnamed_parameter (inner_at self.now.depth) stars reader.old) }
     {
@@ -54,12 +49,12 @@ impl<F: Fn(&mut Reader<'_>, u32, Wanted) -> Result<(), NoMemory>> Grammar<F> {
     }
 
     /// Reads a parameter from behind its stars on.
-    fn parameter_named(&self, reader: &mut Reader<'_>, stars: usize) -> Result<(), NoMemory>
+    fn parameter_named(&self, reader: &mut Reader<'_>, stars: u32) -> Result<(), NoMemory>
         requires { Nests self.now.depth (F.pre self.now.inner) (F.post self.now.inner) }
         ensures { OnOk result (reader.new ≡ parameter_named (inner_at self.now.depth) stars reader.old) }
     {
         if reader.has_name() {
-            let at = reader.at;
+            let at = reader.here()?;
             reader.skip(1);
             return self.known_parameter(reader, at, stars);
         }
@@ -75,8 +70,8 @@ impl<F: Fn(&mut Reader<'_>, u32, Wanted) -> Result<(), NoMemory>> Grammar<F> {
         if !reader.goes() {
             return Ok(());
         }
-        let stars = reader.stars();
-        reader.skip(stars);
+        let stars = reader.stars()?;
+        reader.skip(stars as usize);
         self.parameter_named(reader, stars)
     }
 

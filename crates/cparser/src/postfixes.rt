@@ -8,6 +8,7 @@ ghost use Rattle.cparser.specs.OperandSteps.{as_operand, index_behind, argument,
 
 use crate::grammar::Grammar;
 use crate::listed::Listed;
+use crate::numbers::number;
 use crate::point::Point;
 use crate::reader::Reader;
 use crate::status::Status;
@@ -30,14 +31,14 @@ impl<'a> Reader<'a> {
 
     /// A member of what is read, by its name that stands there (C11 6.5.2.3).
     #[tactic(auto, unfolding(crate::specs::OperandSteps::member_behind))]
-    fn member_behind(&mut self, through: bool, point: Point, at: usize) -> Result<(), NoMemory>
+    fn member_behind(&mut self, through: bool, point: Point, at: u32) -> Result<(), NoMemory>
         ensures { OnOk result (self.new ≡ member_behind through point at self.old) }
     {
         if !self.has_name() {
             self.go_back(point);
             return Ok(());
         }
-        let name = self.at;
+        let name = self.here()?;
         self.skip(1);
         self.make(Event::Member { through, at, name })
     }
@@ -46,7 +47,7 @@ impl<'a> Reader<'a> {
 impl<F: Fn(&mut Reader<'_>, u32, Wanted) -> Result<(), NoMemory>> Grammar<F> {
     /// What stands behind a `[`, up to the `]` (C11 6.5.2.1).
     #[tactic(auto, unfolding(crate::specs::OperandSteps::index_behind))]
-    fn index_behind(&self, reader: &mut Reader<'_>, point: Point, at: usize) -> Result<(), NoMemory>
+    fn index_behind(&self, reader: &mut Reader<'_>, point: Point, at: u32) -> Result<(), NoMemory>
         requires { Nests self.now.depth (F.pre self.now.inner) (F.post self.now.inner) }
         ensures { OnOk result (reader.new ≡ index_behind (inner_at self.now.depth) point at reader.old) }
     {
@@ -78,7 +79,7 @@ impl<F: Fn(&mut Reader<'_>, u32, Wanted) -> Result<(), NoMemory>> Grammar<F> {
 
     /// What stands behind the `(` of a call, up to the `)` (C11 6.5.2.2).
     #[tactic(auto, unfolding(crate::specs::OperandSteps::call_behind))]
-    fn call_behind(&self, reader: &mut Reader<'_>, point: Point, at: usize) -> Result<(), NoMemory>
+    fn call_behind(&self, reader: &mut Reader<'_>, point: Point, at: u32) -> Result<(), NoMemory>
         requires { Nests self.now.depth (F.pre self.now.inner) (F.post self.now.inner) }
         ensures { OnOk result (reader.new ≡ call_behind (inner_at self.now.depth) point at reader.old) }
     {
@@ -112,14 +113,14 @@ impl<F: Fn(&mut Reader<'_>, u32, Wanted) -> Result<(), NoMemory>> Grammar<F> {
         ensures { OnOk result (reader.new ≡ postfix_with (inner_at self.now.depth) first reader.old start) }
     {
         let point = reader.point();
-        let at = reader.at;
+        let at = reader.here()?;
         match start {
             PostfixStart::Index => {
                 reader.skip(1);
                 self.index_behind(reader, point, at)
             }
             PostfixStart::Call => {
-                let place = reader.call_place(first, passed);
+                let place = number(reader.call_place(first, passed))?;
                 reader.skip(1);
                 self.call_behind(reader, point, place)
             }

@@ -1,4 +1,4 @@
-ghost use Rattle.std.specs.Prelude.{◌≡◌, ◌+◌, ◌≤◌, IsTrue, drop, length};
+ghost use Rattle.std.specs.Prelude.{◌≡◌, ◌+◌, ◌≤◌, IfOk, IsTrue, drop, length};
 ghost use Rattle.cgrammar.specs.Firsts.{begins_type, begins_declaration};
 ghost use Rattle.cgrammar.specs.Outcomes.{has_mark, has_first};
 ghost use Rattle.cgrammar.specs.ReadTypes.{star_count};
@@ -6,10 +6,12 @@ ghost use Rattle.cgrammar.specs.Terminals.{is_word, is_name, begins_with_typedef
 ghost use Rattle.cparser.specs.State.{rest, goes, point_of};
 ghost use Rattle.cparser.specs.Writings.{item_written_of, start_at, written_of};
 
+use crate::numbers::number;
 use crate::point::Point;
 use crate::status::Status;
 use crate::written::Written;
 use crate::written_item::WrittenItem;
+use cbase::NoMemory;
 use cevents::Event;
 use cgrammar::{Scope, Terminal, begins_declaration, begins_type, stars_length};
 use std::alloc::Global;
@@ -118,6 +120,13 @@ impl<'a> Reader<'a> {
         }
     }
 
+    /// The number of the token there, for an event.
+    pub(crate) fn here(&self) -> Result<u32, NoMemory>
+        ensures { IfOk result (λ at. at ≡ self.now.at) }
+    {
+        number(self.at)
+    }
+
     /// Whether the mark stands there.
     pub fn has_mark(&self, bytes: &[u8]) -> bool
         ensures is { result ≡ has_mark bytes.now (rest self.now) }
@@ -181,12 +190,12 @@ impl<'a> Reader<'a> {
         }
     }
 
-    /// How many `*` stand there.
-    pub fn stars(&self) -> usize
-        ensures count { result ≡ star_count (rest self.now) }
-        ensures inside { result ≤ length (rest self.now) }
+    /// How many `*` stand there, for an event.
+    pub fn stars(&self) -> Result<u32, NoMemory>
+        ensures count { IfOk result (λ stars. stars ≡ star_count (rest self.now)) }
+        ensures inside { IfOk result (λ stars. stars ≤ length (rest self.now)) }
     {
-        stars_length(self.rest())
+        number(stars_length(self.rest()))
     }
 }
 

@@ -54,7 +54,7 @@ impl<F: Fn(&mut Reader<'_>, u32, Wanted) -> Result<(), NoMemory>> Grammar<F> {
         requires known { undeclared ≡ true → has_first (begins_declaration reader.old.scope) (rest reader.old) ≡ false }
         ensures { OnOk result (reader.new ≡ statement_with (inner_at self.now.depth) reader.old start) }
     {
-        let first = reader.at;
+        let first = reader.here()?;
         match start {
             StatementStart::Block => self.block_statement(reader),
             StatementStart::If => {

@@ -197,7 +197,7 @@ impl<'a> Reader<'a> {
 
     /// Declares the name at a token.
     #[tactic(auto, unfolding(crate::specs::Steps::declare))]
-    pub fn declare(&mut self, at: usize, typedef: bool) -> Result<(), NoMemory>
+    pub fn declare(&mut self, at: u32, typedef: bool) -> Result<(), NoMemory>
         ensures { OnOk result (self.new ≡ declare at typedef self.old) }
     {
         if self.goes() {

@@ -1,4 +1,4 @@
-ghost use Rattle.std.specs.Prelude.{◌≡◌, OnOk};
+ghost use Rattle.std.specs.Prelude.{◌≡◌, IfOk, OnOk};
 ghost use Rattle.cparser.specs.Nests.{Nests};
 ghost use Rattle.cparser.specs.ReadingSteps.{inner_at};
 ghost use Rattle.cparser.specs.TypeSteps.{tag_number, behind_tag, struct_by_tag, struct_with, struct_behind, struct_braces};
@@ -11,13 +11,13 @@ use cevents::Event;
 
 impl<'a> Reader<'a> {
     /// A tag, which may be left out: the number of its token.
-    pub fn tag(&self) -> Option<usize>
-        ensures { result ≡ tag_number self.now }
+    pub fn tag(&self) -> Result<Option<u32>, NoMemory>
+        ensures { IfOk result (λ tag. tag ≡ tag_number self.now) }
     {
         if self.has_name() {
-            return Some(self.at);
+            return Ok(Some(self.here()?));
         }
-        None
+        Ok(None)
     }
 
     /// Goes over a tag, where one stands there.
@@ -31,7 +31,7 @@ impl<'a> Reader<'a> {
     }
 
     /// Reads a struct by its tag alone.
-    fn struct_by_tag(&mut self, tag: Option<usize>) -> Result<(), NoMemory>
+    fn struct_by_tag(&mut self, tag: Option<u32>) -> Result<(), NoMemory>
         ensures { OnOk result (self.new ≡ struct_by_tag tag self.old) }
     {
         match tag {
@@ -46,7 +46,7 @@ impl<'a> Reader<'a> {
 
 impl<F: Fn(&mut Reader<'_>, u32, Wanted) -> Result<(), NoMemory>> Grammar<F> {
     /// Reads a struct from behind its `{` on.
-    fn struct_braces(&self, reader: &mut Reader<'_>, tag: Option<usize>) -> Result<(), NoMemory>
+    fn struct_braces(&self, reader: &mut Reader<'_>, tag: Option<u32>) -> Result<(), NoMemory>
         requires { Nests self.now.depth (F.pre self.now.inner) (F.post self.now.inner) }
         ensures { OnOk result (reader.new ≡ struct_braces (inner_at self.now.depth) tag reader.old) }
     {
@@ -56,7 +56,7 @@ impl<F: Fn(&mut Reader<'_>, u32, Wanted) -> Result<(), NoMemory>> Grammar<F> {
 
     /// Reads a struct from behind its tag on.
     #[tactic(auto, unfolding(crate::specs::TypeSteps::struct_with))]
-    fn struct_with(&self, reader: &mut Reader<'_>, tag: Option<usize>) -> Result<(), NoMemory>
+    fn struct_with(&self, reader: &mut Reader<'_>, tag: Option<u32>) -> Result<(), NoMemory>
         requires { Nests self.now.depth (F.pre self.now.inner) (F.post self.now.inner) }
         ensures { OnOk result (reader.new ≡ struct_with (inner_at self.now.depth) tag reader.old) }
     {
@@ -73,7 +73,7 @@ impl<F: Fn(&mut Reader<'_>, u32, Wanted) -> Result<(), NoMemory>> Grammar<F> {
         requires { Nests self.now.depth (F.pre self.now.inner) (F.post self.now.inner) }
         ensures { OnOk result (reader.new ≡ struct_behind (inner_at self.now.depth) reader.old) }
     {
-        let tag = reader.tag();
+        let tag = reader.tag()?;
         reader.over_tag()?;
         self.struct_with(reader, tag)
     }

@@ -19,8 +19,8 @@ impl<F: Fn(&mut Reader<'_>, u32, Wanted) -> Result<(), NoMemory>> Grammar<F> {
         if !reader.goes() {
             return Ok(());
         }
-        let stars = reader.stars();
-        reader.skip(stars);
+        let stars = reader.stars()?;
+        reader.skip(stars as usize);
         self.all_sizes(reader, true)?;
         reader.write(Event::TypeName { stars })
     }

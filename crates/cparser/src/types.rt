@@ -54,7 +54,7 @@ impl<'a> Reader<'a> {
         requires { 1 ≤ length (rest self.old) }
         ensures { OnOk result (self.new ≡ named self.old) }
     {
-        let at = self.at;
+        let at = self.here()?;
         self.skip(1);
         self.make(Event::Named { at })
     }
