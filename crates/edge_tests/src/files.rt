@@ -342,7 +342,7 @@ impl Files for Torn {
     }
 }
 
-/// Whether the file of which the second read fails is read as it is wanted.
+/// Whether the file of which the second read fails is read as it is wanted, and opened once.
 fn reads_torn(alloc: Global, most: u32, want: Wanted) -> Result<bool, NoMemory> {
     let mut files = Torn {
         begun: None,
@@ -351,7 +351,8 @@ fn reads_torn(alloc: Global, most: u32, want: Wanted) -> Result<bool, NoMemory> 
         faults: 0,
         failed: false,
     };
-    reads(alloc, &mut files, b"t.c", most, want)
+    let is_read = reads(alloc, &mut files, b"t.c", most, want)?;
+    Ok(is_read && files.openings == 1)
 }
 
 #[test]

@@ -1,6 +1,7 @@
--- Which of the two files is opened last: CHOICES only where FILE holds a program of which runs can be made.
+-- Which of the two files are opened, and which one last: CHOICES only where FILE holds a program of which runs can be made.
 use Rattle.std.specs.Prelude.{◌≡◌, ◌⊎◌, ℕ, Bool, true, false, Option, List}
 use Rattle.command_line.specs.declared.replay.ReplayCommand.{ReplayCommand}
+use Rattle.outside.specs.Opened.{Openings, opened}
 use Rattle.report.specs.declared.replay_answer.ReplayAnswer.{ReplayAnswer}
 use Rattle.report.specs.declared.replay_answer.ReplayAnswer.TheVariants.{Played, BadChoices, NotRead, Construct, NotYet, TooLong, Usage, ReadFault, OutOfMemory}
 use Rattle.replay.specs.Answered.{AreBytesOf}
@@ -36,3 +37,22 @@ IsOpenedLast tells content command name (TooLong taken true) = name ≡ command.
 IsOpenedLast tells content command name Usage = Unit {0}
 IsOpenedLast tells content command name ReadFault = (name ≡ command.file) ⊎ ((name ≡ command.choices) × IsRunnable tells content command)
 IsOpenedLast tells content command name OutOfMemory = Unit {0}
+
+-- FILE was opened, once, and then CHOICES, once, and FILE holds such a program
+abbrev pub AreBothOpened : Bool → Option (List ℕ) → ReplayCommand → Openings → Openings → Type 0
+AreBothOpened tells content command before after = (after ≡ opened (opened before command.file) command.choices) × IsRunnable tells content command
+
+-- these files are opened for an answer about a FILE with this content, each once: FILE where the answer is about FILE alone, FILE and then CHOICES where it is about
+-- both; where one of them cannot be read that one is the last, and where memory is wanting no more than these are
+abbrev pub AreOpened : Bool → Option (List ℕ) → ReplayCommand → Openings → Openings → ReplayAnswer → Type 0
+AreOpened tells content command before after (Played what) = AreBothOpened tells content command before after
+AreOpened tells content command before after BadChoices = AreBothOpened tells content command before after
+AreOpened tells content command before after (NotRead reason) = after ≡ opened before command.file
+AreOpened tells content command before after (Construct number place) = after ≡ opened before command.file
+AreOpened tells content command before after (NotYet place) = after ≡ opened before command.file
+AreOpened tells content command before after (TooLong taken false) = after ≡ opened before command.file
+AreOpened tells content command before after (TooLong taken true) = AreBothOpened tells content command before after
+AreOpened tells content command before after Usage = after ≡ before
+AreOpened tells content command before after ReadFault = (after ≡ opened before command.file) ⊎ AreBothOpened tells content command before after
+AreOpened tells content command before after OutOfMemory =
+    (after ≡ before) ⊎ ((after ≡ opened before command.file) ⊎ AreBothOpened tells content command before after)

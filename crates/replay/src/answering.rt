@@ -1,12 +1,12 @@
-ghost use Rattle.std.specs.Prelude.{◌≡◌, ◌≤◌, true, false, [], length, IfOk};
+ghost use Rattle.std.specs.Prelude.{◌≡◌, ◌≤◌, true, false, [], length, IfOk, OnErr};
 ghost use Rattle.outside.specs.Faults.{Rose};
 ghost use Rattle.ctokens.specs.InText.{most_bytes};
 ghost use Rattle.ctokens.specs.TokenList.{HasNamedFiles};
 ghost use Rattle.ccheck.specs.Refusals.{place_at};
 ghost use Rattle.report.specs.ReplayReport.{HasPrintableReplay};
 ghost use Rattle.replay.specs.Answered.{IsAnswered};
-ghost use Rattle.replay.specs.Around.{IsAnswerOf};
-ghost use Rattle.replay.specs.Opened.{IsOpenedLast};
+ghost use Rattle.replay.specs.Around.{IsOutcomeOf};
+ghost use Rattle.replay.specs.Opened.{AreOpened, IsOpenedLast};
 ghost use Rattle.replay.specs.Told.{HoldsProgramOf, HoldsRunnable, HoldsTyped, IsAboutBoth, IsAboutFiles, IsTold};
 
 use crate::judging::{Answered, JudgedFile, judge, with_names};
@@ -38,6 +38,10 @@ pub(crate) fn answer_of_command<F: Files>(
     ensures failed { IfOk result (λ a. a.answer ≡ ReplayAnswer.ReadFault → F.failed files.new ≡ true) }
     ensures begun { IfOk result (λ a. IsOpenedLast (F.tells files.old) (F.bytes_of files.old command.now.file) command.now
         (F.begun files.new) a.answer) }
+    ensures opened { IfOk result (λ a. AreOpened (F.tells files.old) (F.bytes_of files.old command.now.file) command.now
+        (record { count = F.openings files.old; last = F.begun files.old }) (record { count = F.openings files.new; last = F.begun files.new }) a.answer) }
+    ensures wanting { OnErr result (AreOpened (F.tells files.old) (F.bytes_of files.old command.now.file) command.now
+        (record { count = F.openings files.old; last = F.begun files.old }) (record { count = F.openings files.new; last = F.begun files.new }) ReplayAnswer.OutOfMemory) }
     ensures judged { IfOk result (λ a. IsAnswered (F.tells files.old) (F.bytes_of files.old command.now.file)
         (F.bytes_of files.old command.now.choices) command.now a.names a.answer) }
 {
@@ -81,14 +85,15 @@ fn answer_of_text<F: Files>(
 ) -> Result<Answered, NoMemory>
     requires short { length text.now ≤ most_bytes }
     requires opened { F.begun files.old ≡ command.now.file }
-    ensures { IfOk result (IsAnswerOf (record {
+    ensures { IsOutcomeOf (record {
       tells = F.tells files.old;
       choices = F.bytes_of files.old command.now.choices;
       faults = F.faults files.old;
       faults_behind = F.faults files.new;
       failed = F.failed files.new;
-      opened = F.begun files.new;
-    }) command.now text.now) }
+      openings = record { count = F.openings files.old; last = F.begun files.old };
+      openings_behind = record { count = F.openings files.new; last = F.begun files.new };
+    }) command.now text.now result }
 {
     match judge(alloc, command, text)? {
         JudgedFile::Refused(answered) => Ok(answered),
@@ -109,14 +114,15 @@ fn answer_of_typed<F: Files>(
     requires named { HasNamedFiles t }
     requires holds { HoldsTyped command.now t typed }
     requires opened { F.begun files.old ≡ command.now.file }
-    ensures { IfOk result (IsAnswerOf (record {
+    ensures { IsOutcomeOf (record {
       tells = F.tells files.old;
       choices = F.bytes_of files.old command.now.choices;
       faults = F.faults files.old;
       faults_behind = F.faults files.new;
       failed = F.failed files.new;
-      opened = F.begun files.new;
-    }) command.now t.text) }
+      openings = record { count = F.openings files.old; last = F.begun files.old };
+      openings_behind = record { count = F.openings files.new; last = F.begun files.new };
+    }) command.now t.text result }
 {
     let TypedProgram {
         program,
@@ -145,14 +151,15 @@ fn answer_of_program<F: Files>(
     requires named { HasNamedFiles t }
     requires holds { HoldsProgramOf command.now t program.now text.now strict }
     requires opened { F.begun files.old ≡ command.now.file }
-    ensures { IfOk result (IsAnswerOf (record {
+    ensures { IsOutcomeOf (record {
       tells = F.tells files.old;
       choices = F.bytes_of files.old command.now.choices;
       faults = F.faults files.old;
       faults_behind = F.faults files.new;
       failed = F.failed files.new;
-      opened = F.begun files.new;
-    }) command.now t.text) }
+      openings = record { count = F.openings files.old; last = F.begun files.old };
+      openings_behind = record { count = F.openings files.new; last = F.begun files.new };
+    }) command.now t.text result }
 {
     match first_callee(alloc, program, text)? {
         Some(callee) => Ok(not_yet(t, callee)),
@@ -181,14 +188,15 @@ fn answer_of_runnable<F: Files>(
 ) -> Result<Answered, NoMemory>
     requires named { HasNamedFiles t }
     requires holds { HoldsRunnable command.now t program.now text.now strict }
-    ensures { IfOk result (IsAnswerOf (record {
+    ensures { IsOutcomeOf (record {
       tells = F.tells files.old;
       choices = F.bytes_of files.old command.now.choices;
       faults = F.faults files.old;
       faults_behind = F.faults files.new;
       failed = F.failed files.new;
-      opened = F.begun files.new;
-    }) command.now t.text) }
+      openings = record { count = F.openings files.old; last = F.begun files.old };
+      openings_behind = record { count = F.openings files.new; last = F.begun files.new };
+    }) command.now t.text result }
 {
     let name = Text::from_slice(alloc, command.choices.as_slice())?;
     match read_file(alloc, files, name, MOST_BYTES)? {

@@ -1,4 +1,4 @@
-ghost use Rattle.std.specs.Prelude.{◌≡◌, ◌≢◌, ◌↔◌, ◌⊎◌, ℕ, ◌<◌, true, false, IsTrue, IfOk, None, Some};
+ghost use Rattle.std.specs.Prelude.{◌≡◌, ◌≢◌, ◌↔◌, ◌⊎◌, ℕ, ◌<◌, true, false, IsTrue, IfOk, OnErr, None, Some};
 ghost use Rattle.std.specs.Prelude.{List as Items, Option, [], length, map, take, string_bytes};
 ghost use Rattle.outside.specs.Faults.{Rose};
 ghost use Rattle.outside.specs.Sink.{appended};
@@ -8,7 +8,7 @@ ghost use Rattle.report.specs.ReplayReport.{HasPrintableReplay, replay_bytes, re
 ghost use Rattle.report.specs.declared.replay_answer.ReplayAnswer.{ReplayAnswer};
 ghost use Rattle.replay.specs.Judged.{IsVerdict, Judges};
 ghost use Rattle.replay.specs.Answered.{IsAnswered};
-ghost use Rattle.replay.specs.Opened.{IsOfFileAlone, IsOpenedLast};
+ghost use Rattle.replay.specs.Opened.{AreOpened, IsOfFileAlone, IsOpenedLast};
 ghost use Rattle.replay.specs.Shown.{choices_in, file_in, unless_nothing};
 ghost use Rattle.replay.specs.Told.{IsAboutFiles};
 
@@ -81,6 +81,12 @@ pub fn replay<F: Files, K: Sink>(
         → replay_command_of (map string_bytes words.now) ≡ Some command → IsTrue (F.tells files.old)
         → F.bytes_of files.old command.file ≡ Some whole → IsOfFileAlone other → Judges command whole second other
         → result.shown.answer ≡ ReplayAnswer.ReadFault → F.begun files.new ≡ command.file }
+
+    // Before each answer FILE is opened once, or FILE and then CHOICES, each once, and no other file is. Where memory is wanting no more than these
+    // are, and CHOICES only where FILE holds such a program.
+    ensures opened { (command : ReplayCommand) → replay_command_of (map string_bytes words.now) ≡ Some command
+        → AreOpened (F.tells files.old) (F.bytes_of files.old command.file) command
+        (record { count = F.openings files.old; last = F.begun files.old }) (record { count = F.openings files.new; last = F.begun files.new }) result.shown.answer }
 
     // The other answers say what is true of the bytes of both files, each exactly where it is true. The names are those
     // of the files of the text.
@@ -168,6 +174,12 @@ fn planned<F: Files>(alloc: Global, words: &[String], files: &mut F) -> Result<P
     ensures begun { (command : ReplayCommand) → replay_command_of (map string_bytes words.now) ≡ Some command
         → IfOk result (λ plan. IsOpenedLast (F.tells files.old) (F.bytes_of files.old command.file) command (F.begun files.new)
         plan.shown.answer) }
+    ensures opened { (command : ReplayCommand) → replay_command_of (map string_bytes words.now) ≡ Some command
+        → IfOk result (λ plan. AreOpened (F.tells files.old) (F.bytes_of files.old command.file) command
+        (record { count = F.openings files.old; last = F.begun files.old }) (record { count = F.openings files.new; last = F.begun files.new }) plan.shown.answer) }
+    ensures wanting { (command : ReplayCommand) → replay_command_of (map string_bytes words.now) ≡ Some command
+        → OnErr result (AreOpened (F.tells files.old) (F.bytes_of files.old command.file) command
+        (record { count = F.openings files.old; last = F.begun files.old }) (record { count = F.openings files.new; last = F.begun files.new }) ReplayAnswer.OutOfMemory) }
     ensures judged { (command : ReplayCommand) → replay_command_of (map string_bytes words.now) ≡ Some command
         → IfOk result (λ plan. IsAnswered (F.tells files.old) (F.bytes_of files.old command.file)
         (F.bytes_of files.old command.choices) command plan.shown.names plan.shown.answer) }
@@ -205,6 +217,10 @@ fn planned_command<F: Files>(
     ensures failed { IfOk result (λ plan. plan.shown.answer ≡ ReplayAnswer.ReadFault → F.failed files.new ≡ true) }
     ensures begun { IfOk result (λ plan. IsOpenedLast (F.tells files.old) (F.bytes_of files.old command.file) command
         (F.begun files.new) plan.shown.answer) }
+    ensures opened { IfOk result (λ plan. AreOpened (F.tells files.old) (F.bytes_of files.old command.file) command
+        (record { count = F.openings files.old; last = F.begun files.old }) (record { count = F.openings files.new; last = F.begun files.new }) plan.shown.answer) }
+    ensures wanting { OnErr result (AreOpened (F.tells files.old) (F.bytes_of files.old command.file) command
+        (record { count = F.openings files.old; last = F.begun files.old }) (record { count = F.openings files.new; last = F.begun files.new }) ReplayAnswer.OutOfMemory) }
     ensures judged { IfOk result (λ plan. IsAnswered (F.tells files.old) (F.bytes_of files.old command.file)
         (F.bytes_of files.old command.choices) command plan.shown.names plan.shown.answer) }
 {

@@ -2,5 +2,6 @@ pub mod Warnings
 pub mod Shown
 pub mod Verdict
 pub mod Answered
+pub mod Opened
 pub mod Told
 pub mod Printed

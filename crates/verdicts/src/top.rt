@@ -9,6 +9,7 @@ ghost use Rattle.report.specs.Report.{HasPrintable, report_bytes, status_of};
 ghost use Rattle.report.specs.declared.answer.Answer.{Answer};
 ghost use Rattle.verdicts.specs.Verdict.{IsExact, IsVerdict, Judges};
 ghost use Rattle.verdicts.specs.Answered.{IsAnswered};
+ghost use Rattle.verdicts.specs.Opened.{IsOpened, IsOpenedAtMost};
 ghost use Rattle.verdicts.specs.Shown.{file_in, file_shown, limits_in, limits_shown};
 
 use crate::judge::{Judged, judge};
@@ -71,6 +72,15 @@ pub fn predator<F: Files, K: Sink>(
     ensures failed { result.shown.answer ≡ Answer.ReadFault → F.failed files.new ≡ true }
     ensures begun { result.shown.answer ≡ Answer.ReadFault
         → file_of (map string_bytes words.now) ≡ Some (F.begun files.new) }
+
+    // It is opened exactly once, and no other file is; where memory is wanting, at most once.
+    ensures opened { (file : Items ℕ) → file_of (map string_bytes words.now) ≡ Some file
+        → result.shown.answer ≢ Answer.OutOfMemory
+        → IsOpened (record { count = F.openings files.old; last = F.begun files.old })
+        (record { count = F.openings files.new; last = F.begun files.new }) file }
+    ensures at_most { (file : Items ℕ) → file_of (map string_bytes words.now) ≡ Some file
+        → IsOpenedAtMost (record { count = F.openings files.old; last = F.begun files.old })
+        (record { count = F.openings files.new; last = F.begun files.new }) file }
 
     // The other answers say what is true of the file's bytes, each exactly where it is true. The names are those of
     // the files of the text.
@@ -155,6 +165,12 @@ fn planned<F: Files>(alloc: Global, words: &[String], files: &mut F) -> Result<P
     ensures failed { IfOk result (λ plan. plan.shown.answer ≡ Answer.ReadFault → F.failed files.new ≡ true) }
     ensures begun { IfOk result (λ plan. plan.shown.answer ≡ Answer.ReadFault
         → file_of (map string_bytes words.now) ≡ Some (F.begun files.new)) }
+    ensures opened { (file : Items ℕ) → file_of (map string_bytes words.now) ≡ Some file
+        → IfOk result (λ _. IsOpened (record { count = F.openings files.old; last = F.begun files.old })
+        (record { count = F.openings files.new; last = F.begun files.new }) file) }
+    ensures at_most { (file : Items ℕ) → file_of (map string_bytes words.now) ≡ Some file
+        → IsOpenedAtMost (record { count = F.openings files.old; last = F.begun files.old })
+        (record { count = F.openings files.new; last = F.begun files.new }) file }
     ensures judged { (file : Items ℕ) → file_of (map string_bytes words.now) ≡ Some file
         → IfOk result (λ plan. IsAnswered (F.tells files.old) (F.bytes_of files.old file)
         (F.left files.new) file plan.shown.names plan.shown.answer) }
@@ -199,6 +215,10 @@ fn planned_command<F: Files>(
         → Rose (F.faults files.old) (F.faults files.new)) }
     ensures failed { IfOk result (λ plan. plan.shown.answer ≡ Answer.ReadFault → F.failed files.new ≡ true) }
     ensures begun { IfOk result (λ plan. plan.shown.answer ≡ Answer.ReadFault → F.begun files.new ≡ command.file) }
+    ensures opened { IfOk result (λ _. IsOpened (record { count = F.openings files.old; last = F.begun files.old })
+        (record { count = F.openings files.new; last = F.begun files.new }) command.file) }
+    ensures at_most { IsOpenedAtMost (record { count = F.openings files.old; last = F.begun files.old })
+        (record { count = F.openings files.new; last = F.begun files.new }) command.file }
     ensures judged { IfOk result (λ plan. IsAnswered (F.tells files.old) (F.bytes_of files.old command.file)
         (F.left files.new) command.file plan.shown.names plan.shown.answer) }
     ensures exact { (whole : Items ℕ) → IsTrue (F.tells files.old)
@@ -244,6 +264,10 @@ fn answer_of_file<F: Files>(alloc: Global, file: &[u8], files: &mut F) -> Result
         → Rose (F.faults files.old) (F.faults files.new)) }
     ensures failed { IfOk result (λ judged. judged.answer ≡ Answer.ReadFault → F.failed files.new ≡ true) }
     ensures begun { IfOk result (λ judged. judged.answer ≡ Answer.ReadFault → F.begun files.new ≡ file.now) }
+    ensures opened { IfOk result (λ _. IsOpened (record { count = F.openings files.old; last = F.begun files.old })
+        (record { count = F.openings files.new; last = F.begun files.new }) file.now) }
+    ensures at_most { IsOpenedAtMost (record { count = F.openings files.old; last = F.begun files.old })
+        (record { count = F.openings files.new; last = F.begun files.new }) file.now }
     ensures judged { IfOk result (λ judged. IsAnswered (F.tells files.old) (F.bytes_of files.old file.now)
         (F.left files.new) file.now judged.names judged.answer) }
     ensures exact { (whole : Items ℕ) → IsTrue (F.tells files.old)

@@ -1,5 +1,5 @@
 use Rattle.replay.proofs.Files.{plan_about, plan_answered}
-use Rattle.replay.proofs.Opened.{plan_opened}
+use Rattle.replay.proofs.Opened.{plan_all_opened, plan_opened, plan_wanting}
 use Rattle.replay.proofs.top.planned_command.Goals as goal
 
 -- what is said of the answer is said of the plan
@@ -11,3 +11,9 @@ returns-clause-about g c = plan_about c.reported.result _ c.in_ok-answer.ensures
 
 pub returns-clause-begun : goal.returns-clause-begun
 returns-clause-begun g c = plan_opened _ _ _ _ c.reported.result _ c.in_ok-answer.ensures.begun c.reported.ensures.shown
+
+pub returns-clause-opened : goal.returns-clause-opened
+returns-clause-opened g c = plan_all_opened _ _ _ _ _ c.reported.result _ c.in_ok-answer.ensures.opened c.reported.ensures.shown
+
+pub returns-clause-wanting : goal.returns-clause-wanting
+returns-clause-wanting g c = plan_wanting _ _ _ _ _ c.reported.result _ c.in_ok-answer.ensures.opened
