@@ -41,12 +41,12 @@ pub fn address_tasks<'a>(
             base,
             name,
             through: false,
-        } => member_address(text, state, expr, base.get(), name),
+        } => member_address(text, state, expr, base.get(), name.get()),
         ExprForm::Member {
             base,
             name,
             through: true,
-        } => pointed_address(text, state, expr, base.get(), name),
+        } => pointed_address(text, state, expr, base.get(), name.get()),
         _ => unknown(state),
     }
 }

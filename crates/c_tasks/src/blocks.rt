@@ -157,7 +157,7 @@ fn do_last<'a>(state: &mut TreeState<'a>, stmt: &'a Stmt) -> Result<(), NoMemory
     match &stmt.form {
         StmtForm::Eval(Some(expr)) => {
             state.do_first(Task::Keep(stmt.after))?;
-            do_value(state, expr.get())
+            do_value(state, expr)
         }
         _ => {
             state.do_first(Task::Push(0))?;

@@ -32,7 +32,7 @@ pub fn statement_tasks<'a>(
 {
     match &stmt.form {
         StmtForm::Declare(decl) => declared_names(text, state, decl.get().names.as_slice()),
-        StmtForm::Eval(expr) => evaluated(state, expr, stmt.after),
+        StmtForm::Eval(expr) => evaluated_here(state, expr, stmt.after),
         StmtForm::Block(body) => in_block(text, state, body.as_slice(), stmt.after),
         StmtForm::If { test, .. } => tested(state, stmt, test.get()),
         StmtForm::While { .. } => test_alone(state, stmt),
@@ -44,7 +44,21 @@ pub fn statement_tasks<'a>(
     }
 }
 
-/// A full expression, if there is one, which ends at that place (C11 6.8.3).
+/// The full expression of an expression statement, if there is one, which ends at that place (C11 6.8.3).
+fn evaluated_here<'a>(
+    state: &mut TreeState<'a>,
+    expr: &'a Option<Expr>,
+    after: Place,
+) -> Result<Room, NoMemory>
+    ensures { IfOk result (λ room. (p : Program) → MakesRoom (eval_tasks (text_of p) expr.now after) room state.old state.new) }
+{
+    match expr {
+        None => Ok(Room::Made),
+        Some(expr) => value_then(state, expr, Task::Finish(after)),
+    }
+}
+
+/// The same of one behind a pointer.
 pub(crate) fn evaluated<'a>(
     state: &mut TreeState<'a>,
     expr: &'a Option<Boxed<Expr>>,

@@ -4,7 +4,7 @@ ghost use Rattle.cevents.specs.Workshop.{left_by};
 
 use crate::builder::Builder;
 use crate::texts::{identifier_at, text_at};
-use cbase::{BinaryOp, ExprForm, NoMemory, UnaryOp};
+use cbase::{BinaryOp, Boxed, ExprForm, NoMemory, UnaryOp};
 use cevents::{Event, place_at};
 use cgrammar::Terminal;
 
@@ -132,7 +132,7 @@ impl Builder {
     ) -> Result<bool, NoMemory>
         ensures { IfOk result (λ made. left_by made self.new ≡ built row.now (Event.Member through at name) self.old.count self.old.pieces) }
     {
-        let member = identifier_at(self.alloc, row, name)?;
+        let member = Boxed::new(self.alloc, identifier_at(self.alloc, row, name)?)?;
         let Some(base) = self.pop_expr() else {
             return Ok(false);
         };

@@ -4,9 +4,19 @@ ghost use Rattle.cevents.specs.Workshop.{left_by};
 
 use crate::builder::Builder;
 use crate::texts::appended;
-use cbase::{List, NoMemory, Stmt, StmtForm};
+use cbase::{Boxed, Expr, List, NoMemory, Stmt, StmtForm};
 use cevents::{Event, Piece, place_at};
 use cgrammar::Terminal;
+
+/// The expression that is in the box, where there is one.
+fn unboxed(expr: Option<Boxed<Expr>>) -> Option<Expr>
+    ensures { result ≡ expr }
+{
+    match expr {
+        None => None,
+        Some(expr) => Some(expr.into_inner()),
+    }
+}
 
 impl Builder {
     /// No statements yet.
@@ -64,7 +74,7 @@ impl Builder {
         self.state(
             place_at(row, first),
             place_at(row, last),
-            StmtForm::Eval(expr),
+            StmtForm::Eval(unboxed(expr)),
         )
     }
 
@@ -88,7 +98,7 @@ impl Builder {
         let stmt = Stmt {
             place: place_at(row, first),
             after: place_at(row, last),
-            form: StmtForm::Eval(expr),
+            form: StmtForm::Eval(unboxed(expr)),
         };
         let longer = appended(body, stmt)?;
         self.put(Piece::Statements(longer))

@@ -11,7 +11,7 @@ use crate::items_checked::{ItemsChecked, check_items};
 use crate::program::TypedProgram;
 use crate::refusal::Refusal;
 use cbase::{Abi, List, NoMemory};
-use ctokens::{ItemSpan, Tokens};
+use ctokens::{ItemSpan, Tokens, passed_over};
 use definitions::definitions;
 use items::begin;
 use languages::{c_finds_what_contexts_find, leads_back};
@@ -69,7 +69,8 @@ fn answer_of_items(
     ensures { IfOk result (IsAnswer t.now items.now numbers.now abi strict) }
 {
     let spans = spans_of(alloc, items.as_slice(), numbers)?;
-    let found = definitions(alloc, t, items)?;
+    let passed = passed_over(alloc, t)?;
+    let found = definitions(alloc, t, passed.as_slice(), items)?;
     let mut context = begin(
         alloc,
         abi,
@@ -77,7 +78,14 @@ fn answer_of_items(
         found.bodied.as_slice(),
         found.defined.as_slice(),
     )?;
-    let checked = check_items(alloc, t, abi, spans.as_slice(), &mut context)?;
+    let checked = check_items(
+        alloc,
+        t,
+        passed.as_slice(),
+        abi,
+        spans.as_slice(),
+        &mut context,
+    )?;
     leads_back(&context);
     c_finds_what_contexts_find();
     match checked {

@@ -1,8 +1,9 @@
-ghost use Rattle.std.specs.Prelude.{◌≤◌, IfOk, length};
+ghost use Rattle.std.specs.Prelude.{◌≡◌, ◌≤◌, IfOk, length};
 ghost use Rattle.std.specs.List.{All};
 ghost use Rattle.cbase.specs.declared.abi.Abi.{Abi};
 ghost use Rattle.ctokens.specs.InText.{LieInText};
 ghost use Rattle.ctokens.specs.Items.{IsSpanAmong};
+ghost use Rattle.ctokens.specs.Passed.{passed_tokens};
 ghost use Rattle.ctokens.specs.TokenList.{AreNumbered};
 ghost use Rattle.ctrees.specs.Levels.{item_levels};
 ghost use Rattle.ccheck.specs.Steps.{AreChecked, IsLookedThrough};
@@ -11,7 +12,7 @@ use crate::refusal::{Refusal, of_fault, of_unread, place_at};
 use cbase::{Abi, Item, List, NoMemory, Program};
 use cgrammar::Scope;
 use cread::{ItemBehind, ItemRead, read_item};
-use ctokens::{ItemSpan, Tokens, passed_over};
+use ctokens::{ItemSpan, Tokens};
 use expressions::{Context, Found};
 use std::alloc::Global;
 use tree_walk::item_found;
@@ -26,26 +27,28 @@ pub(crate) enum ItemsChecked {
 }
 
 /// Reads and checks these items, one behind the other, from the beginning of a file: each is checked before the next is read.
+/// `passed` says of each token of the text whether it is passed over.
 ///
 /// Want of memory is the only error, and nothing is said of the context then.
 pub(crate) fn check_items(
     alloc: Global,
     t: &Tokens,
+    passed: &[bool],
     abi: Abi,
     spans: &[ItemSpan],
     context: &mut Context,
 ) -> Result<ItemsChecked, NoMemory>
     requires text { LieInText t.now }
     requires numbered { AreNumbered t.now.list }
+    requires passed { passed.now ≡ passed_tokens t.now }
     requires some { All (IsSpanAmong (length t.now.list)) spans.now }
     ensures { IfOk result (AreChecked t.now abi spans.now context.old context.new) }
 {
-    let passed = passed_over(alloc, t)?;
     let mut program = List::new(alloc);
     let mut scope = Scope::new(alloc)?;
     let mut expressions: u32 = 0;
     for span in spans {
-        match read_item(alloc, t, passed.as_slice(), *span, scope, expressions)? {
+        match read_item(alloc, t, passed, *span, scope, expressions)? {
             ItemRead::Read(behind) => {
                 let ItemBehind {
                     item,

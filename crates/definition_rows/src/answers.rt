@@ -3,7 +3,7 @@
 ghost use Rattle.ctokens.specs.InText.{LieInText};
 
 use cbase::{NoMemory, Text};
-use ctokens::{Tokens, items, tokens};
+use ctokens::{Tokens, items, passed_over, tokens};
 use definitions::{Definitions, definitions};
 use std::alloc::Global;
 
@@ -35,7 +35,8 @@ fn answer_of_tokens(alloc: Global, t: &Tokens) -> Result<String, NoMemory>
     match items(alloc, t)? {
         Err(_) => Ok(String::from_str(alloc, "too deep")?),
         Ok(spans) => {
-            let found = definitions(alloc, t, &spans)?;
+            let passed = passed_over(alloc, t)?;
+            let found = definitions(alloc, t, passed.as_slice(), &spans)?;
             shown(alloc, &found)
         }
     }

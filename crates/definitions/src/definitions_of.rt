@@ -11,7 +11,7 @@ use crate::found::Definitions;
 use crate::names::{defined_in, push_words};
 use crate::row::signs;
 use cbase::{List, NoMemory};
-use ctokens::{ItemSpan, Tokens, passed_over};
+use ctokens::{ItemSpan, Tokens};
 use std::alloc::Global;
 
 /// Appends the names that an item of the text defines.
@@ -52,25 +52,28 @@ fn push_item(
 ///
 /// An item that ends with a body defines each name that it declares at depth 0. An item without a body and without
 /// `typedef` defines those of them that no `(` follows; where it has `extern`, only those of these that have an initialiser. The
-/// first word of an item, storage words left out, begins its type, and is not declared.
+/// first word of an item, storage words left out, begins its type, and is not declared. `passed` says of each token of the
+/// text whether it is passed over.
 /// Each token of an item is looked at a fixed number of times.
 pub fn definitions(
     alloc: Global,
     t: &Tokens,
+    passed: &[bool],
     items: &List<ItemSpan>,
 ) -> Result<Definitions, NoMemory>
     requires text { LieInText t.now }
+    requires passed { passed.now ≡ passed_tokens t.now }
+    requires same { length passed.now ≡ length t.now.list }
     requires spans { All (IsInside (length t.now.list)) items.now }
     ensures bodied { IfOk result (λ found. found.bodied ≡ bodied_names t.now items.now) }
     ensures defined { IfOk result (λ found. found.defined ≡ defined_names t.now items.now) }
 {
-    let passed = passed_over(alloc, t)?;
     let mut found = Definitions {
         bodied: List::new(alloc),
         defined: List::new(alloc),
     };
     for span in items.as_slice() {
-        push_item(alloc, &mut found, t, passed.as_slice(), *span)?;
+        push_item(alloc, &mut found, t, passed, *span)?;
     }
     Ok(found)
 }

@@ -202,7 +202,9 @@ fn in_stmt<'a>(todo: &mut Vec<Node<'a>>, form: &'a StmtForm) -> Result<(), NoMem
                 &[Node::Type(&decl.spec), Node::Names(decl.names.as_slice())],
             )
         }
-        StmtForm::Eval(expr) | StmtForm::Return(expr) => { follow(todo, &[Node::MaybeExpr(expr)]) }
+        StmtForm::Eval(None) => Ok(()),
+        StmtForm::Eval(Some(expr)) => follow(todo, &[Node::Expr(expr)]),
+        StmtForm::Return(expr) => follow(todo, &[Node::MaybeExpr(expr)]),
         StmtForm::Block(body) => follow(todo, &[Node::Stmts(body.as_slice())]),
         StmtForm::If {
             test,

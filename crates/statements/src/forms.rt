@@ -13,7 +13,7 @@ use crate::branches::choose;
 use crate::demands::Demand;
 use crate::jumps::{leave_loop, return_value};
 use crate::loops::{do_loop, for_loop, while_loop};
-use crate::taken::optional;
+use crate::taken::{optional, optional_unboxed};
 use cbase::{NoMemory, Place, Stmt, StmtForm};
 use declarations::declaration;
 use expressions::{Checker, Context, Found, Part, Told, Within};
@@ -73,7 +73,7 @@ fn parts<F: Fn(&mut Context, Within, Part<'_>) -> Result<Found<Told>, NoMemory>>
 {
     match form {
         StmtForm::Declare(decl) => declaration(checker, alloc, context, place, decl.get()),
-        StmtForm::Eval(expr) => optional(checker, context, Demand::Dropped, expr),
+        StmtForm::Eval(expr) => optional_unboxed(checker, context, Demand::Dropped, expr),
         StmtForm::Block(body) => block(checker, alloc, context, body.as_slice()),
         StmtForm::If { test, yes, no, .. } => {
             choose(checker, alloc, context, test.get(), yes.get(), no)

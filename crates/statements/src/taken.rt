@@ -48,3 +48,23 @@ pub(crate) fn optional<F: Fn(&mut Context, Within, Part<'_>) -> Result<Found<Tol
         Some(expr) => value(checker, context, demand, expr.get()),
     }
 }
+
+/// The same, where the expression stands in the tree itself.
+pub(crate) fn optional_unboxed<
+    F: Fn(&mut Context, Within, Part<'_>) -> Result<Found<Told>, NoMemory>,
+>(
+    checker: &Checker<F>,
+    context: &mut Context,
+    demand: Demand,
+    expr: &Option<Expr>,
+) -> Result<Found<()>, NoMemory>
+    requires nests { Nests checker.now.abi checker.now.depth (F.pre checker.now.inner) (F.post checker.now.inner) }
+    requires deep { maybe_levels expr.now ≤ checker.now.depth }
+    requires demand { IsDemandBelow (length context.old.types) demand }
+    ensures { IfOk result (λ found. Walked (SaysOptional checker.now.abi demand expr.now) nothing context.old context.new found) }
+{
+    match expr {
+        None => Ok(Found::Passes(())),
+        Some(expr) => value(checker, context, demand, expr),
+    }
+}

@@ -7,7 +7,7 @@ ghost use Rattle.c_statics.specs.Nodes.{in_branches};
 use crate::node::Nodes;
 use crate::parts::list::push_stmts;
 use crate::parts::name::push_in_decl;
-use crate::parts::single::{push_boxed, push_expr, push_stmt};
+use crate::parts::single::{push_boxed, push_expr, push_optional, push_stmt};
 use cbase::{Boxed, Expr, NoMemory, Stmt, StmtForm};
 
 /// What stands in a statement.
@@ -16,7 +16,7 @@ pub fn push_in_stmt<'a>(nodes: &mut Nodes<'a>, stmt: &'a Stmt) -> Result<(), NoM
 {
     match &stmt.form {
         StmtForm::Declare(decl) => push_in_decl(nodes, decl.get()),
-        StmtForm::Eval(expr) => push_boxed(nodes, expr),
+        StmtForm::Eval(expr) => push_optional(nodes, expr),
         StmtForm::Block(body) => push_stmts(nodes, body.as_slice()),
         StmtForm::If { test, yes, no, .. } => push_branches(nodes, test.get(), yes.get(), no),
         StmtForm::While { test, body, .. } => push_while(nodes, test.get(), body.get()),

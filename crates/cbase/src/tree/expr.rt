@@ -102,7 +102,7 @@ pub enum ExprForm {
         /// The struct, or the pointer to it.
         base: Boxed<Expr>,
         /// The member's name with its place.
-        name: Identifier,
+        name: Boxed<Identifier>,
         /// Whether it is reached by `->`, and not by `.`.
         through: bool,
     },

@@ -23,7 +23,7 @@ pub enum StmtForm {
     /// A declaration (C11 6.7).
     Declare(Boxed<Decl>),
     /// An expression, or nothing, before a `;` (C11 6.8.3).
-    Eval(Option<Boxed<Expr>>),
+    Eval(Option<Expr>),
     /// A block (C11 6.8.2).
     Block(List<Stmt>),
     /// `if` (C11 6.8.4.1).

@@ -95,7 +95,7 @@ fn value_of(last: bool, stmt: &Stmt) -> Option<&Expr>
         return None;
     }
     match &stmt.form {
-        StmtForm::Eval(Some(expr)) => Some(expr.get()),
+        StmtForm::Eval(Some(expr)) => Some(expr),
         _ => None,
     }
 }

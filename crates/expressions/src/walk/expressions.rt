@@ -94,7 +94,12 @@ impl<F: Fn(&mut Context, Within, Part<'_>) -> Result<Found<Told>, NoMemory>> Che
                 base,
                 name,
                 through,
-            } => self.single(context, node, Single::Member(name, *through), base.get()),
+            } => self.single(
+                context,
+                node,
+                Single::Member(name.get(), *through),
+                base.get(),
+            ),
             ExprForm::Call { callee, args } => {
                 self.call(alloc, context, node, callee.get(), args.as_slice())
             }
