@@ -100,8 +100,8 @@ impl Builder {
         }
     }
 
-    /// Makes what the first of the events says; where it is an expression statement and the next one puts that behind other
-    /// statements, as nearly all do, what both say.
+    /// Makes what the first of the events says; where it and the next two make an expression statement and put that behind
+    /// other statements, as nearly all expressions before a `;` do, what the three say.
     #[tactic(auto, unfolding(cevents::specs::Building::built_all))]
     fn build_first(&mut self, row: &[Terminal<'_>], events: &[Event]) -> Result<Turn, NoMemory>
         ensures some { IfOk result (λ turn. 1 ≤ turn.count) }
@@ -112,16 +112,16 @@ impl Builder {
                 made: true,
                 count: 1,
             }),
-            [event] => Ok(Turn {
+            [event] | [event, _] => Ok(Turn {
                 made: self.build(row, *event)?,
                 count: 1,
             }),
-            [event, next, ..] => match (*event, *next) {
-                (Event::Eval { first, last }, Event::Statement) => Ok(Turn {
-                    made: self.eval_behind(row, first, last)?,
-                    count: 2,
+            [event, next, third, ..] => match (*event, *next, *third) {
+                (Event::OneExpression, Event::Eval { first, last }, Event::Statement) => Ok(Turn {
+                    made: self.expression_behind(row, first, last)?,
+                    count: 3,
                 }),
-                (event, _) => Ok(Turn {
+                (event, _, _) => Ok(Turn {
                     made: self.build(row, event)?,
                     count: 1,
                 }),

@@ -78,17 +78,17 @@ impl Builder {
         )
     }
 
-    /// An expression, or nothing, before a `;`, as one more statement: what `eval` and then `statement` make, with no box for
-    /// the statement in between.
-    pub(crate) fn eval_behind(
+    /// An expression before a `;`, as one more statement: what `one_expression`, `eval` and then `statement` make, with no
+    /// piece for the expression or the statement in between.
+    pub(crate) fn expression_behind(
         &mut self,
         row: &[Terminal<'_>],
         first: u32,
         last: u32,
     ) -> Result<bool, NoMemory>
-        ensures { IfOk result (λ made. left_by made self.new ≡ built_next row.now Event.Statement (built row.now (Event.Eval first last) self.old.count self.old.pieces)) }
+        ensures { IfOk result (λ made. left_by made self.new ≡ built_next row.now Event.Statement (built_next row.now (Event.Eval first last) (built row.now Event.OneExpression self.old.count self.old.pieces))) }
     {
-        let Some(expr) = self.pop_maybe() else {
+        let Some(expr) = self.pop_expr() else {
             return Ok(false);
         };
         let Some(body) = self.pop_statements() else {
@@ -98,7 +98,7 @@ impl Builder {
         let stmt = Stmt {
             place: place_at(row, first),
             after: place_at(row, last),
-            form: StmtForm::Eval(unboxed(expr)),
+            form: StmtForm::Eval(Some(expr.into_inner())),
         };
         let longer = appended(body, stmt)?;
         self.put(Piece::Statements(longer))

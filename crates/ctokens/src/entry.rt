@@ -69,19 +69,17 @@ fn offers_built_in(words: &[Lexeme<u32>]) -> bool
     true
 }
 
-/// Whether the item defines main, where it is known whether it ends with a body.
+/// Whether the item defines main, where it is known whether it ends with a body and which words it declares.
 #[tactic(auto, unfolding(crate::specs::Need::defines_main))]
-fn defines_main(alloc: Global, row: &[Lexeme<u32>], body: bool) -> Result<bool, NoMemory>
-    requires few { length row.now ≤ most_bytes }
+fn defines_main(row: &[Lexeme<u32>], names: &[Lexeme<u32>], body: bool) -> bool
+    requires declared { names.now ≡ declared 0 false row.now }
     requires known { body ≡ ends_with_body row.now }
-    ensures { IfOk result (λ main. main ≡ defines_main row.now) }
+    ensures { result ≡ defines_main row.now }
 {
     if !body {
-        return Ok(false);
+        return false;
     }
-    let mut declared = Vec::new(alloc);
-    push_declared(&mut declared, row)?;
-    Ok(offers_main(declared.as_slice()))
+    offers_main(names)
 }
 
 /// The words of the tokens, in order.
@@ -96,14 +94,20 @@ fn words(alloc: Global, tokens: &[Lexeme<u32>]) -> Result<List<u32>, NoMemory>
 }
 
 /// The names by which the item is needed: those that it offers, and none where it declares built-in functions alone. It is
-/// known whether the item ends with a body.
+/// known whether the item ends with a body and which words it declares.
 #[tactic(auto, unfolding(crate::specs::Need::needed_by))]
-fn needed_by(alloc: Global, row: &[Lexeme<u32>], body: bool) -> Result<List<u32>, NoMemory>
+fn needed_by(
+    alloc: Global,
+    row: &[Lexeme<u32>],
+    names: &[Lexeme<u32>],
+    body: bool,
+) -> Result<List<u32>, NoMemory>
     requires few { length row.now ≤ most_bytes }
+    requires declared { names.now ≡ declared 0 false row.now }
     requires known { body ≡ ends_with_body row.now }
     ensures { IfOk result (λ names. names ≡ needed_by row.now) }
 {
-    let offered = offered(alloc, row)?;
+    let offered = offered(alloc, row, names)?;
     if !body && offers_built_in(offered.as_slice()) {
         return Ok(List::new(alloc));
     }
@@ -131,9 +135,11 @@ pub(crate) fn entry_of(alloc: Global, row: &[Lexeme<u32>]) -> Result<Entry, NoMe
     ensures { IfOk result (λ entry. entry ≡ entry_of row.now) }
 {
     let body = ends_with_body(row);
+    let mut declared = Vec::new(alloc);
+    push_declared(&mut declared, row)?;
     Ok(Entry {
-        main: defines_main(alloc, row, body)?,
-        offers: needed_by(alloc, row, body)?,
+        main: defines_main(row, declared.as_slice(), body),
+        offers: needed_by(alloc, row, declared.as_slice(), body)?,
         contains: contained(alloc, row)?,
     })
 }

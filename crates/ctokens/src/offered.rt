@@ -236,15 +236,21 @@ fn push_enumerators(
     Ok(())
 }
 
-/// The words that a row of tokens offers as names, in the five ways.
-pub(crate) fn offered(alloc: Global, row: &[Lexeme<u32>]) -> Result<Vec<Lexeme<u32>>, NoMemory>
-    requires { length row.now ≤ most_bytes }
+/// The words that a row of tokens offers as names, in the five ways, where it is known which stand as declared names at
+/// depth 0.
+pub(crate) fn offered(
+    alloc: Global,
+    row: &[Lexeme<u32>],
+    names: &[Lexeme<u32>],
+) -> Result<Vec<Lexeme<u32>>, NoMemory>
+    requires few { length row.now ≤ most_bytes }
+    requires declared { names.now ≡ declared 0 false row.now }
     ensures { IfOk result (λ found. found.items ≡ offered row.now) }
 {
     let mut found = Vec::new(alloc);
     push_tags(&mut found, row)?;
     push_enumerators(alloc, &mut found, row)?;
-    push_declared(&mut found, row)?;
+    found.extend_from_slice(names)?;
     push_pointers(&mut found, row)?;
     push_bracketed(&mut found, row)?;
     Ok(found)
