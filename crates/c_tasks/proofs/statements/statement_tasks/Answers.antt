@@ -22,10 +22,10 @@ returns-in-Declare c = on_ok _ _ c.declared_names.result
     c.declared_names.ensures
 
 pub returns-in-Eval : goal.returns-in-Eval
-returns-in-Eval c = on_ok _ _ c.evaluated.result
-    (λ room made. λ n p stands. clause_of_form (clause_tasks (text_of p) c.args.stmt.now c.args.held) c.args.stmt.now _ _ _ room c.args.state.now c.evaluated.new.state
+returns-in-Eval c = on_ok _ _ c.evaluated_here.result
+    (λ room made. λ n p stands. clause_of_form (clause_tasks (text_of p) c.args.stmt.now c.args.held) c.args.stmt.now _ _ _ room c.args.state.now c.evaluated_here.new.state
     c.in-Eval.is (outs-Eval c.in-Eval.expr) refl (made p))
-    c.evaluated.ensures
+    c.evaluated_here.ensures
 
 pub returns-in-Block : goal.returns-in-Block
 returns-in-Block c = on_ok _ _ c.in_block.result

@@ -24,11 +24,11 @@ declaration-requires-clause-deep g c =
     subst (λ (decl : Decl). decl_levels decl ≤ c.args.checker.now.depth) (sym c.get.ensures)
     (declaration_within c.args.form.now c.in-Declare.decl c.args.checker.now.depth c.in-Declare.is c.requires.deep)
 
-pub optional-requires-clause-nests : goal.optional-requires-clause-nests
-optional-requires-clause-nests g c = c.requires.nests
+pub optional_unboxed-requires-clause-nests : goal.optional_unboxed-requires-clause-nests
+optional_unboxed-requires-clause-nests g c = c.requires.nests
 
-pub optional-requires-clause-deep : goal.optional-requires-clause-deep
-optional-requires-clause-deep g c = eval_within c.args.form.now c.in-Eval.expr c.args.checker.now.depth c.in-Eval.is c.requires.deep
+pub optional_unboxed-requires-clause-deep : goal.optional_unboxed-requires-clause-deep
+optional_unboxed-requires-clause-deep g c = eval_within c.args.form.now c.in-Eval.expr c.args.checker.now.depth c.in-Eval.is c.requires.deep
 
 pub block-requires-clause-nests : goal.block-requires-clause-nests
 block-requires-clause-nests g c = c.requires.nests
@@ -106,12 +106,12 @@ returns-in-Declare g c =
 pub returns-in-Eval : goal.returns-in-Eval
 returns-in-Eval g c =
     let abi = c.args.checker.now.abi in
-    let new = c.optional.new.context in
-    parts_alike abi (optional Dropped c.in-Eval.expr) (parts_in c.args.place (out-StmtForm c.args.form.now)) c.args.context.now new c.optional.result
+    let new = c.optional_unboxed.new.context in
+    parts_alike abi (optional Dropped c.in-Eval.expr) (parts_in c.args.place (out-StmtForm c.args.form.now)) c.args.context.now new c.optional_unboxed.result
     (sym (ap (parts_in c.args.place) (ap out-StmtForm c.in-Eval.is ∙ outs-Eval c.in-Eval.expr)))
     (of_result (λ found. Walked (SaysOptional abi by_number.Dropped c.in-Eval.expr) nothing c.args.context.now new found)
     (λ found. Walked (SaysParts abi (optional Dropped c.in-Eval.expr)) nothing c.args.context.now new found)
-    c.optional.result (dropped_alone abi c.in-Eval.expr c.args.context.now new) c.optional.ensures)
+    c.optional_unboxed.result (dropped_alone abi c.in-Eval.expr c.args.context.now new) c.optional_unboxed.ensures)
 
 pub returns-in-Block : goal.returns-in-Block
 returns-in-Block g c =

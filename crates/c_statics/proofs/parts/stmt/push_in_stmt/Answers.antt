@@ -14,10 +14,10 @@ returns-in-Declare c = on_ok _ _ c.push_in_decl.result
     c.push_in_decl.ensures
 
 pub returns-in-Eval : goal.returns-in-Eval
-returns-in-Eval c = on_ok _ _ c.push_boxed.result
-    (λ done made. clause_in_front c.args.stmt.now _ _ _ c.args.nodes.now c.push_boxed.new.nodes c.in-Eval.is (outs-Eval c.in-Eval.expr)
+returns-in-Eval c = on_ok _ _ c.push_optional.result
+    (λ done made. clause_in_front c.args.stmt.now _ _ _ c.args.nodes.now c.push_optional.new.nodes c.in-Eval.is (outs-Eval c.in-Eval.expr)
     refl made)
-    c.push_boxed.ensures
+    c.push_optional.ensures
 
 pub returns-in-Block : goal.returns-in-Block
 returns-in-Block c = on_ok _ _ c.push_stmts.result
@@ -58,7 +58,7 @@ pub returns-in-Continue : goal.returns-in-Continue
 returns-in-Continue c = clause_in_front c.args.stmt.now _ _ _ c.args.nodes.now _ c.in-Continue.is outs-Continue refl refl
 
 pub returns-in-Return : goal.returns-in-Return
-returns-in-Return c = on_ok _ _ c.push_boxed-in-Return.result
-    (λ done made. clause_in_front c.args.stmt.now _ _ _ c.args.nodes.now c.push_boxed-in-Return.new.nodes c.in-Return.is (outs-Return c.in-Return.value)
+returns-in-Return c = on_ok _ _ c.push_boxed.result
+    (λ done made. clause_in_front c.args.stmt.now _ _ _ c.args.nodes.now c.push_boxed.new.nodes c.in-Return.is (outs-Return c.in-Return.value)
     refl made)
-    c.push_boxed-in-Return.ensures
+    c.push_boxed.ensures

@@ -98,12 +98,12 @@ pub single-requires-in-Member-clause-nests : goal.single-requires-in-Member-clau
 single-requires-in-Member-clause-nests g c = c.requires.nests
 
 pub single-requires-in-Member-clause-arg : goal.single-requires-in-Member-clause-arg
-single-requires-in-Member-clause-arg g c = one_within c.args.form.now _ _ _ c.args.self.now.depth c.in-Member.is (member_levels c.in-Member.base c.in-Member.name c.in-Member.through) (ap expr_levels c.get-in-Member.ensures) c.requires.deep
+single-requires-in-Member-clause-arg g c = one_within c.args.form.now _ _ _ c.args.self.now.depth c.in-Member.is (member_levels c.in-Member.base c.in-Member.name c.in-Member.through) (ap expr_levels c.get-in-Member-2.ensures) c.requires.deep
 
 pub returns-in-Member : goal.returns-in-Member
 returns-in-Member g c =
-    form_alike c.args.self.now.abi c.args.node.number c.args.node.place (ExprForm::Member c.get-in-Member.result.now c.in-Member.name c.in-Member.through) (out-ExprForm c.args.form.now) c.args.context.now _ c.single-in-Member.result
-    (ap (λ (base : Expr). ExprForm::Member base c.in-Member.name c.in-Member.through) c.get-in-Member.ensures ∙ sym (ap out-ExprForm c.in-Member.is ∙ outs-ExprForm::Member c.in-Member.base c.in-Member.name c.in-Member.through)) c.single-in-Member.ensures
+    form_alike c.args.self.now.abi c.args.node.number c.args.node.place (ExprForm::Member c.get-in-Member-2.result.now c.get-in-Member.result.now c.in-Member.through) (out-ExprForm c.args.form.now) c.args.context.now _ c.single-in-Member.result
+    ((λ i. ExprForm::Member (c.get-in-Member-2.ensures i) (c.get-in-Member.ensures i) c.in-Member.through) ∙ sym (ap out-ExprForm c.in-Member.is ∙ outs-ExprForm::Member c.in-Member.base c.in-Member.name c.in-Member.through)) c.single-in-Member.ensures
 
 pub choice-requires-clause-nests : goal.choice-requires-clause-nests
 choice-requires-clause-nests g c = c.requires.nests
