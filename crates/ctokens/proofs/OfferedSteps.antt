@@ -1,5 +1,5 @@
 -- What is gathered of the tokens in front of one of a row, and what is still to come.
-use Rattle.std.proofs.Common.{◌≡◌, ℕ, ◌+◌, ◌<◌, Bool, true, false, ◌&&◌, not, if◌then◌else◌, List, [], ◌∷◌, ◌++◌, drop, length, get_or, zero, suc, refl, sym, ap, ◌∙◌, add-one, append_assoc, append-nil, subst}
+use Rattle.std.proofs.Common.{◌≡◌, ℕ, ◌+◌, ◌<◌, Bool, true, false, ◌&&◌, not, if◌then◌else◌, List, [], ◌∷◌, ◌++◌, drop, length, get_or, refl, sym, ap, ◌∙◌, add-one, append_assoc, append-nil, subst}
 use Rattle.std.proofs.Math.Seq.{drop-cons}
 use Rattle.ctokens.specs.declared.offered.Ways.{Ways}
 use Rattle.ctokens.specs.declared.symbol.Symbol.{Symbol}
@@ -100,7 +100,7 @@ pub gathered_at : (old new ways : Ways) (names more : List ℕ) (brackets open_o
     → more ≡ names ++ contained before (get_or row i other ∷ [])
     → AreGathered old names brackets depth set earlier before body last (drop i row) row
     → let symbol = (get_or row i other).symbol in AreGathered ways more (brackets_after earlier before brackets symbol) (depth_after depth symbol) (set_after depth set symbol) before symbol
-        (body_after depth before body symbol) (ends_body depth body symbol) (drop (i + 1) row) row
+    (body_after depth before body symbol) (ends_body depth body symbol) (drop (i + 1) row) row
 gathered_at old new ways names more brackets open_ones depth set earlier before body last part row i other inside is_part front are_open constant is_more known =
     gathered_more old new ways names more brackets depth set earlier before body last (drop i row) (get_or row i other) (drop (i + 1) row) row (row_front row i other inside)
     (subst (λ xs. AreOfferedAt old new depth set xs) is_part front) (subst (λ bs. IsEnumeratorAt new ways bs before (get_or row i other)) are_open constant) is_more known

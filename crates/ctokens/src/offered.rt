@@ -148,7 +148,7 @@ fn bracketed_at(depth: u32, set: bool, row: &[Lexeme<u32>]) -> Option<Lexeme<u32
     }
 }
 
-/// Appends the words that are offered at the front of the row, which an enum constant is not.
+/// Appends the words that are offered at the front of the row, which an enum constant is not. Only tags are offered in brackets.
 pub(crate) fn push_front(
     ways: &mut Ways,
     depth: u32,
@@ -158,6 +158,9 @@ pub(crate) fn push_front(
     ensures { OnOk result (AreOfferedAt ways.old ways.new depth set row.now) }
 {
     push_found(&mut ways.tags, tag_at(row))?;
+    if depth > 0 {
+        return Ok(());
+    }
     push_found(&mut ways.declared, declared_at(depth, set, row))?;
     push_found(&mut ways.pointers, pointer_at(depth, row))?;
     push_found(&mut ways.bracketed, bracketed_at(depth, set, row))
