@@ -1,5 +1,6 @@
 -- A set of words in the order in which they first stand, and the numbers of the words that were put in.
-use Rattle.std.proofs.Common.{◌≡◌, ℕ, ◌+◌, ◌<◌, ◌≤◌, Bool, true, false, cond, Option, List, [], ◌∷◌, ◌++◌, Some, length, map, get_or, refl, sym, ap, ◌∙◌, subst, arith, nat_eq, inl, inr}
+use Rattle.std.proofs.Common.{◌≡◌, ℕ, ◌+◌, ◌<◌, ◌≤◌, Bool, true, false, cond, Option, List, [], ◌∷◌, ◌++◌, Some, length, map, take, get_or, add-one, refl, sym, ap, ◌∙◌, subst, arith, nat_eq, inl, inr}
+use Rattle.std.proofs.Math.Seq.{take-suc}
 use Rattle.std.proofs.lemmas.Bool.{cases_lt, false≢true}
 use denote.Ref.{Bor}
 use Rattle.std.specs.List.{All, IsDistinct, slice_get, list_any}
@@ -9,7 +10,15 @@ use Rattle.std.proofs.lemmas.List.{map-append, length-map, get_or_append_left, g
 use Rattle.std.proofs.lemmas.Option.{get_or_from_slice_get}
 use Rattle.std.proofs.lemmas.Map.Keys.{apart_from_distinct}
 use Rattle.indexmap.specs.IndexSet.{insert_key}
+use Rattle.ctokens.specs.declared.symbol.Symbol.{Symbol}
+use Rattle.ctokens.specs.declared.symbol.Lexeme.{Lexeme}
+use Rattle.ctokens.specs.declared.token.Token.{Token}
+use Rattle.ctokens.specs.declared.token.Tokens.{Tokens}
+use Rattle.ctokens.specs.Entry.{IsTextRow}
+use Rattle.ctokens.specs.ItemRows.{lexemes, symbols_in, words_in}
 use Rattle.ctokens.specs.Numbering.{blank_behind, known, name_at, IsNumbering}
+use Rattle.ctokens.specs.Passed.{read_symbols}
+use Rattle.ctokens.specs.TokenSymbols.{symbols, token_word, words}
 
 -- how the set compares words
 abbrev pub is_same : Bor (List ℕ) → Bor (List ℕ) → Bool
@@ -164,3 +173,38 @@ pub same_numbered : (keys : List (Bor (List ℕ))) (words others : List (List �
     → words ≡ others → more ≡ numbers → Numbered keys others more
 same_numbered keys words others numbers more known same now =
     subst (λ ns. Numbered keys others ns) (sym now) (subst (λ ws. Numbered keys ws numbers) same known)
+
+take_one : {A : Type 0} (xs : List A) (i : ℕ) (other : A) → i < length xs → take (i + 1) xs ≡ take i xs ++ get_or xs i other ∷ []
+take_one xs i other inside = rw add-one (take-suc xs i other inside)
+
+-- ---- rows of tokens with numbers for their words
+
+lexemes_of : {N : Type 0} (row : List (Lexeme N)) → row ≡ lexemes (symbols_in row) (words_in row)
+lexemes_of [] = refl
+lexemes_of (token ∷ row) = ap (λ xs. token ∷ xs) (lexemes_of row)
+
+-- a row with these symbols whose words are numbered is that of the text
+pub text_row_of : (t : Tokens) (row : List (Lexeme ℕ)) (count : ℕ) (read all : List Symbol) → IsNumbering (words t) (words_in row) count
+    → symbols_in row ≡ read → read ≡ read_symbols all → all ≡ symbols t → IsTextRow t row count
+text_row_of t row count read all numbered are_read is_read is_all = record {
+  numbers = words_in row;
+  numbered = numbered;
+  is_row = lexemes_of row ∙ ap (λ ss. lexemes ss (words_in row)) (are_read ∙ (is_read ∙ ap read_symbols is_all));
+}
+
+-- the words of a row behind which one more token is put
+pub words_more : (old new : List (Lexeme ℕ)) (token : Lexeme ℕ) → new ≡ old ++ token ∷ [] → words_in new ≡ words_in old ++ token.word ∷ []
+words_more old new token is = ap words_in is ∙ map-append (λ (token : Lexeme ℕ). token.word) old (token ∷ [])
+
+-- what the tokens of such a row are
+pub symbols_more : (old new : List (Lexeme ℕ)) (token : Lexeme ℕ) (read : List Symbol) (i : ℕ) (other : Symbol) → new ≡ old ++ token ∷ [] → i < length read
+    → token.symbol ≡ get_or read i other → symbols_in old ≡ take i read → symbols_in new ≡ take (i + 1) read
+symbols_more old new token read i other is inside here known =
+    ap symbols_in is ∙ (map-append (λ (token : Lexeme ℕ). token.symbol) old (token ∷ []) ∙ (ap (λ xs. xs ++ token.symbol ∷ []) known
+    ∙ (ap (λ x. take i read ++ x ∷ []) here ∙ sym (take_one read i other inside))))
+
+-- the words of the first tokens of a text and of one more
+pub word_more : (text : List ℕ) (list : List Token) (i : ℕ) (other : Token) → i < length list
+    → map (token_word text) (take i list) ++ token_word text (get_or list i other) ∷ [] ≡ map (token_word text) (take (i + 1) list)
+word_more text list i other inside =
+    sym (ap (map (token_word text)) (take_one list i other inside) ∙ map-append (token_word text) (take i list) (get_or list i other ∷ []))

@@ -16,6 +16,14 @@ module _ {N : Type 0} where
   lexemes (symbol ∷ symbols) [] = []
   lexemes (symbol ∷ symbols) (word ∷ words) = record { symbol = symbol; word = word } ∷ lexemes symbols words
 
+  -- what the tokens of a row are
+  abbrev pub symbols_in : List (Lexeme N) → List Symbol
+  symbols_in row = map (λ (token : Lexeme N). token.symbol) row
+
+  -- the words of the tokens of a row
+  abbrev pub words_in : List (Lexeme N) → List N
+  words_in row = map (λ (token : Lexeme N). token.word) row
+
   -- whether no token of a row is passed over
   abbrev pub are_kept : List (Lexeme N) → Bool
   are_kept row = list_all (λ (token : Lexeme N). not (is_passed_over token.symbol)) row

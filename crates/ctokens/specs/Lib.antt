@@ -19,6 +19,7 @@ pub mod Passed
 pub mod Items
 pub mod ItemEnds
 pub mod Offered
+pub mod Ways
 pub mod Bodies
 pub mod ItemRows
 pub mod Need

@@ -106,6 +106,11 @@ module _ {N : Type 0} where
       (if nat_eq depth 0 && is_left_parenthesis bracket.symbol then behind_stars false rest else [])
       ++ pointers (depth_after depth bracket.symbol) rest
 
+  -- the word that way 4 gives at the front of a row
+  abbrev pub pointer_at : ℕ → List (Lexeme N) → List (Lexeme N)
+  pointer_at depth [] = []
+  pointer_at depth (bracket ∷ rest) = if nat_eq depth 0 && is_left_parenthesis bracket.symbol then behind_stars false rest else []
+
   -- whether what stands behind a word in one bracket says that it is a declared one
   abbrev pub is_said : List (Lexeme N) → Bool
   is_said [] = false
@@ -127,6 +132,12 @@ module _ {N : Type 0} where
   bracketed depth set (bracket ∷ rest) =
       (if (nat_eq depth 0 && not set) && is_left_parenthesis bracket.symbol then behind_brackets false rest else [])
       ++ bracketed (depth_after depth bracket.symbol) (set_after depth set bracket.symbol) rest
+
+  -- the word that way 5 gives at the front of a row
+  abbrev pub bracketed_at : ℕ → Bool → List (Lexeme N) → List (Lexeme N)
+  bracketed_at depth set [] = []
+  bracketed_at depth set (bracket ∷ rest) =
+      if (nat_eq depth 0 && not set) && is_left_parenthesis bracket.symbol then behind_brackets false rest else []
 
   -- the words that the five ways give
   abbrev pub offered : List (Lexeme N) → List (Lexeme N)

@@ -103,9 +103,9 @@ fn first_deep(symbols: &[Symbol]) -> Option<usize>
 }
 
 /// The spans of the items of a row of tokens.
-fn spans_of(alloc: Global, symbols: &[Symbol]) -> Result<List<ItemSpan>, NoMemory>
-    requires { length symbols.now ≤ most_bytes }
-    ensures { IfOk result (λ items. items ≡ spans_of symbols.now) }
+fn spans_of(alloc: Global, symbols: Vec<Symbol>) -> Result<List<ItemSpan>, NoMemory>
+    requires { length symbols.items ≤ most_bytes }
+    ensures { IfOk result (λ items. items ≡ spans_of symbols.items) }
 {
     let read = read_symbols(alloc, symbols)?;
     let ends = item_ends(alloc, read.as_slice())?;
@@ -131,11 +131,10 @@ pub fn items(alloc: Global, t: &Tokens) -> Result<Result<List<ItemSpan>, Deep>, 
     ensures inside { IfOk result (λ answer. IfOk answer (All (IsInside (length t.now.list)))) }
 {
     let symbols = symbols(alloc, t)?;
-    let row = symbols.as_slice();
-    match first_deep(row) {
+    match first_deep(symbols.as_slice()) {
         Some(at) => Ok(Err(Deep {
             place: place_of(t.list.as_slice(), at),
         })),
-        None => Ok(Ok(spans_of(alloc, row)?)),
+        None => Ok(Ok(spans_of(alloc, symbols)?)),
     }
 }

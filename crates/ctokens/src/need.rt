@@ -3,36 +3,20 @@ ghost use Rattle.std.specs.List.{All, list_any};
 ghost use Rattle.ctokens.specs.Entry.{IsTextRow, entries_of, entry_of, is_main_entry};
 ghost use Rattle.ctokens.specs.Items.{IsInside, IsItems};
 ghost use Rattle.ctokens.specs.Need.{IsNeed};
-ghost use Rattle.ctokens.specs.ItemRows.{are_kept, kept, item_row, item_rows, lexemes};
+ghost use Rattle.ctokens.specs.ItemRows.{are_kept, kept, item_row, item_rows};
 ghost use Rattle.ctokens.specs.NeedSearch.{need_of};
 ghost use Rattle.ctokens.specs.InText.{LieInText, most_bytes};
 
 use crate::entry::{Entry, entry_of};
 use crate::item_span::ItemSpan;
 use crate::need_search::found;
-use crate::numbering::number_words;
+use crate::numbering::{TextRow, number_words};
 use crate::passed::read_symbols;
-use crate::symbol::{Lexeme, Symbol};
+use crate::symbol::Lexeme;
 use crate::symbols::symbols;
 use crate::token::Tokens;
 use cbase::{List, NoMemory};
 use std::alloc::Global;
-
-/// The tokens with the numbers of their words.
-fn lexemes(alloc: Global, symbols: &[Symbol], words: &[u32]) -> Result<Vec<Lexeme<u32>>, NoMemory>
-    requires { length symbols.now ≡ length words.now }
-    ensures value { IfOk result (λ row. row.items ≡ lexemes symbols.now words.now) }
-    ensures len { IfOk result (λ row. length row.items ≡ length symbols.now) }
-{
-    let mut row = Vec::with_capacity(alloc, symbols.len())?;
-    for i in 0..symbols.len() {
-        row.push_reserved(Lexeme {
-            symbol: symbols[i],
-            word: words[i],
-        });
-    }
-    Ok(row)
-}
 
 /// Whether no token of a row is passed over.
 fn are_kept(row: &[Lexeme<u32>]) -> bool
@@ -51,10 +35,10 @@ fn kept(alloc: Global, row: &[Lexeme<u32>]) -> Result<Vec<Lexeme<u32>>, NoMemory
     ensures value { IfOk result (λ rest. rest.items ≡ kept row.now) }
     ensures len { IfOk result (λ rest. length rest.items ≤ length row.now) }
 {
-    let mut kept = Vec::new(alloc);
+    let mut kept = Vec::with_capacity(alloc, row.len())?;
     for token in row {
         if !token.symbol.is_passed_over() {
-            kept.push(*token)?;
+            kept.push_reserved(*token);
         }
     }
     Ok(kept)
@@ -110,26 +94,15 @@ fn defines_main(entries: &[Entry]) -> bool
 }
 
 /// The tokens of a text, with `PassedOver` for each that is passed over, and numbers for their words.
-#[derive(Drop)]
-struct TextRow {
-    tokens: Vec<Lexeme<u32>>,
-    /// How many words there are that differ; each number is below it.
-    count: u32,
-}
-
-/// The tokens of a text with numbers for their words.
+#[tactic(auto, using(crate::proofs::Numbered::text_row_of))]
 fn text_row(alloc: Global, t: &Tokens) -> Result<TextRow, NoMemory>
     requires { LieInText t.now }
     ensures value { IfOk result (λ row. IsTextRow t.now row.tokens.items row.count) }
     ensures len { IfOk result (λ row. length row.tokens.items ≡ length t.now.list) }
 {
     let symbols = symbols(alloc, t)?;
-    let read = read_symbols(alloc, symbols.as_slice())?;
-    let numbering = number_words(alloc, t)?;
-    Ok(TextRow {
-        tokens: lexemes(alloc, read.as_slice(), numbering.numbers.as_slice())?,
-        count: numbering.count,
-    })
+    let read = read_symbols(alloc, symbols)?;
+    number_words(alloc, t, read.as_slice())
 }
 
 /// The numbers of the items that are found, or `None` where no item defines main.

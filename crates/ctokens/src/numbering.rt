@@ -1,21 +1,23 @@
 //! Numbers for words, so that names are compared as numbers.
 
-ghost use Rattle.std.specs.Prelude.{◌≡◌, IfOk};
+ghost use Rattle.std.specs.Prelude.{◌≡◌, length, IfOk};
 ghost use Rattle.ctokens.specs.Numbering.{IsNumbering, blank_behind, known};
 ghost use Rattle.ctokens.specs.InText.{LieInText};
+ghost use Rattle.ctokens.specs.ItemRows.{symbols_in, words_in};
 ghost use Rattle.ctokens.specs.TokenSymbols.{words};
 
+use crate::symbol::{Lexeme, Symbol};
 use crate::symbol_of::token_word;
 use crate::token::Tokens;
 use cbase::NoMemory;
 use indexmap::IndexSet;
 use std::alloc::Global;
 
-/// Numbers for words: equal words have equal numbers, other words other ones.
+/// The tokens of a text with numbers for their words: equal words have equal numbers, other words other ones.
 #[derive(Drop)]
-pub(crate) struct Numbering {
-    /// The number of each word, in order.
-    pub(crate) numbers: Vec<u32>,
+pub(crate) struct TextRow {
+    /// The tokens, in order.
+    pub(crate) tokens: Vec<Lexeme<u32>>,
     /// How many words there are that differ; each number is below it.
     pub(crate) count: u32,
 }
@@ -34,31 +36,35 @@ fn blank_behind(blank: Option<u32>, word: &[u8], number: u32) -> Option<u32>
     if word.is_empty() { Some(number) } else { blank }
 }
 
-/// Numbers for the words of a text's tokens, from 0 on in the order in which they first stand.
+/// The tokens of a text, of which it is known what they are, with numbers for their words: from 0 on in the order in which
+/// the words first stand.
 ///
 /// Each word is hashed once. What is no word has the empty word, which is hashed where it first stands.
-pub(crate) fn number_words(alloc: Global, t: &Tokens) -> Result<Numbering, NoMemory>
-    requires { LieInText t.now }
-    ensures { IfOk result (λ numbering. IsNumbering (words t.now) numbering.numbers.items numbering.count) }
+pub(crate) fn number_words(alloc: Global, t: &Tokens, read: &[Symbol]) -> Result<TextRow, NoMemory>
+    requires text { LieInText t.now }
+    requires each { length read.now ≡ length t.now.list }
+    ensures numbers { IfOk result (λ row. IsNumbering (words t.now) (words_in row.tokens.items) row.count) }
+    ensures symbols { IfOk result (λ row. symbols_in row.tokens.items ≡ read.now) }
 {
     let text = t.text.as_slice();
     let list = t.list.as_slice();
     let mut names = IndexSet::new(alloc);
-    let mut numbers = Vec::with_capacity(alloc, list.len())?;
+    let mut tokens = Vec::with_capacity(alloc, list.len())?;
     let mut blank: Option<u32> = None;
-    for token in list {
-        let word = token_word(text, *token);
-        if let Some(number) = known(blank, word) {
-            numbers.push_reserved(number);
+    for (i, token) in list.iter().enumerate() {
+        let symbol = read[i];
+        let bytes = token_word(text, *token);
+        if let Some(word) = known(blank, bytes) {
+            tokens.push_reserved(Lexeme { symbol, word });
             continue;
         }
-        let found = names.insert_full(word)?;
-        let number = found.0 as u32;
-        blank = blank_behind(blank, word, number);
-        numbers.push_reserved(number);
+        let found = names.insert_full(bytes)?;
+        let word = found.0 as u32;
+        blank = blank_behind(blank, bytes, word);
+        tokens.push_reserved(Lexeme { symbol, word });
     }
-    Ok(Numbering {
-        numbers,
+    Ok(TextRow {
+        tokens,
         count: names.len() as u32,
     })
 }

@@ -1,15 +1,28 @@
 //! The five ways in which an item offers a name.
 
-ghost use Rattle.std.specs.Prelude.{◌≡◌, ◌≤◌, ◌++◌, [], false, length, IfOk, OnOk};
+ghost use Rattle.std.specs.Prelude.{◌≡◌, ◌++◌, IfOk, OnOk, false};
 ghost use Rattle.std.specs.Option.{option_to_list};
-ghost use Rattle.ctokens.specs.InText.{most_bytes};
-ghost use Rattle.ctokens.specs.Offered.{behind_brackets, behind_stars, bracketed, brackets_after, declared, declared_at, enumerator_at, enumerators, is_in_enum, is_said, offered, opens_enum, pointers, set_after, tag_at, tags};
-ghost use Rattle.ctokens.specs.declared.symbol.Symbol.TheVariants.{Other};
+ghost use Rattle.ctokens.specs.Offered.{behind_brackets, behind_stars, bracketed_at, brackets_after, declared_at, enumerator_at, is_in_enum, is_said, offered, opens_enum, pointer_at, set_after, tag_at};
+ghost use Rattle.ctokens.specs.Ways.{AreOffered, AreOfferedAt, IsEnumeratorAt};
 
-use crate::passed::depth_after;
 use crate::symbol::{Lexeme, Symbol};
 use cbase::NoMemory;
 use std::alloc::Global;
+
+/// The words that a row of tokens offers as names, those of each way by themselves.
+#[derive(Drop)]
+pub(crate) struct Ways {
+    /// Those that `struct`, `union` and `enum` name where `{` follows.
+    pub(crate) tags: Vec<Lexeme<u32>>,
+    /// Those that name enum constants.
+    pub(crate) enumerators: Vec<Lexeme<u32>>,
+    /// Those that stand as declared names at depth 0.
+    pub(crate) declared: Vec<Lexeme<u32>>,
+    /// Those that stand behind `(` and stars, where the `(` stands at depth 0.
+    pub(crate) pointers: Vec<Lexeme<u32>>,
+    /// Those that are declared in brackets of their own, where the first of these stands at depth 0.
+    pub(crate) bracketed: Vec<Lexeme<u32>>,
+}
 
 /// Appends the word, if there is one.
 fn push_found(found: &mut Vec<Lexeme<u32>>, word: Option<Lexeme<u32>>) -> Result<(), NoMemory>
@@ -36,16 +49,6 @@ fn tag_at(row: &[Lexeme<u32>]) -> Option<Lexeme<u32>>
     }
 }
 
-/// Appends the words that `struct`, `union` and `enum` name where `{` follows.
-fn push_tags(found: &mut Vec<Lexeme<u32>>, row: &[Lexeme<u32>]) -> Result<(), NoMemory>
-    ensures { OnOk result (found.new.items ≡ found.old.items ++ tags row.now) }
-{
-    for i in 0..row.len() {
-        push_found(found, tag_at(row.split_at(i).1))?;
-    }
-    Ok(())
-}
-
 /// The word at the front of the row, if it is declared there.
 fn declared_at(depth: u32, set: bool, row: &[Lexeme<u32>]) -> Option<Lexeme<u32>>
     ensures { option_to_list result ≡ declared_at depth set row.now }
@@ -62,31 +65,13 @@ fn declared_at(depth: u32, set: bool, row: &[Lexeme<u32>]) -> Option<Lexeme<u32>
 }
 
 /// Whether a `=` stands at depth 0 since the last `,` there, after a token.
-fn set_after(depth: u32, set: bool, symbol: Symbol) -> bool
+pub(crate) fn set_after(depth: u32, set: bool, symbol: Symbol) -> bool
     ensures { result ≡ set_after depth set symbol }
 {
     if depth == 0 {
         return symbol.is_equals() || (!symbol.is_comma() && set);
     }
     set
-}
-
-/// Appends the words that stand as declared names at depth 0.
-pub(crate) fn push_declared(
-    found: &mut Vec<Lexeme<u32>>,
-    row: &[Lexeme<u32>],
-) -> Result<(), NoMemory>
-    requires { length row.now ≤ most_bytes }
-    ensures { OnOk result (found.new.items ≡ found.old.items ++ declared 0 false row.now) }
-{
-    let mut depth: u32 = 0;
-    let mut set = false;
-    for (i, token) in row.iter().enumerate() {
-        push_found(found, declared_at(depth, set, row.split_at(i).1))?;
-        set = set_after(depth, set, token.symbol);
-        depth = depth_after(depth, token.symbol);
-    }
-    Ok(())
 }
 
 /// The word behind the stars with which the row begins, if there is a star.
@@ -106,21 +91,19 @@ fn behind_stars(row: &[Lexeme<u32>]) -> Option<Lexeme<u32>>
     None
 }
 
-/// Appends the words that stand behind `(` and stars, where the `(` stands at depth 0.
-fn push_pointers(found: &mut Vec<Lexeme<u32>>, row: &[Lexeme<u32>]) -> Result<(), NoMemory>
-    requires { length row.now ≤ most_bytes }
-    ensures { OnOk result (found.new.items ≡ found.old.items ++ pointers 0 row.now) }
+/// The word behind the `(` at the front of the row and stars, where the `(` stands at depth 0.
+fn pointer_at(depth: u32, row: &[Lexeme<u32>]) -> Option<Lexeme<u32>>
+    ensures { option_to_list result ≡ pointer_at depth row.now }
 {
-    let mut depth: u32 = 0;
-    for (i, token) in row.iter().enumerate() {
-        if depth == 0 && token.symbol.is_left_parenthesis() {
-            if let Some(word) = behind_stars(row.split_at(i + 1).1) {
-                found.push(word)?;
+    match row {
+        [bracket, rest @ ..] => {
+            if depth == 0 && bracket.symbol.is_left_parenthesis() {
+                return behind_stars(rest);
             }
+            None
         }
-        depth = depth_after(depth, token.symbol);
+        _ => None,
     }
-    Ok(())
 }
 
 /// Whether what stands behind a word in one bracket says that it is a declared one.
@@ -150,21 +133,37 @@ fn behind_brackets(row: &[Lexeme<u32>]) -> Option<Lexeme<u32>>
     None
 }
 
-/// Appends the declared words in brackets of their own, where the first of these stands at depth 0.
-fn push_bracketed(found: &mut Vec<Lexeme<u32>>, row: &[Lexeme<u32>]) -> Result<(), NoMemory>
-    requires { length row.now ≤ most_bytes }
-    ensures { OnOk result (found.new.items ≡ found.old.items ++ bracketed 0 false row.now) }
+/// The declared word in brackets of its own, of which the first is at the front of the row and stands at depth 0.
+fn bracketed_at(depth: u32, set: bool, row: &[Lexeme<u32>]) -> Option<Lexeme<u32>>
+    ensures { option_to_list result ≡ bracketed_at depth set row.now }
 {
-    let mut depth: u32 = 0;
-    let mut set = false;
-    for (i, token) in row.iter().enumerate() {
-        if depth == 0 && !set && token.symbol.is_left_parenthesis() {
-            push_found(found, behind_brackets(row.split_at(i + 1).1))?;
+    match row {
+        [bracket, rest @ ..] => {
+            if depth == 0 && !set && bracket.symbol.is_left_parenthesis() {
+                return behind_brackets(rest);
+            }
+            None
         }
-        set = set_after(depth, set, token.symbol);
-        depth = depth_after(depth, token.symbol);
+        _ => None,
     }
-    Ok(())
+}
+
+/// Appends the words that are offered at the front of the row, which an enum constant is not. Only tags are offered in brackets.
+pub(crate) fn push_front(
+    ways: &mut Ways,
+    depth: u32,
+    set: bool,
+    row: &[Lexeme<u32>],
+) -> Result<(), NoMemory>
+    ensures { OnOk result (AreOfferedAt ways.old ways.new depth set row.now) }
+{
+    push_found(&mut ways.tags, tag_at(row))?;
+    if depth > 0 {
+        return Ok(());
+    }
+    push_found(&mut ways.declared, declared_at(depth, set, row))?;
+    push_found(&mut ways.pointers, pointer_at(depth, row))?;
+    push_found(&mut ways.bracketed, bracketed_at(depth, set, row))
 }
 
 /// Whether a `{` behind two tokens opens the braces of an enum.
@@ -185,7 +184,7 @@ fn is_in_enum(brackets: &[bool]) -> bool
 }
 
 /// Puts a bracket that opens at a token on those that are open, or takes off the one that is closed there.
-fn turn_brackets(
+pub(crate) fn turn_brackets(
     brackets: &mut Vec<bool>,
     earlier: Symbol,
     before: Symbol,
@@ -216,42 +215,35 @@ fn enumerator_at(brackets: &[bool], before: Symbol, token: Lexeme<u32>) -> Optio
     None
 }
 
-/// Appends the words that name enum constants.
-fn push_enumerators(
-    alloc: Global,
-    found: &mut Vec<Lexeme<u32>>,
-    row: &[Lexeme<u32>],
+/// Appends the word of a token at which an enum constant is named.
+pub(crate) fn push_enumerator(
+    ways: &mut Ways,
+    brackets: &[bool],
+    before: Symbol,
+    token: Lexeme<u32>,
 ) -> Result<(), NoMemory>
-    ensures { OnOk result (found.new.items ≡ found.old.items ++ enumerators Other Other [] row.now) }
+    ensures { OnOk result (IsEnumeratorAt ways.old ways.new brackets.now before token) }
 {
-    let mut brackets = Vec::new(alloc);
-    let mut earlier = Symbol::Other;
-    let mut before = Symbol::Other;
-    for token in row {
-        push_found(found, enumerator_at(brackets.as_slice(), before, *token))?;
-        turn_brackets(&mut brackets, earlier, before, token.symbol)?;
-        earlier = before;
-        before = token.symbol;
-    }
-    Ok(())
+    push_found(
+        &mut ways.enumerators,
+        enumerator_at(brackets, before, token),
+    )
 }
 
-/// The words that a row of tokens offers as names, in the five ways, where it is known which stand as declared names at
-/// depth 0.
+/// The words that a row of tokens offers as names, in the five ways, where those of each way are known.
 pub(crate) fn offered(
     alloc: Global,
     row: &[Lexeme<u32>],
-    names: &[Lexeme<u32>],
+    ways: &Ways,
 ) -> Result<Vec<Lexeme<u32>>, NoMemory>
-    requires few { length row.now ≤ most_bytes }
-    requires declared { names.now ≡ declared 0 false row.now }
+    requires { AreOffered ways.now row.now }
     ensures { IfOk result (λ found. found.items ≡ offered row.now) }
 {
     let mut found = Vec::new(alloc);
-    push_tags(&mut found, row)?;
-    push_enumerators(alloc, &mut found, row)?;
-    found.extend_from_slice(names)?;
-    push_pointers(&mut found, row)?;
-    push_bracketed(&mut found, row)?;
+    found.extend_from_slice(ways.tags.as_slice())?;
+    found.extend_from_slice(ways.enumerators.as_slice())?;
+    found.extend_from_slice(ways.declared.as_slice())?;
+    found.extend_from_slice(ways.pointers.as_slice())?;
+    found.extend_from_slice(ways.bracketed.as_slice())?;
     Ok(found)
 }

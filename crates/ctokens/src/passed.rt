@@ -36,17 +36,18 @@ fn has_attribute(symbols: &[Symbol]) -> bool
     false
 }
 
-/// The symbols with `PassedOver` for each token that is passed over. Most texts have no attribute, and then they are those of the text.
+/// The symbols with `PassedOver` for each token that is passed over. Most texts have no attribute, and then they are those of
+/// the text, which are not copied.
 #[tactic(auto, using(crate::proofs::PassedSteps::read_plain))]
-pub(crate) fn read_symbols(alloc: Global, symbols: &[Symbol]) -> Result<Vec<Symbol>, NoMemory>
-    requires { length symbols.now ≤ most_bytes }
-    ensures value { IfOk result (λ read. read.items ≡ read_symbols symbols.now) }
-    ensures len { IfOk result (λ read. length read.items ≡ length symbols.now) }
+pub(crate) fn read_symbols(alloc: Global, symbols: Vec<Symbol>) -> Result<Vec<Symbol>, NoMemory>
+    requires { length symbols.items ≤ most_bytes }
+    ensures value { IfOk result (λ read. read.items ≡ read_symbols symbols.items) }
+    ensures len { IfOk result (λ read. length read.items ≡ length symbols.items) }
 {
-    if has_attribute(symbols) {
-        return read_attributes(alloc, symbols);
+    if has_attribute(symbols.as_slice()) {
+        return read_attributes(alloc, symbols.as_slice());
     }
-    Ok(Vec::from_slice(alloc, symbols)?)
+    Ok(symbols)
 }
 
 /// The symbols with `PassedOver` for each token that is passed over, as each is come to.

@@ -1,9 +1,0 @@
-use Rattle.std.proofs.Common.{◌≡◌, ◌≤◌, ◌++◌, false, drop}
-use Rattle.ctokens.specs.Offered.{declared}
-use Rattle.ctokens.proofs.offered.push_declared.Given as goal
-
-abbrev pub invariant-loop-i : goal.invariant-loop-i
-invariant-loop-i l = record {
-  few : l.depth ≤ l.i;
-  rest : l.found.items ++ declared l.depth l.set (drop l.i l.row) ≡ l.fn.found.items ++ declared 0 false l.row;
-}
