@@ -1,2 +1,4 @@
 pub mod Outermost
 pub mod Kept
+pub mod Words
+pub mod Inside

@@ -94,6 +94,13 @@ bodied_in text Typedef row = []
 bodied_in text Extern row = []
 bodied_in text Plain row = []
 
+-- what is left of the names that an item of the form defines as those that it defines with a body
+unfoldable pub with_body : Form → List (List ℕ) → List (List ℕ)
+with_body Body names = names
+with_body Typedef names = []
+with_body Extern names = []
+with_body Plain names = []
+
 -- the names that an item with this row defines with a body
 abbrev pub bodied_by : List ℕ → List Sign → List (List ℕ)
 bodied_by text row = bodied_in text (form_of row) row

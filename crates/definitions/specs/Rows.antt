@@ -1,5 +1,5 @@
 -- The items of a text as rows of tokens with their roles, and what a row has at bracket depth 0.
-use Rattle.std.specs.Prelude.{ℕ, ◌+◌, ◌-◌, ◌<◌, ◌≤◌, Bool, true, false, ◌&&◌, ◌||◌, if◌then◌else◌, List, [], ◌∷◌, map, length, nat_eq, slice_range}
+use Rattle.std.specs.Prelude.{ℕ, ◌+◌, ◌-◌, ◌<◌, ◌≤◌, Bool, true, false, ◌&&◌, ◌||◌, if◌then◌else◌, List, [], ◌∷◌, ◌++◌, map, length, nat_eq, slice_range}
 use Rattle.ctokens.specs.declared.item_span.ItemSpan.{ItemSpan}
 use Rattle.ctokens.specs.declared.token.Token.{Token}
 use Rattle.ctokens.specs.declared.token.Tokens.{Tokens}
@@ -36,6 +36,15 @@ item_row t span = map (sign_of t.text) (unpassed (slice_range (passed_tokens t) 
 -- closing bracket where none is open leaves none
 abbrev pub depth_after : ℕ → Role → ℕ
 depth_after depth role = if is_opening role then depth + 1 else (if is_closing role then depth - 1 else depth)
+
+-- the token where no bracket is open before it or behind it, and else nothing
+abbrev pub outermost_sign : ℕ → Sign → List Sign
+outermost_sign depth sign = if nat_eq depth 0 || nat_eq (depth_after depth sign.role) 0 then sign ∷ [] else []
+
+-- a row without what stands inside of brackets: the tokens at depth 0, and the brackets that return there
+abbrev pub outermost : ℕ → List Sign → List Sign
+outermost depth [] = []
+outermost depth (sign ∷ rest) = outermost_sign depth sign ++ outermost (depth_after depth sign.role) rest
 
 -- a `}` that returns to depth 0, where the bracket that it closes began a body
 abbrev pub ends_body : ℕ → Bool → Role → Bool

@@ -1,21 +1,40 @@
-ghost use Rattle.std.specs.Prelude.{◌≡◌, ◌++◌, length, IfOk, OnOk};
+ghost use Rattle.std.specs.Prelude.{◌≡◌, ◌++◌, length, map, IfOk, OnOk};
 ghost use Rattle.std.specs.List.{All};
 ghost use Rattle.ctokens.specs.InText.{LieInText};
 ghost use Rattle.ctokens.specs.Items.{IsInside};
 ghost use Rattle.ctokens.specs.Passed.{passed_tokens};
-ghost use Rattle.definitions.specs.Defined.{bodied_by, bodied_names, defined_by, defined_names};
-ghost use Rattle.definitions.specs.Rows.{item_row};
+ghost use Rattle.definitions.specs.Defined.{bodied_by, bodied_names, defined_by, defined_names, with_body};
+ghost use Rattle.definitions.specs.Rows.{HasSignBytes, item_row, sign_word};
 
 use crate::form::{Form, form_of};
 use crate::found::Definitions;
 use crate::names::{defined_in, push_words};
 use crate::row::signs;
-use cbase::{List, NoMemory};
+use crate::sign::Sign;
+use cbase::{List, NoMemory, Text};
 use ctokens::{ItemSpan, Tokens};
 use std::alloc::Global;
 
+/// Appends the words of these tokens, which name what an item of the form defines, where it ends with a body.
+#[tactic(auto, unfolding(crate::specs::Defined::with_body))]
+fn push_bodied(
+    alloc: Global,
+    found: &mut List<Text>,
+    text: &[u8],
+    form: Form,
+    names: &[Sign],
+) -> Result<(), NoMemory>
+    requires { All (HasSignBytes text.now) names.now }
+    ensures { OnOk result (found.new ≡ found.old ++ with_body form (map (sign_word text.now) names.now)) }
+{
+    if let Form::Body = form {
+        return push_words(alloc, found, text, names);
+    }
+    Ok(())
+}
+
 /// Appends the names that an item of the text defines.
-#[tactic(auto, using(crate::proofs::Kept::defined_bytes))]
+#[tactic(auto, using(crate::proofs::Kept::defined_bytes, crate::proofs::Inside::same_defined, crate::proofs::Inside::same_bodied))]
 fn push_item(
     alloc: Global,
     found: &mut Definitions,
@@ -42,10 +61,7 @@ fn push_item(
     let form = form_of(row.as_slice());
     let names = defined_in(alloc, form, row.as_slice())?;
     push_words(alloc, &mut found.defined, text, names.as_slice())?;
-    if let Form::Body = form {
-        push_words(alloc, &mut found.bodied, text, names.as_slice())?;
-    }
-    Ok(())
+    push_bodied(alloc, &mut found.bodied, text, form, names.as_slice())
 }
 
 /// The names with linkage that the items of a text define (C11 6.9p5), asked of its tokens alone.
@@ -54,7 +70,7 @@ fn push_item(
 /// `typedef` defines those of them that no `(` follows; where it has `extern`, only those of these that have an initialiser. The
 /// first word of an item, storage words left out, begins its type, and is not declared. `passed` says of each token of the
 /// text whether it is passed over.
-/// Each token of an item is looked at a fixed number of times.
+/// Each token of an item is looked at a fixed number of times, and no byte of a word that stands inside of brackets.
 pub fn definitions(
     alloc: Global,
     t: &Tokens,

@@ -1,13 +1,15 @@
 //! The roles of tokens by their bytes.
 
 ghost use Rattle.std.specs.Prelude.{◌≡◌, ◌<◌, ◌≤◌, ◌∷◌, [], length, map};
+ghost use Rattle.ctokens.specs.InText.{most_bytes};
 ghost use Rattle.ctokens.specs.SymbolRows.{row_read};
 ghost use Rattle.ctokens.specs.TokenSymbols.{word_of};
 ghost use Rattle.definitions.specs.Roles.{mark_role, role_in, token_role, word_role};
-ghost use Rattle.definitions.specs.Rows.{HasSignBytes, sign_word};
+ghost use Rattle.definitions.specs.Rows.{HasSignBytes, depth_after, sign_word};
 
 use crate::role::Role;
 use crate::sign::Sign;
+use crate::steps::depth_after;
 use ctokens::{Token, TokenKind, is_identifier, read_as, same_bytes};
 
 /// The keywords that matter here.
@@ -87,6 +89,23 @@ pub(crate) fn token_role(text: &[u8], token: Token) -> Role
         TokenKind::Word => word_role(read_as(bytes)),
         TokenKind::Number | TokenKind::Letter | TokenKind::Quoted => Role::Other,
         TokenKind::Mark => mark_role(bytes),
+    }
+}
+
+/// How many brackets are open behind a token of the text, where `depth` are open before it. Of a word no byte is looked at.
+#[tactic(auto, using(crate::proofs::Words::word_keeps))]
+pub(crate) fn depth_behind(text: &[u8], token: Token, depth: u32) -> u32
+    requires order { token.from < token.to }
+    requires inside { token.to ≤ length text.now }
+    requires few { depth ≤ most_bytes }
+    ensures { result ≡ depth_after depth (token_role text.now token) }
+{
+    match token.kind {
+        TokenKind::Mark => depth_after(
+            depth,
+            mark_role(&text[token.from as usize..token.to as usize]),
+        ),
+        TokenKind::Word | TokenKind::Number | TokenKind::Letter | TokenKind::Quoted => depth,
     }
 }
 
