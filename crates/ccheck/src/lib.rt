@@ -12,5 +12,5 @@ mod refusal;
 
 pub use checking::{Checked, check};
 pub use laws::items_have_one_answer;
-pub use program::TypedProgram;
+pub use program::{TypedProgram, let_go_of_program};
 pub use refusal::Refusal;

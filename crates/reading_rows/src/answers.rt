@@ -6,6 +6,7 @@ ghost use Rattle.ctokens.specs.TokenList.{AreNumbered};
 
 use crate::places::places;
 use cbase::{Item, NoMemory};
+use cbuild::let_go_of_item;
 use cgrammar::Scope;
 use cread::{ItemBehind, ItemRead, Unread, read_item, scope_after};
 use ctokens::{ItemSpan, Tokens, items, passed_over};
@@ -29,7 +30,7 @@ fn scope_behind(read: ItemRead) -> Option<Scope> {
                 scope,
                 expressions: _,
             } = behind;
-            drop(item);
+            let_go_of_item(item);
             Some(scope)
         }
         ItemRead::Unread(_) => None,
@@ -119,8 +120,13 @@ fn shown_item(
     }
     match read_item(alloc, t, passed, *span, scope, 0)? {
         ItemRead::Read(behind) => {
-            let shown = shown(alloc, &behind.item, asked);
-            drop(behind);
+            let ItemBehind {
+                item,
+                scope: _,
+                expressions: _,
+            } = behind;
+            let shown = shown(alloc, &item, asked);
+            let_go_of_item(item);
             shown
         }
         ItemRead::Unread(unread) => shown_unread(alloc, unread),
@@ -168,8 +174,13 @@ fn scope_behind_tree(
 ) -> Result<Option<Scope>, NoMemory> {
     match read {
         ItemRead::Read(behind) => {
-            let after = scope_after(alloc, before, &behind.item);
-            drop(behind);
+            let ItemBehind {
+                item,
+                scope: _,
+                expressions: _,
+            } = behind;
+            let after = scope_after(alloc, before, &item);
+            let_go_of_item(item);
             Ok(Some(after?))
         }
         ItemRead::Unread(_) => Ok(None),

@@ -3,6 +3,7 @@ ghost use Rattle.ctokens.specs.InText.{LieInText};
 ghost use Rattle.ctokens.specs.TokenList.{AreNumbered};
 
 use cbase::{BinaryOp, Expr, ExprForm, NoMemory};
+use cbuild::{let_go_of_expression, let_go_of_statements};
 use cread_expr::{ReadBlock, ReadExpr, Scope, read_block, read_expr};
 use ctokens::Tokens;
 use std::alloc::Global;
@@ -16,22 +17,26 @@ fn file_scope(alloc: Global) -> Result<Scope, NoMemory> {
 
 /// Behind which token an expression ends, or 0 where there is none.
 fn end_of_expression(read: Option<ReadExpr>) -> u32 {
-    let end = match &read {
+    match read {
         None => 0,
-        Some(read) => read.after,
-    };
-    drop(read);
-    end
+        Some(read) => {
+            let end = read.after;
+            let_go_of_expression(read.expr);
+            end
+        }
+    }
 }
 
 /// Behind which token a block ends and how many statements it has, or 0 and 0 where there is none.
 fn end_of_block(read: Option<ReadBlock>) -> (u32, usize) {
-    let end = match &read {
+    match read {
         None => (0, 0),
-        Some(read) => (read.after, read.body.len()),
-    };
-    drop(read);
-    end
+        Some(read) => {
+            let end = (read.after, read.body.len());
+            let_go_of_statements(read.body);
+            end
+        }
+    }
 }
 
 /// Behind which token the longest expression at a token ends, or 0.
@@ -90,12 +95,14 @@ fn is_difference_to_the_left(expr: &Expr) -> bool {
 
 /// Whether an expression that was read is a difference of a difference and another.
 fn reads_to_the_left(read: Option<ReadExpr>) -> bool {
-    let is = match &read {
+    match read {
         None => false,
-        Some(read) => is_difference_to_the_left(&read.expr),
-    };
-    drop(read);
-    is
+        Some(read) => {
+            let is = is_difference_to_the_left(&read.expr);
+            let_go_of_expression(read.expr);
+            is
+        }
+    }
 }
 
 /// Whether the longest expression at a token is a difference of a difference and another.

@@ -143,7 +143,7 @@ fn in_expr<'a>(todo: &mut Vec<Node<'a>>, form: &'a ExprForm) -> Result<(), NoMem
         ExprForm::Member { base, name, .. } => {
             follow(
                 todo,
-                &[Node::Expr(base.get()), Node::Found("member", name.place)],
+                &[Node::Expr(base.get()), Node::Found("member", name.get().place)],
             )
         }
         ExprForm::Call { callee, args } => {

@@ -16,7 +16,7 @@ ghost use Rattle.verdicts.specs.Warnings.{AreWarnings};
 
 use crate::warnings::warnings_of;
 use cbase::{Abi, List, NoMemory, Text};
-use ccheck::{Checked, Refusal, check, items_have_one_answer};
+use ccheck::{Checked, Refusal, check, items_have_one_answer, let_go_of_program};
 use ctokens::{
     Deep, ItemSpan, Lexical, Tokens, items, needed, one_item_list, one_token_list, tokens_of_bytes,
 };
@@ -173,7 +173,7 @@ fn first_refusal(
     match check(alloc, t, items, numbers, Abi::Lp64, false)? {
         Checked::Refused(refusal) => Ok(Some(refusal)),
         Checked::Typed(program) => {
-            drop(program);
+            let_go_of_program(program);
             Ok(None)
         }
     }
