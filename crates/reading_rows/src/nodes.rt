@@ -143,7 +143,10 @@ fn in_expr<'a>(todo: &mut Vec<Node<'a>>, form: &'a ExprForm) -> Result<(), NoMem
         ExprForm::Member { base, name, .. } => {
             follow(
                 todo,
-                &[Node::Expr(base.get()), Node::Found("member", name.get().place)],
+                &[
+                    Node::Expr(base.get()),
+                    Node::Found("member", name.get().place),
+                ],
             )
         }
         ExprForm::Call { callee, args } => {
