@@ -1,5 +1,5 @@
 ghost use Rattle.std.specs.Prelude.{◌≡◌, ◌<◌, ◌≤◌, IfOk, length};
-ghost use Rattle.ctokens.specs.Passed.{depth_after, may_pass, passed_tokens, read_from, read_symbols};
+ghost use Rattle.ctokens.specs.Passed.{depth_after, may_pass, passed_tokens, read_symbols};
 ghost use Rattle.ctokens.specs.InText.{LieInText, most_bytes};
 ghost use Rattle.ctokens.specs.Symbol.{is_attribute, is_passed_over};
 ghost use Rattle.std.specs.List.{list_any};
