@@ -15,10 +15,12 @@ use crate::playing::play;
 use c_calls::first_callee;
 use c_text::TypedText;
 use cbase::{Item, List, NoMemory, Place, Text};
+use cbuild::let_go_of_items;
 use ccheck::TypedProgram;
 use choices::{ReadChoices, read_choices};
 use command_line::ReplayCommand;
 use ctokens::Tokens;
+use expressions::Context;
 use outside::{Files, Reading, read_file};
 use report::ReplayAnswer;
 use std::alloc::Global;
@@ -101,9 +103,7 @@ fn answer_of_text<F: Files>(
     }
 }
 
-/// The answer where FILE holds this program, in which each item passes.
-///
-/// That a context names only types and signatures which it has is not proved of checked programs: where it does not, the answer is want of memory.
+/// The answer where FILE holds this program, in which each item passes. The program is let go of.
 fn answer_of_typed<F: Files>(
     alloc: Global,
     command: &ReplayCommand,
@@ -130,10 +130,48 @@ fn answer_of_typed<F: Files>(
         abi: _,
         strict,
     } = typed;
+    let answered = answer_of_context(
+        alloc,
+        command,
+        t,
+        program.as_slice(),
+        context,
+        strict,
+        files,
+    );
+    let_go_of_items(program);
+    answered
+}
+
+/// The answer where FILE holds the program with these items, of which typing hands on this context.
+///
+/// That a context names only types and signatures which it has is not proved of checked programs: where it does not, the answer is want of memory.
+fn answer_of_context<F: Files>(
+    alloc: Global,
+    command: &ReplayCommand,
+    t: Tokens,
+    program: &[Item],
+    context: Context,
+    strict: bool,
+    files: &mut F,
+) -> Result<Answered, NoMemory>
+    requires named { HasNamedFiles t }
+    requires holds { HoldsProgramOf command.now t program.now context strict }
+    requires opened { F.begun files.old ≡ command.now.file }
+    ensures { IsOutcomeOf (record {
+      tells = F.tells files.old;
+      choices = F.bytes_of files.old command.now.choices;
+      faults = F.faults files.old;
+      faults_behind = F.faults files.new;
+      failed = F.failed files.new;
+      openings = record { count = F.openings files.old; last = F.begun files.old };
+      openings_behind = record { count = F.openings files.new; last = F.begun files.new };
+    }) command.now t.text result }
+{
     let Some(text) = TypedText::of(alloc, context)? else {
         return Err(NoMemory);
     };
-    let answered = answer_of_program(alloc, command, t, program.as_slice(), &text, strict, files);
+    let answered = answer_of_program(alloc, command, t, program, &text, strict, files);
     drop(text);
     answered
 }
