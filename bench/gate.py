@@ -4,7 +4,8 @@
 Usage, at the project's root, on a machine with nothing else to do: bench/gate.py [NAME ..]
 With names, these crates and those below them are proved anew, and the rows of these alone are written. The processor time of a crate's proof, of its tests, of the proof that its edits begin with and of its edits is read from /proc
 while their processes run, four times a second; that of the whole gate is what the kernel counts for it. The part of
-docs/gate.md between the lines 'gate.py: begin' and 'gate.py: end' is written anew. It ends with the gate's status.
+docs/gate.md between the lines 'gate.py: begin' and 'gate.py: end' is written anew, and so is the table of marks, between 'gate.py: marks' and 'gate.py: end of marks'.
+It ends with the gate's status.
 """
 import os
 import re
@@ -20,6 +21,17 @@ from pathlib import Path
 HOME = Path(__file__).resolve().parent.parent
 PAGE = HOME / "docs" / "gate.md"
 BEGIN, END = "<!-- gate.py: begin -->\n", "<!-- gate.py: end -->\n"
+MARKS, END_OF_MARKS = "<!-- gate.py: marks -->\n", "<!-- gate.py: end of marks -->\n"
+# What a minute is depends on the machine and on what else it does. These crates took so many minutes where the marks were set, on 2026-11-29, and have
+# not changed since: by what they take in a run its minutes are turned into minutes of then. A crate that changes is to be taken out of the list.
+YARDSTICK = {"arithmetic": 2.0, "arithmetic_rows": 1.0, "flow": 3.7, "flow_rows": 1.3, "graph": 2.2, "graph_rows": 1.5, "graph_tests": 0.6, "planes": 2.0}
+# What groups of crates are meant to take, in such minutes.
+GROUPS = (
+    ("what types expressions", 15, "ctypes constants environment values typing expressions expression_rows"),
+    ("what checks items", 20, "languages items tree_walk definitions definition_rows ccheck"),
+    ("the source machine and `replay`", 25, "choices c_machine c_words c_steps c_text c_tasks c_statics c_run replay"),
+    ("all crates", 220, ""),
+)
 KINDS = ("proof", "tests", "seed", "edits")
 HEAD = "| crate | its proof | its tests | once more for its edits | its edits | all |\n|---|---|---|---|---|---|\n"
 TICK = os.sysconf("SC_CLK_TCK")
@@ -98,6 +110,24 @@ def table(seen, crates, names, text):
     return HEAD + "".join(rows) + together(rows)
 
 
+def marks(rows):
+    """The table of what groups of crates are meant to take and what they took, by the rows of crates."""
+    took = {line.split("`")[1]: number(line.split("|")[-2].strip()) for line in rows.splitlines() if re.match(r"\| `\w+` \|", line)}
+    scale = sum(took[crate] for crate in YARDSTICK) / sum(YARDSTICK.values())
+    lines = [f"| | in the table | in minutes of 2026-11-29, of which it took {scale:.2f} each | meant |\n|---|---|---|---|\n"]
+    for what, meant, names in GROUPS:
+        sum_of = sum(took[crate] for crate in names.split() or took)
+        shown = f": {', '.join(f'`{crate}`' for crate in names.split())}" if names else ""
+        lines.append(f"| {what}{shown} | {sum_of:.1f} | {sum_of / scale:.1f} | {meant} |\n")
+    return "".join(lines)
+
+
+def with_marks(page, rows):
+    """The page with the table of marks written anew."""
+    at, end = page.index(MARKS) + len(MARKS), page.index(END_OF_MARKS)
+    return f"{page[:at]}\n{marks(rows)}\n{page[end:]}"
+
+
 def from_nothing(names):
     """The words that run the gate from nothing. A kit that keeps what earlier runs proved takes `--anew` and names of crates; one
     that keeps nothing prints its usage at such a word, and `rt ci` alone is from nothing."""
@@ -140,8 +170,10 @@ def main():
     rest = re.search(r"^The whole run .*\n", text[at:end], re.M)
     whole = f"The whole run used {used:.0f} minutes of processor time, compilers and programs included, and took {wall:.0f} minutes on {os.cpu_count()} processors. Its last line: `{said.rstrip().splitlines()[-1]}`.\n"
     last = (rest.group() if rest else "") if names else whole
-    PAGE.write_text(f"{text[:at]}\n{table(seen, crates, names or crates, text[at:end])}\n{last}\n{text[end:]}")
+    rows = table(seen, crates, names or crates, text[at:end])
+    PAGE.write_text(with_marks(f"{text[:at]}\n{rows}\n{last}\n{text[end:]}", rows))
     return status
 
 
-sys.exit(main())
+if __name__ == "__main__":
+    sys.exit(main())
