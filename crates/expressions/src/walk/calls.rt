@@ -1,4 +1,4 @@
-ghost use Rattle.std.specs.Prelude.{◌≡◌, ◌<◌, ◌≤◌, ◌||◌, [], ℕ, Bool, List, All, Some, IfOk, IfSome, IfNone, length};
+ghost use Rattle.std.specs.Prelude.{◌≡◌, ◌<◌, ◌≤◌, ◌||◌, ℕ, Bool, List, All, Some, IfOk, IfSome, IfNone, length};
 ghost use Rattle.cbase.specs.declared.tree.expr.ExprForm.TheOpen.{Call};
 ghost use Rattle.ctrees.specs.Levels.{expr_levels};
 ghost use Rattle.environment.specs.Environment.{name_found};
@@ -53,39 +53,16 @@ impl<F: Fn(&mut Context, Within, Part<'_>) -> Result<Found<Told>, NoMemory>> Che
         requires args { All (λ arg. expr_levels arg ≤ self.now.depth) args.now }
         ensures { IfOk result (λ found. Walked (SaysForm self.now.abi node.number node.place (Call callee.now args.now)) an_expression context.old context.new found) }
     {
-        let mut known = Vec::new(alloc);
-        match named_function(context, callee) {
-            Some(function) => {
-                self.call_of_function(context, node, callee, function, args, &mut known)
-            }
-            None => self.call_of_other(context, node, callee, args, &mut known),
-        }
-    }
-
-    /// A call of a function by its name, where what is known of its arguments is put into an empty list.
-    fn call_of_function(
-        &self,
-        context: &mut Context,
-        node: Node,
-        callee: &Expr,
-        function: NamedFunction<'_>,
-        args: &[Expr],
-        known: &mut Vec<Known>,
-    ) -> Result<Found<Known>, NoMemory>
-        requires nests { Nests self.now.abi self.now.depth (F.pre self.now.inner) (F.post self.now.inner) }
-        requires args { All (λ arg. expr_levels arg ≤ self.now.depth) args.now }
-        requires named { named callee.now ≡ Some function.name.now }
-        requires found { name_found function.name.now context.old.environment ≡ Some (Function function.signature function.defined function.built_in) }
-        requires signature { function.signature < length context.old.environment.signatures }
-        requires empty { known.old.items ≡ [] }
-        ensures { IfOk result (λ found. Walked (SaysForm self.now.abi node.number node.place (Call callee.now args.now)) an_expression context.old context.new found) }
-    {
+        let Some(function) = named_function(context, callee) else {
+            return self.call_of_other(alloc, context, node, callee, args);
+        };
         match called_function(context, callee, function) {
             Ok(Found::Passes(_)) => {}
             Ok(Found::Refused(fault)) => return Ok(Found::Refused(fault)),
             Err(error) => return Err(error),
         }
-        match self.arguments(context, args, known) {
+        let mut known = Vec::new(alloc);
+        match self.arguments(context, args, &mut known) {
             Ok(Found::Passes(())) => call_node(
                 context,
                 node,
@@ -96,27 +73,26 @@ impl<F: Fn(&mut Context, Within, Part<'_>) -> Result<Found<Told>, NoMemory>> Che
                     built_in: function.built_in,
                 },
                 args,
-                known,
+                &known,
             ),
             Ok(Found::Refused(fault)) => Ok(Found::Refused(fault)),
             Err(error) => Err(error),
         }
     }
 
-    /// A call of what names no function: construct 11, behind its arguments. What is known of them is put into an empty list.
+    /// A call of what names no function: construct 11, behind its arguments.
     fn call_of_other(
         &self,
+        alloc: Global,
         context: &mut Context,
         node: Node,
         callee: &Expr,
         args: &[Expr],
-        known: &mut Vec<Known>,
     ) -> Result<Found<Known>, NoMemory>
         requires nests { Nests self.now.abi self.now.depth (F.pre self.now.inner) (F.post self.now.inner) }
         requires callee { expr_levels callee.now ≤ self.now.depth }
         requires args { All (λ arg. expr_levels arg ≤ self.now.depth) args.now }
         requires other { (name : List ℕ) (signature : ℕ) (defined built_in : Bool) → named callee.now ≡ Some name → name_found name context.old.environment ≡ Some (Function signature defined built_in) → ⊥ }
-        requires empty { known.old.items ≡ [] }
         ensures { IfOk result (λ found. Walked (SaysForm self.now.abi node.number node.place (Call callee.now args.now)) an_expression context.old context.new found) }
     {
         match self.loaded(context, callee) {
@@ -124,7 +100,8 @@ impl<F: Fn(&mut Context, Within, Part<'_>) -> Result<Found<Told>, NoMemory>> Che
             Ok(Found::Refused(fault)) => return Ok(Found::Refused(fault)),
             Err(error) => return Err(error),
         }
-        match self.arguments(context, args, known) {
+        let mut known = Vec::new(alloc);
+        match self.arguments(context, args, &mut known) {
             Ok(Found::Passes(())) => Ok(Found::Refused(Fault {
                 place: node.place,
                 broken: Broken::Construct(11),

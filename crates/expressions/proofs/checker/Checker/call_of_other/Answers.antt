@@ -30,4 +30,4 @@ pub arguments-requires-clause-deep : goal.arguments-requires-clause-deep
 arguments-requires-clause-deep g c = c.requires.args
 
 pub arguments-requires-clause-empty : goal.arguments-requires-clause-empty
-arguments-requires-clause-empty g c = c.requires.empty
+arguments-requires-clause-empty g c = c.new-known.ensures.items
