@@ -1,8 +1,8 @@
-ghost use Rattle.std.specs.Prelude.{◌≡◌, ◌≤◌, ◌<◌, ◌+◌, ℕ, Some, length, IfOk, IfSome, All};
+ghost use Rattle.std.specs.Prelude.{◌≡◌, ◌≤◌, ◌<◌, ◌+◌, ℕ, Some, length, IfOk, IfSome};
 ghost use Rattle.cbase.specs.declared.tree.expr.ExprForm.TheOpen.{Enum};
 ghost use Rattle.cbase.specs.declared.tree.spec.TypeSpec.TheVariants.{Enum as EnumSpec};
 ghost use Rattle.ctrees.specs.Levels.{spec_levels, enumerator_levels, maybe_levels};
-ghost use Rattle.typing.specs.Typing.{WordsAre, EnumeratorsAre, ValueOfEnumerator};
+ghost use Rattle.typing.specs.Typing.{WordsAre, ValueOfEnumerator};
 ghost use Rattle.operators.specs.declared.found.Broken.TheVariants.{Rule};
 ghost use Rattle.typing.specs.Faults.{fault};
 ghost use Rattle.expressions.specs.Enumerated.{IsEnumerated, IsIntValue, int_found};
@@ -25,7 +25,7 @@ use values::{int_value, next_value};
 
 impl<F: Fn(&mut Context, Within, Part<'_>) -> Result<Found<Told>, NoMemory>> Checker<F> {
     /// What is found of an enum with its constants in braces (C11 6.7.2.2): its tag, and the constants in the order of the text, each of which is in scope
-    /// behind its value (6.2.1p7).
+    /// behind its value (6.2.1p7), and of which the first is 0 where its value is not given (6.7.2.2p3).
     ///
     /// Want of memory is the only error, and nothing is said of the context then.
     pub fn enumerators(
@@ -40,25 +40,13 @@ impl<F: Fn(&mut Context, Within, Part<'_>) -> Result<Found<Told>, NoMemory>> Che
         ensures { IfOk result (λ found. Walked (Says self.now.abi (λ o. WordsAre (Enum name.now (Some values.now)) o)) a_type context.old context.new found) }
     {
         match context.open_enum(alloc, name) {
-            Ok(Some(fault)) => Ok(Found::Refused(fault)),
-            Ok(None) => self.listed(alloc, context, values.as_slice()),
-            Err(error) => Err(error),
+            Ok(None) => {}
+            Ok(Some(fault)) => return Ok(Found::Refused(fault)),
+            Err(error) => return Err(error),
         }
-    }
-
-    /// The constants of an enum, of which the first is 0 where its value is not given (C11 6.7.2.2p3).
-    fn listed(
-        &self,
-        alloc: Global,
-        context: &mut Context,
-        values: &[Enumerator],
-    ) -> Result<Found<NamedType>, NoMemory>
-        requires nests { Nests self.now.abi self.now.depth (F.pre self.now.inner) (F.post self.now.inner) }
-        requires deep { All (λ value. enumerator_levels value ≤ self.now.depth) values.now }
-        ensures { IfOk result (λ found. Walked (Says self.now.abi (λ o. EnumeratorsAre (Some 0) values.now o)) a_type context.old context.new found) }
-    {
+        let constants = values.as_slice();
         let mut next = Some(0);
-        for constant in values {
+        for constant in constants {
             match self.enumerator(alloc, context, next, constant) {
                 Ok(Found::Passes(bits)) => next = next_value(bits),
                 Ok(Found::Refused(fault)) => return Ok(Found::Refused(fault)),
@@ -96,8 +84,10 @@ impl<F: Fn(&mut Context, Within, Part<'_>) -> Result<Found<Told>, NoMemory>> Che
         if context.is_declared_here(name) {
             return Ok(Found::Refused(twice(constant.place)));
         }
-        context.declare(alloc, name, Entity::Enumerator { bits })?;
-        Ok(Found::Passes(bits))
+        match context.declare(alloc, name, Entity::Enumerator { bits }) {
+            Ok(()) => Ok(Found::Passes(bits)),
+            Err(error) => Err(error),
+        }
     }
 
     /// The value of a constant of an enum at a place, as the bits of an `int`: `next` where none is given. One that no `int` has is rule 9, at the expression

@@ -21,12 +21,12 @@ returns-then-is_declared_here-2 g c =
     rw c.twice-then-is_declared_here-2.ensures (constant_inside c.args.self.now.abi c.args.next c.args.constant.now c.args.context.now c.enumerator_value.new.context c.in-Ok-Passes.bits c.in-Ok-Passes.field-0
     fresh c.in-Ok-Passes.field-0-is c.in-Ok-Passes.ensures inside)
 
-pub returns : goal.returns
-returns g c =
+pub returns-in-Ok : goal.returns-in-Ok
+returns-in-Ok g c =
     let fresh = name_here c.args.constant.now c.as_slice-name.result.now c.args.context.now c.is_declared_here.result false c.as_slice-name.ensures c.is_declared_here.ensures c.if-is_declared_here.false in
     let unbound = name_here c.args.constant.now c.as_slice-name.result.now c.enumerator_value.new.context c.is_declared_here-2.result false c.as_slice-name.ensures c.is_declared_here-2.ensures c.if-is_declared_here-2.false in
     constant_passes c.args.self.now.abi c.args.next c.args.constant.now c.args.context.now c.enumerator_value.new.context c.declare.new.self c.in-Ok-Passes.bits c.in-Ok-Passes.field-0
-    fresh c.in-Ok-Passes.field-0-is c.in-Ok-Passes.ensures unbound (rw c.as_slice-name.ensures at c.in_ok-declare.ensures.ok)
+    fresh c.in-Ok-Passes.field-0-is c.in-Ok-Passes.ensures unbound (rw c.as_slice-name.ensures at c.in-Ok.ensures.ok)
 
 pub enumerator_value-requires-clause-nests : goal.enumerator_value-requires-clause-nests
 enumerator_value-requires-clause-nests g c = c.requires.nests
