@@ -22,6 +22,7 @@ pub mod Naming
 pub mod NothingElse
 pub mod Operating
 pub mod OtherShapes
+pub mod PartLevels
 pub mod Parts
 pub mod SettledBehind
 pub mod Several

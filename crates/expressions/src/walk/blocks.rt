@@ -1,14 +1,18 @@
-ghost use Rattle.std.specs.Prelude.{◌≡◌, ◌≤◌, ◌∷◌, [], true, All, Some, None, IfOk, IfSome, IfNone};
+ghost use Rattle.std.specs.Prelude.{◌≡◌, ◌≤◌, ◌<◌, ◌∷◌, [], ℕ, length, true, All, Some, None, IfOk, IfSome, IfNone};
+ghost use Rattle.cbase.specs.declared.abi.Abi.{Abi};
+ghost use Rattle.cbase.specs.declared.tree.expr.Expr.{Expr as ExprTree};
 ghost use Rattle.cbase.specs.declared.tree.expr.ExprForm.TheOpen.{Inner};
 ghost use Rattle.cbase.specs.declared.tree.expr.ExprForm.TheViews.{out-StmtForm};
 ghost use Rattle.cbase.specs.declared.place.Place.{Place};
 ghost use Rattle.cbase.specs.declared.tree.stmt.Stmt.{Stmt as StmtTree};
 ghost use Rattle.ctrees.specs.Levels.{expr_levels, stmt_levels};
 ghost use Rattle.typing.specs.Forms.{value_in};
-ghost use Rattle.typing.specs.Typing.{StatementsAre};
-ghost use Rattle.expressions.specs.Found.{an_expression, a_value_type};
+ghost use Rattle.typing.specs.Pieces.{Loaded};
+ghost use Rattle.typing.specs.Typing.{PieceIs, StatementsAre};
+ghost use Rattle.expressions.specs.Context.{Context as AtPlace};
+ghost use Rattle.expressions.specs.Found.{an_expression, an_operand, a_value_type};
 ghost use Rattle.expressions.specs.Nests.{Nests};
-ghost use Rattle.expressions.specs.Walked.{Walked, Says, SaysForm};
+ghost use Rattle.expressions.specs.Walked.{Passed, Walked, Says, SaysForm};
 
 use crate::checker::{Checker, Within};
 use crate::context::Context;
@@ -16,7 +20,7 @@ use crate::found::Found;
 use crate::known::Known;
 use crate::nodes::finishing::{Node, pass};
 use crate::part::{Part, Told};
-use cbase::{Expr, NoMemory, Stmt, StmtForm};
+use cbase::{Expr, NoMemory, Place, Stmt, StmtForm};
 use operators::Broken;
 use std::alloc::Global;
 use typing::Fault;
@@ -35,7 +39,10 @@ impl<F: Fn(&mut Context, Within, Part<'_>) -> Result<Found<Told>, NoMemory>> Che
         ensures { (close : Place) → IfOk result (λ found. Walked (SaysForm self.now.abi node.number node.place (Inner body.now close)) an_expression context.old context.new found) }
     {
         context.enter(alloc)?;
-        let found = self.statements(context, body)?;
+        let found = match self.statements(context, body) {
+            Ok(found) => found,
+            Err(error) => return Err(error),
+        };
         context.leave();
         match found {
             Found::Passes(ctype) => pass(context, node.number, Known::plain(ctype)),
@@ -53,7 +60,11 @@ impl<F: Fn(&mut Context, Within, Part<'_>) -> Result<Found<Told>, NoMemory>> Che
             let stmt = &body[at];
             let last = at + 1 == body.len();
             if let Some(expr) = value_of(last, stmt) {
-                return self.last_value(context, expr);
+                return match self.loaded(context, expr) {
+                    Ok(Found::Passes(known)) => value_type(context, expr.place, known),
+                    Ok(Found::Refused(fault)) => Ok(Found::Refused(fault)),
+                    Err(error) => Err(error),
+                };
             }
             match self.ask_statement(context, stmt) {
                 Ok(Found::Passes(())) => {}
@@ -63,39 +74,36 @@ impl<F: Fn(&mut Context, Within, Part<'_>) -> Result<Found<Told>, NoMemory>> Che
         }
         Ok(Found::Passes(context.void()?))
     }
+}
 
-    /// The value of a block: a struct is none, rule 4 at the expression.
-    fn last_value(&self, context: &mut Context, expr: &Expr) -> Result<Found<u32>, NoMemory>
-        requires nests { Nests self.now.abi self.now.depth (F.pre self.now.inner) (F.post self.now.inner) }
-        requires deep { expr_levels expr.now ≤ self.now.depth }
-        ensures { (stmt : StmtTree) → value_in (out-StmtForm stmt.form) ≡ Some expr.now → IfOk result (λ found. Walked (Says self.now.abi (λ o. StatementsAre (stmt ∷ []) o)) a_value_type context.old context.new found) }
-    {
-        match self.loaded(context, expr) {
-            Ok(Found::Passes(known)) => {
-                if context.is_struct(known.ctype) {
-                    return Ok(Found::Refused(Fault {
-                        place: expr.place,
-                        broken: Broken::Rule(4),
-                    }));
-                }
-                Ok(Found::Passes(context.value_type(known.ctype)?))
-            }
-            Ok(Found::Refused(fault)) => Ok(Found::Refused(fault)),
-            Err(error) => Err(error),
-        }
+/// The type of the value of a block, of what is known of its last expression: a struct is none, rule 4 at the expression.
+fn value_type(context: &mut Context, place: Place, known: Known) -> Result<Found<u32>, NoMemory>
+    requires { known.ctype < length context.old.types }
+    ensures { (abi : Abi) (stmt : StmtTree) (expr : ExprTree) (before : AtPlace) → expr.place ≡ place → value_in (out-StmtForm stmt.form) ≡ Some expr → Passed (Says abi (λ o. PieceIs (Loaded expr) o)) an_operand before context.old known → IfOk result (λ found. Walked (Says abi (λ o. StatementsAre (stmt ∷ []) o)) a_value_type before context.new found) }
+{
+    if context.is_struct(known.ctype) {
+        return Ok(Found::Refused(Fault {
+            place,
+            broken: Broken::Rule(4),
+        }));
     }
+    Ok(Found::Passes(context.value_type(known.ctype)?))
 }
 
 /// The expression that is a statement, where it is the last of its block and an expression.
 fn value_of(last: bool, stmt: &Stmt) -> Option<&Expr>
     ensures some { IfSome result (λ expr. (last ≡ true) × (value_in (out-StmtForm stmt.now.form) ≡ Some expr.now)) }
+    ensures levels { IfSome result (λ expr. expr_levels expr.now ≤ stmt_levels stmt.now) }
     ensures none { IfNone result (last ≡ true → value_in (out-StmtForm stmt.now.form) ≡ None) }
 {
     if !last {
         return None;
     }
     match &stmt.form {
-        StmtForm::Eval(Some(expr)) => Some(expr),
+        StmtForm::Eval(expr) => match expr {
+            Some(expr) => Some(expr),
+            None => None,
+        },
         _ => None,
     }
 }

@@ -1,4 +1,5 @@
 use Rattle.expressions.proofs.NothingElse.{nothing_else_result}
+use Rattle.expressions.proofs.PartLevels.{form_within}
 use Rattle.expressions.proofs.WholeExpressions.{expression_result}
 use Rattle.expressions.proofs.checker.Checker.expression.Goals as goal
 
@@ -12,3 +13,6 @@ returns-clause-nothing_else g c =
 
 pub form-requires-clause-nests : goal.form-requires-clause-nests
 form-requires-clause-nests g c = c.requires.nests
+
+pub form-requires-clause-deep : goal.form-requires-clause-deep
+form-requires-clause-deep g c = form_within c.args.expr.now c.args.self.now.depth c.requires.deep

@@ -1,6 +1,9 @@
 use Rattle.std.proofs.Common.{◌∙◌, ◌+◌, ap, arith}
+use Rattle.ctrees.specs.Levels.{part_levels}
+use Rattle.expressions.proofs.EachItem.{each_item}
 use Rattle.cbase.specs.declared.tree.expr.ExprForm.TheViews.{out-Part, outs-Part::Member, outs-At}
 use Rattle.expressions.proofs.Loops.{indices_start, indices_kept, indices_skip, indices_next, indices_refused, indices_end, indices_counted}
+use Rattle.expressions.proofs.PartLevels.{index_within}
 use Rattle.expressions.proofs.checker.Checker.indices.Goals.{in-Member, in-At+in-Ok-Passes+in_ok-push-in-Ok-Passes}
 use Rattle.expressions.proofs.checker.Checker.indices.Goals as goal
 
@@ -29,3 +32,10 @@ returns-clause-count g c = indices_counted c.args.self.now.abi c.args.path.now c
 
 pub index-requires-clause-nests : goal.index-requires-clause-nests
 index-requires-clause-nests g c = c.requires.nests
+
+pub index-requires-clause-deep : goal.index-requires-clause-deep
+index-requires-clause-deep g c = index_within c.part-item.result c.in-At.expr c.args.self.now.depth c.in-At.is
+    (each_item part_levels c.args.self.now.depth c.args.path.now c.loop-part.part-index c.part-item.result c.requires.deep c.loop-part-test.true c.part-item.is)
+
+pub returns-in-Ok-Refused-clause-count : goal.returns-in-Ok-Refused-clause-count
+returns-in-Ok-Refused-clause-count g c = tt

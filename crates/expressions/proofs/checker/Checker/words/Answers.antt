@@ -7,6 +7,7 @@ use Rattle.cbase.specs.declared.tree.spec.TypeSpec.TheVariants.{Struct as Struct
 use Rattle.ctrees.specs.Levels.{spec_levels}
 use Rattle.std.proofs.Common.{◌≤◌, ◌∙◌, List, Option, Some, None, ap, subst}
 use Rattle.expressions.proofs.checker.Checker.words.Goals as goal
+use Rattle.expressions.proofs.PartLevels.{typeof_within, typeof_type_within}
 use Rattle.expressions.proofs.TypeParts.{typeof_told}
 use Rattle.expressions.proofs.TypeWords.{layered, typeof_type, struct_layer, enum_layer, struct_alone_layer, enum_alone_layer, basic_layer, named_layer, typeof_expr_layer, typeof_layer}
 
@@ -78,3 +79,9 @@ ask_type-requires-clause-deep g c = subst (λ (spec : TypeSpec). spec_levels spe
 pub ask_type-requires-in-Some-values-clause-deep : goal.ask_type-requires-in-Some-values-clause-deep
 ask_type-requires-in-Some-values-clause-deep g c = subst (λ (spec : TypeSpec). spec_levels spec ≤ c.args.self.now.depth)
     (c.in-Enum.is ∙ ap (λ (values : Option (List Enumerator)). EnumSpec c.in-Enum.name values) c.in-Some-values.is) c.requires.deep
+
+pub ask_expression-requires-clause-deep : goal.ask_expression-requires-clause-deep
+ask_expression-requires-clause-deep g c = typeof_within c.args.spec.now c.in-OfExpr.expr c.get.result.now c.args.self.now.depth c.in-OfExpr.is c.get.ensures c.requires.deep
+
+pub ask_type-requires-in-OfType-clause-deep : goal.ask_type-requires-in-OfType-clause-deep
+ask_type-requires-in-OfType-clause-deep g c = typeof_type_within c.args.spec.now c.in-OfType.to c.get-in-OfType.result.now c.args.self.now.depth c.in-OfType.is c.get-in-OfType.ensures c.requires.deep
