@@ -2,13 +2,11 @@ ghost use Rattle.std.specs.Prelude.{◌≡◌, ◌≤◌, ◌<◌, ◌+◌, ℕ,
 ghost use Rattle.cbase.specs.declared.tree.expr.ExprForm.TheOpen.{Struct};
 ghost use Rattle.cbase.specs.declared.tree.spec.TypeSpec.TheVariants.{Struct as StructSpec};
 ghost use Rattle.ctrees.specs.Levels.{spec_levels, field_decl_levels, field_name_levels, maybe_levels};
-ghost use Rattle.operators.specs.declared.found.Broken.TheVariants.{Rule};
-ghost use Rattle.typing.specs.Faults.{fault};
-ghost use Rattle.typing.specs.Typing.{WordsAre, MembersAre, DeclarationIs, NamesAre, MemberIs, MemberSizesAre, MemberSizeIs, WidthIs};
+ghost use Rattle.typing.specs.Typing.{WordsAre, MembersAre, NamesAre, MemberIs, MemberSizesAre};
 ghost use Rattle.cbase.specs.declared.abi.Abi.{Abi};
 ghost use Rattle.expressions.specs.Counted.{WherePasses};
 ghost use Rattle.expressions.specs.Declaring.{IsFixed, IsMemberTaken, IsClosed};
-ghost use Rattle.expressions.specs.Found.{a_type, a_member_size, some_sizes, some_members, nothing};
+ghost use Rattle.expressions.specs.Found.{a_type, some_sizes, some_members};
 ghost use Rattle.expressions.specs.Members.{AreMembers};
 ghost use Rattle.expressions.specs.Nests.{Nests};
 ghost use Rattle.expressions.specs.Numbers.{named_at, fields_at};
@@ -57,7 +55,7 @@ impl<F: Fn(&mut Context, Within, Part<'_>) -> Result<Found<Told>, NoMemory>> Che
         }
     }
 
-    /// The declarations of members, which are put behind those that the struct has.
+    /// The declarations of members (C11 6.7.2.1), the words of each and its names, which are put behind those that the struct has.
     fn declarations(
         &self,
         alloc: Global,
@@ -72,36 +70,18 @@ impl<F: Fn(&mut Context, Within, Part<'_>) -> Result<Found<Told>, NoMemory>> Che
         ensures members { IfOk result (λ found. WherePasses found (AreMembers context.new members.new.list members.new.names members.new.layout)) }
     {
         for field in fields {
-            match self.declaration(alloc, context, field, members) {
+            let base = match self.words(alloc, context, &field.spec) {
+                Ok(Found::Passes(base)) => base,
+                Ok(Found::Refused(fault)) => return Ok(Found::Refused(fault)),
+                Err(error) => return Err(error),
+            };
+            match self.member_names(alloc, context, base, field.names.as_slice(), members) {
                 Ok(Found::Passes(())) => {}
                 Ok(Found::Refused(fault)) => return Ok(Found::Refused(fault)),
                 Err(error) => return Err(error),
             }
         }
         Ok(Found::Passes(()))
-    }
-
-    /// A declaration of members (C11 6.7.2.1): its words, and its names.
-    fn declaration(
-        &self,
-        alloc: Global,
-        context: &mut Context,
-        field: &FieldDecl,
-        members: &mut Members,
-    ) -> Result<Found<()>, NoMemory>
-        requires nests { Nests self.now.abi self.now.depth (F.pre self.now.inner) (F.post self.now.inner) }
-        requires deep { field_decl_levels field.now ≤ self.now.depth }
-        requires members { AreMembers context.old members.old.list members.old.names members.old.layout }
-        ensures found { IfOk result (λ found. Walked (SaysBy self.now.abi (λ n o. DeclarationIs (fields_at n members.old.list) field.now o)) (some_members members.new.list) context.old context.new found) }
-        ensures members { IfOk result (λ found. WherePasses found (AreMembers context.new members.new.list members.new.names members.new.layout)) }
-    {
-        match self.words(alloc, context, &field.spec) {
-            Ok(Found::Passes(base)) => {
-                self.member_names(alloc, context, base, field.names.as_slice(), members)
-            }
-            Ok(Found::Refused(fault)) => Ok(Found::Refused(fault)),
-            Err(error) => Err(error),
-        }
     }
 
     /// The members that a declaration names.
@@ -130,7 +110,7 @@ impl<F: Fn(&mut Context, Within, Part<'_>) -> Result<Found<Told>, NoMemory>> Che
         Ok(Found::Passes(()))
     }
 
-    /// A member: its sizes, its width, and what is found at its name behind them.
+    /// A member: its sizes, its width, of which nothing is asked (C11 6.7.2.1p4), and what is found at its name behind them.
     fn declared_member(
         &self,
         alloc: Global,
@@ -152,16 +132,22 @@ impl<F: Fn(&mut Context, Within, Part<'_>) -> Result<Found<Told>, NoMemory>> Che
             Ok(Found::Refused(fault)) => return Ok(Found::Refused(fault)),
             Err(error) => return Err(error),
         }
-        match self.width(context, &name.bits) {
-            Ok(Found::Passes(())) => {}
-            Ok(Found::Refused(fault)) => return Ok(Found::Refused(fault)),
-            Err(error) => return Err(error),
+        match &name.bits {
+            None => {}
+            Some(width) => match self.loaded(context, width) {
+                Ok(Found::Passes(_)) => {}
+                Ok(Found::Refused(fault)) => return Ok(Found::Refused(fault)),
+                Err(error) => return Err(error),
+            },
         }
-        let named = declare(context, base, name.stars, &sizes)?;
-        take_member(alloc, context, members, name, named)
+        match declare(context, base, name.stars, &sizes) {
+            Ok(named) => take_member(alloc, context, members, name, named),
+            Err(error) => Err(error),
+        }
     }
 
-    /// The sizes of a member, the outermost first, which are put behind one another (C11 6.7.6.2).
+    /// The sizes of a member, the outermost first, which are put behind one another (C11 6.7.6.2): one that is given is an integer constant expression of at
+    /// least 1, or rule 9 at it (6.7.2.1p9, 6.7.6.2p1).
     pub fn member_sizes(
         &self,
         context: &mut Context,
@@ -174,49 +160,20 @@ impl<F: Fn(&mut Context, Within, Part<'_>) -> Result<Found<Told>, NoMemory>> Che
         ensures { IfOk result (λ told. Walked (Says self.now.abi (λ o. MemberSizesAre sizes.now o)) (some_sizes found.new.items) context.old context.new told) }
     {
         for size in sizes {
-            match self.member_size(context, size) {
-                Ok(Found::Passes(one)) => found.push(one)?,
-                Ok(Found::Refused(fault)) => return Ok(Found::Refused(fault)),
-                Err(error) => return Err(error),
-            }
+            let one = match size {
+                None => Size::LeftOut,
+                Some(expr) => match self.array_size(context, expr) {
+                    Ok(Found::Passes(one)) => match fixed(expr.place, one) {
+                        Found::Passes(one) => one,
+                        Found::Refused(fault) => return Ok(Found::Refused(fault)),
+                    },
+                    Ok(Found::Refused(fault)) => return Ok(Found::Refused(fault)),
+                    Err(error) => return Err(error),
+                },
+            };
+            found.push(one)?;
         }
         Ok(Found::Passes(()))
-    }
-
-    /// A size of a member: one that is given is an integer constant expression of at least 1, or rule 9 at it (C11 6.7.2.1p9, 6.7.6.2p1).
-    fn member_size(
-        &self,
-        context: &mut Context,
-        size: &Option<Expr>,
-    ) -> Result<Found<Size>, NoMemory>
-        requires nests { Nests self.now.abi self.now.depth (F.pre self.now.inner) (F.post self.now.inner) }
-        requires deep { maybe_levels size.now ≤ self.now.depth }
-        ensures { IfOk result (λ told. Walked (Says self.now.abi (λ o. MemberSizeIs size.now o)) a_member_size context.old context.new told) }
-    {
-        match size {
-            None => Ok(Found::Passes(Size::LeftOut)),
-            Some(expr) => match self.array_size(context, expr) {
-                Ok(Found::Passes(size)) => Ok(fixed(expr.place, size)),
-                Ok(Found::Refused(fault)) => Ok(Found::Refused(fault)),
-                Err(error) => Err(error),
-            },
-        }
-    }
-
-    /// How many bits a member has, of which nothing is asked (C11 6.7.2.1p4).
-    fn width(&self, context: &mut Context, bits: &Option<Expr>) -> Result<Found<()>, NoMemory>
-        requires nests { Nests self.now.abi self.now.depth (F.pre self.now.inner) (F.post self.now.inner) }
-        requires deep { maybe_levels bits.now ≤ self.now.depth }
-        ensures { IfOk result (λ told. Walked (Says self.now.abi (λ o. WidthIs bits.now o)) nothing context.old context.new told) }
-    {
-        match bits {
-            None => Ok(Found::Passes(())),
-            Some(expr) => match self.loaded(context, expr) {
-                Ok(Found::Passes(_)) => Ok(Found::Passes(())),
-                Ok(Found::Refused(fault)) => Ok(Found::Refused(fault)),
-                Err(error) => Err(error),
-            },
-        }
     }
 }
 
@@ -250,19 +207,14 @@ fn take_member(
         return Ok(Found::Refused(fault));
     }
     let Some(layout) = context.layout(named.ctype) else {
-        return Ok(Found::Refused(sizeless(name.place)));
+        return Ok(Found::Refused(Fault {
+            place: name.place,
+            broken: Broken::Rule(3),
+        }));
     };
-    add_member(alloc, context, members, name, named.ctype, layout)?;
-    Ok(Found::Passes(()))
-}
-
-/// A member whose type has no size.
-fn sizeless(place: Place) -> Fault
-    ensures { result ≡ fault place (Rule 3) }
-{
-    Fault {
-        place,
-        broken: Broken::Rule(3),
+    match add_member(alloc, context, members, name, named.ctype, layout) {
+        Ok(()) => Ok(Found::Passes(())),
+        Err(error) => Err(error),
     }
 }
 
@@ -277,11 +229,12 @@ fn close(
     requires { All (λ member. member.ctype < length context.old.types) members }
     ensures { IfOk result (λ found. IsClosed name.now number members context.old context.new found) }
 {
-    match context.close_struct(alloc, name, number, members)? {
-        Some(fault) => Ok(Found::Refused(fault)),
-        None => Ok(Found::Passes(NamedType {
+    match context.close_struct(alloc, name, number, members) {
+        Ok(Some(fault)) => Ok(Found::Refused(fault)),
+        Ok(None) => Ok(Found::Passes(NamedType {
             ctype: context.structure(number)?,
             found: None,
         })),
+        Err(error) => Err(error),
     }
 }
