@@ -42,7 +42,10 @@ impl<F: Fn(&mut Context, Within, Part<'_>) -> Result<Found<Told>, NoMemory>> Che
         };
         let mut sizes = Vec::new(alloc);
         match self.sizes(context, to.sizes.as_slice(), &mut sizes) {
-            Ok(Found::Passes(())) => Ok(Found::Passes(declare(context, base, to.stars, &sizes)?)),
+            Ok(Found::Passes(())) => match declare(context, base, to.stars, &sizes) {
+                Ok(named) => Ok(Found::Passes(named)),
+                Err(error) => Err(error),
+            },
             Ok(Found::Refused(fault)) => Ok(Found::Refused(fault)),
             Err(error) => Err(error),
         }
@@ -61,14 +64,15 @@ impl<F: Fn(&mut Context, Within, Part<'_>) -> Result<Found<Told>, NoMemory>> Che
         ensures { IfOk result (λ told. Walked (Says self.now.abi (λ o. SizesAre sizes.now o)) (some_sizes found.new.items) context.old context.new told) }
     {
         for size in sizes {
-            match size {
-                None => found.push(Size::LeftOut)?,
+            let one = match size {
+                None => Size::LeftOut,
                 Some(expr) => match self.array_size(context, expr) {
-                    Ok(Found::Passes(one)) => found.push(one)?,
+                    Ok(Found::Passes(one)) => one,
                     Ok(Found::Refused(fault)) => return Ok(Found::Refused(fault)),
                     Err(error) => return Err(error),
                 },
-            }
+            };
+            found.push(one)?;
         }
         Ok(Found::Passes(()))
     }

@@ -1,10 +1,11 @@
 -- Sizes, one behind the other.
-use Rattle.std.proofs.Common.{Option, ap, arith, subst, ◌+◌, ◌≤◌}
+use Rattle.std.proofs.Common.{[], ◌∷◌, ◌++◌, Option, refl, ap, ◌∙◌, arith, subst, ◌+◌, ◌≤◌}
 use Rattle.cbase.specs.declared.tree.expr.Expr.{Expr}
 use Rattle.ctrees.specs.Levels.{maybe_levels}
+use Rattle.typing.specs.declared.size.Size.{Size}
 use Rattle.expressions.proofs.EachItem.{each_item}
 use Rattle.expressions.proofs.checker.Checker.sizes.Goals as goal
-use Rattle.expressions.proofs.checker.Checker.sizes.Goals.{in-None+in_ok-push-in-None, in-Some+in-Ok-Passes+in_ok-push-in-Ok-Passes}
+use Rattle.expressions.proofs.checker.Checker.sizes.Goals.{in-None, in-Some+in-Ok-Passes}
 use Rattle.expressions.proofs.TypeNames.{sizes_start, sizes_kept, sizes_skip, sizes_next, sizes_refused, sizes_end}
 
 pub loop-size-init : goal.loop-size-init
@@ -15,12 +16,12 @@ returns g c = sizes_end c.args.self.now.abi c.args.sizes.now c.loop-size.found.i
 
 pub loop-size-preserved : goal.loop-size-preserved
 loop-size-preserved g c = elim c.match-size.branch [
-  | in-None+in_ok-push-in-None w ↦ sizes_kept c.args.self.now.abi c.args.sizes.now w.push.new.self.items _ c.args.context.now c.loop-size.context c.match-size.context (c.loop-size.size-index + 1) (ap (λ found. found.items) w.found-is) w.context-is
-      (sizes_skip c.args.self.now.abi c.args.sizes.now c.loop-size.found.items w.push.new.self.items c.args.context.now c.loop-size.context c.loop-size.size-index c.size-item.result
-      c.loop-size-test.true c.size-item.is w.in-None.is w.in_ok-push-in-None.ensures.items c.loop-size.invariant)
-  | in-Some+in-Ok-Passes+in_ok-push-in-Ok-Passes w ↦ sizes_kept c.args.self.now.abi c.args.sizes.now w.push-in-Ok-Passes.new.self.items _ c.args.context.now w.array_size.new.context c.match-size.context (c.loop-size.size-index + 1) (ap (λ found. found.items) w.found-is) w.context-is
-      (sizes_next c.args.self.now.abi c.args.sizes.now c.loop-size.found.items w.push-in-Ok-Passes.new.self.items c.args.context.now c.loop-size.context w.array_size.new.context c.loop-size.size-index c.size-item.result w.in-Some.expr w.in-Ok-Passes.one w.in-Ok-Passes.field-0
-      c.loop-size-test.true c.size-item.is w.in-Some.is w.in_ok-push-in-Ok-Passes.ensures.items w.in-Ok-Passes.field-0-is w.in-Ok-Passes.ensures c.loop-size.invariant)
+  | in-None w ↦ sizes_kept c.args.self.now.abi c.args.sizes.now _ _ c.args.context.now c.loop-size.context c.match-size.context (c.loop-size.size-index + 1) refl w.context-is
+      (sizes_skip c.args.self.now.abi c.args.sizes.now c.loop-size.found.items c.push.new.self.items c.args.context.now c.loop-size.context c.loop-size.size-index c.size-item.result
+      c.loop-size-test.true c.size-item.is w.in-None.is (c.in_ok-push.ensures.items ∙ ap (λ (one : Size). c.loop-size.found.items ++ one ∷ []) w.one-is) c.loop-size.invariant)
+  | in-Some+in-Ok-Passes w ↦ sizes_kept c.args.self.now.abi c.args.sizes.now _ _ c.args.context.now w.array_size.new.context c.match-size.context (c.loop-size.size-index + 1) refl w.context-is
+      (sizes_next c.args.self.now.abi c.args.sizes.now c.loop-size.found.items c.push.new.self.items c.args.context.now c.loop-size.context w.array_size.new.context c.loop-size.size-index c.size-item.result w.in-Some.expr w.in-Ok-Passes.one w.in-Ok-Passes.field-0
+      c.loop-size-test.true c.size-item.is w.in-Some.is (c.in_ok-push.ensures.items ∙ ap (λ (one : Size). c.loop-size.found.items ++ one ∷ []) w.one-is) w.in-Ok-Passes.field-0-is w.in-Ok-Passes.ensures c.loop-size.invariant)
 ]
 
 pub returns-in-Ok-Refused : goal.returns-in-Ok-Refused

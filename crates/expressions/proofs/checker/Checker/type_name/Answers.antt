@@ -13,12 +13,12 @@ declare-requires g c = base_below c.args.self.now.abi c.args.to.now c.args.conte
     c.in-Ok-Passes.field-0-is c.in-Ok-Passes-sizes.field-0-is c.in-Ok-Passes.ensures
     (sizes_of c.args.self.now.abi c.args.to.now c.as_slice.result.now c.sizes.new.found.items c.words.new.context c.sizes.new.context c.in-Ok-Passes-sizes.field-0 c.as_slice.ensures c.in-Ok-Passes-sizes.ensures)
 
-pub returns-in-Ok-Passes-sizes : goal.returns-in-Ok-Passes-sizes
-returns-in-Ok-Passes-sizes g c = type_named c.args.self.now.abi c.args.to.now c.args.context.now c.words.new.context c.sizes.new.context c.in-Ok-Passes.base c.in-Ok-Passes.field-0 c.sizes.new.found.items c.in-Ok-Passes-sizes.field-0
-    c.declare.new.context c.in_ok-declare-in-Ok-Passes-sizes.field-0 c.in-Ok-Passes.field-0-is c.in-Ok-Passes-sizes.field-0-is c.in-Ok-Passes.ensures
+pub returns-in-Ok : goal.returns-in-Ok
+returns-in-Ok g c = type_named c.args.self.now.abi c.args.to.now c.args.context.now c.words.new.context c.sizes.new.context c.in-Ok-Passes.base c.in-Ok-Passes.field-0 c.sizes.new.found.items c.in-Ok-Passes-sizes.field-0
+    c.declare.new.context c.in-Ok.named c.in-Ok-Passes.field-0-is c.in-Ok-Passes-sizes.field-0-is c.in-Ok-Passes.ensures
     (sizes_of c.args.self.now.abi c.args.to.now c.as_slice.result.now c.sizes.new.found.items c.words.new.context c.sizes.new.context c.in-Ok-Passes-sizes.field-0 c.as_slice.ensures c.in-Ok-Passes-sizes.ensures)
-    (declares_now c.args.self.now.abi c.in-Ok-Passes.base _ c.sizes.new.found.items c.deref.result.now c.sizes.new.context c.declare.new.context c.in_ok-declare-in-Ok-Passes-sizes.field-0 c.declare.result
-    c.in_ok-declare-in-Ok-Passes-sizes.was c.deref.ensures.value (c.declare.ensures c.args.self.now.abi))
+    (declares_now c.args.self.now.abi c.in-Ok-Passes.base _ c.sizes.new.found.items c.deref.result.now c.sizes.new.context c.declare.new.context c.in-Ok.named c.declare.result
+    c.in-Ok.is c.deref.ensures.value (c.declare.ensures c.args.self.now.abi))
 
 pub returns-in-Ok-Refused-sizes : goal.returns-in-Ok-Refused-sizes
 returns-in-Ok-Refused-sizes g c = sizes_stop c.args.self.now.abi c.args.to.now c.args.context.now c.words.new.context c.sizes.new.context c.in-Ok-Passes.base c.in-Ok-Passes.field-0 c.sizes.new.found.items c.in-Ok-Refused-sizes.field-0
@@ -33,3 +33,6 @@ sizes-requires-clause-nests g c = c.requires.nests
 
 pub words-requires-clause-deep : goal.words-requires-clause-deep
 words-requires-clause-deep g c = spec_within c.args.to.now c.args.self.now.depth c.requires.deep
+
+pub sizes-requires-clause-empty : goal.sizes-requires-clause-empty
+sizes-requires-clause-empty g c = c.new-sizes.ensures.items
