@@ -15,6 +15,7 @@ use crate::nodes::constant::constant_node;
 use crate::nodes::finishing::Node;
 use crate::nodes::names::name_node;
 use crate::nodes::shapes::{Pair, Single};
+use crate::nodes::sizes::type_size_node;
 use crate::part::{Part, Told};
 use crate::walk::forms::failed_assertion;
 use cbase::{Expr, ExprForm, NoMemory};
@@ -60,14 +61,12 @@ impl<F: Fn(&mut Context, Within, Part<'_>) -> Result<Found<Told>, NoMemory>> Che
             ExprForm::Constant(spelling) => {
                 constant_node(context, node, self.abi, spelling.as_slice())
             }
-            ExprForm::Unary { op, arg } => {
-                self.single(context, node, Single::Unary(*op), arg.get())
-            }
+            ExprForm::Unary { op, arg } => self.single(context, node, Single::Unary(*op), arg),
             ExprForm::Binary { op, left, right } => {
-                self.pair(context, node, Pair::Binary(*op), left.get(), right.get())
+                self.pair(context, node, Pair::Binary(*op), left, right)
             }
             ExprForm::Assign { op, left, right } => {
-                self.pair(context, node, Pair::Assign(*op), left.get(), right.get())
+                self.pair(context, node, Pair::Assign(*op), left, right)
             }
             ExprForm::Count { up, after, arg } => self.single(
                 context,
@@ -76,30 +75,29 @@ impl<F: Fn(&mut Context, Within, Part<'_>) -> Result<Found<Told>, NoMemory>> Che
                     up: *up,
                     after: *after,
                 },
-                arg.get(),
+                arg,
             ),
             ExprForm::Choose { test, yes, no } => {
                 self.choice(context, node, test.get(), yes.get(), no.get())
             }
             ExprForm::Cast { to, arg } => self.cast(alloc, context, node, to.get(), arg.get()),
-            ExprForm::SizeOf(arg) => self.single(context, node, Single::Size, arg.get()),
-            ExprForm::SizeOfType(to) => self.type_size(alloc, context, node, to.get()),
+            ExprForm::SizeOf(arg) => self.single(context, node, Single::Size, arg),
+            ExprForm::SizeOfType(to) => match self.type_name(alloc, context, to.get()) {
+                Ok(Found::Passes(named)) => type_size_node(context, node, named),
+                Ok(Found::Refused(fault)) => Ok(Found::Refused(fault)),
+                Err(error) => Err(error),
+            },
             ExprForm::OffsetOf { to, path } => {
                 self.offset(context, node, to.get(), path.as_slice(), alloc)
             }
             ExprForm::Index { base, index } => {
-                self.pair(context, node, Pair::Index, base.get(), index.get())
+                self.pair(context, node, Pair::Index, base, index)
             }
             ExprForm::Member {
                 base,
                 name,
                 through,
-            } => self.single(
-                context,
-                node,
-                Single::Member(name.get(), *through),
-                base.get(),
-            ),
+            } => self.single(context, node, Single::Member(name.get(), *through), base),
             ExprForm::Call { callee, args } => {
                 self.call(alloc, context, node, callee.get(), args.as_slice())
             }

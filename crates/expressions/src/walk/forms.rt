@@ -1,5 +1,5 @@
-ghost use Rattle.std.specs.Prelude.{◌≡◌, ◌≤◌, [], ℕ, All, IfOk};
-ghost use Rattle.cbase.specs.declared.tree.expr.ExprForm.TheOpen.{Choose, Cast, SizeOfType, OffsetOf, AssertFail};
+ghost use Rattle.std.specs.Prelude.{◌≤◌, ℕ, All, IfOk};
+ghost use Rattle.cbase.specs.declared.tree.expr.ExprForm.TheOpen.{Choose, Cast, OffsetOf, AssertFail};
 ghost use Rattle.cbase.specs.declared.abi.Abi.{Abi};
 ghost use Rattle.ctrees.specs.Levels.{expr_levels, type_name_levels, part_levels};
 ghost use Rattle.expressions.specs.Found.{an_expression};
@@ -16,25 +16,30 @@ use crate::nodes::choosing::choice_node;
 use crate::nodes::finishing::{Node, pass};
 use crate::nodes::offsets::offset_node;
 use crate::nodes::shapes::{Pair, Single, is_loaded, pair_node, single_node};
-use crate::nodes::sizes::type_size_node;
 use crate::part::{Part, Told};
-use cbase::{Expr, NoMemory, TypeName};
+use cbase::{Boxed, Expr, NoMemory, TypeName};
 use std::alloc::Global;
 
 impl<F: Fn(&mut Context, Within, Part<'_>) -> Result<Found<Told>, NoMemory>> Checker<F> {
-    /// A form of one operand.
+    /// A form of one operand, of which the value is taken, or only the place or the type is asked.
     pub(crate) fn single(
         &self,
         context: &mut Context,
         node: Node,
         single: Single<'_>,
-        arg: &Expr,
+        arg: &Boxed<Expr>,
     ) -> Result<Found<Known>, NoMemory>
         requires nests { Nests self.now.abi self.now.depth (F.pre self.now.inner) (F.post self.now.inner) }
         requires arg { expr_levels arg.now ≤ self.now.depth }
         ensures { IfOk result (λ found. Walked (SaysForm self.now.abi node.number node.place (single_form single.entry arg.now)) an_expression context.old context.new found) }
     {
-        match self.operand(context, arg, is_loaded(single)) {
+        let arg = arg.get();
+        let told = if is_loaded(single) {
+            self.loaded(context, arg)
+        } else {
+            self.ask_expression(context, arg)
+        };
+        match told {
             Ok(Found::Passes(a)) => single_node(context, node, single, a),
             Ok(Found::Refused(fault)) => Ok(Found::Refused(fault)),
             Err(error) => Err(error),
@@ -47,14 +52,16 @@ impl<F: Fn(&mut Context, Within, Part<'_>) -> Result<Found<Told>, NoMemory>> Che
         context: &mut Context,
         node: Node,
         pair: Pair,
-        left: &Expr,
-        right: &Expr,
+        left: &Boxed<Expr>,
+        right: &Boxed<Expr>,
     ) -> Result<Found<Known>, NoMemory>
         requires nests { Nests self.now.abi self.now.depth (F.pre self.now.inner) (F.post self.now.inner) }
         requires left { expr_levels left.now ≤ self.now.depth }
         requires right { expr_levels right.now ≤ self.now.depth }
         ensures { IfOk result (λ found. Walked (SaysForm self.now.abi node.number node.place (pair_form pair left.now right.now)) an_expression context.old context.new found) }
     {
+        let left = left.get();
+        let right = right.get();
         match self.two(context, left, right) {
             Ok(Found::Passes((a, b))) => pair_node(context, node, pair, a, b, right.place),
             Ok(Found::Refused(fault)) => Ok(Found::Refused(fault)),
@@ -115,25 +122,6 @@ impl<F: Fn(&mut Context, Within, Part<'_>) -> Result<Found<Told>, NoMemory>> Che
         }
     }
 
-    /// `sizeof` of a type name.
-    pub(crate) fn type_size(
-        &self,
-        alloc: Global,
-        context: &mut Context,
-        node: Node,
-        to: &TypeName,
-    ) -> Result<Found<Known>, NoMemory>
-        requires nests { Nests self.now.abi self.now.depth (F.pre self.now.inner) (F.post self.now.inner) }
-        requires to { type_name_levels to.now ≤ self.now.depth }
-        ensures { IfOk result (λ found. Walked (SaysForm self.now.abi node.number node.place (SizeOfType to.now)) an_expression context.old context.new found) }
-    {
-        match self.type_name(alloc, context, to) {
-            Ok(Found::Passes(named)) => type_size_node(context, node, named),
-            Ok(Found::Refused(fault)) => Ok(Found::Refused(fault)),
-            Err(error) => Err(error),
-        }
-    }
-
     /// `__builtin_offsetof` (C11 7.19p3).
     pub(crate) fn offset(
         &self,
@@ -148,33 +136,14 @@ impl<F: Fn(&mut Context, Within, Part<'_>) -> Result<Found<Told>, NoMemory>> Che
         requires path { All (λ part. part_levels part ≤ self.now.depth) path.now }
         ensures { IfOk result (λ found. Walked (SaysForm self.now.abi node.number node.place (OffsetOf to.now path.now)) an_expression context.old context.new found) }
     {
-        let mut words = Vec::new(alloc);
-        self.offset_by(alloc, context, node, to, path, &mut words)
-    }
-
-    /// The same, where the indices on the way are put into an empty list.
-    fn offset_by(
-        &self,
-        alloc: Global,
-        context: &mut Context,
-        node: Node,
-        to: &TypeName,
-        path: &[cbase::Part],
-        words: &mut Vec<u64>,
-    ) -> Result<Found<Known>, NoMemory>
-        requires nests { Nests self.now.abi self.now.depth (F.pre self.now.inner) (F.post self.now.inner) }
-        requires to { type_name_levels to.now ≤ self.now.depth }
-        requires path { All (λ part. part_levels part ≤ self.now.depth) path.now }
-        requires empty { words.old.items ≡ [] }
-        ensures { IfOk result (λ found. Walked (SaysForm self.now.abi node.number node.place (OffsetOf to.now path.now)) an_expression context.old context.new found) }
-    {
         let named = match self.type_name(alloc, context, to) {
             Ok(Found::Passes(named)) => named,
             Ok(Found::Refused(fault)) => return Ok(Found::Refused(fault)),
             Err(error) => return Err(error),
         };
-        match self.indices(context, path, words) {
-            Ok(Found::Passes(())) => offset_node(context, node, named, path, words),
+        let mut words = Vec::new(alloc);
+        match self.indices(context, path, &mut words) {
+            Ok(Found::Passes(())) => offset_node(context, node, named, path, &words),
             Ok(Found::Refused(fault)) => Ok(Found::Refused(fault)),
             Err(error) => Err(error),
         }

@@ -1,6 +1,6 @@
 ghost use Rattle.std.specs.Prelude.{◌<◌, ◌≤◌, ℕ, length, IfOk};
 ghost use Rattle.ctrees.specs.Levels.{expr_levels, type_name_levels};
-ghost use Rattle.typing.specs.Pieces.{Loaded, ConstantIndex, SizeOfArray, base_of};
+ghost use Rattle.typing.specs.Pieces.{Loaded, ConstantIndex, SizeOfArray};
 ghost use Rattle.typing.specs.Typing.{PieceIs};
 ghost use Rattle.expressions.specs.Found.{an_operand, an_index, a_size};
 ghost use Rattle.expressions.specs.Nests.{Nests};
@@ -28,24 +28,6 @@ impl<F: Fn(&mut Context, Within, Part<'_>) -> Result<Found<Told>, NoMemory>> Che
             Ok(Found::Passes(known)) => Ok(load(context, expr.place, known)),
             Ok(Found::Refused(fault)) => Ok(Found::Refused(fault)),
             Err(error) => Err(error),
-        }
-    }
-
-    /// An operand whose value is taken, or of which only the place or the type is asked.
-    pub(crate) fn operand(
-        &self,
-        context: &mut Context,
-        expr: &Expr,
-        is_loaded: bool,
-    ) -> Result<Found<Known>, NoMemory>
-        requires nests { Nests self.now.abi self.now.depth (F.pre self.now.inner) (F.post self.now.inner) }
-        requires deep { expr_levels expr.now ≤ self.now.depth }
-        ensures { IfOk result (λ found. Walked (Says self.now.abi (λ o. PieceIs (base_of is_loaded expr.now) o)) an_operand context.old context.new found) }
-    {
-        if is_loaded {
-            self.loaded(context, expr)
-        } else {
-            self.ask_expression(context, expr)
         }
     }
 

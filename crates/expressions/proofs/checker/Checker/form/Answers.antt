@@ -1,12 +1,18 @@
 -- An expression by its form: its parts are no deeper than it, and what is found of it is found of one layer of it.
-use Rattle.std.proofs.Common.{ap, sym, ◌∙◌}
-use Rattle.cbase.specs.declared.tree.expr.Expr.{Expr}
+use Rattle.std.proofs.Common.{refl, ap, sym, ◌∙◌, Ok}
 use Rattle.cbase.specs.declared.tree.expr.ExprForm.TheOpen.{Name, Constant, Unary, Binary, Assign, ExprForm::Member, Count, Choose, Cast, SizeOf, SizeOfType, OffsetOf, Index, Call, Inner, AssertFail}
 use Rattle.cbase.specs.declared.tree.expr.ExprForm.TheViews.{out-ExprForm, outs-Name, outs-Constant, outs-Unary, outs-Binary, outs-Assign, outs-ExprForm::Member, outs-Count, outs-Choose, outs-Cast, outs-SizeOf, outs-SizeOfType, outs-OffsetOf, outs-Index, outs-Call, outs-Inner, outs-AssertFail}
+use Rattle.cbase.specs.declared.tree.identifier.Identifier.{Identifier}
 use Rattle.ctrees.specs.Levels.{expr_levels, type_name_levels}
+use Rattle.typing.specs.Pieces.{OfType}
+use Rattle.typing.specs.Rules.{SizeOfTypeName}
+use Rattle.expressions.specs.declared.found.Found.TheVariants.{Refused}
+use Rattle.expressions.specs.Found.{one_type}
 use Rattle.expressions.proofs.Levels.{one_within, first_within, second_within, middle_within, third_within, unary_levels, binary_levels, assign_levels, count_levels, choose_levels, cast_levels, size_levels, type_size_levels, offset_levels, index_levels, member_levels, call_levels, path_within, arguments_within, body_within}
 use Rattle.expressions.proofs.ByRule.{name_form, constant_form}
-use Rattle.expressions.proofs.Walking.{form_alike}
+use Rattle.expressions.proofs.Parts.{a_type_told, type_found}
+use Rattle.expressions.proofs.Several.{one_result}
+use Rattle.expressions.proofs.Walking.{form_alike, settled_result, passed_of, refused_form}
 use Rattle.expressions.proofs.checker.Checker.form.Goals as goal
 
 pub returns-in-Name : goal.returns-in-Name
@@ -23,104 +29,104 @@ pub single-requires-clause-nests : goal.single-requires-clause-nests
 single-requires-clause-nests g c = c.requires.nests
 
 pub single-requires-clause-arg : goal.single-requires-clause-arg
-single-requires-clause-arg g c = one_within c.args.form.now _ _ _ c.args.self.now.depth c.in-Unary.is (unary_levels c.in-Unary.op c.in-Unary.arg) (ap expr_levels c.get.ensures) c.requires.deep
+single-requires-clause-arg g c = one_within c.args.form.now _ _ _ c.args.self.now.depth c.in-Unary.is (unary_levels c.in-Unary.op c.in-Unary.arg) refl c.requires.deep
 
 pub returns-in-Unary : goal.returns-in-Unary
 returns-in-Unary g c =
-    form_alike c.args.self.now.abi c.args.node.number c.args.node.place (Unary c.in-Unary.op c.get.result.now) (out-ExprForm c.args.form.now) c.args.context.now _ c.single.result
-    (ap (Unary c.in-Unary.op) c.get.ensures ∙ sym (ap out-ExprForm c.in-Unary.is ∙ outs-Unary c.in-Unary.op c.in-Unary.arg)) c.single.ensures
+    form_alike c.args.self.now.abi c.args.node.number c.args.node.place (Unary c.in-Unary.op c.in-Unary.arg) (out-ExprForm c.args.form.now) c.args.context.now _ c.single.result
+    (sym (ap out-ExprForm c.in-Unary.is ∙ outs-Unary c.in-Unary.op c.in-Unary.arg)) c.single.ensures
 
 pub pair-requires-clause-nests : goal.pair-requires-clause-nests
 pair-requires-clause-nests g c = c.requires.nests
 
 pub pair-requires-clause-left : goal.pair-requires-clause-left
-pair-requires-clause-left g c = first_within c.args.form.now _ _ _ _ c.args.self.now.depth c.in-Binary.is (binary_levels c.in-Binary.op c.in-Binary.left c.in-Binary.right) (ap expr_levels c.get-in-Binary.ensures) c.requires.deep
+pair-requires-clause-left g c = first_within c.args.form.now _ _ _ _ c.args.self.now.depth c.in-Binary.is (binary_levels c.in-Binary.op c.in-Binary.left c.in-Binary.right) refl c.requires.deep
 
 pub pair-requires-clause-right : goal.pair-requires-clause-right
-pair-requires-clause-right g c = second_within c.args.form.now _ _ _ _ c.args.self.now.depth c.in-Binary.is (binary_levels c.in-Binary.op c.in-Binary.left c.in-Binary.right) (ap expr_levels c.get-in-Binary-2.ensures) c.requires.deep
+pair-requires-clause-right g c = second_within c.args.form.now _ _ _ _ c.args.self.now.depth c.in-Binary.is (binary_levels c.in-Binary.op c.in-Binary.left c.in-Binary.right) refl c.requires.deep
 
 pub returns-in-Binary : goal.returns-in-Binary
 returns-in-Binary g c =
-    form_alike c.args.self.now.abi c.args.node.number c.args.node.place (Binary c.in-Binary.op c.get-in-Binary.result.now c.get-in-Binary-2.result.now) (out-ExprForm c.args.form.now) c.args.context.now _ c.pair.result
-    ((λ i. Binary c.in-Binary.op (c.get-in-Binary.ensures i) (c.get-in-Binary-2.ensures i)) ∙ sym (ap out-ExprForm c.in-Binary.is ∙ outs-Binary c.in-Binary.op c.in-Binary.left c.in-Binary.right)) c.pair.ensures
+    form_alike c.args.self.now.abi c.args.node.number c.args.node.place (Binary c.in-Binary.op c.in-Binary.left c.in-Binary.right) (out-ExprForm c.args.form.now) c.args.context.now _ c.pair.result
+    (sym (ap out-ExprForm c.in-Binary.is ∙ outs-Binary c.in-Binary.op c.in-Binary.left c.in-Binary.right)) c.pair.ensures
 
 pub pair-requires-in-Assign-clause-nests : goal.pair-requires-in-Assign-clause-nests
 pair-requires-in-Assign-clause-nests g c = c.requires.nests
 
 pub pair-requires-in-Assign-clause-left : goal.pair-requires-in-Assign-clause-left
-pair-requires-in-Assign-clause-left g c = first_within c.args.form.now _ _ _ _ c.args.self.now.depth c.in-Assign.is (assign_levels c.in-Assign.op c.in-Assign.left c.in-Assign.right) (ap expr_levels c.get-in-Assign.ensures) c.requires.deep
+pair-requires-in-Assign-clause-left g c = first_within c.args.form.now _ _ _ _ c.args.self.now.depth c.in-Assign.is (assign_levels c.in-Assign.op c.in-Assign.left c.in-Assign.right) refl c.requires.deep
 
 pub pair-requires-in-Assign-clause-right : goal.pair-requires-in-Assign-clause-right
-pair-requires-in-Assign-clause-right g c = second_within c.args.form.now _ _ _ _ c.args.self.now.depth c.in-Assign.is (assign_levels c.in-Assign.op c.in-Assign.left c.in-Assign.right) (ap expr_levels c.get-in-Assign-2.ensures) c.requires.deep
+pair-requires-in-Assign-clause-right g c = second_within c.args.form.now _ _ _ _ c.args.self.now.depth c.in-Assign.is (assign_levels c.in-Assign.op c.in-Assign.left c.in-Assign.right) refl c.requires.deep
 
 pub returns-in-Assign : goal.returns-in-Assign
 returns-in-Assign g c =
-    form_alike c.args.self.now.abi c.args.node.number c.args.node.place (Assign c.in-Assign.op c.get-in-Assign.result.now c.get-in-Assign-2.result.now) (out-ExprForm c.args.form.now) c.args.context.now _ c.pair-in-Assign.result
-    ((λ i. Assign c.in-Assign.op (c.get-in-Assign.ensures i) (c.get-in-Assign-2.ensures i)) ∙ sym (ap out-ExprForm c.in-Assign.is ∙ outs-Assign c.in-Assign.op c.in-Assign.left c.in-Assign.right)) c.pair-in-Assign.ensures
+    form_alike c.args.self.now.abi c.args.node.number c.args.node.place (Assign c.in-Assign.op c.in-Assign.left c.in-Assign.right) (out-ExprForm c.args.form.now) c.args.context.now _ c.pair-in-Assign.result
+    (sym (ap out-ExprForm c.in-Assign.is ∙ outs-Assign c.in-Assign.op c.in-Assign.left c.in-Assign.right)) c.pair-in-Assign.ensures
 
 pub single-requires-in-Count-clause-nests : goal.single-requires-in-Count-clause-nests
 single-requires-in-Count-clause-nests g c = c.requires.nests
 
 pub single-requires-in-Count-clause-arg : goal.single-requires-in-Count-clause-arg
-single-requires-in-Count-clause-arg g c = one_within c.args.form.now _ _ _ c.args.self.now.depth c.in-Count.is (count_levels c.in-Count.up c.in-Count.after c.in-Count.arg) (ap expr_levels c.get-in-Count.ensures) c.requires.deep
+single-requires-in-Count-clause-arg g c = one_within c.args.form.now _ _ _ c.args.self.now.depth c.in-Count.is (count_levels c.in-Count.up c.in-Count.after c.in-Count.arg) refl c.requires.deep
 
 pub returns-in-Count : goal.returns-in-Count
 returns-in-Count g c =
-    form_alike c.args.self.now.abi c.args.node.number c.args.node.place (Count c.in-Count.up c.in-Count.after c.get-in-Count.result.now) (out-ExprForm c.args.form.now) c.args.context.now _ c.single-in-Count.result
-    (ap (Count c.in-Count.up c.in-Count.after) c.get-in-Count.ensures ∙ sym (ap out-ExprForm c.in-Count.is ∙ outs-Count c.in-Count.up c.in-Count.after c.in-Count.arg)) c.single-in-Count.ensures
+    form_alike c.args.self.now.abi c.args.node.number c.args.node.place (Count c.in-Count.up c.in-Count.after c.in-Count.arg) (out-ExprForm c.args.form.now) c.args.context.now _ c.single-in-Count.result
+    (sym (ap out-ExprForm c.in-Count.is ∙ outs-Count c.in-Count.up c.in-Count.after c.in-Count.arg)) c.single-in-Count.ensures
 
 pub single-requires-in-SizeOf-clause-nests : goal.single-requires-in-SizeOf-clause-nests
 single-requires-in-SizeOf-clause-nests g c = c.requires.nests
 
 pub single-requires-in-SizeOf-clause-arg : goal.single-requires-in-SizeOf-clause-arg
-single-requires-in-SizeOf-clause-arg g c = one_within c.args.form.now _ _ _ c.args.self.now.depth c.in-SizeOf.is (size_levels c.in-SizeOf.arg) (ap expr_levels c.get-in-SizeOf.ensures) c.requires.deep
+single-requires-in-SizeOf-clause-arg g c = one_within c.args.form.now _ _ _ c.args.self.now.depth c.in-SizeOf.is (size_levels c.in-SizeOf.arg) refl c.requires.deep
 
 pub returns-in-SizeOf : goal.returns-in-SizeOf
 returns-in-SizeOf g c =
-    form_alike c.args.self.now.abi c.args.node.number c.args.node.place (SizeOf c.get-in-SizeOf.result.now) (out-ExprForm c.args.form.now) c.args.context.now _ c.single-in-SizeOf.result
-    (ap SizeOf c.get-in-SizeOf.ensures ∙ sym (ap out-ExprForm c.in-SizeOf.is ∙ outs-SizeOf c.in-SizeOf.arg)) c.single-in-SizeOf.ensures
+    form_alike c.args.self.now.abi c.args.node.number c.args.node.place (SizeOf c.in-SizeOf.arg) (out-ExprForm c.args.form.now) c.args.context.now _ c.single-in-SizeOf.result
+    (sym (ap out-ExprForm c.in-SizeOf.is ∙ outs-SizeOf c.in-SizeOf.arg)) c.single-in-SizeOf.ensures
 
 pub pair-requires-in-Index-clause-nests : goal.pair-requires-in-Index-clause-nests
 pair-requires-in-Index-clause-nests g c = c.requires.nests
 
 pub pair-requires-in-Index-clause-left : goal.pair-requires-in-Index-clause-left
-pair-requires-in-Index-clause-left g c = first_within c.args.form.now _ _ _ _ c.args.self.now.depth c.in-Index.is (index_levels c.in-Index.base c.in-Index.index) (ap expr_levels c.get-in-Index.ensures) c.requires.deep
+pair-requires-in-Index-clause-left g c = first_within c.args.form.now _ _ _ _ c.args.self.now.depth c.in-Index.is (index_levels c.in-Index.base c.in-Index.index) refl c.requires.deep
 
 pub pair-requires-in-Index-clause-right : goal.pair-requires-in-Index-clause-right
-pair-requires-in-Index-clause-right g c = second_within c.args.form.now _ _ _ _ c.args.self.now.depth c.in-Index.is (index_levels c.in-Index.base c.in-Index.index) (ap expr_levels c.get-in-Index-2.ensures) c.requires.deep
+pair-requires-in-Index-clause-right g c = second_within c.args.form.now _ _ _ _ c.args.self.now.depth c.in-Index.is (index_levels c.in-Index.base c.in-Index.index) refl c.requires.deep
 
 pub returns-in-Index : goal.returns-in-Index
 returns-in-Index g c =
-    form_alike c.args.self.now.abi c.args.node.number c.args.node.place (Index c.get-in-Index.result.now c.get-in-Index-2.result.now) (out-ExprForm c.args.form.now) c.args.context.now _ c.pair-in-Index.result
-    ((λ i. Index (c.get-in-Index.ensures i) (c.get-in-Index-2.ensures i)) ∙ sym (ap out-ExprForm c.in-Index.is ∙ outs-Index c.in-Index.base c.in-Index.index)) c.pair-in-Index.ensures
+    form_alike c.args.self.now.abi c.args.node.number c.args.node.place (Index c.in-Index.base c.in-Index.index) (out-ExprForm c.args.form.now) c.args.context.now _ c.pair-in-Index.result
+    (sym (ap out-ExprForm c.in-Index.is ∙ outs-Index c.in-Index.base c.in-Index.index)) c.pair-in-Index.ensures
 
 pub single-requires-in-Member-clause-nests : goal.single-requires-in-Member-clause-nests
 single-requires-in-Member-clause-nests g c = c.requires.nests
 
 pub single-requires-in-Member-clause-arg : goal.single-requires-in-Member-clause-arg
-single-requires-in-Member-clause-arg g c = one_within c.args.form.now _ _ _ c.args.self.now.depth c.in-Member.is (member_levels c.in-Member.base c.in-Member.name c.in-Member.through) (ap expr_levels c.get-in-Member-2.ensures) c.requires.deep
+single-requires-in-Member-clause-arg g c = one_within c.args.form.now _ _ _ c.args.self.now.depth c.in-Member.is (member_levels c.in-Member.base c.in-Member.name c.in-Member.through) refl c.requires.deep
 
 pub returns-in-Member : goal.returns-in-Member
 returns-in-Member g c =
-    form_alike c.args.self.now.abi c.args.node.number c.args.node.place (ExprForm::Member c.get-in-Member-2.result.now c.get-in-Member.result.now c.in-Member.through) (out-ExprForm c.args.form.now) c.args.context.now _ c.single-in-Member.result
-    ((λ i. ExprForm::Member (c.get-in-Member-2.ensures i) (c.get-in-Member.ensures i) c.in-Member.through) ∙ sym (ap out-ExprForm c.in-Member.is ∙ outs-ExprForm::Member c.in-Member.base c.in-Member.name c.in-Member.through)) c.single-in-Member.ensures
+    form_alike c.args.self.now.abi c.args.node.number c.args.node.place (ExprForm::Member c.in-Member.base c.get-in-Member.result.now c.in-Member.through) (out-ExprForm c.args.form.now) c.args.context.now _ c.single-in-Member.result
+    (ap (λ (name : Identifier). ExprForm::Member c.in-Member.base name c.in-Member.through) c.get-in-Member.ensures ∙ sym (ap out-ExprForm c.in-Member.is ∙ outs-ExprForm::Member c.in-Member.base c.in-Member.name c.in-Member.through)) c.single-in-Member.ensures
 
 pub choice-requires-clause-nests : goal.choice-requires-clause-nests
 choice-requires-clause-nests g c = c.requires.nests
 
 pub choice-requires-clause-test : goal.choice-requires-clause-test
-choice-requires-clause-test g c = first_within c.args.form.now _ _ _ _ c.args.self.now.depth c.in-Choose.is (choose_levels c.in-Choose.test c.in-Choose.yes c.in-Choose.no) (ap expr_levels c.get-in-Choose.ensures) c.requires.deep
+choice-requires-clause-test g c = first_within c.args.form.now _ _ _ _ c.args.self.now.depth c.in-Choose.is (choose_levels c.in-Choose.test c.in-Choose.yes c.in-Choose.no) (ap expr_levels c.get.ensures) c.requires.deep
 
 pub choice-requires-clause-one : goal.choice-requires-clause-one
-choice-requires-clause-one g c = middle_within c.args.form.now _ _ _ _ _ c.args.self.now.depth c.in-Choose.is (choose_levels c.in-Choose.test c.in-Choose.yes c.in-Choose.no) (ap expr_levels c.get-in-Choose-2.ensures) c.requires.deep
+choice-requires-clause-one g c = middle_within c.args.form.now _ _ _ _ _ c.args.self.now.depth c.in-Choose.is (choose_levels c.in-Choose.test c.in-Choose.yes c.in-Choose.no) (ap expr_levels c.get-in-Choose.ensures) c.requires.deep
 
 pub choice-requires-clause-other : goal.choice-requires-clause-other
-choice-requires-clause-other g c = third_within c.args.form.now _ _ _ _ _ c.args.self.now.depth c.in-Choose.is (choose_levels c.in-Choose.test c.in-Choose.yes c.in-Choose.no) (ap expr_levels c.get-in-Choose-3.ensures) c.requires.deep
+choice-requires-clause-other g c = third_within c.args.form.now _ _ _ _ _ c.args.self.now.depth c.in-Choose.is (choose_levels c.in-Choose.test c.in-Choose.yes c.in-Choose.no) (ap expr_levels c.get-in-Choose-2.ensures) c.requires.deep
 
 pub returns-in-Choose : goal.returns-in-Choose
 returns-in-Choose g c =
-    form_alike c.args.self.now.abi c.args.node.number c.args.node.place (Choose c.get-in-Choose.result.now c.get-in-Choose-2.result.now c.get-in-Choose-3.result.now) (out-ExprForm c.args.form.now) c.args.context.now _ c.choice.result
-    ((λ i. Choose (c.get-in-Choose.ensures i) (c.get-in-Choose-2.ensures i) (c.get-in-Choose-3.ensures i)) ∙ sym (ap out-ExprForm c.in-Choose.is ∙ outs-Choose c.in-Choose.test c.in-Choose.yes c.in-Choose.no)) c.choice.ensures
+    form_alike c.args.self.now.abi c.args.node.number c.args.node.place (Choose c.get.result.now c.get-in-Choose.result.now c.get-in-Choose-2.result.now) (out-ExprForm c.args.form.now) c.args.context.now _ c.choice.result
+    ((λ i. Choose (c.get.ensures i) (c.get-in-Choose.ensures i) (c.get-in-Choose-2.ensures i)) ∙ sym (ap out-ExprForm c.in-Choose.is ∙ outs-Choose c.in-Choose.test c.in-Choose.yes c.in-Choose.no)) c.choice.ensures
 
 pub cast-requires-clause-nests : goal.cast-requires-clause-nests
 cast-requires-clause-nests g c = c.requires.nests
@@ -136,16 +142,27 @@ returns-in-Cast g c =
     form_alike c.args.self.now.abi c.args.node.number c.args.node.place (Cast c.get-in-Cast.result.now c.get-in-Cast-2.result.now) (out-ExprForm c.args.form.now) c.args.context.now _ c.cast.result
     ((λ i. Cast (c.get-in-Cast.ensures i) (c.get-in-Cast-2.ensures i)) ∙ sym (ap out-ExprForm c.in-Cast.is ∙ outs-Cast c.in-Cast.to c.in-Cast.arg)) c.cast.ensures
 
-pub type_size-requires-clause-nests : goal.type_size-requires-clause-nests
-type_size-requires-clause-nests g c = c.requires.nests
+pub type_name-requires-clause-nests : goal.type_name-requires-clause-nests
+type_name-requires-clause-nests g c = c.requires.nests
 
-pub type_size-requires-clause-to : goal.type_size-requires-clause-to
-type_size-requires-clause-to g c = one_within c.args.form.now _ _ _ c.args.self.now.depth c.in-SizeOfType.is (type_size_levels c.in-SizeOfType.to) (ap type_name_levels c.get-in-SizeOfType.ensures) c.requires.deep
+pub type_name-requires-clause-deep : goal.type_name-requires-clause-deep
+type_name-requires-clause-deep g c = one_within c.args.form.now _ _ _ c.args.self.now.depth c.in-SizeOfType.is (type_size_levels c.in-SizeOfType.to) (ap type_name_levels c.get-in-SizeOfType.ensures) c.requires.deep
 
-pub returns-in-SizeOfType : goal.returns-in-SizeOfType
-returns-in-SizeOfType g c =
-    form_alike c.args.self.now.abi c.args.node.number c.args.node.place (SizeOfType c.get-in-SizeOfType.result.now) (out-ExprForm c.args.form.now) c.args.context.now _ c.type_size.result
-    (ap SizeOfType c.get-in-SizeOfType.ensures ∙ sym (ap out-ExprForm c.in-SizeOfType.is ∙ outs-SizeOfType c.in-SizeOfType.to)) c.type_size.ensures
+pub type_size_node-requires : goal.type_size_node-requires
+type_size_node-requires g c = (passed_of _ _ _ _ _ _ c.in-Ok-Passes.field-0-is c.in-Ok-Passes.ensures).below
+
+pub returns-in-Ok-Passes : goal.returns-in-Ok-Passes
+returns-in-Ok-Passes g c =
+    form_alike c.args.self.now.abi c.args.node.number c.args.node.place (SizeOfType c.get-in-SizeOfType.result.now) (out-ExprForm c.args.form.now) c.args.context.now _ c.type_size_node.result
+    (ap SizeOfType c.get-in-SizeOfType.ensures ∙ sym (ap out-ExprForm c.in-SizeOfType.is ∙ outs-SizeOfType c.in-SizeOfType.to))
+    (settled_result c.args.self.now.abi c.args.node.number c.args.node.place (SizeOfType c.get-in-SizeOfType.result.now) one_type c.args.context.now c.type_name.new.context _ c.in-Ok-Passes.named _ _ c.type_size_node.result (c.type_size_node.ensures c.args.self.now.abi)
+    (passed_of _ _ _ _ _ c.in-Ok-Passes.field-0 c.in-Ok-Passes.field-0-is (one_result c.args.self.now.abi (OfType c.get-in-SizeOfType.result.now) a_type_told one_type _ _ (Ok c.in-Ok-Passes.field-0) (λ n one. refl) (λ count one below. below) (type_found c.args.self.now.abi c.get-in-SizeOfType.result.now c.args.context.now c.type_name.new.context c.in-Ok-Passes.field-0 c.in-Ok-Passes.ensures))) (λ n handed outcome agrees settled. SizeOfTypeName refl settled))
+
+pub returns-in-Ok-Refused : goal.returns-in-Ok-Refused
+returns-in-Ok-Refused g c =
+    form_alike c.args.self.now.abi c.args.node.number c.args.node.place (SizeOfType c.get-in-SizeOfType.result.now) (out-ExprForm c.args.form.now) c.args.context.now _ (Ok (Refused c.in-Ok-Refused.fault))
+    (ap SizeOfType c.get-in-SizeOfType.ensures ∙ sym (ap out-ExprForm c.in-SizeOfType.is ∙ outs-SizeOfType c.in-SizeOfType.to))
+    (refused_form c.args.self.now.abi c.args.node.number c.args.node.place (SizeOfType c.get-in-SizeOfType.result.now) one_type c.args.context.now c.type_name.new.context c.in-Ok-Refused.fault c.in-Ok-Refused.field-0 c.in-Ok-Refused.field-0-is (one_result c.args.self.now.abi (OfType c.get-in-SizeOfType.result.now) a_type_told one_type _ _ (Ok c.in-Ok-Refused.field-0) (λ n one. refl) (λ count one below. below) (type_found c.args.self.now.abi c.get-in-SizeOfType.result.now c.args.context.now c.type_name.new.context c.in-Ok-Refused.field-0 c.in-Ok-Refused.ensures)))
 
 pub offset-requires-clause-nests : goal.offset-requires-clause-nests
 offset-requires-clause-nests g c = c.requires.nests
