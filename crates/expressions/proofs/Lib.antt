@@ -31,6 +31,7 @@ pub mod SoFar
 pub mod SpecLevels
 pub mod Stepping
 pub mod StructMembers
+pub mod Tagging
 pub mod Telling
 pub mod TypeNames
 pub mod TypeParts
