@@ -1,5 +1,5 @@
 /// Whether there is room for what is to be done first.
-#[derive(Clone, Copy, Debug, PartialEq, Eq)]
+#[derive(Clone, Copy)]
 pub enum Room {
     /// It stands in front of all else that is to be done.
     Made,
