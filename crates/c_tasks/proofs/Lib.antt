@@ -7,5 +7,6 @@ pub mod Initialised
 pub mod KeptKinds
 pub mod MakingRoom
 pub mod NamedThings
+pub mod OtherOperators
 pub mod RoomBehind
 pub mod ValueByForm

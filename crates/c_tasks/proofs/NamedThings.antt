@@ -1,66 +1,33 @@
 -- What a name stands for decides what is to be done.
-use Rattle.std.proofs.Common.{◌≡◌, ℕ, Bool, true, false, List, [], ◌∷◌, Option, None, Some, refl, if◌then◌else◌}
-use Rattle.typing.specs.Entities.{FunctionEntity}
-use Rattle.c_machine.specs.declared.kind.Kind.{Kind}
-use Rattle.c_machine.specs.declared.task.Task.TheVariants.{ObjectAt, Push, Unknown}
+use Rattle.std.proofs.Common.{◌≡◌, ℕ, List, [], ◌∷◌, Option, None, Some, refl}
+use Rattle.cbase.specs.declared.tree.expr.Expr.{Expr}
+use Rattle.expressions.specs.Numbers.{Numbering}
+use Rattle.c_machine.specs.declared.task.Task.TheVariants.{Unknown}
 use Rattle.c_machine.specs.Expressions.{loaded, name_parts, named}
 use Rattle.c_machine.specs.Program.{Program}
-use Rattle.c_machine.specs.Text.{Standing, ObjectStands, ConstantStands, BuiltInStands, BodyStands, NothingStands, Text}
-use Rattle.c_machine.specs.Trees.{function_stands}
-use Rattle.c_tasks.specs.Standing.{bits_in, token_in}
+use Rattle.c_machine.specs.Trees.{text_of}
+use Rattle.c_text.specs.declared.standing.Standing.{Standing as Told}
+use Rattle.c_text.specs.declared.standing.Standing.TheVariants.{Object, Constant, BuiltIn, Body, Nothing}
+use Rattle.c_text.specs.Standing.{standing_by}
 
--- a function is no object, and no constant
-abbrev function_by : List ℕ → List Kind → Kind → Bool → Bool → Standing
-function_by name params result built_in defined =
-    if built_in then BuiltInStands name params result else (if defined then BodyStands else NothingStands)
+-- what is no object has no address
+pub no_object : (n : Numbering) (p : Program) (name : Option (List ℕ)) (told : Told) → ((token : ℕ) → told ≡ Object token → ⊥) →
+    named (text_of p) (standing_by n p name told) ≡ Unknown ∷ []
+no_object n p name (Object token) not = absurd (not token refl)
+no_object n p name (Constant bits) not = refl
+no_object n p None (BuiltIn signature) not = refl
+no_object n p (Some name) (BuiltIn signature) not = refl
+no_object n p None Body not = refl
+no_object n p (Some name) Body not = refl
+no_object n p name Nothing not = refl
 
-no_token : (name : List ℕ) (params : List Kind) (result : Kind) (built_in defined : Bool) → None ≡ token_in (function_by name params result built_in defined)
-no_token name params result true defined = refl
-no_token name params result false true = refl
-no_token name params result false false = refl
-
-no_bits : (name : List ℕ) (params : List Kind) (result : Kind) (built_in defined : Bool) → None ≡ bits_in (function_by name params result built_in defined)
-no_bits name params result true defined = refl
-no_bits name params result false true = refl
-no_bits name params result false false = refl
-
-pub function_is_no_object : (p : Program) (name : Option (List ℕ)) (function : FunctionEntity) → None ≡ token_in (function_stands p name function)
-function_is_no_object p None function = refl
-function_is_no_object p (Some name) function = no_token name _ _ function.built_in function.defined
-
-pub function_is_no_constant : (p : Program) (name : Option (List ℕ)) (function : FunctionEntity) → None ≡ bits_in (function_stands p name function)
-function_is_no_constant p None function = refl
-function_is_no_constant p (Some name) function = no_bits name _ _ function.built_in function.defined
-
--- the object that a name stands for
-pub object_of_name : (t : Text) (standing : Standing) (token : ℕ) → Some token ≡ token_in standing → named t standing ≡ ObjectAt token ∷ []
-object_of_name t (ObjectStands own) token is = at own token is
-  where
-    at : (own token : ℕ) → Some token ≡ Some own → named t (ObjectStands own) ≡ ObjectAt token ∷ []
-    at own token is = cc
-object_of_name t (ConstantStands bits) token is = absurd cc
-object_of_name t (BuiltInStands name params result) token is = absurd cc
-object_of_name t BodyStands token is = absurd cc
-object_of_name t NothingStands token is = absurd cc
-
-pub no_object_of_name : (t : Text) (standing : Standing) → None ≡ token_in standing → named t standing ≡ Unknown ∷ []
-no_object_of_name t (ObjectStands own) is = absurd cc
-no_object_of_name t (ConstantStands bits) is = refl
-no_object_of_name t (BuiltInStands name params result) is = refl
-no_object_of_name t BodyStands is = refl
-no_object_of_name t NothingStands is = refl
-
--- the constant that a name stands for
-pub constant_of_name : (t : Text) (expr : t.Expr) (standing : Standing) (bits : ℕ) → Some bits ≡ bits_in standing → name_parts t expr standing ≡ Push bits ∷ []
-constant_of_name t expr (ConstantStands own) bits is = cc
-constant_of_name t expr (ObjectStands own) bits is = absurd cc
-constant_of_name t expr (BuiltInStands name params result) bits is = absurd cc
-constant_of_name t expr BodyStands bits is = absurd cc
-constant_of_name t expr NothingStands bits is = absurd cc
-
-pub no_constant_of_name : (t : Text) (expr : t.Expr) (standing : Standing) → None ≡ bits_in standing → name_parts t expr standing ≡ loaded t expr
-no_constant_of_name t expr (ConstantStands own) is = absurd cc
-no_constant_of_name t expr (ObjectStands own) is = refl
-no_constant_of_name t expr (BuiltInStands name params result) is = refl
-no_constant_of_name t expr BodyStands is = refl
-no_constant_of_name t expr NothingStands is = refl
+-- what is no constant is loaded
+pub no_constant : (n : Numbering) (p : Program) (expr : Expr) (name : Option (List ℕ)) (told : Told) → ((bits : ℕ) → told ≡ Constant bits → ⊥) →
+    name_parts (text_of p) expr (standing_by n p name told) ≡ loaded (text_of p) expr
+no_constant n p expr name (Object token) not = refl
+no_constant n p expr name (Constant bits) not = absurd (not bits refl)
+no_constant n p expr None (BuiltIn signature) not = refl
+no_constant n p expr (Some name) (BuiltIn signature) not = refl
+no_constant n p expr None Body not = refl
+no_constant n p expr (Some name) Body not = refl
+no_constant n p expr name Nothing not = refl

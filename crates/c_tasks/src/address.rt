@@ -1,9 +1,7 @@
 //! The addresses of lvalues (C11 6.3.2.1, 6.5.2.1, 6.5.2.3, 6.5.3.2).
-ghost use Rattle.std.specs.Prelude.{◌≡◌, [], ◌∷◌, false, true, IfOk};
-ghost use Rattle.cbase.specs.declared.tree.operators.BinaryOp.TheVariants.{Add};
+ghost use Rattle.std.specs.Prelude.{false, true, IfOk};
 ghost use Rattle.cbase.specs.declared.tree.expr.ExprForm.TheOpen as tree;
-ghost use Rattle.c_machine.specs.declared.task.Task.TheVariants.{Operate, ValueOf};
-ghost use Rattle.c_machine.specs.Expressions.{address_parts, address_tasks, named, value_kind};
+ghost use Rattle.c_machine.specs.Expressions.{address_parts, address_tasks, named};
 ghost use Rattle.c_machine.specs.Trees.{form_of};
 ghost use Rattle.expressions.specs.Numbers.{Numbering};
 ghost use Rattle.c_machine.specs.Program.{Program};
@@ -14,15 +12,14 @@ ghost use Rattle.c_tasks.specs.Room.{MakesRoom};
 use crate::operations::operated;
 use crate::pushes::{address_then, alone, unknown, value_alone, value_then};
 use crate::room::Room;
-use crate::standing::object_named;
 use crate::state::TreeState;
 use c_machine::Task;
-use c_text::TypedText;
+use c_text::{Standing, TypedText};
 use cbase::{BinaryOp, Expr, ExprForm, Identifier, NoMemory, UnaryOp};
 
 /// What is to be done for the address of the lvalue that an expression is (C11 6.3.2.1p1).
 ///
-/// It takes one step, and at a member one look-up in the names of the members.
+/// That of an item `a[i]` is `a + i` (C11 6.5.2.1p2). It takes one step, and at a member one look-up in the names of the members.
 pub fn address_tasks<'a>(
     text: &TypedText,
     state: &mut TreeState<'a>,
@@ -36,7 +33,9 @@ pub fn address_tasks<'a>(
             op: UnaryOp::Follow,
             arg,
         } => value_alone(state, arg.get()),
-        ExprForm::Index { base, index } => item_address(text, state, base.get(), index.get()),
+        ExprForm::Index { base, index } => {
+            operated(text, state, BinaryOp::Add, base.get(), index.get())
+        }
         ExprForm::Member {
             base,
             name,
@@ -59,22 +58,10 @@ fn object_address<'a>(
 ) -> Result<Room, NoMemory>
     ensures { IfOk result (λ room. (n : Numbering) (p : Program) → StandsFor n text.now p → MakesRoom (named (text_of p) ((text_of p).stands expr.now)) room state.old state.new) }
 {
-    match object_named(text, expr) {
-        None => unknown(state),
-        Some(token) => alone(state, Task::ObjectAt(token)),
+    match text.standing(expr.number) {
+        Standing::Object(token) => alone(state, Task::ObjectAt(token)),
+        _ => unknown(state),
     }
-}
-
-/// The address of an item of an array: `a[i]` is `*(a + i)` (C11 6.5.2.1p2).
-fn item_address<'a>(
-    text: &TypedText,
-    state: &mut TreeState<'a>,
-    base: &'a Expr,
-    index: &'a Expr,
-) -> Result<Room, NoMemory>
-    ensures { IfOk result (λ room. (n : Numbering) (p : Program) → StandsFor n text.now p → MakesRoom (ValueOf base.now ∷ ValueOf index.now ∷ Operate Add (value_kind (text_of p) base.now) (value_kind (text_of p) index.now) ∷ []) room state.old state.new) }
-{
-    operated(text, state, BinaryOp::Add, base, index)
 }
 
 /// The address of a member of the struct that an expression is (C11 6.5.2.3p3).

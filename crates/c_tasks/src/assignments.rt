@@ -1,20 +1,20 @@
 //! Assignments, `++` and `--` (C11 6.5.2.4, 6.5.3.1, 6.5.16).
-ghost use Rattle.std.specs.Prelude.{◌≡◌, [], ◌∷◌, None, Option, Some, IfOk, OnOk};
+ghost use Rattle.std.specs.Prelude.{◌≡◌, [], ◌∷◌, true, None, Option, Some, IfOk};
+ghost use Rattle.c_machine.specs.declared.kind.Kind.TheVariants.{Struct};
 ghost use Rattle.c_machine.specs.declared.task.Task.TheVariants.{AddressOf, Convert, CopyStruct, Store, Update, ValueOf};
 ghost use Rattle.c_machine.specs.Expressions.{value_kind, value_parts};
-ghost use Rattle.c_machine.specs.State.{doing};
 ghost use Rattle.c_machine.specs.Text.{Assign, Count};
 ghost use Rattle.expressions.specs.Numbers.{Numbering};
 ghost use Rattle.c_machine.specs.Program.{Program};
 ghost use Rattle.c_machine.specs.Trees.{text_of};
 ghost use Rattle.c_text.specs.Stands.{StandsFor};
-ghost use Rattle.c_tasks.specs.Room.{MakesRoom};
+ghost use Rattle.c_tasks.specs.Room.{are_kept, MakesRoom};
 
 use crate::kinds::{own_kind, struct_bytes, value_kind};
-use crate::pushes::{address_then, do_address, do_sides};
+use crate::pushes::{address_alone, address_then, do_conversion};
 use crate::room::Room;
 use crate::state::TreeState;
-use c_machine::{Kind, Task};
+use c_machine::Task;
 use c_steps::Tree;
 use c_text::TypedText;
 use cbase::{BinaryOp, Expr, NoMemory, Place};
@@ -51,10 +51,7 @@ fn set<'a>(
     };
     match struct_bytes(&kind) {
         None => stored(text, state, left, right),
-        Some(bytes) => {
-            copied(state, expr.place, left, right, bytes)?;
-            Ok(Room::Made)
-        }
+        Some(bytes) => copied(state, expr.place, left, right, bytes),
     }
 }
 
@@ -65,12 +62,11 @@ fn copied<'a>(
     left: &'a Expr,
     right: &'a Expr,
     bytes: u64,
-) -> Result<(), NoMemory>
-    ensures { OnOk result (state.new ≡ doing (AddressOf left.now ∷ AddressOf right.now ∷ CopyStruct place bytes ∷ []) state.old) }
+) -> Result<Room, NoMemory>
+    ensures { IfOk result (λ room. are_kept (Struct bytes ∷ []) ≡ true → MakesRoom (AddressOf left.now ∷ AddressOf right.now ∷ CopyStruct place bytes ∷ []) room state.old state.new) }
 {
     state.do_first(Task::CopyStruct { place, bytes })?;
-    do_address(state, right)?;
-    do_address(state, left)
+    address_then(state, left, Task::AddressOf(Tree::of(right)))
 }
 
 /// A value is converted and stored, at the place of the left side.
@@ -88,26 +84,8 @@ fn stored<'a>(
     let Some(to) = own_kind(text, left) else {
         return Ok(Room::NotKept);
     };
-    do_store(state, left, right, from, &to)?;
-    Ok(Room::Made)
-}
-
-/// A value of one kind is stored as one of another.
-fn do_store<'a>(
-    state: &mut TreeState<'a>,
-    left: &'a Expr,
-    right: &'a Expr,
-    from: Kind,
-    to: &Kind,
-) -> Result<(), NoMemory>
-    ensures { OnOk result (state.new ≡ doing (AddressOf left.now ∷ ValueOf right.now ∷ Convert from to.now ∷ Store left.now.place to.now ∷ []) state.old) }
-{
-    state.do_first(Task::Store {
-        place: left.place,
-        kind: *to,
-    })?;
-    state.do_first(Task::Convert { from, to: *to })?;
-    do_sides(state, left, right)
+    do_conversion(state, left.place, right, from, &to)?;
+    address_alone(state, left)
 }
 
 /// `+=` and its like (C11 6.5.16.2).

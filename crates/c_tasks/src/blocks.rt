@@ -11,7 +11,6 @@ ghost use Rattle.c_machine.specs.Trees.{name_of, text_of};
 ghost use Rattle.c_text.specs.Stands.{StandsFor};
 ghost use Rattle.c_tasks.specs.Room.{MakesRoom};
 
-use crate::loops::opened;
 use crate::pushes::{alone, do_statement, do_value};
 use crate::room::Room;
 use crate::state::TreeState;
@@ -57,7 +56,7 @@ fn open_block<'a>(
 {
     match entered(text, state, body)? {
         Room::NotKept => Ok(Room::NotKept),
-        Room::Made => opened(state),
+        Room::Made => alone(state, Task::OpenBlock),
     }
 }
 

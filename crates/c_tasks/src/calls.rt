@@ -1,12 +1,11 @@
 //! Calls (C11 6.5.2.2).
-ghost use Rattle.std.specs.Prelude.{◌<◌, [], ◌∷◌, length, Some, IfOk};
+ghost use Rattle.std.specs.Prelude.{◌<◌, length, Some, IfOk};
 ghost use Rattle.cbase.specs.declared.tree.expr.Expr.{Expr};
-ghost use Rattle.c_machine.specs.declared.task.Task.TheVariants.{CallDefined};
 ghost use Rattle.c_machine.specs.Expressions.{call_parts, value_parts};
 ghost use Rattle.c_machine.specs.Text.{Call};
 ghost use Rattle.expressions.specs.Numbers.{Numbering};
-ghost use Rattle.c_machine.specs.Program.{Program, entity_of};
-ghost use Rattle.c_machine.specs.Trees.{standing, text_of};
+ghost use Rattle.c_machine.specs.Program.{Program};
+ghost use Rattle.c_machine.specs.Trees.{text_of};
 ghost use Rattle.c_text.specs.Standing.{built_in_by};
 ghost use Rattle.c_text.specs.Stands.{StandsFor};
 ghost use Rattle.c_tasks.specs.Room.{MakesRoom};
@@ -33,27 +32,16 @@ pub fn called<'a>(
     ensures { IfOk result (λ room. (n : Numbering) (p : Program) (expr : Expr) → StandsFor n text.now p → MakesRoom (value_parts (text_of p) expr (Call callee.now args.now)) room state.old state.new) }
 {
     match &callee.form {
-        ExprForm::Name(name) => named_call(text, state, callee, name.as_slice(), args),
+        ExprForm::Name(name) => match text.standing(callee.number) {
+            Standing::BuiltIn(signature) => {
+                built_in_call(text, state, callee, name.as_slice(), signature, args)
+            }
+            Standing::Body => alone(state, Task::CallDefined),
+            Standing::Object(_) => unknown(state),
+            Standing::Constant(_) => unknown(state),
+            Standing::Nothing => unknown(state),
+        },
         _ => unknown(state),
-    }
-}
-
-/// A call of what a name stands for.
-fn named_call<'a>(
-    text: &TypedText,
-    state: &mut TreeState<'a>,
-    callee: &'a Expr,
-    name: &[u8],
-    args: &'a [Expr],
-) -> Result<Room, NoMemory>
-    ensures { IfOk result (λ room. (n : Numbering) (p : Program) → StandsFor n text.now p → MakesRoom (call_parts (text_of p) callee.now args.now (standing p (Some name.now) (entity_of p callee.now))) room state.old state.new) }
-{
-    match text.standing(callee.number) {
-        Standing::BuiltIn(signature) => built_in_call(text, state, callee, name, signature, args),
-        Standing::Body => defined_call(state),
-        Standing::Object(_) => unknown(state),
-        Standing::Constant(_) => unknown(state),
-        Standing::Nothing => unknown(state),
     }
 }
 
@@ -78,11 +66,4 @@ fn built_in_call<'a>(
         result: kind,
     })?;
     arguments(text, state, signature, args)
-}
-
-/// A call of a function that has a body in the text.
-fn defined_call(state: &mut TreeState) -> Result<Room, NoMemory>
-    ensures { IfOk result (λ room. MakesRoom (CallDefined ∷ []) room state.old state.new) }
-{
-    alone(state, Task::CallDefined)
 }

@@ -1,8 +1,7 @@
-//! Casts, `?:`, items, members, and the end of a run (C11 6.5.2.1, 6.5.2.3, 6.5.4, 6.5.15, 7.2).
-ghost use Rattle.std.specs.Prelude.{ℕ, Bool, IfOk};
-ghost use Rattle.cbase.specs.declared.tree.expr.Expr.{Expr};
+//! Casts and `?:` (C11 6.5.4, 6.5.15).
+ghost use Rattle.std.specs.Prelude.{IfOk};
 ghost use Rattle.c_machine.specs.Expressions.{value_parts};
-ghost use Rattle.c_machine.specs.Text.{AssertFail, Cast, Choose, Index, Member};
+ghost use Rattle.c_machine.specs.Text.{Cast, Choose};
 ghost use Rattle.expressions.specs.Numbers.{Numbering};
 ghost use Rattle.c_machine.specs.Program.{Program};
 ghost use Rattle.c_machine.specs.Trees.{text_of};
@@ -10,8 +9,7 @@ ghost use Rattle.c_text.specs.Stands.{StandsFor};
 ghost use Rattle.c_tasks.specs.Room.{MakesRoom};
 
 use crate::kinds::{own_kind, value_kind};
-use crate::loads::loaded;
-use crate::pushes::{alone, value_then};
+use crate::pushes::value_then;
 use crate::room::Room;
 use crate::state::TreeState;
 use c_machine::Task;
@@ -60,33 +58,4 @@ pub fn cast<'a>(
         return Ok(Room::NotKept);
     };
     value_then(state, arg, Task::Convert { from, to })
-}
-
-/// What is to be done for the value of an item of an array (C11 6.5.2.1).
-pub fn item<'a>(
-    text: &TypedText,
-    state: &mut TreeState<'a>,
-    expr: &'a Expr,
-) -> Result<Room, NoMemory>
-    ensures { IfOk result (λ room. (n : Numbering) (p : Program) (base index : Expr) → StandsFor n text.now p → MakesRoom (value_parts (text_of p) expr.now (Index base index)) room state.old state.new) }
-{
-    loaded(text, state, expr)
-}
-
-/// What is to be done for the value of a member of a struct (C11 6.5.2.3).
-pub fn member<'a>(
-    text: &TypedText,
-    state: &mut TreeState<'a>,
-    expr: &'a Expr,
-) -> Result<Room, NoMemory>
-    ensures { IfOk result (λ room. (n : Numbering) (p : Program) (base : Expr) (offset : ℕ) (through : Bool) → StandsFor n text.now p → MakesRoom (value_parts (text_of p) expr.now (Member base offset through)) room state.old state.new) }
-{
-    loaded(text, state, expr)
-}
-
-/// What is to be done where an assertion failed: the run ends (C11 7.2.1.1).
-pub fn assert_failed(state: &mut TreeState) -> Result<Room, NoMemory>
-    ensures { IfOk result (λ room. (p : Program) (expr : Expr) → MakesRoom (value_parts (text_of p) expr AssertFail) room state.old state.new) }
-{
-    alone(state, Task::EndRun)
 }

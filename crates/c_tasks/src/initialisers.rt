@@ -3,9 +3,10 @@ ghost use Rattle.std.specs.Prelude.{◌≡◌, true, false, [], ◌∷◌, ◌++
 ghost use Rattle.cbase.specs.declared.tree.expr.ExprForm.TheViews.{out-InitPart};
 ghost use Rattle.cbase.specs.declared.tree.init.InitPart.{InitPart};
 ghost use Rattle.c_machine.specs.declared.kind.Kind.{Kind};
+ghost use Rattle.c_machine.specs.declared.kind.Kind.TheVariants.{Struct};
 ghost use Rattle.c_machine.specs.declared.object.Object.{Object};
 ghost use Rattle.c_machine.specs.declared.task.Task.TheVariants.{AddressOf, Convert, CopyStruct, Finish, Initialise, ObjectAt, Shift, Store as StoreTask, ValueOf};
-ghost use Rattle.c_machine.specs.Blocks.{declared_by, declared_tasks, initialiser_tasks, set, zeroed};
+ghost use Rattle.c_machine.specs.Blocks.{declared_tasks, initialiser_tasks, set, zeroed};
 ghost use Rattle.c_machine.specs.Expressions.{value_kind};
 ghost use Rattle.c_machine.specs.State.{doing};
 ghost use Rattle.expressions.specs.Numbers.{Numbering};
@@ -13,13 +14,13 @@ ghost use Rattle.c_machine.specs.Program.{Program};
 ghost use Rattle.c_machine.specs.Trees.{name_of, text_of};
 ghost use Rattle.c_text.specs.Kept.{is_sized, kept};
 ghost use Rattle.c_text.specs.Stands.{StandsFor};
-ghost use Rattle.c_tasks.specs.Room.{MakesRoom};
+ghost use Rattle.c_tasks.specs.Room.{are_kept, kinds_in, MakesRoom};
 
 use crate::kinds::{struct_bytes, value_kind};
-use crate::pushes::{alone, do_address, do_value, unknown};
+use crate::pushes::{alone, do_conversion, unknown};
 use crate::room::Room;
-use crate::state::TreeState;
-use c_machine::{Kind, Object, Task};
+use crate::state::{TreeState, TreeTask};
+use c_machine::{Object, Task};
 use c_steps::Tree;
 use c_text::{Store, TypedText};
 use cbase::{Declared, Expr, Init, InitPart, NoMemory, Place};
@@ -32,26 +33,13 @@ pub fn declared_tasks<'a>(
 ) -> Result<Room, NoMemory>
     ensures { IfOk result (λ room. (n : Numbering) (p : Program) → StandsFor n text.now p → MakesRoom (declared_tasks (text_of p) (name_of name.now)) room state.old state.new) }
 {
-    match &name.init {
-        None => Ok(Room::Made),
-        Some(init) => initialised(text, state, name.place, init),
-    }
-}
-
-/// What is to be done for a name with an initialiser, if it declares an automatic object.
-fn initialised<'a>(
-    text: &TypedText,
-    state: &mut TreeState<'a>,
-    place: Place,
-    init: &'a Init,
-) -> Result<Room, NoMemory>
-    ensures { IfOk result (λ room. (n : Numbering) (p : Program) → StandsFor n text.now p
-        → MakesRoom (declared_by (text_of p) place ((text_of p).automatic place) (Some init.now)) room state.old state.new) }
-{
-    match text.automatic(place.at) {
-        None => initialised_large(state, place, init),
+    let Some(init) = &name.init else {
+        return Ok(Room::Made);
+    };
+    match text.automatic(name.place.at) {
+        None => initialised_large(state, name.place, init),
         Some(None) => Ok(Room::Made),
-        Some(Some(object)) => initialised_object(text, state, place, object, init),
+        Some(Some(object)) => initialised_object(text, state, name.place, object, init),
     }
 }
 
@@ -72,13 +60,15 @@ fn initialised_object<'a>(
     })?;
     match init {
         Init::Value { .. } => Ok(Room::Made),
-        Init::Braces(_) => {
-            state.do_first(Task::Zero {
+        Init::Braces(_) => object_then(
+            text,
+            state,
+            place,
+            Task::Zero {
                 place,
                 bytes: object.bytes,
-            })?;
-            alone(state, Task::ObjectAt(text.first_token(place.at)))
-        }
+            },
+        ),
     }
 }
 
@@ -114,27 +104,24 @@ pub fn initialiser_tasks<'a>(
 {
     match init {
         Init::Value { value, after } => set(text, state, place, value, *after),
-        Init::Braces(parts) => {
-            do_parts(state, place, parts.as_slice())?;
-            Ok(Room::Made)
-        }
+        Init::Braces(parts) => each_part(state, place, parts.as_slice()),
     }
 }
 
 /// The parts of an initialiser in braces, in order.
-fn do_parts<'a>(
+fn each_part<'a>(
     state: &mut TreeState<'a>,
     place: Place,
     parts: &'a [InitPart],
-) -> Result<(), NoMemory>
-    ensures { OnOk result (state.new ≡ doing (map (λ (part : InitPart). Initialise place (out-InitPart part).init) parts.now) state.old) }
+) -> Result<Room, NoMemory>
+    ensures { IfOk result (λ room. MakesRoom (map (λ (part : InitPart). Initialise place (out-InitPart part).init) parts.now) room state.old state.new) }
 {
     let mut left = parts.len();
     while left > 0 {
         left -= 1;
         do_part(state, place, &parts[left])?;
     }
-    Ok(())
+    Ok(Room::Made)
 }
 
 /// A part of an initialiser in braces.
@@ -179,10 +166,7 @@ fn set_part<'a>(
 {
     match struct_bytes(&store.kind) {
         None => set_value(text, state, place, value, after, store),
-        Some(bytes) => {
-            set_struct(text, state, place, value, after, store.offset, bytes)?;
-            Ok(Room::Made)
-        }
+        Some(bytes) => set_struct(text, state, place, value, after, store.offset, bytes),
     }
 }
 
@@ -195,14 +179,14 @@ fn set_struct<'a>(
     after: Place,
     offset: u64,
     bytes: u64,
-) -> Result<(), NoMemory>
-    ensures { OnOk result ((n : Numbering) (p : Program) → StandsFor n text.now p
-        → state.new ≡ doing (ObjectAt ((text_of p).token place) ∷ Shift offset ∷ AddressOf value.now ∷ CopyStruct place bytes ∷ Finish after ∷ []) state.old) }
+) -> Result<Room, NoMemory>
+    ensures { IfOk result (λ room. (n : Numbering) (p : Program) → StandsFor n text.now p → are_kept (Struct bytes ∷ []) ≡ true
+        → MakesRoom (ObjectAt ((text_of p).token place) ∷ Shift offset ∷ AddressOf value.now ∷ CopyStruct place bytes ∷ Finish after ∷ []) room state.old state.new) }
 {
     state.do_first(Task::Finish(after))?;
     state.do_first(Task::CopyStruct { place, bytes })?;
-    do_address(state, value)?;
-    do_target(text, state, place, offset)
+    state.do_first(Task::AddressOf(Tree::of(value)))?;
+    object_then(text, state, place, Task::Shift(offset))
 }
 
 /// A value is converted and stored at its place in the object.
@@ -223,35 +207,19 @@ fn set_value<'a>(
     };
     state.do_first(Task::Finish(after))?;
     do_conversion(state, place, value, from, &store.kind)?;
-    do_target(text, state, place, store.offset)?;
-    Ok(Room::Made)
+    object_then(text, state, place, Task::Shift(store.offset))
 }
 
-/// A value of one kind is stored as one of another.
-fn do_conversion<'a>(
+/// The address of the object whose name stands there, and then another thing.
+fn object_then<'a>(
+    text: &TypedText,
     state: &mut TreeState<'a>,
     place: Place,
-    value: &'a Expr,
-    from: Kind,
-    to: &Kind,
-) -> Result<(), NoMemory>
-    ensures { OnOk result (state.new ≡ doing (ValueOf value.now ∷ Convert from to.now ∷ StoreTask place to.now ∷ []) state.old) }
+    task: TreeTask<'a>,
+) -> Result<Room, NoMemory>
+    ensures { IfOk result (λ room. (n : Numbering) (p : Program) → StandsFor n text.now p → are_kept (kinds_in (task.entry ∷ [])) ≡ true
+        → MakesRoom (ObjectAt ((text_of p).token place) ∷ task.entry ∷ []) room state.old state.new) }
 {
-    state.do_first(Task::Store { place, kind: *to })?;
-    state.do_first(Task::Convert { from, to: *to })?;
-    do_value(state, value)
-}
-
-/// The address of so many bytes behind the front of the object whose name stands there.
-fn do_target(
-    text: &TypedText,
-    state: &mut TreeState,
-    place: Place,
-    offset: u64,
-) -> Result<(), NoMemory>
-    ensures { OnOk result ((n : Numbering) (p : Program) → StandsFor n text.now p
-        → state.new ≡ doing (ObjectAt ((text_of p).token place) ∷ Shift offset ∷ []) state.old) }
-{
-    state.do_first(Task::Shift(offset))?;
-    state.do_first(Task::ObjectAt(text.first_token(place.at)))
+    state.do_first(task)?;
+    alone(state, Task::ObjectAt(text.first_token(place.at)))
 }

@@ -1,6 +1,5 @@
-//! `break`, `continue` and `return` (C11 6.8.6).
-ghost use Rattle.std.specs.Prelude.{[], ◌∷◌, None, Some, IfOk};
-ghost use Rattle.c_machine.specs.declared.task.Task.TheVariants.{BreakAt, ContinueAt};
+//! `return` (C11 6.8.6.4).
+ghost use Rattle.std.specs.Prelude.{Some, IfOk};
 ghost use Rattle.c_machine.specs.Statements.{return_tasks};
 ghost use Rattle.expressions.specs.Numbers.{Numbering};
 ghost use Rattle.c_machine.specs.Program.{Program};
@@ -16,20 +15,6 @@ use c_machine::{Kind, Task};
 use c_text::TypedText;
 use cbase::{Boxed, Expr, NoMemory, Place};
 
-/// `break` (C11 6.8.6.3).
-pub(crate) fn broken_off(state: &mut TreeState, word: Place) -> Result<Room, NoMemory>
-    ensures { IfOk result (λ room. MakesRoom (BreakAt word ∷ []) room state.old state.new) }
-{
-    alone(state, Task::BreakAt(word))
-}
-
-/// `continue` (C11 6.8.6.2).
-pub(crate) fn continued(state: &mut TreeState, word: Place) -> Result<Room, NoMemory>
-    ensures { IfOk result (λ room. MakesRoom (ContinueAt word ∷ []) room state.old state.new) }
-{
-    alone(state, Task::ContinueAt(word))
-}
-
 /// `return`, with a value or without one (C11 6.8.6.4).
 pub(crate) fn returned<'a>(
     text: &TypedText,
@@ -40,20 +25,15 @@ pub(crate) fn returned<'a>(
     ensures { IfOk result (λ room. (n : Numbering) (p : Program) → StandsFor n text.now p → MakesRoom (return_tasks (text_of p) word expr.now) room state.old state.new) }
 {
     match expr {
-        None => returned_nothing(state, word),
+        None => {
+            state.do_first(Task::GiveBack {
+                place: word,
+                kind: Kind::Void,
+            })?;
+            alone(state, Task::Push(0))
+        }
         Some(expr) => returned_value(text, state, word, expr.get()),
     }
-}
-
-/// `return` without a value.
-fn returned_nothing(state: &mut TreeState, word: Place) -> Result<Room, NoMemory>
-    ensures { IfOk result (λ room. (p : Program) → MakesRoom (return_tasks (text_of p) word None) room state.old state.new) }
-{
-    state.do_first(Task::GiveBack {
-        place: word,
-        kind: Kind::Void,
-    })?;
-    alone(state, Task::Push(0))
 }
 
 /// `return` with a value.

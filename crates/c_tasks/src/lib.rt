@@ -22,7 +22,6 @@ mod names;
 mod operations;
 mod pushes;
 mod room;
-mod standing;
 mod state;
 mod statements;
 mod value;

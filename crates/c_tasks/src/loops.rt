@@ -13,10 +13,9 @@ ghost use Rattle.c_tasks.specs.Room.{MakesRoom};
 
 use crate::blocks::objects_in;
 use crate::branches::tested;
-use crate::pushes::{alone, do_statement, statement_alone, unknown};
+use crate::pushes::{alone, do_statement, statement_alone, unknown, value_then};
 use crate::room::Room;
 use crate::state::TreeState;
-use crate::statements::evaluated;
 use c_machine::Task;
 use c_steps::Tree;
 use c_text::TypedText;
@@ -58,13 +57,6 @@ pub fn is_for(stmt: &Stmt) -> bool
         StmtForm::For { .. } => true,
         _ => false,
     }
-}
-
-/// The condition of a loop is to be tested.
-pub(crate) fn do_test<'a>(state: &mut TreeState<'a>, stmt: &'a Stmt) -> Result<(), NoMemory>
-    ensures { OnOk result (state.new ≡ doing (Test stmt.now ∷ []) state.old) }
-{
-    state.do_first(Task::Test(Tree::of(stmt)))
 }
 
 /// The condition of a loop alone.
@@ -115,8 +107,11 @@ fn after_turn<'a>(
 ) -> Result<Room, NoMemory>
     ensures { IfOk result (λ room. (p : Program) → MakesRoom (eval_tasks (text_of p) next.now close ++ Test stmt.now ∷ []) room state.old state.new) }
 {
-    do_test(state, stmt)?;
-    evaluated(state, next, close)
+    state.do_first(Task::Test(Tree::of(stmt)))?;
+    match next {
+        None => Ok(Room::Made),
+        Some(next) => value_then(state, next.get(), Task::Finish(close)),
+    }
 }
 
 /// A `for` is a block of its own, which is left at its word (C11 6.8.5p5): what comes first, and the condition.
@@ -131,7 +126,7 @@ pub(crate) fn for_loop<'a>(
 {
     do_run(state, stmt, first)?;
     match objects_in(text, state, first)? {
-        Room::Made => opened(state),
+        Room::Made => alone(state, Task::OpenBlock),
         Room::NotKept => Ok(Room::NotKept),
     }
 }
@@ -141,13 +136,6 @@ fn do_run<'a>(state: &mut TreeState<'a>, stmt: &'a Stmt, first: &'a Stmt) -> Res
     ensures { OnOk result (state.new ≡ doing (Execute first.now ∷ Test stmt.now ∷ LeaveBlock stmt.now.place ∷ []) state.old) }
 {
     state.do_first(Task::LeaveBlock(stmt.place))?;
-    do_test(state, stmt)?;
+    state.do_first(Task::Test(Tree::of(stmt)))?;
     do_statement(state, first)
-}
-
-/// A block begins.
-pub(crate) fn opened(state: &mut TreeState) -> Result<Room, NoMemory>
-    ensures { IfOk result (λ room. MakesRoom (OpenBlock ∷ []) room state.old state.new) }
-{
-    alone(state, Task::OpenBlock)
 }

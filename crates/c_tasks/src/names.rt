@@ -12,10 +12,9 @@ ghost use Rattle.c_tasks.specs.Room.{MakesRoom};
 use crate::loads::loaded;
 use crate::pushes::{alone, unknown};
 use crate::room::Room;
-use crate::standing::constant_named;
 use crate::state::TreeState;
 use c_machine::Task;
-use c_text::TypedText;
+use c_text::{Standing, TypedText};
 use cbase::{Expr, NoMemory};
 
 /// What is to be done for the value of a name: a constant of an enum is known, and an object is loaded (C11 6.4.4.3, 6.5.1).
@@ -26,9 +25,9 @@ pub fn named_value<'a>(
 ) -> Result<Room, NoMemory>
     ensures { IfOk result (λ room. (n : Numbering) (p : Program) → StandsFor n text.now p → MakesRoom (value_parts (text_of p) expr.now Name) room state.old state.new) }
 {
-    match constant_named(text, expr) {
-        None => loaded(text, state, expr),
-        Some(bits) => alone(state, Task::Push(u64::from(bits))),
+    match text.standing(expr.number) {
+        Standing::Constant(bits) => alone(state, Task::Push(u64::from(bits))),
+        _ => loaded(text, state, expr),
     }
 }
 

@@ -1,6 +1,6 @@
 //! Unary and binary operators (C11 6.5.3, 6.5.5 to 6.5.14, 6.5.17).
-ghost use Rattle.std.specs.Prelude.{◌≡◌, [], ◌∷◌, false, IfOk};
-ghost use Rattle.c_machine.specs.declared.task.Task.TheVariants.{AndThen, Answer, Apply, Drop, Operate, OrElse, ValueOf};
+ghost use Rattle.std.specs.Prelude.{[], ◌∷◌, IfOk};
+ghost use Rattle.c_machine.specs.declared.task.Task.TheVariants.{Apply, Drop, Operate, ValueOf};
 ghost use Rattle.c_machine.specs.Expressions.{value_kind, value_parts};
 ghost use Rattle.c_machine.specs.Text.{Unary, Binary};
 ghost use Rattle.expressions.specs.Numbers.{Numbering};
@@ -32,16 +32,9 @@ pub fn unary<'a>(
     match op {
         UnaryOp::Address => address_alone(state, arg),
         UnaryOp::Follow => loaded(text, state, expr),
-        UnaryOp::Not => denied(state, arg),
+        UnaryOp::Not => value_then(state, arg, Task::Answer(false)),
         _ => applied(text, state, op, arg),
     }
-}
-
-/// `!` of a value.
-fn denied<'a>(state: &mut TreeState<'a>, arg: &'a Expr) -> Result<Room, NoMemory>
-    ensures { IfOk result (λ room. MakesRoom (ValueOf arg.now ∷ Answer false ∷ []) room state.old state.new) }
-{
-    value_then(state, arg, Task::Answer(false))
 }
 
 /// An operator of arithmetic on one value.
@@ -59,7 +52,7 @@ fn applied<'a>(
     value_then(state, arg, Task::Apply { op, kind })
 }
 
-/// What is to be done for the value of a binary operator or the comma with its operands.
+/// What is to be done for the value of a binary operator or the comma with its operands: `&&` and `||` ask the left one first (C11 6.5.13p4, 6.5.14p4).
 pub fn binary<'a>(
     text: &TypedText,
     state: &mut TreeState<'a>,
@@ -71,25 +64,11 @@ pub fn binary<'a>(
     ensures { IfOk result (λ room. (n : Numbering) (p : Program) → StandsFor n text.now p → MakesRoom (value_parts (text_of p) expr.now (Binary op left.now right.now)) room state.old state.new) }
 {
     match op {
-        BinaryOp::Both => both(state, left, right),
-        BinaryOp::Either => either(state, left, right),
+        BinaryOp::Both => value_then(state, left, Task::AndThen(Tree::of(right))),
+        BinaryOp::Either => value_then(state, left, Task::OrElse(Tree::of(right))),
         BinaryOp::Comma => behind_comma(state, left, right),
         _ => operated(text, state, op, left, right),
     }
-}
-
-/// `&&` (C11 6.5.13p4).
-fn both<'a>(state: &mut TreeState<'a>, left: &'a Expr, right: &'a Expr) -> Result<Room, NoMemory>
-    ensures { IfOk result (λ room. MakesRoom (ValueOf left.now ∷ AndThen right.now ∷ []) room state.old state.new) }
-{
-    value_then(state, left, Task::AndThen(Tree::of(right)))
-}
-
-/// `||` (C11 6.5.14p4).
-fn either<'a>(state: &mut TreeState<'a>, left: &'a Expr, right: &'a Expr) -> Result<Room, NoMemory>
-    ensures { IfOk result (λ room. MakesRoom (ValueOf left.now ∷ OrElse right.now ∷ []) room state.old state.new) }
-{
-    value_then(state, left, Task::OrElse(Tree::of(right)))
 }
 
 /// `,`: the left value goes (C11 6.5.17p2).

@@ -1,14 +1,14 @@
 //! Things to do that ask nothing of a program.
 ghost use Rattle.std.specs.Prelude.{◌≡◌, [], ◌∷◌, true, IfOk, OnOk};
-ghost use Rattle.c_machine.specs.declared.task.Task.TheVariants.{AddressOf, Execute, Unknown, ValueOf};
+ghost use Rattle.c_machine.specs.declared.task.Task.TheVariants.{AddressOf, Convert, Execute, Store, Unknown, ValueOf};
 ghost use Rattle.c_machine.specs.State.{doing};
 ghost use Rattle.c_tasks.specs.Room.{are_kept, kinds_in, MakesRoom};
 
 use crate::room::Room;
 use crate::state::{TreeState, TreeTask};
-use c_machine::Task;
+use c_machine::{Kind, Task};
 use c_steps::Tree;
-use cbase::{Expr, NoMemory, Stmt};
+use cbase::{Expr, NoMemory, Place, Stmt};
 
 /// The value of an expression.
 pub(crate) fn do_value<'a>(state: &mut TreeState<'a>, expr: &'a Expr) -> Result<(), NoMemory>
@@ -17,23 +17,19 @@ pub(crate) fn do_value<'a>(state: &mut TreeState<'a>, expr: &'a Expr) -> Result<
     state.do_first(Task::ValueOf(Tree::of(expr)))
 }
 
-/// The address of an expression.
-pub(crate) fn do_address<'a>(state: &mut TreeState<'a>, expr: &'a Expr) -> Result<(), NoMemory>
-    ensures { OnOk result (state.new ≡ doing (AddressOf expr.now ∷ []) state.old) }
-{
-    state.do_first(Task::AddressOf(Tree::of(expr)))
-}
-
-/// An address, and then a value.
-pub(crate) fn do_sides<'a>(
+/// A value of one kind is stored as one of another, at that place.
+pub(crate) fn do_conversion<'a>(
     state: &mut TreeState<'a>,
-    left: &'a Expr,
-    right: &'a Expr,
+    place: Place,
+    value: &'a Expr,
+    from: Kind,
+    to: &Kind,
 ) -> Result<(), NoMemory>
-    ensures { OnOk result (state.new ≡ doing (AddressOf left.now ∷ ValueOf right.now ∷ []) state.old) }
+    ensures { OnOk result (state.new ≡ doing (ValueOf value.now ∷ Convert from to.now ∷ Store place to.now ∷ []) state.old) }
 {
-    do_value(state, right)?;
-    do_address(state, left)
+    state.do_first(Task::Store { place, kind: *to })?;
+    state.do_first(Task::Convert { from, to: *to })?;
+    do_value(state, value)
 }
 
 /// A statement.
@@ -47,8 +43,10 @@ pub(crate) fn do_statement<'a>(state: &mut TreeState<'a>, stmt: &'a Stmt) -> Res
 pub(crate) fn alone<'a>(state: &mut TreeState<'a>, task: TreeTask<'a>) -> Result<Room, NoMemory>
     ensures { IfOk result (λ room. are_kept (kinds_in (task.entry ∷ [])) ≡ true → MakesRoom (task.entry ∷ []) room state.old state.new) }
 {
-    state.do_first(task)?;
-    Ok(Room::Made)
+    match state.do_first(task) {
+        Ok(()) => Ok(Room::Made),
+        Err(error) => Err(error),
+    }
 }
 
 /// A statement alone.

@@ -10,14 +10,14 @@ ghost use Rattle.c_tasks.specs.Room.{MakesRoom};
 use crate::blocks::in_block;
 use crate::branches::tested;
 use crate::declarations::declared_names;
-use crate::jumps::{broken_off, continued, returned};
+use crate::jumps::returned;
 use crate::loops::{for_loop, test_alone, turn};
-use crate::pushes::value_then;
+use crate::pushes::{alone, value_then};
 use crate::room::Room;
 use crate::state::TreeState;
 use c_machine::Task;
 use c_text::TypedText;
-use cbase::{Boxed, Expr, NoMemory, Place, Stmt, StmtForm};
+use cbase::{Expr, NoMemory, Place, Stmt, StmtForm};
 
 /// What is to be done for a statement, where unfinished expressions around it hold so many operands (C11 6.8).
 ///
@@ -38,8 +38,8 @@ pub fn statement_tasks<'a>(
         StmtForm::While { .. } => test_alone(state, stmt),
         StmtForm::Do { body, .. } => turn(state, stmt, held, body.get()),
         StmtForm::For { first, .. } => for_loop(text, state, stmt, first.get()),
-        StmtForm::Break => broken_off(state, stmt.place),
-        StmtForm::Continue => continued(state, stmt.place),
+        StmtForm::Break => alone(state, Task::BreakAt(stmt.place)),
+        StmtForm::Continue => alone(state, Task::ContinueAt(stmt.place)),
         StmtForm::Return(expr) => returned(text, state, stmt.place, expr),
     }
 }
@@ -55,19 +55,5 @@ fn evaluated_here<'a>(
     match expr {
         None => Ok(Room::Made),
         Some(expr) => value_then(state, expr, Task::Finish(after)),
-    }
-}
-
-/// The same of one behind a pointer.
-pub(crate) fn evaluated<'a>(
-    state: &mut TreeState<'a>,
-    expr: &'a Option<Boxed<Expr>>,
-    after: Place,
-) -> Result<Room, NoMemory>
-    ensures { IfOk result (λ room. (p : Program) → MakesRoom (eval_tasks (text_of p) expr.now after) room state.old state.new) }
-{
-    match expr {
-        None => Ok(Room::Made),
-        Some(expr) => value_then(state, expr.get(), Task::Finish(after)),
     }
 }

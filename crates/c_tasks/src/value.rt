@@ -10,11 +10,14 @@ ghost use Rattle.c_tasks.specs.Room.{MakesRoom};
 use crate::assignments::{assigned, counted};
 use crate::blocks::in_inner_block;
 use crate::calls::called;
-use crate::forms::{assert_failed, cast, chosen, item, member};
+use crate::forms::{cast, chosen};
+use crate::loads::loaded;
 use crate::names::{known_value, named_value};
 use crate::operations::{binary, unary};
+use crate::pushes::alone;
 use crate::room::Room;
 use crate::state::TreeState;
+use c_machine::Task;
 use c_text::TypedText;
 use cbase::{Expr, ExprForm, NoMemory};
 
@@ -46,10 +49,10 @@ pub fn value_tasks<'a>(
         ExprForm::SizeOf(_) => known_value(text, state, expr),
         ExprForm::SizeOfType(_) => known_value(text, state, expr),
         ExprForm::OffsetOf { .. } => known_value(text, state, expr),
-        ExprForm::Index { .. } => item(text, state, expr),
-        ExprForm::Member { .. } => member(text, state, expr),
+        ExprForm::Index { .. } => loaded(text, state, expr),
+        ExprForm::Member { .. } => loaded(text, state, expr),
         ExprForm::Call { callee, args } => called(text, state, callee.get(), args.as_slice()),
         ExprForm::Inner { body, close } => in_inner_block(text, state, body.as_slice(), *close),
-        ExprForm::AssertFail => assert_failed(state),
+        ExprForm::AssertFail => alone(state, Task::EndRun),
     }
 }

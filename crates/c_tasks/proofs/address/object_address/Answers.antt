@@ -1,19 +1,25 @@
 -- A name of an object has its address.
-use Rattle.std.proofs.Common.{[], ◌∷◌, refl, sym, ◌∙◌}
+use Rattle.std.proofs.Common.{[], ◌∷◌, refl, sym, ap, ◌∙◌}
+use Rattle.typing.specs.Forms.{name_in}
+use Rattle.cbase.specs.declared.tree.expr.ExprForm.TheViews.{out-ExprForm}
 use Rattle.c_machine.specs.declared.task.Task.TheVariants.{ObjectAt}
+use Rattle.c_machine.specs.Expressions.{named}
 use Rattle.c_machine.specs.Trees.{text_of}
+use Rattle.c_text.specs.Standing.{standing_by}
 use Rattle.c_tasks.proofs.MakingRoom.{on_ok, same_room}
-use Rattle.c_tasks.proofs.NamedThings.{object_of_name, no_object_of_name}
+use Rattle.c_tasks.proofs.NamedThings.{no_object}
 use Rattle.c_tasks.proofs.address.object_address.Goals as goal
 
-pub returns-in-None : goal.returns-in-None
-returns-in-None c = on_ok _ _ c.unknown.result
-    (λ room made. λ n p stands. same_room _ _ room c.args.state.now c.unknown.new.state
-    (no_object_of_name (text_of p) ((text_of p).stands c.args.expr.now) (sym c.in-None.is ∙ c.object_named.ensures n p stands)) made)
-    c.unknown.ensures
-
-pub returns-in-Some : goal.returns-in-Some
-returns-in-Some c = on_ok _ _ c.alone.result
-    (λ room made. λ n p stands. same_room _ (ObjectAt c.in-Some.token ∷ []) room c.args.state.now c.alone.new.state
-    (object_of_name (text_of p) ((text_of p).stands c.args.expr.now) c.in-Some.token (sym c.in-Some.is ∙ c.object_named.ensures n p stands)) (made refl))
+pub returns-in-Object : goal.returns-in-Object
+returns-in-Object c = on_ok _ _ c.alone.result
+    (λ room made. λ n p stands. same_room _ (ObjectAt c.in-Object.token ∷ []) room c.args.state.now c.alone.new.state
+    (ap (named (text_of p)) (sym (c.standing.ensures.is n p c.args.expr.now (name_in (out-ExprForm c.args.expr.now.form)) stands refl)
+    ∙ ap (standing_by n p (name_in (out-ExprForm c.args.expr.now.form))) c.in-Object.is)) (made refl))
     c.alone.ensures
+
+pub returns-in_default : goal.returns-in_default
+returns-in_default c = on_ok _ _ c.unknown.result
+    (λ room made. λ n p stands. same_room _ _ room c.args.state.now c.unknown.new.state
+    (ap (named (text_of p)) (sym (c.standing.ensures.is n p c.args.expr.now (name_in (out-ExprForm c.args.expr.now.form)) stands refl))
+    ∙ no_object n p (name_in (out-ExprForm c.args.expr.now.form)) c.standing.result c.in_default.not-Object) made)
+    c.unknown.ensures

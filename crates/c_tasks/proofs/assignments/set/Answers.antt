@@ -3,7 +3,6 @@ use Rattle.std.proofs.Common.{[], ◌∷◌, sym, ◌∙◌}
 use Rattle.c_machine.specs.declared.task.Task.TheVariants.{AddressOf, CopyStruct}
 use Rattle.c_machine.specs.Program.{type_of}
 use Rattle.c_machine.specs.Trees.{kind_in, text_of}
-use Rattle.c_tasks.specs.declared.room.Room.TheVariants.{Made}
 use Rattle.c_tasks.proofs.MakingRoom.{assigns_none, copies, on_ok, same_room, stores}
 use Rattle.c_tasks.proofs.assignments.set.Goals as goal
 
@@ -15,12 +14,14 @@ returns-in-None c = on_ok _ _ c.stored.result
     (made n p stands))
     c.stored.ensures
 
-pub returns-in_ok-copied-in-Some-struct_bytes : goal.returns-in_ok-copied-in-Some-struct_bytes
-returns-in_ok-copied-in-Some-struct_bytes c = λ n p stands.
+pub returns-in-Some-struct_bytes : goal.returns-in-Some-struct_bytes
+returns-in-Some-struct_bytes c = on_ok _ _ c.copied.result
+    (λ room made. λ n p stands.
     let is = copies (text_of p) c.args.expr.now.place c.args.left.now c.args.right.now (kind_in p (type_of p c.args.left.now)) c.in-Some.kind c.in-Some-struct_bytes.bytes
     (sym c.in-Some.is ∙ c.own_kind.ensures n p stands) (sym c.in-Some-struct_bytes.is ∙ c.struct_bytes.ensures) in
-    same_room _ (AddressOf c.args.left.now ∷ AddressOf c.args.right.now ∷ CopyStruct c.args.expr.now.place c.in-Some-struct_bytes.bytes ∷ []) Made
-    c.args.state.now c.copied.new.state is.0 (c.in_ok-copied-in-Some-struct_bytes.ensures, is.1)
+    same_room _ (AddressOf c.args.left.now ∷ AddressOf c.args.right.now ∷ CopyStruct c.args.expr.now.place c.in-Some-struct_bytes.bytes ∷ []) room
+    c.args.state.now c.copied.new.state is.0 (made is.1))
+    c.copied.ensures
 
 pub returns-in_default : goal.returns-in_default
 returns-in_default c = λ n p stands.

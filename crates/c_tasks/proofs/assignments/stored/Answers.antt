@@ -5,7 +5,8 @@ use Rattle.c_machine.specs.declared.task.Task.TheVariants.{AddressOf, Convert, S
 use Rattle.c_machine.specs.Expressions.{value_kind}
 use Rattle.c_machine.specs.Program.{type_of}
 use Rattle.c_machine.specs.Trees.{kind_in, text_of}
-use Rattle.c_tasks.proofs.MakingRoom.{lacks_one, lacks_second, speaks_of_two, three_there}
+use Rattle.c_tasks.proofs.MakingRoom.{lacks_one, lacks_second, on_ok, speaks_of_two, three_there}
+use Rattle.c_tasks.proofs.RoomBehind.{in_front}
 use Rattle.c_tasks.proofs.assignments.stored.Goals as goal
 
 pub returns-in_default : goal.returns-in_default
@@ -15,8 +16,12 @@ pub returns-in_default-own_kind : goal.returns-in_default-own_kind
 returns-in_default-own_kind c = λ n p stands. lacks_second (value_kind (text_of p) c.args.right.now) (kind_in p (type_of p c.args.left.now)) (kind_in p (type_of p c.args.left.now) ∷ []) (sym c.in_default-own_kind.is ∙ c.own_kind.ensures n p stands)
 
 pub returns : goal.returns
-returns c = λ n p stands.
-    speaks_of_two (λ (one other : Kind). AddressOf c.args.left.now ∷ ValueOf c.args.right.now ∷ Convert one other ∷ Store c.args.left.now.place other ∷ []) (value_kind (text_of p) c.args.right.now) (kind_in p (type_of p c.args.left.now)) c.in-Some.from c.in-Some-own_kind.to c.args.state.now c.do_store.new.state
+returns c = on_ok _ _ c.address_alone.result
+    (λ room made. λ n p stands.
+    in_front (AddressOf c.args.left.now ∷ []) (ValueOf c.args.right.now ∷ Convert (value_kind (text_of p) c.args.right.now) (kind_in p (type_of p c.args.left.now)) ∷ Store c.args.left.now.place (kind_in p (type_of p c.args.left.now)) ∷ []) room c.args.state.now c.do_conversion.new.state c.address_alone.new.state
+    (speaks_of_two (λ (one other : Kind). ValueOf c.args.right.now ∷ Convert one other ∷ Store c.args.left.now.place other ∷ []) (value_kind (text_of p) c.args.right.now) (kind_in p (type_of p c.args.left.now)) c.in-Some.from c.in-Some-own_kind.to c.args.state.now c.do_conversion.new.state
     (sym c.in-Some.is ∙ c.value_kind.ensures n p stands) (sym c.in-Some-own_kind.is ∙ c.own_kind.ensures n p stands)
     (three_there (value_kind (text_of p) c.args.right.now) (kind_in p (type_of p c.args.left.now)))
-    c.in_ok-do_store.ensures
+    c.in_ok-do_conversion.ensures)
+    made)
+    c.address_alone.ensures

@@ -1,5 +1,5 @@
 -- The block begins in front of its objects.
-use Rattle.std.proofs.Common.{[], ◌∷◌, subst}
+use Rattle.std.proofs.Common.{[], ◌∷◌, refl, subst}
 use Rattle.c_machine.specs.declared.task.Task.TheVariants.{OpenBlock}
 use Rattle.c_machine.specs.Blocks.{entered}
 use Rattle.c_machine.specs.Trees.{text_of}
@@ -15,9 +15,9 @@ returns-in-NotKept c = λ n p stands.
     (c.in_ok-entered.ensures n p stands)
 
 pub returns-in-Made : goal.returns-in-Made
-returns-in-Made c = on_ok _ _ c.opened.result
+returns-in-Made c = on_ok _ _ c.alone.result
     (λ room made. λ n p stands.
-    in_front (OpenBlock ∷ []) (entered (text_of p) c.args.body.now) room c.args.state.now c.entered.new.state c.opened.new.state
+    in_front (OpenBlock ∷ []) (entered (text_of p) c.args.body.now) room c.args.state.now c.entered.new.state c.alone.new.state
     (subst (λ (room : Room). MakesRoom (entered (text_of p) c.args.body.now) room c.args.state.now c.entered.new.state) c.in-Made.is (c.in_ok-entered.ensures n p stands))
-    made)
-    c.opened.ensures
+    (made refl))
+    c.alone.ensures

@@ -1,12 +1,11 @@
 -- A value, or parts in braces.
-use Rattle.std.proofs.Common.{List, ap, ◌∙◌}
+use Rattle.std.proofs.Common.{List, ap, subst, ◌∙◌}
 use Rattle.cbase.specs.declared.tree.expr.ExprForm.TheViews.{out-Init, outs-Braces, outs-Value}
 use Rattle.cbase.specs.declared.tree.init.InitPart.{InitPart}
 use Rattle.c_machine.specs.Blocks.{initialiser_parts}
-use Rattle.c_machine.specs.State.{doing}
 use Rattle.c_machine.specs.Trees.{initialiser_of, text_of}
-use Rattle.c_tasks.specs.declared.room.Room.TheVariants.{Made}
-use Rattle.c_tasks.proofs.Initialised.{parts_are, parts_kept, parts_tasks}
+use Rattle.c_tasks.specs.Room.{MakesRoom}
+use Rattle.c_tasks.proofs.Initialised.{parts_are, parts_tasks}
 use Rattle.c_tasks.proofs.MakingRoom.{on_ok, same_room}
 use Rattle.c_tasks.proofs.initialisers.initialiser_tasks.Goals as goal
 
@@ -17,12 +16,10 @@ returns-in-Value c = on_ok _ _ c.set.result
     (made n p stands))
     c.set.ensures
 
-pub returns-in_ok-do_parts-in-Braces : goal.returns-in_ok-do_parts-in-Braces
-returns-in_ok-do_parts-in-Braces c = λ n p stands.
-    same_room _ (parts_tasks c.args.place c.in-Braces.parts) Made c.args.state.now c.do_parts.new.state
+pub returns-in-Braces : goal.returns-in-Braces
+returns-in-Braces c = on_ok _ _ c.each_part.result
+    (λ room made. λ n p stands. same_room _ (parts_tasks c.args.place c.in-Braces.parts) room c.args.state.now c.each_part.new.state
     (ap (λ layer. initialiser_parts (text_of p) c.args.place (initialiser_of layer)) (ap out-Init c.in-Braces.is ∙ outs-Braces c.in-Braces.parts)
-    ∙ parts_are c.args.place c.in-Braces.parts) (
-      c.in_ok-do_parts-in-Braces.ensures
-          ∙ ap (λ (parts : List InitPart). doing (parts_tasks c.args.place parts) c.args.state.now) c.as_slice.ensures,
-      parts_kept c.args.place c.in-Braces.parts,
-    )
+    ∙ parts_are c.args.place c.in-Braces.parts)
+    (subst (λ (parts : List InitPart). MakesRoom (parts_tasks c.args.place parts) room c.args.state.now c.each_part.new.state) c.as_slice.ensures made))
+    c.each_part.ensures

@@ -2,7 +2,6 @@
 use Rattle.std.proofs.Common.{[], ◌∷◌, ◌++◌, sym, ap, ◌∙◌}
 use Rattle.c_machine.specs.declared.task.Task.TheVariants.{AddressOf, CopyStruct, Finish, ObjectAt, Shift}
 use Rattle.c_machine.specs.Trees.{text_of}
-use Rattle.c_tasks.specs.declared.room.Room.TheVariants.{Made}
 use Rattle.c_tasks.proofs.Initialised.{set_copies, set_stores}
 use Rattle.c_tasks.proofs.MakingRoom.{Tasks, on_ok, same_room}
 use Rattle.c_tasks.proofs.initialisers.set_part.Goals as goal
@@ -15,10 +14,12 @@ returns-in-None c = on_ok _ _ c.set_value.result
     (made n p kind stands is))
     c.set_value.ensures
 
-pub returns-in_ok-set_struct-in-Some : goal.returns-in_ok-set_struct-in-Some
-returns-in_ok-set_struct-in-Some c = λ n p kind stands is.
+pub returns-in-Some : goal.returns-in-Some
+returns-in-Some c = on_ok _ _ c.set_struct.result
+    (λ room made. λ n p kind stands is.
     let copied = set_copies p c.args.place c.args.value.now kind c.args.store.now.kind c.in-Some.bytes is (sym c.in-Some.is ∙ c.struct_bytes.ensures) in
     same_room _ (ObjectAt ((text_of p).token c.args.place) ∷ Shift c.args.store.now.offset ∷ AddressOf c.args.value.now ∷ CopyStruct c.args.place c.in-Some.bytes
-    ∷ Finish c.args.after ∷ []) Made c.args.state.now c.set_struct.new.state
+    ∷ Finish c.args.after ∷ []) room c.args.state.now c.set_struct.new.state
     (ap (λ (tasks : Tasks). ObjectAt ((text_of p).token c.args.place) ∷ Shift c.args.store.now.offset ∷ (tasks ++ Finish c.args.after ∷ [])) copied.0)
-    (c.in_ok-set_struct-in-Some.ensures n p stands, copied.1)
+    (made n p stands copied.1))
+    c.set_struct.ensures

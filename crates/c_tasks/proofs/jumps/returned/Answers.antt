@@ -1,11 +1,15 @@
--- `return` without a value.
-use Rattle.std.proofs.Common.{ap}
+-- Without a value nothing is given back.
+use Rattle.std.proofs.Common.{[], ◌∷◌, ap, refl}
+use Rattle.c_machine.specs.declared.kind.Kind.TheVariants.{Void}
+use Rattle.c_machine.specs.declared.task.Task.TheVariants.{GiveBack, Push}
 use Rattle.c_machine.specs.Statements.{return_tasks}
 use Rattle.c_machine.specs.Trees.{text_of}
 use Rattle.c_tasks.proofs.MakingRoom.{on_ok, same_room}
+use Rattle.c_tasks.proofs.RoomBehind.{in_front}
 use Rattle.c_tasks.proofs.jumps.returned.Goals as goal
 
-pub returns-in-None : goal.returns-in-None
-returns-in-None c = on_ok _ _ c.returned_nothing.result
-    (λ room made. λ n p stands. same_room _ _ room c.args.state.now c.returned_nothing.new.state (ap (return_tasks (text_of p) c.args.word) c.in-None.is) (made p))
-    c.returned_nothing.ensures
+pub returns-in_ok-do_first-in-None : goal.returns-in_ok-do_first-in-None
+returns-in_ok-do_first-in-None c = on_ok _ _ c.alone.result
+    (λ room made. λ n p stands. same_room _ _ room c.args.state.now c.alone.new.state (ap (return_tasks (text_of p) c.args.word) c.in-None.is)
+    (in_front (Push 0 ∷ []) (GiveBack c.args.word Void ∷ []) room c.args.state.now c.do_first.new.self c.alone.new.state (c.in_ok-do_first-in-None.ensures.ok, refl) (made refl)))
+    c.alone.ensures

@@ -11,15 +11,15 @@ use Rattle.c_tasks.proofs.RoomBehind.{in_front}
 use Rattle.c_tasks.proofs.loops.for_loop.Goals as goal
 
 pub returns-in-Made : goal.returns-in-Made
-returns-in-Made c = on_ok _ _ c.opened.result
+returns-in-Made c = on_ok _ _ c.alone.result
     (λ room made. λ n p stands.
     let run : Tasks = Execute c.args.first.now ∷ Test c.args.stmt.now ∷ LeaveBlock c.args.stmt.now.place ∷ [] in
-    in_front (OpenBlock ∷ []) (objects_in (text_of p) c.args.first.now ++ run) room c.args.state.now c.objects_in.new.state c.opened.new.state
+    in_front (OpenBlock ∷ []) (objects_in (text_of p) c.args.first.now ++ run) room c.args.state.now c.objects_in.new.state c.alone.new.state
     (in_front (objects_in (text_of p) c.args.first.now) run Made c.args.state.now c.do_run.new.state c.objects_in.new.state
     (c.in_ok-do_run.ensures, refl)
     (subst (λ (room : Room). MakesRoom (objects_in (text_of p) c.args.first.now) room c.do_run.new.state c.objects_in.new.state) c.in-Made.is (c.in_ok-objects_in.ensures n p stands)))
-    made)
-    c.opened.ensures
+    (made refl))
+    c.alone.ensures
 
 pub returns-in-NotKept : goal.returns-in-NotKept
 returns-in-NotKept c = λ n p stands.

@@ -58,16 +58,16 @@ returns-in-For c = on_ok _ _ c.for_loop.result
     c.for_loop.ensures
 
 pub returns-in-Break : goal.returns-in-Break
-returns-in-Break c = on_ok _ _ c.broken_off.result
-    (λ room made. λ n p stands. clause_of_form (clause_tasks (text_of p) c.args.stmt.now c.args.held) c.args.stmt.now _ _ _ room c.args.state.now c.broken_off.new.state
-    c.in-Break.is outs-Break refl (made))
-    c.broken_off.ensures
+returns-in-Break c = on_ok _ _ c.alone.result
+    (λ room made. λ n p stands. clause_of_form (clause_tasks (text_of p) c.args.stmt.now c.args.held) c.args.stmt.now _ _ _ room c.args.state.now c.alone.new.state
+    c.in-Break.is outs-Break refl (made refl))
+    c.alone.ensures
 
 pub returns-in-Continue : goal.returns-in-Continue
-returns-in-Continue c = on_ok _ _ c.continued.result
-    (λ room made. λ n p stands. clause_of_form (clause_tasks (text_of p) c.args.stmt.now c.args.held) c.args.stmt.now _ _ _ room c.args.state.now c.continued.new.state
-    c.in-Continue.is outs-Continue refl (made))
-    c.continued.ensures
+returns-in-Continue c = on_ok _ _ c.alone-in-Continue.result
+    (λ room made. λ n p stands. clause_of_form (clause_tasks (text_of p) c.args.stmt.now c.args.held) c.args.stmt.now _ _ _ room c.args.state.now c.alone-in-Continue.new.state
+    c.in-Continue.is outs-Continue refl (made refl))
+    c.alone-in-Continue.ensures
 
 pub returns-in-Return : goal.returns-in-Return
 returns-in-Return c = on_ok _ _ c.returned.result

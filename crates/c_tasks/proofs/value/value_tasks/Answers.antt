@@ -75,16 +75,16 @@ returns-in-OffsetOf c = on_ok _ _ c.known_value-in-OffsetOf.result
     c.known_value-in-OffsetOf.ensures
 
 pub returns-in-Index : goal.returns-in-Index
-returns-in-Index c = on_ok _ _ c.item.result
-    (λ room made. λ n p stands. value_of_form p c.args.expr.now _ _ _ room c.args.state.now c.item.new.state
-    c.in-Index.is (outs-Index c.in-Index.base c.in-Index.index) refl (made n p c.in-Index.base c.in-Index.index stands))
-    c.item.ensures
+returns-in-Index c = on_ok _ _ c.loaded.result
+    (λ room made. λ n p stands. value_of_form p c.args.expr.now _ _ _ room c.args.state.now c.loaded.new.state
+    c.in-Index.is (outs-Index c.in-Index.base c.in-Index.index) refl (made n p stands))
+    c.loaded.ensures
 
 pub returns-in-Member : goal.returns-in-Member
-returns-in-Member c = on_ok _ _ c.member.result
-    (λ room made. λ n p stands. value_of_form p c.args.expr.now _ _ _ room c.args.state.now c.member.new.state
-    c.in-Member.is (outs-ExprForm::Member c.in-Member.base c.in-Member.name c.in-Member.through) refl (member_loaded p c.args.expr.now c.in-Member.base c.in-Member.name c.in-Member.through room c.args.state.now c.member.new.state (λ offset. made n p c.in-Member.base offset c.in-Member.through stands)))
-    c.member.ensures
+returns-in-Member c = on_ok _ _ c.loaded-in-Member.result
+    (λ room made. λ n p stands. value_of_form p c.args.expr.now _ _ _ room c.args.state.now c.loaded-in-Member.new.state
+    c.in-Member.is (outs-ExprForm::Member c.in-Member.base c.in-Member.name c.in-Member.through) refl (member_loaded p c.args.expr.now c.in-Member.base c.in-Member.name c.in-Member.through room c.args.state.now c.loaded-in-Member.new.state (λ offset. made n p stands)))
+    c.loaded-in-Member.ensures
 
 pub returns-in-Call : goal.returns-in-Call
 returns-in-Call c = on_ok _ _ c.called.result
@@ -99,7 +99,7 @@ returns-in-Inner c = on_ok _ _ c.in_inner_block.result
     c.in_inner_block.ensures
 
 pub returns-in-AssertFail : goal.returns-in-AssertFail
-returns-in-AssertFail c = on_ok _ _ c.assert_failed.result
-    (λ room made. λ n p stands. value_of_form p c.args.expr.now _ _ _ room c.args.state.now c.assert_failed.new.state
-    c.in-AssertFail.is outs-AssertFail refl (made p c.args.expr.now))
-    c.assert_failed.ensures
+returns-in-AssertFail c = on_ok _ _ c.alone.result
+    (λ room made. λ n p stands. value_of_form p c.args.expr.now _ _ _ room c.args.state.now c.alone.new.state
+    c.in-AssertFail.is outs-AssertFail refl (made refl))
+    c.alone.ensures

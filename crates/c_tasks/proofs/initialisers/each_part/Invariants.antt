@@ -4,7 +4,7 @@ use Rattle.cbase.specs.declared.tree.expr.ExprForm.TheViews.{out-InitPart}
 use Rattle.cbase.specs.declared.tree.init.InitPart.{InitPart}
 use Rattle.c_machine.specs.declared.task.Task.TheVariants.{Initialise}
 use Rattle.c_machine.specs.State.{doing}
-use Rattle.c_tasks.proofs.initialisers.do_parts.Given as goal
+use Rattle.c_tasks.proofs.initialisers.each_part.Given as goal
 
 abbrev pub invariant-loop-left : goal.invariant-loop-left
 invariant-loop-left l =
