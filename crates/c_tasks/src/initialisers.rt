@@ -134,7 +134,8 @@ fn do_part<'a>(state: &mut TreeState<'a>, place: Place, part: &'a InitPart) -> R
     })
 }
 
-/// A value of an initialiser, a full expression, which ends at the token of that place (C11 6.7.9p11, 6.8p4).
+/// A value of an initialiser, a full expression, which ends at the token of that place: a struct is copied as a whole, and any other value is stored
+/// (C11 6.7.9p11, p13, 6.8p4).
 fn set<'a>(
     text: &TypedText,
     state: &mut TreeState<'a>,
@@ -148,25 +149,10 @@ fn set<'a>(
     match text.store(place.at, value.number) {
         None => Ok(Room::NotKept),
         Some(None) => unknown(state),
-        Some(Some(store)) => set_part(text, state, place, value, after, &store),
-    }
-}
-
-/// What a value sets is set: a struct is copied as a whole, and any other value is stored (C11 6.7.9p11, p13).
-fn set_part<'a>(
-    text: &TypedText,
-    state: &mut TreeState<'a>,
-    place: Place,
-    value: &'a Expr,
-    after: Place,
-    store: &Store,
-) -> Result<Room, NoMemory>
-    ensures { IfOk result (λ room. (n : Numbering) (p : Program) (kind : Kind) → StandsFor n text.now p → Some store.now.kind ≡ kept kind
-        → MakesRoom (set (text_of p) place value.now after (Some (record { offset = store.now.offset; kind = kind }))) room state.old state.new) }
-{
-    match struct_bytes(&store.kind) {
-        None => set_value(text, state, place, value, after, store),
-        Some(bytes) => set_struct(text, state, place, value, after, store.offset, bytes),
+        Some(Some(store)) => match struct_bytes(&store.kind) {
+            None => set_value(text, state, place, value, after, &store),
+            Some(bytes) => set_struct(text, state, place, value, after, store.offset, bytes),
+        },
     }
 }
 

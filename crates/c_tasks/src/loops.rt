@@ -1,9 +1,8 @@
 //! Loops (C11 6.8.5).
-ghost use Rattle.std.specs.Prelude.{◌≡◌, [], ◌∷◌, ◌++◌, IfOk, OnOk};
+ghost use Rattle.std.specs.Prelude.{◌≡◌, [], ◌∷◌, ◌++◌, IfOk};
 ghost use Rattle.c_machine.specs.declared.task.Task.TheVariants.{Again, Execute, LeaveBlock, OpenBlock, Test};
 ghost use Rattle.c_machine.specs.Blocks.{objects_in};
-ghost use Rattle.c_machine.specs.State.{doing};
-ghost use Rattle.c_machine.specs.Statements.{again_tasks, eval_tasks, test_or_turn, test_tasks};
+ghost use Rattle.c_machine.specs.Statements.{again_tasks, test_tasks};
 ghost use Rattle.expressions.specs.Numbers.{Numbering};
 ghost use Rattle.c_machine.specs.Program.{Program};
 ghost use Rattle.c_machine.specs.Trees.{text_of};
@@ -19,7 +18,7 @@ use crate::state::TreeState;
 use c_machine::Task;
 use c_steps::Tree;
 use c_text::TypedText;
-use cbase::{Boxed, Expr, NoMemory, Place, Stmt, StmtForm};
+use cbase::{NoMemory, Stmt, StmtForm};
 
 /// What is to be done for the condition of a loop: a `for` without one goes on (C11 6.8.5p4, 6.8.5.3p2).
 ///
@@ -34,7 +33,10 @@ pub fn test_tasks<'a>(
     match &stmt.form {
         StmtForm::While { test, .. } => tested(state, stmt, test.get()),
         StmtForm::Do { test, .. } => tested(state, stmt, test.get()),
-        StmtForm::For { test, body, .. } => tested_or_on(state, stmt, held, test, body.get()),
+        StmtForm::For { test, body, .. } => match test {
+            None => turn(state, stmt, held, body.get()),
+            Some(test) => tested(state, stmt, test.get()),
+        },
         _ => unknown(state),
     }
 }
@@ -44,7 +46,13 @@ pub fn again_tasks<'a>(state: &mut TreeState<'a>, stmt: &'a Stmt) -> Result<Room
     ensures { IfOk result (λ room. (p : Program) → MakesRoom (again_tasks (text_of p) stmt.now) room state.old state.new) }
 {
     match &stmt.form {
-        StmtForm::For { next, close, .. } => after_turn(state, stmt, next, *close),
+        StmtForm::For { next, close, .. } => {
+            state.do_first(Task::Test(Tree::of(stmt)))?;
+            match next {
+                None => Ok(Room::Made),
+                Some(next) => value_then(state, next.get(), Task::Finish(*close)),
+            }
+        }
         _ => test_alone(state, stmt),
     }
 }
@@ -82,38 +90,6 @@ pub(crate) fn turn<'a>(
     statement_alone(state, body)
 }
 
-/// The condition of a `for`, or a turn where it has none (C11 6.8.5.3p2).
-fn tested_or_on<'a>(
-    state: &mut TreeState<'a>,
-    stmt: &'a Stmt,
-    held: usize,
-    test: &'a Option<Boxed<Expr>>,
-    body: &'a Stmt,
-) -> Result<Room, NoMemory>
-    ensures { IfOk result (λ room. (p : Program) → MakesRoom (test_or_turn (text_of p) stmt.now held test.now body.now) room state.old state.new) }
-{
-    match test {
-        None => turn(state, stmt, held, body),
-        Some(test) => tested(state, stmt, test.get()),
-    }
-}
-
-/// What is done after a turn of a `for`, a full expression that ends at that place, and then the condition.
-fn after_turn<'a>(
-    state: &mut TreeState<'a>,
-    stmt: &'a Stmt,
-    next: &'a Option<Boxed<Expr>>,
-    close: Place,
-) -> Result<Room, NoMemory>
-    ensures { IfOk result (λ room. (p : Program) → MakesRoom (eval_tasks (text_of p) next.now close ++ Test stmt.now ∷ []) room state.old state.new) }
-{
-    state.do_first(Task::Test(Tree::of(stmt)))?;
-    match next {
-        None => Ok(Room::Made),
-        Some(next) => value_then(state, next.get(), Task::Finish(close)),
-    }
-}
-
 /// A `for` is a block of its own, which is left at its word (C11 6.8.5p5): what comes first, and the condition.
 pub(crate) fn for_loop<'a>(
     text: &TypedText,
@@ -124,18 +100,11 @@ pub(crate) fn for_loop<'a>(
     ensures { IfOk result (λ room. (n : Numbering) (p : Program) → StandsFor n text.now p
         → MakesRoom (OpenBlock ∷ (objects_in (text_of p) first.now ++ Execute first.now ∷ Test stmt.now ∷ LeaveBlock stmt.now.place ∷ [])) room state.old state.new) }
 {
-    do_run(state, stmt, first)?;
+    state.do_first(Task::LeaveBlock(stmt.place))?;
+    state.do_first(Task::Test(Tree::of(stmt)))?;
+    do_statement(state, first)?;
     match objects_in(text, state, first)? {
         Room::Made => alone(state, Task::OpenBlock),
         Room::NotKept => Ok(Room::NotKept),
     }
-}
-
-/// What comes first in a `for`, its condition, and the end of its block.
-fn do_run<'a>(state: &mut TreeState<'a>, stmt: &'a Stmt, first: &'a Stmt) -> Result<(), NoMemory>
-    ensures { OnOk result (state.new ≡ doing (Execute first.now ∷ Test stmt.now ∷ LeaveBlock stmt.now.place ∷ []) state.old) }
-{
-    state.do_first(Task::LeaveBlock(stmt.place))?;
-    state.do_first(Task::Test(Tree::of(stmt)))?;
-    do_statement(state, first)
 }

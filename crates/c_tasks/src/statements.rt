@@ -1,6 +1,6 @@
 //! Statements (C11 6.8).
 ghost use Rattle.std.specs.Prelude.{IfOk};
-ghost use Rattle.c_machine.specs.Statements.{eval_tasks, statement_tasks};
+ghost use Rattle.c_machine.specs.Statements.{statement_tasks};
 ghost use Rattle.expressions.specs.Numbers.{Numbering};
 ghost use Rattle.c_machine.specs.Program.{Program};
 ghost use Rattle.c_machine.specs.Trees.{text_of};
@@ -17,11 +17,12 @@ use crate::room::Room;
 use crate::state::TreeState;
 use c_machine::Task;
 use c_text::TypedText;
-use cbase::{Expr, NoMemory, Place, Stmt, StmtForm};
+use cbase::{NoMemory, Stmt, StmtForm};
 
 /// What is to be done for a statement, where unfinished expressions around it hold so many operands (C11 6.8).
 ///
-/// It takes one step, and at a block or a declaration time for what stands directly in it.
+/// The full expression of an expression statement, if there is one, ends at its last token (C11 6.8.3). It takes one step, and at a block or a
+/// declaration time for what stands directly in it.
 pub fn statement_tasks<'a>(
     text: &TypedText,
     state: &mut TreeState<'a>,
@@ -32,7 +33,10 @@ pub fn statement_tasks<'a>(
 {
     match &stmt.form {
         StmtForm::Declare(decl) => declared_names(text, state, decl.get().names.as_slice()),
-        StmtForm::Eval(expr) => evaluated_here(state, expr, stmt.after),
+        StmtForm::Eval(expr) => match expr {
+            None => Ok(Room::Made),
+            Some(expr) => value_then(state, expr, Task::Finish(stmt.after)),
+        },
         StmtForm::Block(body) => in_block(text, state, body.as_slice(), stmt.after),
         StmtForm::If { test, .. } => tested(state, stmt, test.get()),
         StmtForm::While { .. } => test_alone(state, stmt),
@@ -41,19 +45,5 @@ pub fn statement_tasks<'a>(
         StmtForm::Break => alone(state, Task::BreakAt(stmt.place)),
         StmtForm::Continue => alone(state, Task::ContinueAt(stmt.place)),
         StmtForm::Return(expr) => returned(text, state, stmt.place, expr),
-    }
-}
-
-/// The full expression of an expression statement, if there is one, which ends at that place (C11 6.8.3).
-fn evaluated_here<'a>(
-    state: &mut TreeState<'a>,
-    expr: &'a Option<Expr>,
-    after: Place,
-) -> Result<Room, NoMemory>
-    ensures { IfOk result (λ room. (p : Program) → MakesRoom (eval_tasks (text_of p) expr.now after) room state.old state.new) }
-{
-    match expr {
-        None => Ok(Room::Made),
-        Some(expr) => value_then(state, expr, Task::Finish(after)),
     }
 }

@@ -1,13 +1,15 @@
 -- What each statement does.
-use Rattle.std.proofs.Common.{List, map, refl, ap, ◌∙◌}
+use Rattle.std.proofs.Common.{List, [], map, Option, refl, sym, ap, ◌∙◌}
 use Rattle.std.specs.List.{flat_map}
 use Rattle.cbase.specs.declared.tree.decl.Decl.{Decl}
 use Rattle.cbase.specs.declared.tree.decl.Declared.{Declared}
+use Rattle.cbase.specs.declared.tree.expr.Expr.{Expr}
 use Rattle.cbase.specs.declared.tree.expr.ExprForm.TheViews.{out-Decl, outs-Declare, outs-Eval, outs-Block, outs-If, outs-While, outs-Do, outs-For, outs-Break, outs-Continue, outs-Return}
 use Rattle.c_machine.specs.Blocks.{declared_tasks}
-use Rattle.c_machine.specs.Statements.{clause_tasks}
+use Rattle.c_machine.specs.Statements.{clause_tasks, eval_tasks}
 use Rattle.c_machine.specs.Text.{Block, Do, For, If}
 use Rattle.c_machine.specs.Trees.{name_of, text_of}
+use Rattle.c_tasks.specs.declared.room.Room.TheVariants.{Made}
 use Rattle.c_tasks.proofs.ClauseByForm.{clause_of_form}
 use Rattle.c_tasks.proofs.MakingRoom.{on_ok}
 use Rattle.c_tasks.proofs.statements.statement_tasks.Goals as goal
@@ -21,11 +23,16 @@ returns-in-Declare c = on_ok _ _ c.declared_names.result
     (made n p stands))
     c.declared_names.ensures
 
-pub returns-in-Eval : goal.returns-in-Eval
-returns-in-Eval c = on_ok _ _ c.evaluated_here.result
-    (λ room made. λ n p stands. clause_of_form (clause_tasks (text_of p) c.args.stmt.now c.args.held) c.args.stmt.now _ _ _ room c.args.state.now c.evaluated_here.new.state
-    c.in-Eval.is (outs-Eval c.in-Eval.expr) refl (made p))
-    c.evaluated_here.ensures
+pub returns-in-None : goal.returns-in-None
+returns-in-None c = λ n p stands.
+    clause_of_form (clause_tasks (text_of p) c.args.stmt.now c.args.held) c.args.stmt.now _ _ [] Made c.args.state.now c.args.state.now
+    c.in-Eval.is (outs-Eval c.in-Eval.expr) (ap (λ (expr : Option Expr). eval_tasks (text_of p) expr c.args.stmt.now.after) (sym c.in-None.is)) (refl, refl)
+
+pub returns-in-Some : goal.returns-in-Some
+returns-in-Some c = on_ok _ _ c.value_then.result
+    (λ room made. λ n p stands. clause_of_form (clause_tasks (text_of p) c.args.stmt.now c.args.held) c.args.stmt.now _ _ _ room c.args.state.now c.value_then.new.state
+    c.in-Eval.is (outs-Eval c.in-Eval.expr) (ap (λ (expr : Option Expr). eval_tasks (text_of p) expr c.args.stmt.now.after) (sym c.in-Some.is)) (made refl))
+    c.value_then.ensures
 
 pub returns-in-Block : goal.returns-in-Block
 returns-in-Block c = on_ok _ _ c.in_block.result
