@@ -1,5 +1,5 @@
 //! The addresses of lvalues (C11 6.3.2.1, 6.5.2.1, 6.5.2.3, 6.5.3.2).
-ghost use Rattle.std.specs.Prelude.{false, true, IfOk};
+ghost use Rattle.std.specs.Prelude.{IfOk};
 ghost use Rattle.cbase.specs.declared.tree.expr.ExprForm.TheOpen as tree;
 ghost use Rattle.c_machine.specs.Expressions.{address_parts, address_tasks, named};
 ghost use Rattle.c_machine.specs.Trees.{form_of};
@@ -39,13 +39,8 @@ pub fn address_tasks<'a>(
         ExprForm::Member {
             base,
             name,
-            through: false,
-        } => member_address(text, state, expr, base.get(), name.get()),
-        ExprForm::Member {
-            base,
-            name,
-            through: true,
-        } => pointed_address(text, state, expr, base.get(), name.get()),
+            through,
+        } => member_address(text, state, expr, base.get(), name.get(), *through),
         _ => unknown(state),
     }
 }
@@ -64,30 +59,23 @@ fn object_address<'a>(
     }
 }
 
-/// The address of a member of the struct that an expression is (C11 6.5.2.3p3).
+/// The address of a member of the struct that an expression is, and behind `->` of the struct to which it leads (C11 6.5.2.3p3, p4).
 fn member_address<'a>(
     text: &TypedText,
     state: &mut TreeState<'a>,
     expr: &'a Expr,
     base: &'a Expr,
     name: &'a Identifier,
+    through: bool,
 ) -> Result<Room, NoMemory>
-    ensures { IfOk result (λ room. (n : Numbering) (p : Program) → StandsFor n text.now p → MakesRoom (address_parts (text_of p) expr.now (form_of p expr.now (tree.ExprForm::Member base.now name.now false))) room state.old state.new) }
+    ensures { IfOk result (λ room. (n : Numbering) (p : Program) → StandsFor n text.now p → MakesRoom (address_parts (text_of p) expr.now (form_of p expr.now (tree.ExprForm::Member base.now name.now through))) room state.old state.new) }
 {
-    let offset = text.member_offset(base.number, name.name.as_slice());
-    address_then(state, base, Task::Shift(offset))
-}
-
-/// The address of a member of the struct to which an expression leads (C11 6.5.2.3p4).
-fn pointed_address<'a>(
-    text: &TypedText,
-    state: &mut TreeState<'a>,
-    expr: &'a Expr,
-    base: &'a Expr,
-    name: &'a Identifier,
-) -> Result<Room, NoMemory>
-    ensures { IfOk result (λ room. (n : Numbering) (p : Program) → StandsFor n text.now p → MakesRoom (address_parts (text_of p) expr.now (form_of p expr.now (tree.ExprForm::Member base.now name.now true))) room state.old state.new) }
-{
-    let offset = text.pointed_offset(base.number, name.name.as_slice());
-    value_then(state, base, Task::Shift(offset))
+    let spelled = name.name.as_slice();
+    if through {
+        let offset = text.pointed_offset(base.number, spelled);
+        value_then(state, base, Task::Shift(offset))
+    } else {
+        let offset = text.member_offset(base.number, spelled);
+        address_then(state, base, Task::Shift(offset))
+    }
 }
