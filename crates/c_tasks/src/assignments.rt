@@ -10,7 +10,7 @@ ghost use Rattle.c_machine.specs.Trees.{text_of};
 ghost use Rattle.c_text.specs.Stands.{StandsFor};
 ghost use Rattle.c_tasks.specs.Room.{are_kept, MakesRoom};
 
-use crate::kinds::{own_kind, struct_bytes, value_kind};
+use crate::kinds::{struct_bytes, value_kind};
 use crate::pushes::{address_alone, address_then, do_conversion};
 use crate::room::Room;
 use crate::state::TreeState;
@@ -46,7 +46,7 @@ fn set<'a>(
 ) -> Result<Room, NoMemory>
     ensures { IfOk result (λ room. (n : Numbering) (p : Program) → StandsFor n text.now p → MakesRoom (value_parts (text_of p) expr.now (Assign None left.now right.now)) room state.old state.new) }
 {
-    let Some(kind) = own_kind(text, left) else {
+    let Some(kind) = text.kind(left.number) else {
         return Ok(Room::NotKept);
     };
     match struct_bytes(&kind) {
@@ -81,7 +81,7 @@ fn stored<'a>(
     let Some(from) = value_kind(text, right) else {
         return Ok(Room::NotKept);
     };
-    let Some(to) = own_kind(text, left) else {
+    let Some(to) = text.kind(left.number) else {
         return Ok(Room::NotKept);
     };
     do_conversion(state, left.place, right, from, &to)?;
@@ -98,7 +98,7 @@ fn updated<'a>(
 ) -> Result<Room, NoMemory>
     ensures { IfOk result (λ room. (n : Numbering) (p : Program) → StandsFor n text.now p → MakesRoom (AddressOf left.now ∷ ValueOf right.now ∷ Update op left.now.place ((text_of p).kind left.now) (value_kind (text_of p) right.now) ∷ []) room state.old state.new) }
 {
-    let Some(kind) = own_kind(text, left) else {
+    let Some(kind) = text.kind(left.number) else {
         return Ok(Room::NotKept);
     };
     let Some(other) = value_kind(text, right) else {
@@ -124,7 +124,7 @@ pub fn counted<'a>(
 ) -> Result<Room, NoMemory>
     ensures { IfOk result (λ room. (n : Numbering) (p : Program) → StandsFor n text.now p → MakesRoom (value_parts (text_of p) expr.now (Count up after arg.now)) room state.old state.new) }
 {
-    let Some(kind) = own_kind(text, arg) else {
+    let Some(kind) = text.kind(arg.number) else {
         return Ok(Room::NotKept);
     };
     address_then(

@@ -8,7 +8,7 @@ ghost use Rattle.c_machine.specs.Trees.{text_of};
 ghost use Rattle.c_text.specs.Stands.{StandsFor};
 ghost use Rattle.c_tasks.specs.Room.{MakesRoom};
 
-use crate::kinds::{own_kind, value_kind};
+use crate::kinds::value_kind;
 use crate::pushes::value_then;
 use crate::room::Room;
 use crate::state::TreeState;
@@ -54,7 +54,7 @@ pub fn cast<'a>(
     let Some(from) = value_kind(text, arg) else {
         return Ok(Room::NotKept);
     };
-    let Some(to) = own_kind(text, expr) else {
+    let Some(to) = text.kind(expr.number) else {
         return Ok(Room::NotKept);
     };
     value_then(state, arg, Task::Convert { from, to })

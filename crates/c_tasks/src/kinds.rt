@@ -2,8 +2,8 @@
 ghost use Rattle.std.specs.Prelude.{◌≡◌};
 ghost use Rattle.expressions.specs.Numbers.{Numbering};
 ghost use Rattle.c_machine.specs.Expressions.{value_kind};
-ghost use Rattle.c_machine.specs.Program.{Program, type_of};
-ghost use Rattle.c_machine.specs.Trees.{kind_in, text_of};
+ghost use Rattle.c_machine.specs.Program.{Program};
+ghost use Rattle.c_machine.specs.Trees.{text_of};
 ghost use Rattle.c_text.specs.Kept.{kept};
 ghost use Rattle.c_text.specs.Stands.{StandsFor};
 ghost use Rattle.c_tasks.specs.Standing.{struct_bytes};
@@ -12,13 +12,6 @@ use c_machine::Kind;
 use c_text::TypedText;
 use c_words::decayed;
 use cbase::Expr;
-
-/// The kind of an expression, where it is kept.
-pub(crate) fn own_kind(text: &TypedText, expr: &Expr) -> Option<Kind>
-    ensures { (n : Numbering) (p : Program) → StandsFor n text.now p → result ≡ kept (kind_in p (type_of p expr.now)) }
-{
-    text.kind(expr.number)
-}
 
 /// The kind of the value of an expression, where it is kept: an array became a pointer (C11 6.3.2.1p3).
 pub fn value_kind(text: &TypedText, expr: &Expr) -> Option<Kind>

@@ -7,7 +7,6 @@ ghost use Rattle.c_machine.specs.Trees.{text_of};
 ghost use Rattle.c_text.specs.Stands.{StandsFor};
 ghost use Rattle.c_tasks.specs.Room.{MakesRoom};
 
-use crate::kinds::own_kind;
 use crate::pushes::address_then;
 use crate::room::Room;
 use crate::state::TreeState;
@@ -23,7 +22,7 @@ pub fn loaded<'a>(
 ) -> Result<Room, NoMemory>
     ensures { IfOk result (λ room. (n : Numbering) (p : Program) → StandsFor n text.now p → MakesRoom (loaded (text_of p) expr.now) room state.old state.new) }
 {
-    let Some(kind) = own_kind(text, expr) else {
+    let Some(kind) = text.kind(expr.number) else {
         return Ok(Room::NotKept);
     };
     address_then(

@@ -12,7 +12,7 @@ use Rattle.c_tasks.proofs.RoomBehind.{in_front}
 use Rattle.c_tasks.proofs.assignments.updated.Goals as goal
 
 pub returns-in_default : goal.returns-in_default
-returns-in_default c = λ n p stands. lacks_one (kind_in p (type_of p c.args.left.now)) (value_kind (text_of p) c.args.right.now ∷ []) (sym c.in_default.is ∙ c.own_kind.ensures n p stands)
+returns-in_default c = λ n p stands. lacks_one (kind_in p (type_of p c.args.left.now)) (value_kind (text_of p) c.args.right.now ∷ []) (sym c.in_default.is ∙ c.kind.ensures n p c.args.left.now stands refl)
 
 pub returns-in_default-value_kind : goal.returns-in_default-value_kind
 returns-in_default-value_kind c = λ n p stands. lacks_second (kind_in p (type_of p c.args.left.now)) (value_kind (text_of p) c.args.right.now) [] (sym c.in_default-value_kind.is ∙ c.value_kind.ensures n p stands)
@@ -22,7 +22,7 @@ returns c = on_ok _ _ c.address_then.result
     (λ room made. λ n p stands.
     in_front (AddressOf c.args.left.now ∷ ValueOf c.args.right.now ∷ []) (Update c.args.op c.args.left.now.place (kind_in p (type_of p c.args.left.now)) (value_kind (text_of p) c.args.right.now) ∷ []) room c.args.state.now c.do_first.new.self c.address_then.new.state
     (speaks_of_two (λ (one other : Kind). Update c.args.op c.args.left.now.place one other ∷ []) (kind_in p (type_of p c.args.left.now)) (value_kind (text_of p) c.args.right.now) c.in-Some.kind c.in-Some-value_kind.other
-    c.args.state.now c.do_first.new.self (sym c.in-Some.is ∙ c.own_kind.ensures n p stands) (sym c.in-Some-value_kind.is ∙ c.value_kind.ensures n p stands)
+    c.args.state.now c.do_first.new.self (sym c.in-Some.is ∙ c.kind.ensures n p c.args.left.now stands refl) (sym c.in-Some-value_kind.is ∙ c.value_kind.ensures n p stands)
     (two_there (kind_in p (type_of p c.args.left.now)) (value_kind (text_of p) c.args.right.now)) c.in_ok-do_first.ensures.ok)
     (subst (λ (right : Expr). MakesRoom (AddressOf c.args.left.now ∷ ValueOf right ∷ []) room c.do_first.new.self c.address_then.new.state) c.of.ensures (made refl)))
     c.address_then.ensures
