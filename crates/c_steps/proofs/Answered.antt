@@ -8,8 +8,7 @@ use Rattle.bytes_core.specs.Access.{loaded}
 use Rattle.bytes_core.specs.Answer.{answer}
 use Rattle.c_machine.specs.declared.kind.Kind.{Kind}
 use Rattle.choices.specs.declared.choice.Choice.{Choice}
-use Rattle.c_machine.specs.State.{State, Outcome, Went, Faulted, unless_fault, with_operand}
-use Rattle.c_machine.specs.Step.{or_ended}
+use Rattle.c_machine.specs.State.{State, Outcome, Went, Faulted, unless_fault}
 use Rattle.c_machine.specs.Words.{is_pointer}
 
 pub faulted : {T E S I : Type 0} (fault : Option ℕ) (value : T) (kind : ℕ) (place : Place) (onward : Outcome E S I) →
@@ -48,11 +47,6 @@ pub went_unless : {T E S I : Type 0} (fault : Option ℕ) (value found : T) (pla
     new ≡ next → Ok found ≡ answer fault value → Went new choices ≡ unless_fault fault place (Went next choices)
 went_unless {T} {E} {S} {I} fault value found place new next choices same is =
     ap (λ (state : State E S I). Went state choices) same ∙ sym (passed fault value found place (Went next choices) is)
-
-pub went_or_ended : {E S I : Type 0} (value : Word) (found : Option Word) (state new : State E S I) (choices : List Choice) →
-    new ≡ with_operand value state → Some value ≡ found → Went new choices ≡ or_ended found state choices
-went_or_ended {E} {S} {I} value found state new choices same is =
-    ap (λ (next : State E S I). Went next choices) same ∙ ap (λ (made : Option Word). or_ended made state choices) is
 
 -- what a call ensures where it succeeds
 pub on_ok : {T R : Type 0} {P : Type 0} (result : Result T R) (found : T) → result ≡ Ok found → OnOk result P → P

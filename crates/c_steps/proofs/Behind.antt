@@ -15,3 +15,6 @@ taken_none xs at past = rw (drop_of_length-le xs past) refl
 pub first_left : {X : Type 0} (xs : List X) (at : ℕ) (x : X) → at < length xs → x ≡ get_or xs at x → drop at xs ≡ x ∷ drop 1 (drop at xs)
 first_left {X} xs at x inside is =
     drop-cons xs at x inside ∙ ap (λ (y : X). y ∷ drop (suc at) xs) (sym is) ∙ ap (λ (ys : List X). x ∷ ys) (ap (λ (n : ℕ). drop n xs) (sym (add-one at)) ∙ taken_once xs at)
+
+pub next_left : {X : Type 0} (xs : List X) (at : ℕ) (d : X) → at < length xs → drop at xs ≡ get_or xs at d ∷ drop (at + 1) xs
+next_left xs at d inside = drop-cons xs at d inside ∙ ap (λ (n : ℕ). get_or xs at d ∷ drop n xs) (sym (add-one at))

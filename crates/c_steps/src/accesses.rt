@@ -12,6 +12,7 @@ ghost use Rattle.c_machine.specs.Step.{counted, counting, load_step, store_step,
 ghost use Rattle.c_machine.specs.Words.{is_pointer, scalar_bytes};
 ghost use Rattle.c_steps.specs.ComesTo.{comes_to};
 
+use crate::going_on::{go_on_unless, go_on_with};
 use crate::outcome::Outcome;
 use crate::state::State;
 use bytes_core::{Memory, Word};
@@ -43,15 +44,11 @@ pub fn load<E: Drop, S: Drop, I: Drop>(
         return Ok(Outcome::Stuck);
     };
     let Some(bytes) = scalar_bytes(*kind) else {
-        state.push(at)?;
-        return Ok(Outcome::Went);
+        return go_on_with(state, at);
     };
     match load_at(state.memory(), at, bytes, kind) {
         Err(kind) => Ok(Outcome::Faulted { kind, place }),
-        Ok(word) => {
-            state.push(word)?;
-            Ok(Outcome::Went)
-        }
+        Ok(word) => go_on_with(state, word),
     }
 }
 
@@ -74,11 +71,8 @@ pub fn store<E: Drop, S: Drop, I: Drop>(
     let Some(bytes) = scalar_bytes(kind) else {
         return Ok(Outcome::Stuck);
     };
-    if let Err(kind) = state.store(at, bytes, word) {
-        return Ok(Outcome::Faulted { kind, place });
-    }
-    state.push(word)?;
-    Ok(Outcome::Went)
+    let stored = state.store(at, bytes, word);
+    go_on_unless(state, stored, place, word)
 }
 
 /// A struct of so many bytes is copied from one address to another.
@@ -100,11 +94,8 @@ pub fn copy_struct<E: Drop, S: Drop, I: Drop>(
     let Some(to) = state.pop() else {
         return Ok(Outcome::Stuck);
     };
-    if let Err(kind) = state.copy(alloc, to, from, bytes as usize, false)? {
-        return Ok(Outcome::Faulted { kind, place });
-    }
-    state.push(Word::Plain(0))?;
-    Ok(Outcome::Went)
+    let copied = state.copy(alloc, to, from, bytes as usize, false)?;
+    go_on_unless(state, copied, place, Word::Plain(0))
 }
 
 /// So many bytes at an address become 0 (C11 6.7.9p21).

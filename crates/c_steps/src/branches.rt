@@ -1,5 +1,5 @@
 //! `&&`, `||` and `?:` behind a value (C11 6.5.13, 6.5.14, 6.5.15).
-ghost use Rattle.std.specs.Prelude.{◌≡◌, [], ◌∷◌, List as Items, true, IfOk, OnOk, if◌then◌else◌};
+ghost use Rattle.std.specs.Prelude.{◌≡◌, [], ◌∷◌, List as Items, true, IfOk, if◌then◌else◌};
 ghost use Rattle.choices.specs.declared.choice.Choice.{Choice};
 ghost use Rattle.c_machine.specs.declared.task.Task.TheVariants.{Answer, Convert, ValueOf};
 ghost use Rattle.c_machine.specs.State.{Went, doing, popped};
@@ -7,6 +7,7 @@ ghost use Rattle.c_machine.specs.Step.{and_then, or_else};
 ghost use Rattle.c_machine.specs.Words.{is_true};
 ghost use Rattle.c_steps.specs.ComesTo.{comes_to};
 
+use crate::going_on::{go_on_doing, go_on_with};
 use crate::outcome::Outcome;
 use crate::state::State;
 use bytes_core::Word;
@@ -15,11 +16,14 @@ use c_words::is_true;
 use cbase::NoMemory;
 
 /// The right side is to be done, and then whether it is true.
-fn do_right<E: Drop, S: Drop, I: Drop>(state: &mut State<E, S, I>, right: E) -> Result<(), NoMemory>
-    ensures { OnOk result (state.new ≡ doing (ValueOf right ∷ Answer true ∷ []) state.old) }
+fn do_right<E: Drop, S: Drop, I: Drop>(
+    state: &mut State<E, S, I>,
+    right: E,
+) -> Result<Outcome, NoMemory>
+    ensures { IfOk result (λ outcome. (choices : Items Choice) → comes_to outcome state.new choices ≡ Went (doing (ValueOf right ∷ Answer true ∷ []) state.old) choices) }
 {
     state.do_first(Task::Answer(true))?;
-    state.do_first(Task::ValueOf(right))
+    go_on_doing(state, Task::ValueOf(right))
 }
 
 /// An arm is to be done, and then its value is converted.
@@ -28,11 +32,12 @@ fn do_arm<E: Drop, S: Drop, I: Drop>(
     arm: E,
     from: Kind,
     to: Kind,
-) -> Result<(), NoMemory>
-    ensures { OnOk result (state.new ≡ doing (ValueOf arm ∷ Convert from to ∷ []) state.old) }
+) -> Result<Outcome, NoMemory>
+    ensures { IfOk result (λ outcome. (choices : Items Choice) →
+        comes_to outcome state.new choices ≡ Went (doing (ValueOf arm ∷ Convert from to ∷ []) state.old) choices) }
 {
     state.do_first(Task::Convert { from, to })?;
-    state.do_first(Task::ValueOf(arm))
+    go_on_doing(state, Task::ValueOf(arm))
 }
 
 /// `&&` behind its left side, whose value goes at once (C11 6.5.13p4).
@@ -48,11 +53,9 @@ pub fn and_then<E: Drop, S: Drop, I: Drop>(
         return Ok(Outcome::Stuck);
     };
     if !is_true(state.memory(), word) {
-        state.push(Word::Plain(0))?;
-        return Ok(Outcome::Went);
+        return go_on_with(state, Word::Plain(0));
     }
-    do_right(state, right)?;
-    Ok(Outcome::Went)
+    do_right(state, right)
 }
 
 /// `||` behind its left side, whose value goes at once (C11 6.5.14p4).
@@ -68,11 +71,9 @@ pub fn or_else<E: Drop, S: Drop, I: Drop>(
         return Ok(Outcome::Stuck);
     };
     if is_true(state.memory(), word) {
-        state.push(Word::Plain(1))?;
-        return Ok(Outcome::Went);
+        return go_on_with(state, Word::Plain(1));
     }
-    do_right(state, right)?;
-    Ok(Outcome::Went)
+    do_right(state, right)
 }
 
 /// `?:` behind its test: one of both arms, whose kinds are these, converted to the kind of the whole (C11 6.5.15p4, p5).
@@ -93,9 +94,7 @@ pub fn pick<E: Drop, S: Drop, I: Drop>(
         return Ok(Outcome::Stuck);
     };
     if is_true(state.memory(), word) {
-        do_arm(state, one, one_kind, kind)?;
-        return Ok(Outcome::Went);
+        return do_arm(state, one, one_kind, kind);
     }
-    do_arm(state, other, other_kind, kind)?;
-    Ok(Outcome::Went)
+    do_arm(state, other, other_kind, kind)
 }

@@ -10,6 +10,7 @@ ghost use Rattle.c_machine.specs.Words.{is_true};
 ghost use Rattle.c_steps.specs.ComesTo.{comes_to};
 
 use crate::choosing::{receive, with_block};
+use crate::going_on::{go_on_unless, go_on_with};
 use crate::operands::let_go;
 use crate::outcome::Outcome;
 use crate::pending::Choices;
@@ -34,10 +35,7 @@ fn make_heap_block<E: Drop, S: Drop, I: Drop>(
 {
     match with_block(alloc, state, choices, BlockKind::Heap, size, zeroed)? {
         Err(outcome) => Ok(outcome),
-        Ok(block) => {
-            state.push(Word::To { block, offset: 0 })?;
-            Ok(Outcome::Went)
-        }
+        Ok(block) => go_on_with(state, Word::To { block, offset: 0 }),
     }
 }
 
@@ -57,8 +55,7 @@ fn allocate<E: Drop, S: Drop, I: Drop>(
     match first {
         Choice::None => {
             choices.take();
-            state.push(Word::Plain(0))?;
-            Ok(Outcome::Went)
+            go_on_with(state, Word::Plain(0))
         }
         Choice::Input(_) => Ok(Outcome::Ended),
         Choice::Block { .. } => make_heap_block(alloc, state, choices, size, zeroed),
@@ -107,7 +104,6 @@ fn product(count: u64, size: u64) -> u128
 }
 
 /// `free` (C11 7.22.3.3).
-#[tactic(auto, using(crate::proofs::Answered::faulted, crate::proofs::Answered::passed))]
 fn free<E: Drop, S: Drop, I: Drop>(
     state: &mut State<E, S, I>,
     place: Place,
@@ -117,15 +113,11 @@ fn free<E: Drop, S: Drop, I: Drop>(
     let Some(word) = state.pop() else {
         return Ok(Outcome::Stuck);
     };
-    if let Err(kind) = state.free(word) {
-        return Ok(Outcome::Faulted { kind, place });
-    }
-    state.push(Word::Plain(0))?;
-    Ok(Outcome::Went)
+    let freed = state.free(word);
+    go_on_unless(state, freed, place, Word::Plain(0))
 }
 
 /// `memset` (C11 7.24.6.1): it answers its first argument.
-#[tactic(auto, using(crate::proofs::Answered::faulted, crate::proofs::Answered::passed))]
 fn memset<E: Drop, S: Drop, I: Drop>(
     state: &mut State<E, S, I>,
     place: Place,
@@ -143,11 +135,8 @@ fn memset<E: Drop, S: Drop, I: Drop>(
     };
     let count = state.memory().address(count);
     let byte = (state.memory().address(byte) % 256) as u8;
-    if let Err(kind) = state.fill(at, byte, count as usize) {
-        return Ok(Outcome::Faulted { kind, place });
-    }
-    state.push(at)?;
-    Ok(Outcome::Went)
+    let filled = state.fill(at, byte, count as usize);
+    go_on_unless(state, filled, place, at)
 }
 
 /// `memcpy` and `memmove` (C11 7.24.2.1, 7.24.2.2): they answer their first argument.
@@ -169,11 +158,8 @@ fn copy<E: Drop, S: Drop, I: Drop>(
         return Ok(Outcome::Stuck);
     };
     let count = state.memory().address(count);
-    if let Err(kind) = state.copy(alloc, to, from, count as usize, disjoint)? {
-        return Ok(Outcome::Faulted { kind, place });
-    }
-    state.push(to)?;
-    Ok(Outcome::Went)
+    let copied = state.copy(alloc, to, from, count as usize, disjoint)?;
+    go_on_unless(state, copied, place, to)
 }
 
 /// An assumption: the run ends where it is 0.
@@ -187,8 +173,7 @@ fn assume<E: Drop, S: Drop, I: Drop>(state: &mut State<E, S, I>) -> Result<Outco
     if !is_true(state.memory(), word) {
         return Ok(Outcome::Ended);
     }
-    state.push(Word::Plain(0))?;
-    Ok(Outcome::Went)
+    go_on_with(state, Word::Plain(0))
 }
 
 /// A function that is built in, with a result of that type, behind its arguments.

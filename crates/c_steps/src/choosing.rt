@@ -5,6 +5,7 @@ ghost use Rattle.c_machine.specs.Choosing.{allocated, object_made, received, sta
 ghost use Rattle.c_steps.specs.ComesTo.{comes_to};
 ghost use Rattle.c_steps.specs.Making.{MakesBlock, MakesNone};
 
+use crate::going_on::go_on_with;
 use crate::new_block::new_block;
 use crate::outcome::Outcome;
 use crate::pending::Choices;
@@ -123,6 +124,5 @@ pub fn receive<E: Drop, S: Drop, I: Drop>(
         return Ok(Outcome::Ended);
     }
     choices.take();
-    state.push(Word::Plain(*number))?;
-    Ok(Outcome::Went)
+    go_on_with(state, Word::Plain(*number))
 }

@@ -11,6 +11,7 @@ ghost use Rattle.c_steps.specs.Leaving.{function_left, in_new_block};
 
 use crate::choosing::receive;
 use crate::fault::{BLOCK_NEVER_FREED, MEMORY_LOST};
+use crate::going_on::go_on_doing;
 use crate::outcome::Outcome;
 use crate::pending::Choices;
 use crate::state::State;
@@ -97,8 +98,7 @@ fn answer_zero<E: Drop, S: Drop, I: Drop>(
         comes_to outcome state.new choices ≡ Went (doing (LeaveFunction close ∷ []) (with_operand (Plain 0) state.old)) choices) }
 {
     state.push(Word::Plain(0))?;
-    state.do_first(Task::LeaveFunction(close))?;
-    Ok(Outcome::Went)
+    go_on_doing(state, Task::LeaveFunction(close))
 }
 
 /// The `}` of the body of a function: main answers 0, and another function with a result any input of it.

@@ -13,6 +13,7 @@ mod ends;
 mod fault;
 mod frames;
 pub mod functions;
+mod going_on;
 pub mod laws;
 pub mod leaving;
 mod losses;

@@ -7,6 +7,7 @@ ghost use Rattle.c_machine.specs.Step.{object_at, or_ended, or_stuck};
 ghost use Rattle.c_machine.specs.Words.{applied, as_kind, is_true, operated, told};
 ghost use Rattle.c_steps.specs.ComesTo.{comes_to};
 
+use crate::going_on::go_on_with;
 use crate::outcome::Outcome;
 use crate::state::State;
 use bytes_core::Word;
@@ -21,8 +22,7 @@ pub fn push<E: Drop, S: Drop, I: Drop>(
 ) -> Result<Outcome, NoMemory>
     ensures { IfOk result (λ outcome. (choices : Items Choice) → comes_to outcome state.new choices ≡ Went (with_operand (Plain number) state.old) choices) }
 {
-    state.push(Word::Plain(number))?;
-    Ok(Outcome::Went)
+    go_on_with(state, Word::Plain(number))
 }
 
 /// A value is let go of.
@@ -46,8 +46,7 @@ pub fn object_at<E: Drop, S: Drop, I: Drop>(
     let Some(block) = state.block_of(token) else {
         return Ok(Outcome::Stuck);
     };
-    state.push(Word::To { block, offset: 0 })?;
-    Ok(Outcome::Went)
+    go_on_with(state, Word::To { block, offset: 0 })
 }
 
 /// An address is moved by so many bytes.
@@ -62,8 +61,7 @@ pub fn shift<E: Drop, S: Drop, I: Drop>(
     let Some(word) = state.pop() else {
         return Ok(Outcome::Stuck);
     };
-    state.push(moved(word, bytes))?;
-    Ok(Outcome::Went)
+    go_on_with(state, moved(word, bytes))
 }
 
 /// A value of one kind becomes one of another (C11 6.3).
@@ -80,8 +78,7 @@ pub fn convert<E: Drop, S: Drop, I: Drop>(
         return Ok(Outcome::Stuck);
     };
     let converted = as_kind(state.memory(), from, to, word);
-    state.push(converted)?;
-    Ok(Outcome::Went)
+    go_on_with(state, converted)
 }
 
 /// A unary operator on a value (C11 6.5.3.3).
@@ -100,8 +97,7 @@ pub fn apply<E: Drop, S: Drop, I: Drop>(
     let Some(value) = applied(state.memory(), op, kind, word) else {
         return Ok(Outcome::Stuck);
     };
-    state.push(value)?;
-    Ok(Outcome::Went)
+    go_on_with(state, value)
 }
 
 /// A binary operator on two values (C11 6.5.5 to 6.5.12). Where it has no value the run ends.
@@ -124,8 +120,7 @@ pub fn operate<E: Drop, S: Drop, I: Drop>(
     let Some(value) = operated(state.memory(), op, left, right, one, other) else {
         return Ok(Outcome::Ended);
     };
-    state.push(value)?;
-    Ok(Outcome::Went)
+    go_on_with(state, value)
 }
 
 /// Whether a value is not 0, or, where `holds` is false, whether it is (C11 6.5.3.3p5).
@@ -141,6 +136,5 @@ pub fn answer<E: Drop, S: Drop, I: Drop>(
         return Ok(Outcome::Stuck);
     };
     let truth = is_true(state.memory(), word);
-    state.push(told(holds, truth))?;
-    Ok(Outcome::Went)
+    go_on_with(state, told(holds, truth))
 }

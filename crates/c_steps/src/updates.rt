@@ -12,6 +12,7 @@ ghost use Rattle.c_machine.specs.Words.{is_pointer, kind_after, operated, scalar
 ghost use Rattle.c_steps.specs.ComesTo.{comes_to};
 
 use crate::accesses::load_at;
+use crate::going_on::go_on_with;
 use crate::outcome::Outcome;
 use crate::state::State;
 use bytes_core::Word;
@@ -87,8 +88,7 @@ fn store_result<E: Drop, S: Drop, I: Drop>(
     let Ok(()) = state.store(at, bytes, new) else {
         unreachable!()
     };
-    state.push(counted(keeps_old, old, new))?;
-    Ok(Outcome::Went)
+    go_on_with(state, counted(keeps_old, old, new))
 }
 
 /// The value at an address is loaded, and what an operator makes of it and of one on the right is converted and stored.

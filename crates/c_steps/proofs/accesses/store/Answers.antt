@@ -1,30 +1,35 @@
 -- What the store answers says what it comes to.
-use Rattle.std.proofs.Common.{◌≡◌, ◌∙◌, ℕ, Option, sym, ap, subst}
-use Rattle.c_machine.specs.State.{Faulted, Went, with_operand}
+use Rattle.std.proofs.Common.{◌≡◌, ℕ, List, Option, take, subst}
+use Rattle.std.specs.Prelude.{IfOk}
+use Rattle.bytes_core.specs.Access.{access_fault, stored}
+use Rattle.bytes_core.specs.Value.{word_bytes}
+use Rattle.choices.specs.declared.choice.Choice.{Choice}
+use Rattle.c_machine.specs.State.{with_memory}
 use Rattle.c_machine.specs.Step.{store_step}
 use Rattle.c_machine.specs.Words.{scalar_bytes}
-use Rattle.c_steps.proofs.Answered.{faulted, went_unless}
-use Rattle.c_steps.proofs.Popping.{two_taken, still_named}
+use Rattle.c_steps.specs.ComesTo.{comes_to}
+use Rattle.c_steps.proofs.Lengths.{length_written}
+use Rattle.c_steps.proofs.Popping.{behind_two, named_behind, still_named}
 use Rattle.c_steps.proofs.accesses.store.Goals as goal
 
-pub store-requires-clause-names : goal.store-requires-clause-names
-store-requires-clause-names g c =
+pub store-stored-requires-clause-names : goal.store-stored-requires-clause-names
+store-stored-requires-clause-names g c =
     still_named c.in-Some.word c.in-Some-pop.at c.pop.new.self c.pop-2.new.self c.in-Some-pop.ensures.some c.in-Some.ensures.names
 
-pub returns-in-Err : goal.returns-in-Err
-returns-in-Err g c choices =
-    two_taken c.in-Some.word c.in-Some-pop.at c.args.state.now c.pop.new.self c.pop-2.new.self _
-    (λ memory word at after. store_step c.args.place (scalar_bytes c.args.kind) at word after choices)
-    c.in-Some.ensures.some c.in-Some-pop.ensures.some
-    (subst (λ (found : Option ℕ). Faulted c.in-Err.kind c.args.place ≡ store_step c.args.place found c.in-Some-pop.at c.in-Some.word c.pop-2.new.self choices)
-    c.in-Some-scalar_bytes.ensures.is (sym (faulted _ _ c.in-Err.kind c.args.place _ c.in-Err.ensures.answer)))
+pub go_on_unless-requires : goal.go_on_unless-requires
+go_on_unless-requires g c =
+    named_behind c.store-stored.result c.in-Some.word (stored c.pop-2.new.self.memory c.in-Some-pop.at c.in-Some-scalar_bytes.bytes c.in-Some.word) c.pop-2.new.self
+    c.store-stored.new.self c.store-stored.ensures.stored c.store-stored.ensures.err
+    (length_written c.pop-2.new.self.memory c.in-Some-pop.at (take c.in-Some-scalar_bytes.bytes (word_bytes c.in-Some.word)))
+    (still_named c.in-Some.word c.in-Some-pop.at c.pop.new.self c.pop-2.new.self c.in-Some-pop.ensures.some c.in-Some.ensures.names)
 
 pub returns : goal.returns
-returns g c choices =
-    two_taken c.in-Some.word c.in-Some-pop.at c.args.state.now c.pop.new.self c.pop-2.new.self _
-    (λ memory word at after. store_step c.args.place (scalar_bytes c.args.kind) at word after choices)
-    c.in-Some.ensures.some c.in-Some-pop.ensures.some
-    (subst (λ (found : Option ℕ). Went c.push.new.self choices ≡ store_step c.args.place found c.in-Some-pop.at c.in-Some.word c.pop-2.new.self choices)
-    c.in-Some-scalar_bytes.ensures.is
-    (went_unless _ _ c.in_default-store.field-0 c.args.place c.push.new.self _ choices
-    (c.in_ok-push.ensures.ok ∙ ap (with_operand c.in-Some.word) c.in_default-store.ensures.stored) c.in_default-store.ensures.answer))
+returns g c =
+    let Comes : Option ℕ → Type 0 = λ found. IfOk c.go_on_unless.result (λ outcome. (choices : List Choice) →
+    comes_to outcome c.go_on_unless.new.state choices ≡ store_step c.args.place found c.in-Some-pop.at c.in-Some.word c.pop-2.new.self choices) in
+    behind_two c.go_on_unless.result c.in-Some.word c.in-Some-pop.at c.args.state.now c.pop.new.self c.pop-2.new.self c.go_on_unless.new.state
+    (λ word at after choices. store_step c.args.place (scalar_bytes c.args.kind) at word after choices) c.in-Some.ensures.some c.in-Some-pop.ensures.some
+    (subst Comes c.in-Some-scalar_bytes.ensures.is
+    (c.go_on_unless.ensures (access_fault c.pop-2.new.self.memory c.in-Some-pop.at c.in-Some-scalar_bytes.bytes)
+    (with_memory (stored c.pop-2.new.self.memory c.in-Some-pop.at c.in-Some-scalar_bytes.bytes c.in-Some.word) c.pop-2.new.self)
+    c.store-stored.ensures.answer c.store-stored.ensures.stored))
