@@ -1,23 +1,19 @@
 -- Each block that a state names stays one of its memory.
-use Rattle.std.proofs.Common.{◌≡◌, ℕ, zero, suc, ◌<◌, List, [], ◌∷◌, ◌++◌, length, drop, replicate, take, Option, None, Some, Bool, true, false, sym, ap, ◌∙◌, subst, ◌≤◌, arith}
+use Rattle.std.proofs.Common.{◌≡◌, ℕ, zero, suc, ◌<◌, List, [], ◌∷◌, ◌++◌, length, drop, Option, None, Some, Bool, true, false, sym, ap, ◌∙◌, subst, ◌≤◌, arith}
 use Rattle.std.proofs.lemmas.List.{length-append}
-use Rattle.std.specs.Prelude.{if◌then◌else◌}
-use Rattle.bytes_core.specs.declared.byte.Byte.TheVariants.{Num}
+use Rattle.std.specs.Prelude.{if◌then◌else◌, Result, Ok, Err, IfOk, OnOk, OnErr}
+use Rattle.cbase.specs.declared.no_memory.NoMemory.{NoMemory}
 use Rattle.bytes_core.specs.declared.block.Block.{Block}
 use Rattle.bytes_core.specs.declared.word.Word.{Word}
 use Rattle.bytes_core.specs.declared.word.Word.TheVariants.{Plain, To}
-use Rattle.bytes_core.specs.Access.{stored, filled, bytes_at}
-use Rattle.bytes_core.specs.Copying.{copied}
 use Rattle.bytes_core.specs.Placement.{placed}
-use Rattle.bytes_core.specs.Release.{freed}
 use Rattle.bytes_core.specs.Valid.{WordNamesBelow}
-use Rattle.bytes_core.specs.Value.{word_bytes}
 use Rattle.c_machine.specs.declared.variable.Variable.{Variable}
 use Rattle.c_machine.specs.State.{Scope, Frame, is_named, block_in, blocks_of, objects_of, led_to}
 use Rattle.c_machine.specs.Step.{without_objects}
 use Rattle.c_steps.specs.Named.{AreBelow, IsFrameBelow, AreFramesBelow, NamesBlocks}
 use Rattle.c_steps.specs.Statics.{or_else}
-use Rattle.c_steps.proofs.Lengths.{length_written, length_freed, length_without_objects}
+use Rattle.c_steps.proofs.Lengths.{length_without_objects}
 use Rattle.c_steps.proofs.Lookups.{found_behind_others}
 use Rattle.c_steps.proofs.Names.{below_scope, below_outer}
 
@@ -78,25 +74,22 @@ pub same_count : (count other : ℕ) (operands : List Word) (frame : Frame) (cal
 same_count count other operands frame callers statics same valid =
     subst (λ (n : ℕ). NamesBlocks n operands frame callers statics) (sym same) valid
 
-pub after_store : (memory : List Block) (at : Word) (size : ℕ) (word : Word) (operands : List Word) (frame : Frame) (callers : List Frame) (statics : Scope) →
-    NamesBlocks (length memory) operands frame callers statics → NamesBlocks (length (stored memory at size word)) operands frame callers statics
-after_store memory at size word operands frame callers statics valid =
-    same_count _ _ operands frame callers statics (length_written memory at (take size (word_bytes word))) valid
+-- what is done with the memory keeps how many blocks there are, where it succeeds and where it does not
+pub kept_by : (done : Result (Unit {0}) ℕ) (old made new : List Block) (operands : List Word) (frame : Frame) (callers : List Frame) (statics : Scope) →
+    OnOk done (new ≡ made) → OnErr done (new ≡ old) → length made ≡ length old → NamesBlocks (length old) operands frame callers statics →
+    NamesBlocks (length new) operands frame callers statics
+kept_by (Ok value) old made new operands frame callers statics done failed same valid =
+    same_count _ _ operands frame callers statics (ap length done ∙ same) valid
+kept_by (Err kind) old made new operands frame callers statics done failed same valid =
+    same_count _ _ operands frame callers statics (ap length failed) valid
 
-pub after_fill : (memory : List Block) (at : Word) (number count : ℕ) (operands : List Word) (frame : Frame) (callers : List Frame) (statics : Scope) →
-    NamesBlocks (length memory) operands frame callers statics → NamesBlocks (length (filled memory at number count)) operands frame callers statics
-after_fill memory at number count operands frame callers statics valid =
-    same_count _ _ operands frame callers statics (length_written memory at (replicate count (Num number))) valid
-
-pub after_copy : (memory : List Block) (to from : Word) (count : ℕ) (operands : List Word) (frame : Frame) (callers : List Frame) (statics : Scope) →
-    NamesBlocks (length memory) operands frame callers statics → NamesBlocks (length (copied memory to from count)) operands frame callers statics
-after_copy memory to from count operands frame callers statics valid =
-    same_count _ _ operands frame callers statics (length_written memory to (bytes_at memory from count)) valid
-
-pub after_free : (memory : List Block) (at : Word) (operands : List Word) (frame : Frame) (callers : List Frame) (statics : Scope) →
-    NamesBlocks (length memory) operands frame callers statics → NamesBlocks (length (freed memory at)) operands frame callers statics
-after_free memory at operands frame callers statics valid =
-    same_count _ _ operands frame callers statics (length_freed memory at) valid
+pub kept_by_copy : (result : Result (Result (Unit {0}) ℕ) NoMemory) (old made new : List Block) (operands : List Word) (frame : Frame) (callers : List Frame) (statics : Scope) →
+    IfOk result (λ copy. OnOk copy (new ≡ made)) → IfOk result (λ copy. OnErr copy (new ≡ old)) → OnErr result (new ≡ old) → length made ≡ length old →
+    NamesBlocks (length old) operands frame callers statics → NamesBlocks (length new) operands frame callers statics
+kept_by_copy (Ok copy) old made new operands frame callers statics done failed wanting same valid =
+    kept_by copy old made new operands frame callers statics done failed same valid
+kept_by_copy (Err error) old made new operands frame callers statics done failed wanting same valid =
+    same_count _ _ operands frame callers statics (ap length wanting) valid
 
 -- objects
 pub after_frame : (count : ℕ) (operands : List Word) (frame next : Frame) (callers : List Frame) (statics : Scope) →

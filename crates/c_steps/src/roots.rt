@@ -19,7 +19,6 @@ fn add_scope(roots: &mut Vec<u32>, scope: &[Variable]) -> Result<(), NoMemory>
 }
 
 /// The blocks of the objects of a function.
-#[tactic(auto, using(crate::proofs::RootsInOrder::with_scope, crate::proofs::Behind::none_left))]
 fn add_frame(roots: &mut Vec<u32>, frame: &Frame) -> Result<(), NoMemory>
     ensures { OnOk result (roots.new.items ≡ roots.old.items ++ blocks_of (objects_of frame.now)) }
 {
@@ -30,7 +29,6 @@ fn add_frame(roots: &mut Vec<u32>, frame: &Frame) -> Result<(), NoMemory>
 }
 
 /// The blocks of the objects of the callers.
-#[tactic(auto, using(crate::proofs::RootsInOrder::with_frame, crate::proofs::Behind::none_left))]
 fn add_callers(roots: &mut Vec<u32>, callers: &Stack<Frame>) -> Result<(), NoMemory>
     ensures { OnOk result (roots.new.items ≡ roots.old.items ++ blocks_of (flat_map objects_of callers.now)) }
 {
@@ -51,7 +49,6 @@ fn add_operand(roots: &mut Vec<u32>, operand: Word) -> Result<(), NoMemory>
 }
 
 /// The blocks to which operands lead.
-#[tactic(auto, using(crate::proofs::RootsInOrder::with_operand, crate::proofs::Behind::none_left))]
 fn add_operands(roots: &mut Vec<u32>, operands: &Stack<Word>) -> Result<(), NoMemory>
     ensures { OnOk result (roots.new.items ≡ roots.old.items ++ led_to operands.now) }
 {

@@ -158,7 +158,6 @@ impl<E: Drop, S: Drop, I: Drop> State<E, S, I> {
     }
 
     /// Stores the lowest bytes of a word where `at` leads (C11 6.5.16.1), with the faults of an access: 1 to 4. It takes no memory.
-    #[tactic(auto, using(crate::proofs::Kept::after_store))]
     pub fn store(&mut self, at: Word, size: u8, word: Word) -> Result<(), u8>
         requires size { size ≤ 8 }
         requires names { WordNamesBelow (length self.old.memory) word }
@@ -166,24 +165,20 @@ impl<E: Drop, S: Drop, I: Drop> State<E, S, I> {
         ensures stored { OnOk result (self.new ≡ with_memory (stored self.old.memory at size word) self.old) }
         ensures err { OnErr result (self.new ≡ self.old) }
     {
-        self.memory.store(at, size, word)?;
-        Ok(())
+        self.memory.store(at, size, word)
     }
 
     /// Writes a number over `count` bytes where `at` leads (C11 7.24.6.1), with the faults of an access: 1 to 4. It takes no memory.
-    #[tactic(auto, using(crate::proofs::Kept::after_fill))]
     pub fn fill(&mut self, at: Word, value: u8, count: usize) -> Result<(), u8>
         ensures answer { result ≡ answer (range_fault self.old.memory at count) tt }
         ensures filled { OnOk result (self.new ≡ with_memory (filled self.old.memory at value count) self.old) }
         ensures err { OnErr result (self.new ≡ self.old) }
     {
-        self.memory.fill(at, value, count)?;
-        Ok(())
+        self.memory.fill(at, value, count)
     }
 
     /// Copies `count` bytes from where one word leads to where another does (C11 7.24.2.1, 7.24.2.2), with faults 1 to 4, and 8 where the ranges have to be
     /// disjoint and are not.
-    #[tactic(auto, using(crate::proofs::Kept::after_copy))]
     pub fn copy(
         &mut self,
         alloc: Global,
@@ -196,21 +191,16 @@ impl<E: Drop, S: Drop, I: Drop> State<E, S, I> {
         ensures copied { IfOk result (λ copy. OnOk copy (self.new ≡ with_memory (copied self.old.memory to from count) self.old)) }
         ensures fault { IfOk result (λ copy. OnErr copy (self.new ≡ self.old)) }
     {
-        match self.memory.copy(alloc, to, from, count, disjoint)? {
-            Err(kind) => Ok(Err(kind)),
-            Ok(()) => Ok(Ok(())),
-        }
+        self.memory.copy(alloc, to, from, count, disjoint)
     }
 
     /// Frees what a word leads to (C11 7.22.3.3), with faults 5 and 6. It takes no memory.
-    #[tactic(auto, using(crate::proofs::Kept::after_free))]
     pub fn free(&mut self, at: Word) -> Result<(), u8>
         ensures answer { result ≡ answer (free_fault self.old.memory at) tt }
         ensures freed { OnOk result (self.new ≡ with_memory (freed self.old.memory at) self.old) }
         ensures err { OnErr result (self.new ≡ self.old) }
     {
-        self.memory.free(at)?;
-        Ok(())
+        self.memory.free(at)
     }
 
     /// The block of the object that the name behind so many tokens declared first: one of the function that runs, or else one that lives as long as the
