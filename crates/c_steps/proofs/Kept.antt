@@ -1,7 +1,7 @@
 -- Each block that a state names stays one of its memory.
 use Rattle.std.proofs.Common.{◌≡◌, ℕ, zero, suc, ◌<◌, List, [], ◌∷◌, ◌++◌, length, drop, Option, None, Some, Bool, true, false, sym, ap, ◌∙◌, subst, ◌≤◌, arith}
 use Rattle.std.proofs.lemmas.List.{length-append}
-use Rattle.std.specs.Prelude.{if◌then◌else◌, Result, Ok, Err, IfOk, OnOk, OnErr}
+use Rattle.std.specs.Prelude.{if◌then◌else◌, Result, Ok, Err, IfOk, IfSome, OnOk, OnErr}
 use Rattle.cbase.specs.declared.no_memory.NoMemory.{NoMemory}
 use Rattle.bytes_core.specs.declared.block.Block.{Block}
 use Rattle.bytes_core.specs.declared.word.Word.{Word}
@@ -132,9 +132,14 @@ pub below_own : (count : ℕ) (operands : List Word) (frame : Frame) (callers : 
     NamesBlocks count operands frame callers statics → block_in (objects_of frame) token ≡ Some block → block < count
 below_own count operands frame callers statics token block valid is = found_below count (objects_of frame) token block valid.frame_named is
 
-pub below_lasting : (count : ℕ) (operands : List Word) (frame : Frame) (callers : List Frame) (statics : Scope) (token block : ℕ) →
+below_lasting : (count : ℕ) (operands : List Word) (frame : Frame) (callers : List Frame) (statics : Scope) (token block : ℕ) →
     NamesBlocks count operands frame callers statics → block_in statics token ≡ Some block → block < count
 below_lasting count operands frame callers statics token block valid is = found_below count statics token block valid.statics_named is
+
+pub lasting_below : (count : ℕ) (operands : List Word) (frame : Frame) (callers : List Frame) (statics : Scope) (token : ℕ) (found : Option ℕ) →
+    NamesBlocks count operands frame callers statics → found ≡ block_in statics token → IfSome found (λ block. block < count)
+lasting_below count operands frame callers statics token None valid is = tt
+lasting_below count operands frame callers statics token (Some block) valid is = below_lasting count operands frame callers statics token block valid (sym is)
 
 -- one more block
 below_longer : (count other : ℕ) (blocks : List ℕ) → count ≤ other → AreBelow count blocks → AreBelow other blocks

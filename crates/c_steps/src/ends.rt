@@ -58,7 +58,6 @@ fn sorted<E: Drop, S: Drop, I: Drop>(task: Task<E, S, I>) -> Passed<S>
 }
 
 /// What is to be done in the body of the innermost loop goes.
-#[tactic(auto, using(crate::proofs::Passing::one_block_further, crate::proofs::Passing::no_block_further))]
 pub(crate) fn to_loop<E: Drop, S: Drop, I: Drop>(
     tasks: &mut Stack<Task<E, S, I>>,
 ) -> Option<LoopEnd<S>>

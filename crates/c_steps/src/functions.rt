@@ -1,6 +1,7 @@
 //! The ends of functions and of runs (C11 5.1.2.2.3, 6.8.6.4, 6.9.1p12).
-ghost use Rattle.std.specs.Prelude.{◌≡◌, [], ◌∷◌, List as Items, IfOk};
+ghost use Rattle.std.specs.Prelude.{◌≡◌, [], ◌∷◌, List as Items, IfOk, MatchBool};
 ghost use Rattle.choices.specs.declared.choice.Choice.{Choice};
+ghost use Rattle.c_machine.specs.declared.kind.Kind.TheVariants.{Void};
 ghost use Rattle.c_machine.specs.declared.task.Task.TheVariants.{LeaveFunction};
 ghost use Rattle.c_machine.specs.State.{Went, doing, with_operand};
 ghost use Rattle.bytes_core.specs.declared.word.Word.TheVariants.{Plain};
@@ -111,15 +112,19 @@ pub fn end_of_body<E: Drop, S: Drop, I: Drop>(
 ) -> Result<Outcome, NoMemory>
     ensures { IfOk result (λ outcome. comes_to outcome state.new choices.new ≡ end_of_body main kind close state.old choices.old) }
 {
-    if main {
+    if main || is_void(&kind) {
         return answer_zero(state, close);
     }
+    receive_result(state, choices, kind, close)
+}
+
+/// Whether a function with a result of that kind answers nothing.
+fn is_void(kind: &Kind) -> bool
+    ensures { MatchBool result (kind.now ≡ Void) (kind.now ≡ Void → ⊥) }
+{
     match kind {
-        Kind::Void => answer_zero(state, close),
-        Kind::Integer(of) => receive_result(state, choices, Kind::Integer(of), close),
-        Kind::Pointer(bytes) => receive_result(state, choices, Kind::Pointer(bytes), close),
-        Kind::Array(bytes) => receive_result(state, choices, Kind::Array(bytes), close),
-        Kind::Struct(bytes) => receive_result(state, choices, Kind::Struct(bytes), close),
+        Kind::Void => true,
+        _ => false,
     }
 }
 

@@ -1,5 +1,5 @@
 //! `break`, `continue` and `return`: what is to be done in the body that is left goes, and what unfinished expressions in it hold (C11 6.8.6).
-ghost use Rattle.std.specs.Prelude.{◌≡◌, List as Items, IfOk, OnOk, length, replicate};
+ghost use Rattle.std.specs.Prelude.{◌≡◌, List as Items, IfOk, length, replicate};
 ghost use Rattle.choices.specs.declared.choice.Choice.{Choice};
 ghost use Rattle.c_machine.specs.declared.task.Task.TheVariants.{LeaveBlock};
 ghost use Rattle.bytes_core.specs.Valid.{WordNamesBelow};
@@ -19,20 +19,22 @@ use c_words::as_kind;
 use cbase::{NoMemory, Place};
 use std::alloc::Global;
 
-/// So many blocks are to be left, one by one from the inside.
+/// So many blocks are to be left, one by one from the inside, and loss is looked for.
 fn do_leave<E: Drop, S: Drop, I: Drop>(
+    alloc: Global,
     state: &mut State<E, S, I>,
     blocks: usize,
     word: Place,
-) -> Result<(), NoMemory>
-    ensures { OnOk result (state.new ≡ doing (replicate blocks (LeaveBlock word)) state.old) }
+) -> Result<Outcome, NoMemory>
+    ensures { IfOk result (λ outcome. (choices : Items Choice) →
+        comes_to outcome state.new choices ≡ unless_lost word (doing (replicate blocks (LeaveBlock word)) state.old) choices) }
 {
     let mut put = 0;
     while put < blocks {
         state.do_first(Task::LeaveBlock(word))?;
         put += 1;
     }
-    Ok(())
+    unless_lost(alloc, state, word)
 }
 
 /// `continue`: the blocks in the body of the innermost loop are left one by one, all at the word, and the loop goes on (C11 6.8.6.2).
@@ -50,8 +52,7 @@ pub fn continue_at<E: Drop, S: Drop, I: Drop>(
     let LoopEnd { blocks, stmt, held } = left;
     state.keep_oldest(held);
     state.do_first(Task::Again { stmt, held })?;
-    do_leave(state, blocks, word)?;
-    unless_lost(alloc, state, word)
+    do_leave(alloc, state, blocks, word)
 }
 
 /// `break`, behind the way to its loop: the blocks in the body are left one by one, all at the word, and so is the block of a `for` (C11 6.8.6.3).
@@ -71,8 +72,7 @@ pub fn break_at<E: Drop, S: Drop, I: Drop>(
     if is_for {
         state.leave_for_at(word)?;
     }
-    do_leave(state, left.blocks, word)?;
-    unless_lost(alloc, state, word)
+    do_leave(alloc, state, left.blocks, word)
 }
 
 /// `return` behind its value: it is converted to the result of the function and kept, and all blocks of the function are left next (C11 6.8.6.4).

@@ -205,7 +205,6 @@ impl<E: Drop, S: Drop, I: Drop> State<E, S, I> {
 
     /// The block of the object that the name behind so many tokens declared first: one of the function that runs, or else one that lives as long as the
     /// program runs.
-    #[tactic(auto, using(crate::proofs::Kept::own_block, crate::proofs::Kept::lasting_block, crate::proofs::Kept::below_own, crate::proofs::Kept::below_lasting))]
     pub fn block_of(&self, token: u32) -> Option<u32>
         ensures is { result ≡ block_of self.now token }
         ensures names { IfSome result (λ block. block < length self.now.memory) }
