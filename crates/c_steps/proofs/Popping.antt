@@ -57,6 +57,15 @@ three_behind {E} {S} {I} result first second third old one two state new onward 
     one_behind result first old one new (λ memory a before choices. popped before (λ b between. popped between (λ c after. onward memory a b c after choices))) is
     (two_behind result second third one two state new (λ memory b c after choices. onward memory first b c after choices) then last comes)
 
+-- one operand is taken, and one that is made of it is there
+pub made_of_one : {E S I : Type 0} (result : Result Answer NoMemory) (operand made : Word) (old state new : State E S I) (value : List Block → Word → Word) →
+    old ≡ with_operand operand state → made ≡ value state.memory operand →
+    IfOk result (λ outcome. (choices : List Choice) → comes_to outcome new choices ≡ Went (with_operand made state) choices) →
+    IfOk result (λ outcome. (choices : List Choice) → comes_to outcome new choices ≡ popped old (λ word after. Went (with_operand (value old.memory word) after) choices))
+made_of_one {E} {S} {I} result operand made old state new value is made_is comes =
+    one_behind result operand old state new (λ memory word after choices. Went (with_operand (value memory word) after) choices) is
+    (subst (λ (word : Word). IfOk result (λ outcome. (choices : List Choice) → comes_to outcome new choices ≡ Went (with_operand word state) choices)) made_is comes)
+
 -- the block that a word names stays
 pub still_named : {E S I : Type 0} (word other : Word) (before after : State E S I) → before ≡ with_operand other after →
     WordNamesBelow (length before.memory) word → WordNamesBelow (length after.memory) word

@@ -93,7 +93,6 @@ pub fn give_back<E: Drop, S: Drop, I: Drop>(
 }
 
 /// The body of the function that runs is left with a value.
-#[tactic(auto, using(crate::proofs::NamedWords::names_of_converted))]
 fn leave_body<E: Drop, S: Drop, I: Drop>(
     alloc: Global,
     state: &mut State<E, S, I>,

@@ -50,7 +50,6 @@ pub fn object_at<E: Drop, S: Drop, I: Drop>(
 }
 
 /// An address is moved by so many bytes.
-#[tactic(auto, using(crate::proofs::NamedWords::names_of_moved))]
 pub fn shift<E: Drop, S: Drop, I: Drop>(
     state: &mut State<E, S, I>,
     bytes: u64,
@@ -65,7 +64,6 @@ pub fn shift<E: Drop, S: Drop, I: Drop>(
 }
 
 /// A value of one kind becomes one of another (C11 6.3).
-#[tactic(auto, using(crate::proofs::NamedWords::names_of_converted))]
 pub fn convert<E: Drop, S: Drop, I: Drop>(
     state: &mut State<E, S, I>,
     from: Kind,
@@ -82,7 +80,6 @@ pub fn convert<E: Drop, S: Drop, I: Drop>(
 }
 
 /// A unary operator on a value (C11 6.5.3.3).
-#[tactic(auto, using(crate::proofs::NamedWords::names_of_applied))]
 pub fn apply<E: Drop, S: Drop, I: Drop>(
     state: &mut State<E, S, I>,
     op: UnaryOp,
@@ -124,7 +121,6 @@ pub fn operate<E: Drop, S: Drop, I: Drop>(
 }
 
 /// Whether a value is not 0, or, where `holds` is false, whether it is (C11 6.5.3.3p5).
-#[tactic(auto, using(crate::proofs::NamedWords::names_of_told))]
 pub fn answer<E: Drop, S: Drop, I: Drop>(
     state: &mut State<E, S, I>,
     holds: bool,

@@ -15,8 +15,8 @@ pub loop-task-preserved-in-Block : goal.loop-task-preserved-in-Block
 loop-task-preserved-in-Block g c = record {
   count = omega (arith, c.loop-task.invariant.count, ap length c.in-Some.ensures.some);
   left = c.loop-task.invariant.left
-    ∙ (ap (further_on c.loop-task.blocks) (ap loop_left c.in-Some.ensures.some ∙ c.in-Block.ensures c.pop.new.self)
-    ∙ one_block_further c.loop-task.blocks (loop_left c.pop.new.self));
+      ∙ (ap (further_on c.loop-task.blocks) (ap loop_left c.in-Some.ensures.some ∙ c.in-Block.ensures c.pop.new.self)
+      ∙ one_block_further c.loop-task.blocks (loop_left c.pop.new.self));
 }
 
 pub loop-task-preserved : goal.loop-task-preserved

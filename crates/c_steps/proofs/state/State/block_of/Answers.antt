@@ -7,15 +7,15 @@ use Rattle.c_steps.proofs.state.State.block_of.Goals as goal
 pub returns : goal.returns
 returns g c = record {
   is = rw (← c.self.view_is)
-    (c.block_in.ensures ∙ sym (lasting_block (objects_of c.self.inside.frame) c.self.inside.statics c.args.token (sym (c.in_default.ensures {u = tt}))));
+      (c.block_in.ensures ∙ sym (lasting_block (objects_of c.self.inside.frame) c.self.inside.statics c.args.token (sym (c.in_default.ensures {u = tt}))));
   names = rw (← c.self.view_is)
-    (lasting_below _ c.self.inside.operands c.self.inside.frame c.self.inside.callers c.self.inside.statics c.args.token c.block_in.result c.self.invariant c.block_in.ensures);
+      (lasting_below _ c.self.inside.operands c.self.inside.frame c.self.inside.callers c.self.inside.statics c.args.token c.block_in.result c.self.invariant c.block_in.ensures);
 }
 
 pub returns-in-Some : goal.returns-in-Some
 returns-in-Some g c = record {
   is = rw (← c.self.view_is) (sym (own_block (objects_of c.self.inside.frame) c.self.inside.statics c.args.token c.in-Some.block (sym (c.in-Some.ensures {u = tt}))));
   names = rw (← c.self.view_is)
-    (below_own _ c.self.inside.operands c.self.inside.frame c.self.inside.callers c.self.inside.statics c.args.token c.in-Some.block c.self.invariant
-    (sym (c.in-Some.ensures {u = tt})));
+      (below_own _ c.self.inside.operands c.self.inside.frame c.self.inside.callers c.self.inside.statics c.args.token c.in-Some.block c.self.invariant
+      (sym (c.in-Some.ensures {u = tt})));
 }
