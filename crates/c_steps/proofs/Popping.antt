@@ -57,6 +57,14 @@ three_behind {E} {S} {I} result first second third old one two state new onward 
     one_behind result first old one new (λ memory a before choices. popped before (λ b between. popped between (λ c after. onward memory a b c after choices))) is
     (two_behind result second third one two state new (λ memory b c after choices. onward memory first b c after choices) then last comes)
 
+-- two operands are taken, and what comes of them has a property
+pub of_two : {E S I : Type 0} (P : Outcome E S I → Type 0) (first second : Word) (old middle state : State E S I)
+    (onward : List Block → Word → Word → State E S I → Outcome E S I) → old ≡ with_operand first middle → middle ≡ with_operand second state →
+    P (onward state.memory first second state) → P (popped old (λ one before. popped before (λ other after. onward old.memory one other after)))
+of_two {E} {S} {I} P first second old middle state onward is then holds =
+    subst (λ (from : State E S I). P (popped from (λ one before. popped before (λ other after. onward from.memory one other after)))) (sym is)
+    (subst (λ (from : State E S I). P (popped from (λ other after. onward from.memory first other after))) (sym then) holds)
+
 -- one operand is taken, and one that is made of it is there
 pub made_of_one : {E S I : Type 0} (result : Result Answer NoMemory) (operand made : Word) (old state new : State E S I) (value : List Block → Word → Word) →
     old ≡ with_operand operand state → made ≡ value state.memory operand →
