@@ -18,7 +18,7 @@ use Rattle.c_text.specs.declared.store.Store.{Store}
 use Rattle.c_text.specs.Kept.{is_sized, kept, kept_object, kept_store}
 use Rattle.c_tasks.specs.declared.room.Room.{Room}
 use Rattle.c_tasks.specs.Room.{are_kept, is_there, kinds_in, MakesRoom}
-use Rattle.c_tasks.specs.Standing.{struct_bytes}
+use Rattle.c_tasks.specs.Structs.{struct_bytes}
 use Rattle.c_tasks.proofs.KeptKinds.{is_kept}
 use Rattle.c_tasks.proofs.MakingRoom.{Tasks, Running, lacks_one, lacks_second}
 

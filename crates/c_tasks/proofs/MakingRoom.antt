@@ -19,7 +19,7 @@ use Rattle.c_machine.specs.Trees.{text_of, form_of}
 use Rattle.c_tasks.specs.declared.room.Room.{Room}
 use Rattle.c_tasks.specs.declared.room.Room.TheVariants.{Made}
 use Rattle.c_tasks.specs.Room.{are_kept, is_there, kinds_in, MakesRoom}
-use Rattle.c_tasks.specs.Standing.{struct_bytes}
+use Rattle.c_tasks.specs.Structs.{struct_bytes}
 use Rattle.c_tasks.proofs.KeptKinds.{is_kept}
 use Rattle.c_text.specs.Kept.{kept}
 

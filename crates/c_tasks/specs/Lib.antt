@@ -1,3 +1,3 @@
 pub mod Loops
 pub mod Room
-pub mod Standing
+pub mod Structs

@@ -1,5 +1,5 @@
 //! Assignments, `++` and `--` (C11 6.5.2.4, 6.5.3.1, 6.5.16).
-ghost use Rattle.std.specs.Prelude.{◌≡◌, [], ◌∷◌, true, None, Option, Some, IfOk};
+ghost use Rattle.std.specs.Prelude.{◌≡◌, [], ◌∷◌, true, None, IfOk};
 ghost use Rattle.c_machine.specs.declared.kind.Kind.TheVariants.{Struct};
 ghost use Rattle.c_machine.specs.declared.task.Task.TheVariants.{AddressOf, Convert, CopyStruct, Store, Update, ValueOf};
 ghost use Rattle.c_machine.specs.Expressions.{value_kind, value_parts};

@@ -1,8 +1,8 @@
 //! Blocks and the objects that are made where they are entered (C11 6.2.4, 6.8.2).
-ghost use Rattle.std.specs.Prelude.{◌≡◌, [], ◌∷◌, ◌++◌, map, IfOk, OnOk};
+ghost use Rattle.std.specs.Prelude.{◌≡◌, ◌∷◌, map, IfOk, OnOk};
 ghost use Rattle.std.specs.List.{flat_map};
 ghost use Rattle.cbase.specs.declared.tree.decl.Declared.{Declared};
-ghost use Rattle.c_machine.specs.declared.task.Task.TheVariants.{Execute, LeaveBlock, OpenBlock};
+ghost use Rattle.c_machine.specs.declared.task.Task.TheVariants.{Execute, OpenBlock};
 ghost use Rattle.c_machine.specs.Blocks.{entered, in_block, in_inner_block, last_tasks, made, objects_in, valued};
 ghost use Rattle.c_machine.specs.State.{doing};
 ghost use Rattle.expressions.specs.Numbers.{Numbering};

@@ -6,7 +6,7 @@ ghost use Rattle.c_machine.specs.Program.{Program};
 ghost use Rattle.c_machine.specs.Trees.{text_of};
 ghost use Rattle.c_text.specs.Kept.{kept};
 ghost use Rattle.c_text.specs.Stands.{StandsFor};
-ghost use Rattle.c_tasks.specs.Standing.{struct_bytes};
+ghost use Rattle.c_tasks.specs.Structs.{struct_bytes};
 
 use c_machine::Kind;
 use c_text::TypedText;

@@ -1,6 +1,6 @@
 //! Names and constants (C11 6.4.4, 6.5.1).
 ghost use Rattle.std.specs.Prelude.{IfOk};
-ghost use Rattle.c_machine.specs.Expressions.{known, value_parts};
+ghost use Rattle.c_machine.specs.Expressions.{value_parts};
 ghost use Rattle.c_machine.specs.Program.{constant_of};
 ghost use Rattle.c_machine.specs.Text.{Name, Known};
 ghost use Rattle.expressions.specs.Numbers.{Numbering};

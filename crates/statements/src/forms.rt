@@ -13,7 +13,7 @@ use crate::branches::choose;
 use crate::demands::Demand;
 use crate::jumps::{leave_loop, return_value};
 use crate::loops::{do_loop, for_loop, while_loop};
-use crate::taken::{optional, optional_unboxed};
+use crate::taken::optional_unboxed;
 use cbase::{NoMemory, Place, Stmt, StmtForm};
 use declarations::declaration;
 use expressions::{Checker, Context, Found, Part, Told, Within};
