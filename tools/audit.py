@@ -38,7 +38,7 @@ GROUPS = (
     (("bytes_core", "first_form"), "what a run does: memory, faults, the lines of the form that is judged, and its machine"),
     (("ctokens",), "which tokens a text has, where each stands, which items they make and which of these main needs"),
     (("cgrammar", "cread", "cconstructs", "ctrees"), "which tree a row of tokens is, how deep it may be, and which forms are given up by name"),
-    (("cbase", "arithmetic", "constants", "values", "operators"), "what types C has and how they are laid, what constants and operators give, and what is broken at an operator"),
+    (("cbase", "arithmetic", "constants", "values", "ctypes"), "what types C has and how they are laid, what constants and operators give, and what is broken at an operator"),
     (("environment", "languages", "definitions"), "what is declared at each place of a text, and which names the whole text defines"),
     (("typing", "ccheck"), "which expressions, statements, declarations and items pass, what is refused first in one that does not, and in which order items are read and checked"),
 )

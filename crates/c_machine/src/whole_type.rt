@@ -1,10 +1,10 @@
 ghost use Rattle.std.specs.Prelude.{◌≡◌, Some, true};
 ghost use Rattle.arithmetic.specs.Size.{bytes};
-ghost use Rattle.operators.specs.Integers.{int, promoted, common};
+ghost use Rattle.ctypes.specs.Integers.{int, promoted, common};
 ghost use Rattle.values.specs.Values.{is_whole, whole_in};
 
 use arithmetic::Size;
-use operators::IntegerType;
+use ctypes::IntegerType;
 use std::marker::Model;
 use values::is_whole;
 
@@ -16,7 +16,7 @@ pub struct WholeType {
 
 impl Model for WholeType {
     ghost use Rattle.std.specs.Prelude.{◌≡◌, true};
-    ghost use Rattle.operators.specs.declared.kind.IntegerType.{IntegerType};
+    ghost use Rattle.ctypes.specs.declared.kind.IntegerType.{IntegerType};
     ghost use Rattle.values.specs.Values.{is_whole};
 
     ghost Value = { IntegerType };

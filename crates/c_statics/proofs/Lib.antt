@@ -1,5 +1,6 @@
 pub mod ByForm
 pub mod EachNoted
+pub mod Firsts
 pub mod InFront
 pub mod Static
 pub mod Walking

@@ -1,3 +1,5 @@
+pub mod Callees
+pub mod Calls
 pub mod MainHere
 pub mod Nodes
 pub mod Weights

@@ -4,7 +4,7 @@ ghost use Rattle.bytes_core.specs.declared.word.Word.TheVariants.{Plain};
 ghost use Rattle.bytes_core.specs.Access.{access_fault, loaded};
 ghost use Rattle.bytes_core.specs.Valid.{WordNamesBelow};
 ghost use Rattle.choices.specs.declared.choice.Choice.{Choice};
-ghost use Rattle.operators.specs.Integers.{int};
+ghost use Rattle.ctypes.specs.Integers.{int};
 ghost use Rattle.c_machine.specs.declared.kind.Kind.TheVariants.{Integer};
 ghost use Rattle.c_machine.specs.State.{popped};
 ghost use Rattle.c_machine.specs.Step.{counted, counting, stored_result, updated};

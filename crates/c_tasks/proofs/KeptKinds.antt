@@ -1,7 +1,7 @@
 -- Types that are kept.
 use Rattle.std.proofs.Common.{◌≡◌, ℕ, Bool, true, false, Option, None, Some, option_map, refl, if◌then◌else◌}
 use Rattle.std.specs.Prelude.{nat_le}
-use Rattle.operators.specs.declared.kind.IntegerType.{IntegerType}
+use Rattle.ctypes.specs.declared.kind.IntegerType.{IntegerType}
 use Rattle.typing.specs.Idiom.{at_most}
 use Rattle.values.specs.Values.{is_whole, whole_in}
 use Rattle.c_machine.specs.declared.kind.Kind.{Kind}

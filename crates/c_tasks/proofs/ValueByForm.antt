@@ -5,7 +5,7 @@ use Rattle.cbase.specs.declared.tree.expr.ExprForm.{ExprForm}
 use Rattle.cbase.specs.declared.tree.expr.ExprForm.TheOpen as tree
 use Rattle.cbase.specs.declared.tree.expr.ExprForm.TheViews.{out-ExprForm}
 use Rattle.cbase.specs.declared.tree.identifier.Identifier.{Identifier}
-use Rattle.operators.specs.Kinds.{kind_of}
+use Rattle.ctypes.specs.Kinds.{kind_of}
 use Rattle.typing.specs.Forms.{Form as Layer}
 use Rattle.typing.specs.Idiom.{member_offset}
 use Rattle.typing.specs.Nodes.{pointed_offset}

@@ -11,10 +11,10 @@ use Rattle.cbase.specs.Layout.{layout_of, extent_of}
 use Rattle.ctypes.specs.declared.shape.Shape.{Shape}
 use Rattle.ctypes.specs.declared.shape.Shape.TheVariants.{Void as VoidShape, Bool as BoolShape, Int as IntShape, Pointer as PointerShape, Struct as StructShape, Array as ArrayShape}
 use Rattle.ctypes.specs.Table.{type_of}
-use Rattle.operators.specs.declared.kind.Target.{Target}
-use Rattle.operators.specs.declared.kind.Target.TheVariants.{Sized, Unsized}
-use Rattle.operators.specs.Kinds.{target_of, has_size}
-use Rattle.operators.proofs.Shapes.{kind_of_shape, kind_is, target_of_shape, target_is}
+use Rattle.ctypes.specs.declared.kind.Target.{Target}
+use Rattle.ctypes.specs.declared.kind.Target.TheVariants.{Sized, Unsized}
+use Rattle.ctypes.specs.Kinds.{target_of, has_size}
+use Rattle.ctypes.proofs.ShapeKinds.{kind_of_shape, kind_is, target_of_shape, target_is}
 use Rattle.typing.specs.Idiom.{at_most}
 use Rattle.typing.specs.Initialisers.{bytes_of}
 use Rattle.c_machine.specs.Program.{Program, size_of}

@@ -1,7 +1,7 @@
 //! Types by what the machine asks of them.
 ghost use Rattle.std.specs.Prelude.{◌≡◌, ◌<◌, length, option_map};
 ghost use Rattle.ctypes.specs.Table.{type_at};
-ghost use Rattle.operators.specs.Kinds.{target_of};
+ghost use Rattle.ctypes.specs.Kinds.{target_of};
 ghost use Rattle.typing.specs.Idiom.{at_most};
 ghost use Rattle.c_machine.specs.Program.{Program, size_of};
 ghost use Rattle.c_machine.specs.Trees.{kind_in, step_of};
@@ -9,8 +9,7 @@ ghost use Rattle.c_text.specs.Kept.{kept, bytes_told};
 
 use c_machine::{Kind, WholeType};
 use cbase::Extent;
-use ctypes::{Shape, Types};
-use operators::IntegerType;
+use ctypes::{IntegerType, Shape, Types};
 
 /// The type of that number by what an access and an operator ask of it, in a program that has these structs.
 ///

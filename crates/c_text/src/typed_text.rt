@@ -3,7 +3,7 @@ ghost use Rattle.cbase.specs.declared.tree.expr.Expr.{Expr};
 ghost use Rattle.expressions.specs.Numbers.{Numbering, entity_at};
 ghost use Rattle.c_machine.specs.Program.{Program, type_of, entity_of, constant_of};
 ghost use Rattle.c_machine.specs.Trees.{kind_in, offset};
-ghost use Rattle.operators.specs.Kinds.{kind_of};
+ghost use Rattle.ctypes.specs.Kinds.{kind_of};
 ghost use Rattle.typing.specs.Idiom.{member_offset};
 ghost use Rattle.typing.specs.Nodes.{pointed_offset};
 ghost use Rattle.c_text.specs.Kept.{kept};

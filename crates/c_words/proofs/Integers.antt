@@ -2,8 +2,8 @@
 use Rattle.std.proofs.Common.{◌≡◌, ℕ, true, Option, Some, refl, ◌∙◌}
 use Rattle.cbase.specs.declared.tree.operators.BinaryOp.{BinaryOp}
 use Rattle.cbase.specs.declared.tree.operators.UnaryOp.{UnaryOp}
-use Rattle.operators.specs.declared.kind.IntegerType.{IntegerType}
-use Rattle.operators.specs.Kinds.{Kind, Integer, integer_in}
+use Rattle.ctypes.specs.declared.kind.IntegerType.{IntegerType}
+use Rattle.ctypes.specs.Kinds.{Kind, Integer, integer_in}
 use Rattle.values.specs.Values.{is_whole, of_unary, unary_value, of_binary, binary_value}
 
 pub of_one : (op : UnaryOp) (of : IntegerType) (bits : ℕ) (result : Option ℕ) → is_whole of ≡ true →

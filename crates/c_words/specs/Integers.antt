@@ -1,6 +1,6 @@
 -- Values of any type as integers.
 use Rattle.std.specs.Prelude.{ℕ}
-use Rattle.operators.specs.declared.kind.IntegerType.{IntegerType}
+use Rattle.ctypes.specs.declared.kind.IntegerType.{IntegerType}
 use Rattle.values.specs.Values.{offset_as}
 use Rattle.c_machine.specs.declared.kind.Kind.{Kind}
 use Rattle.c_machine.specs.declared.kind.Kind.TheVariants.{Integer}

@@ -1,10 +1,16 @@
 pub mod Closing
+pub mod Early
+pub mod Following
 pub mod Growing
 pub mod InOrder
+pub mod Judging
 pub mod Laid
 pub mod Numbers
 pub mod Placing
+pub mod Promotions
 pub mod Rows
 pub mod Same
+pub mod ShapeKinds
 pub mod Shapes
 pub mod Tables
+pub mod Worked

@@ -9,7 +9,7 @@ use Rattle.cbase.specs.declared.tree.expr.ExprForm.TheViews.{out-Declared}
 use Rattle.environment.specs.declared.entity.DeclaredType.{DeclaredType}
 use Rattle.environment.specs.declared.environment.Environment.{Environment}
 use Rattle.environment.specs.Bounds.{DeclaredBelow}
-use Rattle.operators.specs.declared.found.Broken.{Broken}
+use Rattle.ctypes.specs.declared.found.Broken.{Broken}
 use Rattle.typing.specs.declared.fault.Fault.{Fault}
 use Rattle.typing.specs.declared.size.Size.{Size}
 use Rattle.typing.specs.Declarations.{Given, IsAgain, found_of_name, given, given_type, is_complete, name_declared, name_faults}

@@ -11,7 +11,7 @@ use Rattle.ctypes.specs.Table.{type_at}
 use Rattle.environment.specs.declared.entity.DeclaredType.{DeclaredType}
 use Rattle.environment.specs.declared.entity.DeclaredType.TheVariants.{Whole, UnsizedArray}
 use Rattle.environment.specs.Bounds.{DeclaredBelow}
-use Rattle.operators.specs.Kinds.{kind_in, kind_of}
+use Rattle.ctypes.specs.Kinds.{kind_in, kind_of}
 use Rattle.typing.specs.Declarations.{AreTwo, items_in}
 use Rattle.typing.specs.Entities.{DeclaredType as TypeDeclared, WholeType, ItemsOf}
 use Rattle.typing.specs.Paths.{item_in}

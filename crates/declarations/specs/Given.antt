@@ -21,7 +21,7 @@ use Rattle.environment.specs.Bounds.{DeclaredBelow}
 use Rattle.environment.specs.Linkage.{linked_declared, own_declared}
 use Rattle.environment.specs.Names.{value_in}
 use Rattle.environment.specs.Scopes.{found_here}
-use Rattle.operators.specs.declared.found.Broken.{Broken}
+use Rattle.ctypes.specs.declared.found.Broken.{Broken}
 use Rattle.typing.specs.declared.fault.Fault.{Fault}
 use Rattle.typing.specs.declared.size.Size.{Size}
 use Rattle.typing.specs.declared.size.Size.TheVariants.{Counted, NotConstant, LeftOut}

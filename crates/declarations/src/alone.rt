@@ -6,9 +6,9 @@ ghost use Rattle.typing.specs.Declarations.{tag_alone};
 ghost use Rattle.declarations.specs.Given.{IsAlone};
 
 use cbase::{Decl, Identifier, NoMemory, Storage, TypeSpec};
+use ctypes::Broken;
 use environment::Tag;
 use expressions::{Context, Found};
-use operators::Broken;
 use std::alloc::Global;
 use typing::Fault;
 

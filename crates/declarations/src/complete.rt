@@ -3,7 +3,7 @@ ghost use Rattle.cbase.specs.declared.tree.decl.Storage.TheVariants.{Plain, Stat
 ghost use Rattle.environment.specs.Bounds.{DeclaredBelow};
 ghost use Rattle.expressions.specs.Context.{Agrees};
 ghost use Rattle.expressions.specs.Numbers.{Numbering, declared_type_at};
-ghost use Rattle.operators.specs.Kinds.{kind_of};
+ghost use Rattle.ctypes.specs.Kinds.{kind_of};
 ghost use Rattle.typing.specs.Declarations.{given, is_complete};
 ghost use Rattle.typing.specs.Statements.{is_void};
 

@@ -10,9 +10,9 @@ use crate::complete::is_complete;
 use crate::declaring::declare_name;
 use crate::types::{found_of_name, given_type};
 use cbase::{Declared, NoMemory, Storage};
+use ctypes::Broken;
 use environment::DeclaredType;
 use expressions::{Context, Found, NamedType, all_at, first_of, unless};
-use operators::Broken;
 use std::alloc::Global;
 use typing::{Fault, Size};
 

@@ -11,9 +11,9 @@ ghost use Rattle.declarations.specs.Given.{IsSizeTold};
 use crate::declaring::declare_object;
 use crate::handing::hand_object;
 use cbase::{Declared, NoMemory, Place};
+use ctypes::Broken;
 use environment::DeclaredType;
 use expressions::{Context, Found, first_of, unless};
-use operators::Broken;
 use std::alloc::Global;
 use typing::Fault;
 

@@ -4,9 +4,9 @@ ghost use Rattle.typing.specs.Declarations.{found_in_sizes, if_large};
 ghost use Rattle.declarations.specs.Given.{is_left_out, IsGivenType, IsFoundOfName};
 
 use cbase::NoMemory;
+use ctypes::Broken;
 use environment::DeclaredType;
 use expressions::{Context, NamedType, arrays_of, found_of_sizes, least, pointers_to};
-use operators::Broken;
 use typing::Size;
 
 /// The type that a name has by words, stars and sizes, of which the outermost may be left out (C11 6.7.6). Only types get numbers.

@@ -3,9 +3,8 @@ ghost use Rattle.std.specs.Prelude.{◌<◌, length, IfOk, IfSome};
 
 use arithmetic::{Size, convert};
 use cbase::NoMemory;
-use ctypes::Shape;
+use ctypes::{Broken, Shape};
 use expressions::{Context, Known};
-use operators::Broken;
 use typing::Fault;
 
 /// What is refused, with the number of its token.

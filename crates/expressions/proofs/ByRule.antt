@@ -18,9 +18,9 @@ use Rattle.constants.specs.declared.meaning.Meaning.{Meaning}
 use Rattle.constants.specs.declared.meaning.Meaning.TheVariants.{NoConstant, FitsNoType, Known as KnownConstant}
 use Rattle.constants.specs.Meanings.{Means}
 use Rattle.environment.specs.Environment.{name_found}
-use Rattle.operators.specs.declared.found.Broken.TheVariants.{Construct, Rule}
-use Rattle.operators.specs.Binary.{binary}
-use Rattle.operators.specs.Kinds.{Kind, Integer, Pointer, Array, Struct, Void}
+use Rattle.ctypes.specs.declared.found.Broken.TheVariants.{Construct, Rule}
+use Rattle.ctypes.specs.Binary.{binary}
+use Rattle.ctypes.specs.Kinds.{Kind, Integer, Pointer, Array, Struct, Void}
 use Rattle.typing.specs.declared.fault.Fault.{Fault}
 use Rattle.typing.specs.Entities.{Entity, ObjectIs, FunctionIs, EnumeratorIs, TypedefIs}
 use Rattle.typing.specs.Faults.{fault, all_at}

@@ -5,7 +5,7 @@ use Rattle.std.specs.List.{list_any}
 use Rattle.std.proofs.lemmas.List.{length-map}
 use Rattle.cbase.specs.declared.structs.StructDef.{StructDef}
 use Rattle.cbase.specs.declared.tree.expr.Expr.{Expr}
-use Rattle.operators.specs.Kinds.{kind_of}
+use Rattle.ctypes.specs.Kinds.{kind_of}
 use Rattle.typing.specs.Calls.{is_struct, has_struct, product, times}
 use Rattle.values.specs.Values.{cast_value}
 use Rattle.expressions.specs.Arguments.{arguments_at}

@@ -10,8 +10,8 @@ use Rattle.cbase.specs.declared.tree.expr.ExprForm.TheOpen.{Call}
 use Rattle.environment.specs.declared.entity.Entity.{Entity}
 use Rattle.environment.specs.declared.entity.Entity.TheVariants.{Object, Typedef, Enumerator, Function}
 use Rattle.environment.specs.Environment.{name_found}
-use Rattle.operators.specs.Kinds.{kind_of}
-use Rattle.operators.specs.declared.found.Broken.TheVariants.{Construct}
+use Rattle.ctypes.specs.Kinds.{kind_of}
+use Rattle.ctypes.specs.declared.found.Broken.TheVariants.{Construct}
 use Rattle.typing.specs.Calls.{call_faults}
 use Rattle.typing.specs.declared.fault.Fault.{Fault}
 use Rattle.typing.specs.Faults.{fault}

@@ -14,9 +14,9 @@ use Rattle.environment.specs.declared.entity.Binding.TheVariants.{Own}
 use Rattle.environment.specs.declared.entity.Entity.TheVariants.{Enumerator as EnumeratorEntity}
 use Rattle.environment.specs.Environment.{name_bound}
 use Rattle.environment.specs.Scopes.{found_here}
-use Rattle.operators.specs.declared.found.Broken.TheVariants.{Rule}
-use Rattle.operators.specs.Binary.{int_type}
-use Rattle.operators.specs.Kinds.{kind_of}
+use Rattle.ctypes.specs.declared.found.Broken.TheVariants.{Rule}
+use Rattle.ctypes.specs.Binary.{int_type}
+use Rattle.ctypes.specs.Kinds.{kind_of}
 use Rattle.typing.specs.declared.fault.Fault.{Fault}
 use Rattle.typing.specs.Faults.{fault}
 use Rattle.typing.specs.NamedTypes.{NamedType, whole}

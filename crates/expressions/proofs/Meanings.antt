@@ -4,8 +4,8 @@ use Rattle.cbase.specs.declared.ctype.CType.{CType}
 use Rattle.cbase.specs.declared.structs.StructDef.{StructDef}
 use Rattle.ctypes.specs.declared.shape.Shape.{Shape}
 use Rattle.ctypes.specs.Table.{type_at, type_of}
-use Rattle.operators.specs.Kinds.{kind_of}
-use Rattle.operators.proofs.Shapes.{kind_of_shape, kind_is}
+use Rattle.ctypes.specs.Kinds.{kind_of}
+use Rattle.ctypes.proofs.ShapeKinds.{kind_of_shape, kind_is}
 use Rattle.expressions.specs.Context.{Context, Agrees}
 use Rattle.expressions.specs.Numbers.{Numbering}
 use Rattle.expressions.proofs.Growth.{agrees_at}

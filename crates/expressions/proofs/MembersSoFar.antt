@@ -30,8 +30,8 @@ use Rattle.ctypes.specs.Structs.{field_of, fields_of}
 use Rattle.ctypes.specs.Table.{type_at}
 use Rattle.environment.specs.Names.{Entries, value_in, with_value}
 use Rattle.environment.proofs.Tables.{value-put}
-use Rattle.operators.specs.declared.found.Broken.{Broken}
-use Rattle.operators.specs.declared.found.Broken.TheVariants.{Construct, Rule}
+use Rattle.ctypes.specs.declared.found.Broken.{Broken}
+use Rattle.ctypes.specs.declared.found.Broken.TheVariants.{Construct, Rule}
 use Rattle.typing.specs.declared.fault.Fault.{Fault}
 use Rattle.typing.specs.Braces.{has_member, member, is_large_struct, member_faults, faults_of_member}
 use Rattle.typing.specs.Faults.{unless, all_at, IsFirst}

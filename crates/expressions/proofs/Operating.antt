@@ -9,12 +9,12 @@ use Rattle.ctypes.specs.Table.{type_at, Interns}
 use Rattle.environment.specs.declared.environment.Environment.{Environment}
 use Rattle.environment.specs.Bounds.{AreBelow}
 use Rattle.environment.proofs.Bounds.{bounds_grow}
-use Rattle.operators.specs.declared.found.Outcome.{Outcome}
-use Rattle.operators.specs.declared.found.Outcome.TheVariants.{Typed as OutcomeTyped, Broken as OutcomeBroken}
-use Rattle.operators.specs.declared.operand.Operand.{Operand as OperandByNumber}
-use Rattle.operators.specs.Broken.{Judgement, Typed, Breaks}
-use Rattle.operators.specs.Kinds.{kind_of}
-use Rattle.operators.specs.Operands.{Operand, Answers}
+use Rattle.ctypes.specs.declared.found.Outcome.{Outcome}
+use Rattle.ctypes.specs.declared.found.Outcome.TheVariants.{Typed as OutcomeTyped, Broken as OutcomeBroken}
+use Rattle.ctypes.specs.declared.operand.Operand.{Operand as OperandByNumber}
+use Rattle.ctypes.specs.Broken.{Judgement, Typed, Breaks}
+use Rattle.ctypes.specs.Kinds.{kind_of}
+use Rattle.ctypes.specs.Operands.{Operand, Answers}
 use Rattle.expressions.specs.Context.{Context, Agrees, OnlyTypes}
 use Rattle.expressions.specs.Numbers.{Numbering}
 use Rattle.expressions.specs.Operated.{Operates, Numbers}

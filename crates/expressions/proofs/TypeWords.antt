@@ -24,9 +24,9 @@ use Rattle.environment.specs.declared.entity.Tag.TheVariants.{Struct, Enum}
 use Rattle.environment.specs.declared.entity.TagForm.TheVariants.{Mentioned}
 use Rattle.environment.specs.declared.environment.Environment.{Environment}
 use Rattle.environment.specs.Environment.{name_found, tag_found}
-use Rattle.operators.specs.declared.found.Broken.{Broken}
-use Rattle.operators.specs.declared.found.Broken.TheVariants.{Rule}
-use Rattle.operators.specs.Binary.{int_type}
+use Rattle.ctypes.specs.declared.found.Broken.{Broken}
+use Rattle.ctypes.specs.declared.found.Broken.TheVariants.{Rule}
+use Rattle.ctypes.specs.Binary.{int_type}
 use Rattle.typing.specs.declared.fault.Fault.{Fault}
 use Rattle.typing.specs.Faults.{fault}
 use Rattle.typing.specs.Forms.{Words}

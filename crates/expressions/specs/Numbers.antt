@@ -19,12 +19,12 @@ use Rattle.environment.specs.declared.entity.Linked.{Linked as LinkedByNumber}
 use Rattle.environment.specs.declared.entity.Signature.{Signature}
 use Rattle.environment.specs.declared.entity.Tag.{Tag as TagByNumber}
 use Rattle.environment.specs.declared.entity.Tag.TheVariants.{Struct, Enum}
-use Rattle.operators.specs.declared.found.Outcome.{Outcome as Operated}
-use Rattle.operators.specs.declared.found.Outcome.TheVariants.{Typed as TypedByNumber, Broken as BrokenHere}
-use Rattle.operators.specs.declared.operand.Operand.{Operand as OperandByNumber}
-use Rattle.operators.specs.Broken.{Judgement, Typed, Breaks}
-use Rattle.operators.specs.Kinds.{kind_of}
-use Rattle.operators.specs.Operands.{Operand}
+use Rattle.ctypes.specs.declared.found.Outcome.{Outcome as Operated}
+use Rattle.ctypes.specs.declared.found.Outcome.TheVariants.{Typed as TypedByNumber, Broken as BrokenHere}
+use Rattle.ctypes.specs.declared.operand.Operand.{Operand as OperandByNumber}
+use Rattle.ctypes.specs.Broken.{Judgement, Typed, Breaks}
+use Rattle.ctypes.specs.Kinds.{kind_of}
+use Rattle.ctypes.specs.Operands.{Operand}
 use Rattle.typing.specs.Entities.{Entity, ObjectIs, FunctionIs, EnumeratorIs, TypedefIs, FunctionEntity, Tag, StructTag, EnumTag, TagHere, StructHere, EnumHere, DeclaredType as TypeDeclared, WholeType, ItemsOf, Linked, ObjectLinked, FunctionLinked, NameHere, OwnHere, TypedefHere, LinkedHere}
 use Rattle.typing.specs.Known.{Known}
 use Rattle.typing.specs.NamedTypes.{NamedType}

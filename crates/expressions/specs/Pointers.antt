@@ -1,7 +1,7 @@
 -- What a cast asks of the kind of its type (C11 6.3.2.3).
 use Rattle.std.specs.Prelude.{Bool, true, false}
-use Rattle.operators.specs.declared.kind.Target.TheVariants.{Void as VoidTarget}
-use Rattle.operators.specs.Kinds.{Kind, Pointer}
+use Rattle.ctypes.specs.declared.kind.Target.TheVariants.{Void as VoidTarget}
+use Rattle.ctypes.specs.Kinds.{Kind, Pointer}
 
 abbrev pub is_pointer : Kind → Bool
 is_pointer (Pointer item target) = true

@@ -1,8 +1,8 @@
 -- What is taken of an operand that passes: its value, an index as a word, the size of an array.
 use Rattle.std.specs.Prelude.{◌≡◌, ℕ, true, false, None, Some}
 use Rattle.cbase.specs.declared.place.Place.{Place}
-use Rattle.operators.specs.declared.found.Broken.TheVariants.{Rule}
-use Rattle.operators.specs.Kinds.{kind_of}
+use Rattle.ctypes.specs.declared.found.Broken.TheVariants.{Rule}
+use Rattle.ctypes.specs.Kinds.{kind_of}
 use Rattle.typing.specs.declared.size.Size.{Size}
 use Rattle.typing.specs.Faults.{fault}
 use Rattle.typing.specs.Known.{can_load}

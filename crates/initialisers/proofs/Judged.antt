@@ -3,10 +3,10 @@ use Rattle.std.proofs.Common.{◌≡◌, ◌∙◌, ℕ, Bool, true, false, [], 
 use Rattle.cbase.specs.declared.ctype.CType.{CType}
 use Rattle.cbase.specs.declared.place.Place.{Place}
 use Rattle.cbase.specs.declared.tree.expr.Expr.{Expr}
-use Rattle.operators.specs.declared.found.Broken.TheVariants.{Rule}
-use Rattle.operators.specs.declared.operand.Operand.{Operand as OperandByNumber}
-use Rattle.operators.specs.Converting.{converts}
-use Rattle.operators.specs.Kinds.{kind_of, decayed}
+use Rattle.ctypes.specs.declared.found.Broken.TheVariants.{Rule}
+use Rattle.ctypes.specs.declared.operand.Operand.{Operand as OperandByNumber}
+use Rattle.ctypes.specs.Converting.{converts}
+use Rattle.ctypes.specs.Kinds.{kind_of, decayed}
 use Rattle.typing.specs.Faults.{fault, IsFirst}
 use Rattle.typing.specs.Initialisers.{IsAsked}
 use Rattle.typing.specs.Outcomes.{Handed}

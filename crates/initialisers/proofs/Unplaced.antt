@@ -11,7 +11,7 @@ use Rattle.cbase.specs.declared.tree.expr.ExprForm.TheViews.{out-Init, out-InitP
 use Rattle.cbase.specs.declared.tree.identifier.Identifier.{Identifier}
 use Rattle.cbase.specs.declared.tree.init.Init.{Init}
 use Rattle.cbase.specs.declared.tree.init.InitPart.{InitPart}
-use Rattle.operators.specs.declared.found.Broken.TheVariants.{Rule}
+use Rattle.ctypes.specs.declared.found.Broken.TheVariants.{Rule}
 use Rattle.typing.specs.declared.fault.Fault.{Fault}
 use Rattle.typing.specs.Faults.{fault}
 use Rattle.typing.specs.Outcomes.{Outcome, Refused}

@@ -4,7 +4,7 @@ use Rattle.cbase.specs.declared.abi.Abi.{Abi}
 use Rattle.cbase.specs.declared.place.Place.{Place}
 use Rattle.cbase.specs.declared.tree.init.InitPart.{InitPart}
 use Rattle.ctrees.specs.Levels.{expr_levels}
-use Rattle.operators.specs.declared.found.Broken.TheVariants.{Rule}
+use Rattle.ctypes.specs.declared.found.Broken.TheVariants.{Rule}
 use Rattle.typing.specs.Faults.{fault}
 use Rattle.typing.specs.Outcomes.{Outcome, Refused}
 use Rattle.typing.specs.Statements.{Surplus as AsSurplus}

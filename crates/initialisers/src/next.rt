@@ -7,8 +7,8 @@ ghost use Rattle.initialisers.specs.Filled.{filled_at, IsKept, IsSlot, IsNext, o
 
 use crate::filled::Filled;
 use cbase::{Identifier, NoMemory, Place};
+use ctypes::Broken;
 use expressions::{Context, Found, Slot};
-use operators::Broken;
 use typing::Fault;
 
 /// How many bytes an object may have.

@@ -1,13 +1,13 @@
 ghost use Rattle.std.specs.Prelude.{◌≡◌, ◌<◌, ◌≤◌, length, IfOk};
-ghost use Rattle.operators.specs.declared.found.Broken.TheVariants.{Rule};
+ghost use Rattle.ctypes.specs.declared.found.Broken.TheVariants.{Rule};
 ghost use Rattle.typing.specs.Faults.{fault};
 ghost use Rattle.expressions.specs.declared.found.Found.TheVariants.{Refused};
 ghost use Rattle.initialisers.specs.Storing.{IsForm, IsJudged, IsStored};
 
 use crate::constant::{Use, is_constant};
 use cbase::{Expr, NoMemory, Place};
+use ctypes::Broken;
 use expressions::{Context, Found, HandedRow, Known, Slot, Subject};
-use operators::Broken;
 use typing::Fault;
 
 /// Stores a value of which so much is known: what is broken at it, or the store is handed on. `before` rows were handed on when the value began.

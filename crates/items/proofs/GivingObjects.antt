@@ -15,7 +15,7 @@ use Rattle.environment.specs.declared.entity.Linked.{Linked as LinkedByNumber}
 use Rattle.environment.specs.declared.environment.Environment.{Environment}
 use Rattle.environment.specs.Bounds.{DeclaredBelow}
 use Rattle.environment.specs.Names.{value_in}
-use Rattle.operators.specs.declared.found.Broken.{Broken}
+use Rattle.ctypes.specs.declared.found.Broken.{Broken}
 use Rattle.typing.specs.declared.fault.Fault.{Fault}
 use Rattle.typing.specs.declared.size.Size.{Size}
 use Rattle.typing.specs.Declarations.{Given, IsAgain, LinkedGiven, found_of_name, given_type, name_declared, name_faults}

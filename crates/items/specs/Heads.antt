@@ -13,7 +13,7 @@ use Rattle.environment.specs.Environment.{definition_set, is_defined, signature_
 use Rattle.environment.specs.Linkage.{linked_declared_around, own_declared}
 use Rattle.environment.specs.Names.{value_in}
 use Rattle.environment.specs.Scopes.{found_here, left}
-use Rattle.operators.specs.Kinds.{kind_of}
+use Rattle.ctypes.specs.Kinds.{kind_of}
 use Rattle.typing.specs.declared.fault.Fault.{Fault}
 use Rattle.typing.specs.Declarations.{IsAgain, LinkedGiven, faults_of_all, found_of_all, function_given, function_name_faults, is_array, is_typedef}
 use Rattle.typing.specs.Entities.{FunctionLinked}

@@ -12,7 +12,7 @@ use Rattle.environment.specs.declared.entity.DeclaredType.{DeclaredType}
 use Rattle.environment.specs.declared.entity.DeclaredType.TheVariants.{Whole, UnsizedArray}
 use Rattle.environment.specs.Bounds.{DeclaredBelow}
 use Rattle.environment.specs.Names.{value_in}
-use Rattle.operators.specs.declared.found.Broken.{Broken}
+use Rattle.ctypes.specs.declared.found.Broken.{Broken}
 use Rattle.typing.specs.declared.fault.Fault.{Fault}
 use Rattle.typing.specs.declared.size.Size.{Size}
 use Rattle.typing.specs.Declarations.{IsAgain, IsOther, LinkedGiven, given, given_type, name_declared, name_faults, told_type}

@@ -11,10 +11,10 @@ use crate::definitions::{definition_by, is_twice};
 use crate::handing::hand_link;
 use crate::object::Object;
 use cbase::{Declared, NoMemory, Storage};
+use ctypes::Broken;
 use declarations::{composite_by_now, definition_by_now, found_of_name, given_type, is_again};
 use environment::DeclaredType;
 use expressions::{Context, Found, NamedType, all_at, first_of, unless};
-use operators::Broken;
 use std::alloc::Global;
 use typing::{Fault, Size};
 

@@ -12,8 +12,8 @@ use Rattle.environment.specs.Environment.{signature_added, is_defined}
 use Rattle.environment.specs.Linkage.{linked_declared}
 use Rattle.environment.specs.Names.{value_in}
 use Rattle.environment.specs.Scopes.{found_here}
-use Rattle.operators.specs.declared.found.Broken.{Broken}
-use Rattle.operators.specs.Kinds.{Kind, Integer, Pointer, Array, Struct, Void, kind_of}
+use Rattle.ctypes.specs.declared.found.Broken.{Broken}
+use Rattle.ctypes.specs.Kinds.{Kind, Integer, Pointer, Array, Struct, Void, kind_of}
 use Rattle.typing.specs.declared.fault.Fault.{Fault}
 use Rattle.typing.specs.Declarations.{Parameter, LinkedGiven, IsAgain, composite, faults_of_all, faults_of_function, found_of_all, function_given, function_name_faults, is_array, is_typedef}
 use Rattle.typing.specs.Entities.{Linked, ObjectLinked, FunctionLinked}

@@ -12,8 +12,8 @@ use Rattle.environment.specs.declared.entity.Entity.TheVariants.{Object}
 use Rattle.environment.specs.declared.entity.Lifetime.TheVariants.{Automatic}
 use Rattle.environment.specs.Linkage.{own_declared}
 use Rattle.environment.specs.Scopes.{found_here}
-use Rattle.operators.specs.declared.found.Broken.{Broken}
-use Rattle.operators.specs.Kinds.{kind_of}
+use Rattle.ctypes.specs.declared.found.Broken.{Broken}
+use Rattle.ctypes.specs.Kinds.{kind_of}
 use Rattle.typing.specs.declared.size.Size.{Size}
 use Rattle.typing.specs.Declarations.{asked_type, found_of_name, parameter_type, parameter_declared, parameter_faults, parameter_found, is_named_here}
 use Rattle.typing.specs.Known.{value_type}

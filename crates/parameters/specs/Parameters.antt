@@ -1,7 +1,7 @@
 -- Parameters that pass, as code keeps them, and what is meant by them.
 use Rattle.std.specs.Prelude.{◌<◌, ℕ, Bool, not, List, [], ◌++◌, map, All, Option, None, Some}
 use Rattle.cbase.specs.declared.place.Place.{Place}
-use Rattle.operators.specs.declared.found.Broken.TheVariants.{Rule}
+use Rattle.ctypes.specs.declared.found.Broken.TheVariants.{Rule}
 use Rattle.typing.specs.declared.fault.Fault.{Fault}
 use Rattle.typing.specs.Declarations.{Parameter}
 use Rattle.typing.specs.Faults.{unless}

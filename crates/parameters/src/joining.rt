@@ -6,8 +6,8 @@ ghost use Rattle.parameters.specs.Parameters.{faults_at, parameter_at, numbers_o
 
 use crate::parameter::Parameter;
 use cbase::{List, NoMemory};
+use ctypes::Broken;
 use expressions::{first_of, least, unless};
-use operators::Broken;
 use std::alloc::Global;
 use typing::Fault;
 

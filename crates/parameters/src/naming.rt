@@ -1,6 +1,6 @@
 ghost use Rattle.std.specs.Prelude.{◌≡◌, ◌<◌, ◌++◌, ℕ, map, length, All, IfOk};
 ghost use Rattle.cbase.specs.declared.abi.Abi.{Abi};
-ghost use Rattle.operators.specs.Kinds.{kind_of};
+ghost use Rattle.ctypes.specs.Kinds.{kind_of};
 ghost use Rattle.typing.specs.Declarations.{function_name_faults, found_of_all, faults_of_all, is_array, is_typedef};
 ghost use Rattle.typing.specs.Faults.{least};
 ghost use Rattle.expressions.specs.Context.{Agrees};
@@ -13,8 +13,8 @@ use crate::joining::{first_of_parameters, found_of_parameters, types_of};
 use crate::linking::{declare_function, is_again};
 use crate::parameter::Parameter;
 use cbase::{Declared, NoMemory, Place, Storage};
+use ctypes::Broken;
 use expressions::{Context, Found, NamedType, all_at, first_of, least, pointers_to, unless};
-use operators::Broken;
 use std::alloc::Global;
 use typing::Fault;
 

@@ -1,5 +1,5 @@
 use cbase::Place;
-use operators::Broken;
+use ctypes::Broken;
 
 /// A parameter of a function that passes (C11 6.7.6.3), by what its function asks of it.
 #[derive(Clone, Copy)]

@@ -1,7 +1,7 @@
 ghost use Rattle.std.specs.Prelude.{◌≡◌, ◌<◌, ℕ, length, is_some, option_map, IfOk, OnOk, if◌then◌else◌, None, Some};
 ghost use Rattle.cbase.specs.declared.abi.Abi.{Abi};
-ghost use Rattle.operators.specs.declared.found.Broken.TheVariants.{Rule};
-ghost use Rattle.operators.specs.Kinds.{kind_of};
+ghost use Rattle.ctypes.specs.declared.found.Broken.TheVariants.{Rule};
+ghost use Rattle.ctypes.specs.Kinds.{kind_of};
 ghost use Rattle.environment.specs.Scopes.{found_here};
 ghost use Rattle.typing.specs.Declarations.{found_in_sizes, found_of_name, if_incomplete, if_large, parameter_found};
 ghost use Rattle.typing.specs.Statements.{is_void};
@@ -11,10 +11,9 @@ ghost use Rattle.parameters.specs.Taken.{behind_first, is_here, object_named, pl
 
 use crate::parameter::Parameter;
 use cbase::{Identifier, NoMemory, Param, Place};
-use ctypes::Shape;
+use ctypes::{Broken, Shape};
 use environment::{DeclaredType, Entity, Lifetime};
 use expressions::{Context, NamedType, arrays_of, found_of_sizes, least, pointers_to};
-use operators::Broken;
 use std::alloc::Global;
 use typing::Size;
 

@@ -23,7 +23,7 @@ use Rattle.ccheck.specs.Checked.{IsRefused, at_beginning}
 use Rattle.ccheck.specs.Needed.{spans_of}
 use Rattle.ccheck.specs.Refusals.{place_at}
 use Rattle.ccheck.specs.Walk.{HaveOneAnswer}
-use Rattle.c_calls.specs.Calls.{IsFirstCallee}
+use Rattle.c_statics.specs.Calls.{IsFirstCallee}
 use Rattle.c_machine.specs.Program.{Program}
 use Rattle.c_machine.specs.Run.{run_of}
 use Rattle.c_machine.specs.Trees.{text_of}

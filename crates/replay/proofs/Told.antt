@@ -33,7 +33,7 @@ use Rattle.ccheck.specs.declared.checking.Checked.TheVariants.{Typed as TypedAns
 use Rattle.ccheck.specs.declared.program.TypedProgram.{TypedProgram}
 use Rattle.ccheck.specs.declared.refusal.Refusal.{Refusal}
 use Rattle.ccheck.specs.declared.refusal.Refusal.TheVariants as refusal
-use Rattle.c_calls.specs.Calls.{IsFirstCallee}
+use Rattle.c_statics.specs.Calls.{IsFirstCallee}
 use Rattle.c_machine.specs.Program.{Program}
 use Rattle.c_machine.specs.Run.{run_of}
 use Rattle.c_machine.specs.Trees.{text_of}

@@ -17,7 +17,7 @@ use Rattle.ccheck.specs.Checked.{IsTyped}
 use Rattle.ccheck.specs.declared.program.TypedProgram.{TypedProgram}
 use Rattle.ccheck.specs.declared.refusal.Refusal.{Refusal}
 use Rattle.ccheck.specs.declared.refusal.Refusal.TheVariants as refusal
-use Rattle.c_calls.specs.Calls.{IsFirstCallee}
+use Rattle.c_statics.specs.Calls.{IsFirstCallee}
 use Rattle.c_machine.specs.Program.{Program}
 use Rattle.c_text.specs.Stands.{StandsFor}
 use Rattle.report.specs.ReplayReport.{HasPrintableReplay}

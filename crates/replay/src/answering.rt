@@ -12,7 +12,7 @@ ghost use Rattle.replay.specs.Told.{HoldsProgramOf, HoldsRunnable, HoldsTyped, I
 use crate::judging::{Answered, JudgedFile, judge, with_names};
 use crate::places::place_at;
 use crate::playing::play;
-use c_calls::first_callee;
+use c_statics::first_callee;
 use c_text::TypedText;
 use cbase::{Item, List, NoMemory, Place, Text};
 use cbuild::let_go_of_items;

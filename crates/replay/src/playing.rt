@@ -12,7 +12,7 @@ ghost use Rattle.report.specs.ReplayReport.{HasPrintableRun};
 ghost use Rattle.replay.specs.Program.{what_of};
 
 use crate::places::place_at;
-use c_start::run_program;
+use c_run::run_program;
 use c_steps::Outcome;
 use c_text::TypedText;
 use cbase::{Item, NoMemory};

@@ -7,11 +7,11 @@ use Rattle.cbase.specs.declared.structs.StructDef.{StructDef}
 use Rattle.ctypes.specs.declared.shape.Shape.{Shape}
 use Rattle.ctypes.specs.declared.shape.Shape.TheVariants.{Void as VoidShape, Bool as BoolShape, Int as IntShape, Pointer as PointerShape, Struct as StructShape, Array as ArrayShape}
 use Rattle.ctypes.specs.Table.{type_at, type_of}
-use Rattle.operators.specs.declared.found.Broken.TheVariants.{Rule}
-use Rattle.operators.specs.Binary.{is_scalar}
-use Rattle.operators.specs.Converting.{converts}
-use Rattle.operators.specs.Kinds.{Kind, Integer, Pointer, Array, Struct, Void, kind_of}
-use Rattle.operators.proofs.Shapes.{kind_of_shape}
+use Rattle.ctypes.specs.declared.found.Broken.TheVariants.{Rule}
+use Rattle.ctypes.specs.Binary.{is_scalar}
+use Rattle.ctypes.specs.Converting.{converts}
+use Rattle.ctypes.specs.Kinds.{Kind, Integer, Pointer, Array, Struct, Void, kind_of}
+use Rattle.ctypes.proofs.ShapeKinds.{kind_of_shape}
 use Rattle.typing.specs.declared.fault.Fault.{Fault}
 use Rattle.typing.specs.Calls.{is_struct}
 use Rattle.typing.specs.Faults.{unless}

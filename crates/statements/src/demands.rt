@@ -1,6 +1,6 @@
 ghost use Rattle.std.specs.Prelude.{◌≡◌, ◌<◌, ℕ, length, true, option_map};
-ghost use Rattle.operators.specs.Binary.{is_scalar};
-ghost use Rattle.operators.specs.Kinds.{kind_of, decayed};
+ghost use Rattle.ctypes.specs.Binary.{is_scalar};
+ghost use Rattle.ctypes.specs.Kinds.{kind_of, decayed};
 ghost use Rattle.typing.specs.Statements.{faults_of_value, result_faults, return_faults, is_void};
 ghost use Rattle.expressions.specs.Context.{Agrees};
 ghost use Rattle.expressions.specs.Numbers.{Numbering, known_at};
@@ -8,9 +8,8 @@ ghost use Rattle.expressions.specs.Settled.{IsFirstOf};
 ghost use Rattle.statements.specs.Demands.{demand_at, IsDemandBelow};
 
 use cbase::Place;
-use ctypes::Shape;
+use ctypes::{Broken, Shape};
 use expressions::{Context, Known, unless};
-use operators::Broken;
 use typing::Fault;
 
 /// What a value in a statement is taken for.

@@ -10,8 +10,8 @@ ghost use Rattle.statements.specs.Parts.{SaysPart};
 use crate::demands::{Demand, fault_of_return};
 use crate::taken::value;
 use cbase::{Boxed, Expr, NoMemory, Place};
+use ctypes::Broken;
 use expressions::{Checker, Context, Found, Part, Told, Within};
-use operators::Broken;
 use typing::Fault;
 
 /// `break` and `continue`, of which the word stands there: outside of the body of a loop it is rule 10 at the word (C11 6.8.6.2p1, 6.8.6.3p1).

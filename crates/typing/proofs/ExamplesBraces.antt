@@ -20,12 +20,12 @@ use Rattle.cbase.specs.Layout.{layout_of, struct_at, extent_of, fields_layout, n
 use Rattle.cbase.proofs.Types.{type_layout-Void, type_layout-Int, type_layout-Pointer, type_layout-Array, type_layout-Struct}
 use Rattle.constants.specs.Deciding.{letter, integer, meaning_of}
 use Rattle.constants.specs.declared.meaning.Meaning.TheVariants.{Known as Meant}
-use Rattle.operators.specs.declared.found.Broken.{Broken}
-use Rattle.operators.specs.declared.found.Broken.TheVariants.{Construct, Rule}
-use Rattle.operators.specs.Binary.{int_type}
-use Rattle.operators.specs.Integers.{integer as integer_of}
-use Rattle.operators.specs.Kinds.{Integer as IntegerKind, kind_of}
-use Rattle.operators.proofs.Shapes.{are_kinds}
+use Rattle.ctypes.specs.declared.found.Broken.{Broken}
+use Rattle.ctypes.specs.declared.found.Broken.TheVariants.{Construct, Rule}
+use Rattle.ctypes.specs.Binary.{int_type}
+use Rattle.ctypes.specs.Integers.{integer as integer_of}
+use Rattle.ctypes.specs.Kinds.{Integer as IntegerKind, kind_of}
+use Rattle.ctypes.proofs.ShapeKinds.{are_kinds}
 use Rattle.typing.specs.declared.fault.Fault.{Fault}
 use Rattle.typing.specs.declared.size.Size.{Size}
 use Rattle.typing.specs.declared.size.Size.TheVariants.{Counted, NotConstant, LeftOut}

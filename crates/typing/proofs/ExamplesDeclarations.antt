@@ -18,12 +18,12 @@ use Rattle.cbase.specs.Layout.{layout_of, struct_at, fields_layout, no_fields, s
 use Rattle.cbase.proofs.Types.{type_layout-Struct}
 use Rattle.constants.specs.declared.meaning.Meaning.TheVariants.{Known as Meant}
 use Rattle.constants.specs.Deciding.{letter, integer, meaning_of}
-use Rattle.operators.specs.declared.found.Broken.TheVariants.{Construct, Rule}
-use Rattle.operators.specs.declared.kind.Target.TheVariants.{Sized, Void as VoidTarget}
-use Rattle.operators.specs.Binary.{int_type}
-use Rattle.operators.specs.Integers.{integer as integer_of}
-use Rattle.operators.specs.Kinds.{Integer as IntegerKind, Pointer, Array, Struct, Void as VoidKind, kind_of, target_in, target_of}
-use Rattle.operators.proofs.Shapes.{are_kinds}
+use Rattle.ctypes.specs.declared.found.Broken.TheVariants.{Construct, Rule}
+use Rattle.ctypes.specs.declared.kind.Target.TheVariants.{Sized, Void as VoidTarget}
+use Rattle.ctypes.specs.Binary.{int_type}
+use Rattle.ctypes.specs.Integers.{integer as integer_of}
+use Rattle.ctypes.specs.Kinds.{Integer as IntegerKind, Pointer, Array, Struct, Void as VoidKind, kind_of, target_in, target_of}
+use Rattle.ctypes.proofs.ShapeKinds.{are_kinds}
 use Rattle.typing.specs.declared.size.Size.TheVariants.{Counted, NotConstant, LeftOut}
 use Rattle.typing.specs.Braces.{member_faults}
 use Rattle.typing.specs.Declarations.{items_in}

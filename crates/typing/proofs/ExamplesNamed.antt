@@ -8,7 +8,7 @@ use Rattle.constants.specs.Meanings.{Means}
 use Rattle.constants.proofs.Exact.{means}
 use Rattle.cbase.specs.declared.tree.expr.ExprForm.TheViews.{outs-Name, outs-Constant, outs-AssertFail}
 use Rattle.typing.specs.Faults.{fault}
-use Rattle.operators.specs.declared.found.Broken.TheVariants.{Construct}
+use Rattle.ctypes.specs.declared.found.Broken.TheVariants.{Construct}
 use Rattle.typing.specs.Examples.{AreNamed}
 use Rattle.typing.specs.Sample.{start, token}
 use Rattle.typing.specs.Rules.{TypeAsOperand, ObjectName, FunctionAsOperand, ConstantOfNoType, SpellingOfNoConstant, AssertionFailed}

@@ -2,9 +2,9 @@
 use Rattle.std.proofs.Common.{ℕ, suc, length, Bool, true, false, List, [], ◌∷◌, ◌++◌, Option, Some, None, refl, sym, ap, ◌∙◌, subst}
 use Rattle.std.specs.Prelude.{is_some}
 use Rattle.cbase.specs.declared.tree.expr.ExprForm.TheOpen.{Value, Braces}
-use Rattle.operators.specs.declared.found.Broken.TheVariants.{Rule}
-use Rattle.operators.specs.Binary.{int_type}
-use Rattle.operators.specs.Operands.{Operand}
+use Rattle.ctypes.specs.declared.found.Broken.TheVariants.{Rule}
+use Rattle.ctypes.specs.Binary.{int_type}
+use Rattle.ctypes.specs.Operands.{Operand}
 use Rattle.typing.specs.declared.fault.Fault.{Fault}
 use Rattle.typing.specs.declared.size.Size.{Size}
 use Rattle.typing.specs.declared.size.Size.TheVariants.{LeftOut}

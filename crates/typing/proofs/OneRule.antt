@@ -15,16 +15,16 @@ use Rattle.constants.specs.declared.meaning.Constant.{Constant as ConstantMeant}
 use Rattle.constants.specs.declared.meaning.Meaning.TheVariants.{NoConstant, FitsNoType, Known as Meant}
 use Rattle.constants.specs.Meanings.{Means, constant_of}
 use Rattle.constants.proofs.Exact.{one_reading}
-use Rattle.operators.specs.declared.binary.Group.{Group}
-use Rattle.operators.specs.declared.found.Broken.TheVariants.{Construct, Rule}
-use Rattle.operators.specs.Assigning.{assigned, updated}
-use Rattle.operators.specs.Binary.{group_of, operated}
-use Rattle.operators.specs.Choosing.{chosen}
-use Rattle.operators.specs.Converting.{cast}
-use Rattle.operators.specs.Kinds.{Kind, Integer, Pointer, Array, Struct, Void, decayed}
-use Rattle.operators.specs.Members.{indexed, member_through}
-use Rattle.operators.specs.Operands.{Operand}
-use Rattle.operators.specs.Unary.{unary, counted}
+use Rattle.ctypes.specs.declared.binary.Group.{Group}
+use Rattle.ctypes.specs.declared.found.Broken.TheVariants.{Construct, Rule}
+use Rattle.ctypes.specs.Assigning.{assigned, updated}
+use Rattle.ctypes.specs.Binary.{group_of, operated}
+use Rattle.ctypes.specs.Choosing.{chosen}
+use Rattle.ctypes.specs.Converting.{cast}
+use Rattle.ctypes.specs.Kinds.{Kind, Integer, Pointer, Array, Struct, Void, decayed}
+use Rattle.ctypes.specs.Members.{indexed, member_through}
+use Rattle.ctypes.specs.Operands.{Operand}
+use Rattle.ctypes.specs.Unary.{unary, counted}
 use Rattle.typing.specs.Calls.{call_faults}
 use Rattle.typing.specs.Entities.{Entity, ObjectIs, FunctionIs, EnumeratorIs, TypedefIs}
 use Rattle.typing.specs.declared.fault.Fault.{Fault}

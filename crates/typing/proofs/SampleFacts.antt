@@ -18,15 +18,15 @@ use Rattle.constants.specs.declared.meaning.Meaning.TheVariants.{Known as Meant}
 use Rattle.constants.specs.Deciding.{letter, integer, meaning_of}
 use Rattle.constants.specs.Meanings.{Means}
 use Rattle.constants.proofs.Exact.{means}
-use Rattle.operators.specs.declared.found.Broken.{Broken}
-use Rattle.operators.specs.declared.found.Broken.TheVariants.{Construct, Rule}
-use Rattle.operators.specs.declared.kind.Target.TheVariants.{Void as VoidTarget, Sized, Unsized}
-use Rattle.operators.specs.Binary.{int_type}
-use Rattle.operators.specs.Integers.{integer as integer_of, truth}
-use Rattle.operators.specs.Kinds.{Kind, Integer, Pointer, Array, Struct, Void, kind_of, target_in, target_of, has_size}
-use Rattle.operators.specs.Operands.{Operand}
-use Rattle.operators.specs.Unary.{size_type}
-use Rattle.operators.proofs.Shapes.{are_kinds, are_targets}
+use Rattle.ctypes.specs.declared.found.Broken.{Broken}
+use Rattle.ctypes.specs.declared.found.Broken.TheVariants.{Construct, Rule}
+use Rattle.ctypes.specs.declared.kind.Target.TheVariants.{Void as VoidTarget, Sized, Unsized}
+use Rattle.ctypes.specs.Binary.{int_type}
+use Rattle.ctypes.specs.Integers.{integer as integer_of, truth}
+use Rattle.ctypes.specs.Kinds.{Kind, Integer, Pointer, Array, Struct, Void, kind_of, target_in, target_of, has_size}
+use Rattle.ctypes.specs.Operands.{Operand}
+use Rattle.ctypes.specs.Unary.{size_type}
+use Rattle.ctypes.proofs.ShapeKinds.{are_kinds, are_targets}
 use Rattle.typing.specs.Entities.{ObjectEntity, ObjectIs}
 use Rattle.typing.specs.declared.fault.Fault.{Fault}
 use Rattle.typing.specs.Faults.{fault, unless, IsFirst}

@@ -14,10 +14,10 @@ use Rattle.cbase.specs.declared.tree.expr.ExprForm.TheViews.{out-ExprForm, out-S
 use Rattle.cbase.specs.declared.tree.identifier.Identifier.{Identifier}
 use Rattle.cbase.specs.declared.tree.spec.BasicType.{BasicType}
 use Rattle.cbase.specs.declared.tree.stmt.Stmt.{Stmt}
-use Rattle.operators.specs.declared.found.Broken.TheVariants.{Rule}
-use Rattle.operators.specs.Binary.{int_type}
-use Rattle.operators.specs.Kinds.{Kind}
-use Rattle.operators.specs.Operands.{Operand}
+use Rattle.ctypes.specs.declared.found.Broken.TheVariants.{Rule}
+use Rattle.ctypes.specs.Binary.{int_type}
+use Rattle.ctypes.specs.Kinds.{Kind}
+use Rattle.ctypes.specs.Operands.{Operand}
 use Rattle.typing.specs.Calls.{is_struct}
 use Rattle.typing.specs.declared.size.Size.{Size}
 use Rattle.typing.specs.declared.size.Size.TheVariants.{LeftOut}

@@ -3,10 +3,10 @@ use Rattle.std.specs.Prelude.{ℕ, suc, ◌++◌, ◌*◌, ◌||◌, ◌&&◌, n
 use Rattle.std.specs.List.{list_any}
 use Rattle.std.specs.Str.{bytes_eq}
 use Rattle.cbase.specs.declared.place.Place.{Place}
-use Rattle.operators.specs.declared.found.Broken.TheVariants.{Construct, Rule}
-use Rattle.operators.specs.Converting.{converts}
-use Rattle.operators.specs.Kinds.{Kind, Integer, Pointer, Array, Struct, Void, decayed}
-use Rattle.operators.specs.Operands.{Operand}
+use Rattle.ctypes.specs.declared.found.Broken.TheVariants.{Construct, Rule}
+use Rattle.ctypes.specs.Converting.{converts}
+use Rattle.ctypes.specs.Kinds.{Kind, Integer, Pointer, Array, Struct, Void, decayed}
+use Rattle.ctypes.specs.Operands.{Operand}
 use Rattle.typing.specs.declared.fault.Fault.{Fault}
 use Rattle.typing.specs.Faults.{unless}
 use Rattle.values.specs.Values.{cast_value}

@@ -14,13 +14,13 @@ use Rattle.cbase.specs.declared.tree.stmt.Stmt.{Stmt}
 use Rattle.cbase.specs.Layout.{layout_of, extent_of}
 use Rattle.arithmetic.specs.Conversion.{converted, truth}
 use Rattle.constants.specs.declared.meaning.Constant.{Constant}
-use Rattle.operators.specs.declared.found.Broken.{Broken}
-use Rattle.operators.specs.declared.found.Broken.TheVariants.{Construct, Rule}
-use Rattle.operators.specs.declared.kind.IntegerType.{IntegerType}
-use Rattle.operators.specs.declared.kind.Target.TheVariants.{Void as VoidTarget}
-use Rattle.operators.specs.Binary.{int_type}
-use Rattle.operators.specs.Kinds.{Kind, Integer, Pointer, Array, Struct, Void, has_size}
-use Rattle.operators.specs.Unary.{size_type}
+use Rattle.ctypes.specs.declared.found.Broken.{Broken}
+use Rattle.ctypes.specs.declared.found.Broken.TheVariants.{Construct, Rule}
+use Rattle.ctypes.specs.declared.kind.IntegerType.{IntegerType}
+use Rattle.ctypes.specs.declared.kind.Target.TheVariants.{Void as VoidTarget}
+use Rattle.ctypes.specs.Binary.{int_type}
+use Rattle.ctypes.specs.Kinds.{Kind, Integer, Pointer, Array, Struct, Void, has_size}
+use Rattle.ctypes.specs.Unary.{size_type}
 use Rattle.typing.specs.Entities.{Entity, ObjectEntity, FunctionEntity, ObjectIs, FunctionIs, EnumeratorIs, TypedefIs}
 use Rattle.typing.specs.declared.fault.Fault.{Fault}
 use Rattle.typing.specs.declared.idiom.Idiom.TheVariants.{Outside}

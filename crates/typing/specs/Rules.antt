@@ -19,17 +19,17 @@ use Rattle.cbase.specs.declared.tree.stmt.Stmt.{Stmt}
 use Rattle.constants.specs.declared.meaning.Constant.{Constant as ConstantMeant}
 use Rattle.constants.specs.declared.meaning.Meaning.TheVariants.{NoConstant, FitsNoType, Known as Meant}
 use Rattle.constants.specs.Meanings.{Means}
-use Rattle.operators.specs.declared.binary.Group.TheVariants.{Arithmetic, Shift, Sum, Difference, Order, Equality, Logic, Sequence}
-use Rattle.operators.specs.declared.found.Broken.TheVariants.{Construct, Rule}
-use Rattle.operators.specs.Assigning.{assigned, updated}
-use Rattle.operators.specs.Binary.{group_of, operated}
-use Rattle.operators.specs.Broken.{Judgement}
-use Rattle.operators.specs.Choosing.{chosen}
-use Rattle.operators.specs.Converting.{cast}
-use Rattle.operators.specs.Kinds.{Kind, kind_of, decayed}
-use Rattle.operators.specs.Members.{indexed, member_of, member_through}
-use Rattle.operators.specs.Operands.{Operand}
-use Rattle.operators.specs.Unary.{unary, counted}
+use Rattle.ctypes.specs.declared.binary.Group.TheVariants.{Arithmetic, Shift, Sum, Difference, Order, Equality, Logic, Sequence}
+use Rattle.ctypes.specs.declared.found.Broken.TheVariants.{Construct, Rule}
+use Rattle.ctypes.specs.Assigning.{assigned, updated}
+use Rattle.ctypes.specs.Binary.{group_of, operated}
+use Rattle.ctypes.specs.Broken.{Judgement}
+use Rattle.ctypes.specs.Choosing.{chosen}
+use Rattle.ctypes.specs.Converting.{cast}
+use Rattle.ctypes.specs.Kinds.{Kind, kind_of, decayed}
+use Rattle.ctypes.specs.Members.{indexed, member_of, member_through}
+use Rattle.ctypes.specs.Operands.{Operand}
+use Rattle.ctypes.specs.Unary.{unary, counted}
 use Rattle.typing.specs.Calls.{Argument, call_faults}
 use Rattle.typing.specs.Entities.{ObjectEntity, FunctionEntity, ObjectIs, FunctionIs, EnumeratorIs, TypedefIs}
 use Rattle.typing.specs.declared.fault.Fault.{Fault}

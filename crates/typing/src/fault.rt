@@ -1,5 +1,5 @@
 use cbase::Place;
-use operators::Broken;
+use ctypes::Broken;
 
 /// What is broken in a text, with the place where it is.
 #[derive(Clone, Copy)]

@@ -12,9 +12,9 @@ use Rattle.arithmetic.specs.Computing.{computed, negated, complemented}
 use Rattle.arithmetic.specs.Conversion.{converted, truth}
 use Rattle.arithmetic.specs.Size.{size_of}
 use Rattle.arithmetic.specs.Value.{value, bits as bits_of, is_in_range}
-use Rattle.operators.specs.declared.kind.IntegerType.{IntegerType}
-use Rattle.operators.specs.Integers.{promoted, common}
-use Rattle.operators.specs.Kinds.{Kind, Integer}
+use Rattle.ctypes.specs.declared.kind.IntegerType.{IntegerType}
+use Rattle.ctypes.specs.Integers.{promoted, common}
+use Rattle.ctypes.specs.Kinds.{Kind, Integer}
 
 -- a type that the data layouts have: one of 1, 2, 4 or 8 bytes. Integers of others have no value, and no program has them
 abbrev pub is_whole : IntegerType → Bool

@@ -1,5 +1,5 @@
 ghost use Rattle.std.specs.Prelude.{◌≡◌, true};
-ghost use Rattle.operators.specs.Kinds.{Kind, integer_in};
+ghost use Rattle.ctypes.specs.Kinds.{Kind, integer_in};
 ghost use Rattle.values.specs.Values.{is_whole, in_common, shifted, are_equal, of_binary, binary_value};
 
 use crate::condition::is_true;
@@ -7,7 +7,7 @@ use crate::converting::{as_type, common, promoted};
 use crate::whole::{size_of, whole};
 use arithmetic::{Op, compute, equal};
 use cbase::BinaryOp;
-use operators::IntegerType;
+use ctypes::IntegerType;
 
 /// The value of a binary operation, where it has one (C11 6.5.5 to 6.5.14, 6.6p6).
 ///

@@ -1,11 +1,11 @@
 ghost use Rattle.std.specs.Prelude.{◌≡◌, None, Some, if◌then◌else◌};
-ghost use Rattle.operators.specs.Kinds.{Kind, integer_in};
+ghost use Rattle.ctypes.specs.Kinds.{Kind, integer_in};
 ghost use Rattle.values.specs.Values.{is_whole, cast_value, word_of, offset_as};
 
 use crate::converting::as_type;
 use crate::whole::{is_whole, size_of, whole};
 use arithmetic::{Size, convert, convert_to_truth};
-use operators::IntegerType;
+use ctypes::IntegerType;
 
 /// The value of a cast to a type of integers, where it has one (C11 6.5.4, 6.6p6).
 ///

@@ -1,11 +1,11 @@
 ghost use Rattle.std.specs.Prelude.{◌≡◌, true};
-ghost use Rattle.operators.specs.Kinds.{Kind, integer_in};
+ghost use Rattle.ctypes.specs.Kinds.{Kind, integer_in};
 ghost use Rattle.values.specs.Values.{is_whole, of_choice, choice_value};
 
 use crate::condition::is_true;
 use crate::converting::{as_type, common};
 use crate::whole::whole;
-use operators::IntegerType;
+use ctypes::IntegerType;
 
 /// The value of `?:`, where it has one: that of the arm that is chosen, in the type of both (C11 6.5.15p4-5, 6.6p6).
 ///

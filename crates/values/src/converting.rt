@@ -1,10 +1,10 @@
 ghost use Rattle.std.specs.Prelude.{◌≡◌, true};
-ghost use Rattle.operators.specs.Integers.{promoted, common};
+ghost use Rattle.ctypes.specs.Integers.{promoted, common};
 ghost use Rattle.values.specs.Values.{is_whole, as_type};
 
 use crate::whole::size_of;
 use arithmetic::{convert, convert_to_truth};
-use operators::IntegerType;
+use ctypes::IntegerType;
 
 /// The type of an integer as an operand (C11 6.3.1.1p2).
 pub(crate) fn promoted(of: IntegerType) -> IntegerType

@@ -3,7 +3,7 @@ ghost use Rattle.values.specs.Values.{count_of};
 
 use crate::whole::{is_whole, size_of};
 use arithmetic::{Size, convert, less};
-use operators::IntegerType;
+use ctypes::IntegerType;
 
 /// The value of an integer that is 1 or more, as the length of an array is (C11 6.7.6.2p1).
 ///

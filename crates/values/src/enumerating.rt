@@ -1,11 +1,11 @@
 ghost use Rattle.std.specs.Prelude.{◌≡◌, true};
 ghost use Rattle.arithmetic.specs.Value.{value, is_in_range};
-ghost use Rattle.operators.specs.Kinds.{Kind, integer_in};
+ghost use Rattle.ctypes.specs.Kinds.{Kind, integer_in};
 ghost use Rattle.values.specs.Values.{is_whole, int_bits, int_value, next_value};
 
 use crate::whole::{size_of, whole};
 use arithmetic::{Size, convert, less_equal};
-use operators::IntegerType;
+use ctypes::IntegerType;
 
 /// The bits of the greatest `int` (C11 5.2.4.2.1), in four bytes or more.
 const GREATEST: u64 = 0x7fff_ffff;

@@ -1,5 +1,5 @@
 ghost use Rattle.std.specs.Prelude.{◌≡◌, true};
-ghost use Rattle.operators.specs.Kinds.{Kind, integer_in};
+ghost use Rattle.ctypes.specs.Kinds.{Kind, integer_in};
 ghost use Rattle.values.specs.Values.{is_whole, of_unary, unary_value};
 
 use crate::condition::is_true;
@@ -7,7 +7,7 @@ use crate::converting::{as_type, promoted};
 use crate::whole::{size_of, whole};
 use arithmetic::{complement, negate};
 use cbase::UnaryOp;
-use operators::IntegerType;
+use ctypes::IntegerType;
 
 /// The value of a unary operation, where it has one (C11 6.5.3.3, 6.6p6).
 ///

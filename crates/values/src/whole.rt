@@ -3,7 +3,7 @@ ghost use Rattle.arithmetic.specs.Size.{bytes};
 ghost use Rattle.values.specs.Values.{is_whole, whole_in};
 
 use arithmetic::Size;
-use operators::IntegerType;
+use ctypes::IntegerType;
 
 /// Whether the data layouts have a type of integers: one of 1, 2, 4 or 8 bytes (C11 6.2.5p4-8).
 pub fn is_whole(of: IntegerType) -> bool

@@ -1,6 +1,6 @@
 ghost use Rattle.std.specs.Prelude.{◌<◌, ℕ, length, IfOk};
 ghost use Rattle.cbase.specs.declared.ctype.CType.{CType};
-ghost use Rattle.operators.specs.Kinds.{kind_of};
+ghost use Rattle.ctypes.specs.Kinds.{kind_of};
 ghost use Rattle.typing.specs.Known.{value_type};
 ghost use Rattle.expressions.specs.Numbers.{Numbering};
 ghost use Rattle.expressions.specs.Operated.{Numbers};

@@ -2,15 +2,14 @@ ghost use Rattle.std.specs.Prelude.{◌≡◌, ◌<◌, ℕ, None, Some, length,
 ghost use Rattle.cbase.specs.declared.abi.Abi.{Abi};
 ghost use Rattle.cbase.specs.Offset.{fields_of, index_of, offset_of};
 ghost use Rattle.ctypes.specs.Table.{type_at};
-ghost use Rattle.operators.specs.Kinds.{kind_of};
-ghost use Rattle.operators.specs.Members.{member_of};
+ghost use Rattle.ctypes.specs.Kinds.{kind_of};
+ghost use Rattle.ctypes.specs.Members.{member_of};
 ghost use Rattle.typing.specs.Paths.{item_in};
 ghost use Rattle.expressions.specs.Context.{Agrees};
 ghost use Rattle.expressions.specs.Numbers.{Numbering, judgement_at, IsTypedBelow};
 
 use crate::context::Context;
-use ctypes::{MemberAt, Shape};
-use operators::{Broken, Outcome};
+use ctypes::{Broken, MemberAt, Outcome, Shape};
 
 impl Context {
     /// The type of the member of that name, of a value of the type of that number (C11 6.5.2.3p1), or what is broken there. It takes no memory.

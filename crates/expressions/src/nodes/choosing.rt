@@ -1,6 +1,6 @@
 ghost use Rattle.std.specs.Prelude.{◌<◌, ℕ, length, IfOk};
-ghost use Rattle.operators.specs.Choosing.{chosen};
-ghost use Rattle.operators.specs.Kinds.{kind_of};
+ghost use Rattle.ctypes.specs.Choosing.{chosen};
+ghost use Rattle.ctypes.specs.Kinds.{kind_of};
 ghost use Rattle.typing.specs.Known.{valued};
 ghost use Rattle.values.specs.Values.{choice_value};
 ghost use Rattle.expressions.specs.Numbers.{Numbering, operand_at, operand_in};

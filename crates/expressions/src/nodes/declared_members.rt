@@ -17,7 +17,7 @@ use crate::members::Members;
 use crate::named_type::NamedType;
 use crate::nodes::first::{all_at, first_of, unless};
 use cbase::{FieldName, Layout, NoMemory};
-use operators::Broken;
+use ctypes::Broken;
 use std::alloc::Global;
 use typing::Fault;
 

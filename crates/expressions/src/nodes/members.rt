@@ -1,7 +1,7 @@
 ghost use Rattle.std.specs.Prelude.{◌≡◌, ◌<◌, ℕ, length, IfOk};
 ghost use Rattle.cbase.specs.declared.abi.Abi.{Abi};
-ghost use Rattle.operators.specs.Kinds.{kind_of, decayed};
-ghost use Rattle.operators.specs.Members.{indexed, member_of, member_through};
+ghost use Rattle.ctypes.specs.Kinds.{kind_of, decayed};
+ghost use Rattle.ctypes.specs.Members.{indexed, member_of, member_through};
 ghost use Rattle.typing.specs.Idiom.{through, within, at_index, item_bytes, member_offset};
 ghost use Rattle.typing.specs.Known.{located};
 ghost use Rattle.typing.specs.Nodes.{place_of_member, pointed_offset};
@@ -15,7 +15,7 @@ use crate::found::Found;
 use crate::known::Known;
 use crate::nodes::finishing::{Blame, Node, finish, finish_blaming};
 use cbase::{Identifier, NoMemory};
-use operators::Outcome;
+use ctypes::Outcome;
 use typing::Idiom;
 use values::word_of;
 

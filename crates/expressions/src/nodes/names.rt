@@ -2,7 +2,7 @@ ghost use Rattle.std.specs.Prelude.{◌≡◌, ◌<◌, ◌++◌, ◌∷◌, [],
 ghost use Rattle.environment.specs.Bounds.{DeclaredBelow};
 ghost use Rattle.environment.specs.Environment.{name_found};
 ghost use Rattle.environment.specs.declared.entity.Entity.TheVariants.{Object, Enumerator};
-ghost use Rattle.operators.specs.declared.found.Broken.TheVariants.{Construct, Rule};
+ghost use Rattle.ctypes.specs.declared.found.Broken.TheVariants.{Construct, Rule};
 ghost use Rattle.typing.specs.Faults.{fault, unless, IsFirst};
 ghost use Rattle.expressions.specs.Names.{name_faults, name_told};
 ghost use Rattle.expressions.specs.Numbers.{Numbering, entity_at, is_of_main};
@@ -14,8 +14,8 @@ use crate::known::Known;
 use crate::nodes::finishing::{Node, pass, settle};
 use crate::nodes::first::{first_of, unless};
 use cbase::{NoMemory, Place};
+use ctypes::Broken;
 use environment::{DeclaredType, Entity, Lifetime};
-use operators::Broken;
 use typing::{Fault, Idiom};
 
 /// What is found at a name that is an operand (C11 6.5.1p2).

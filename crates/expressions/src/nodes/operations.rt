@@ -1,7 +1,7 @@
 ghost use Rattle.std.specs.Prelude.{◌≡◌, ◌<◌, ℕ, length, IfOk};
-ghost use Rattle.operators.specs.Binary.{binary};
-ghost use Rattle.operators.specs.Kinds.{kind_of};
-ghost use Rattle.operators.specs.Unary.{unary, counted};
+ghost use Rattle.ctypes.specs.Binary.{binary};
+ghost use Rattle.ctypes.specs.Kinds.{kind_of};
+ghost use Rattle.ctypes.specs.Unary.{unary, counted};
 ghost use Rattle.cbase.specs.declared.tree.operators.UnaryOp.TheVariants.{Address, Follow};
 ghost use Rattle.typing.specs.Idiom.{address};
 ghost use Rattle.typing.specs.Known.{plain, located, valued};

@@ -20,8 +20,8 @@ use crate::nodes::finishing::{Node, settle};
 use crate::nodes::first::unless;
 use crate::part::{Part, Told};
 use cbase::{Expr, ExprForm, NoMemory};
+use ctypes::Broken;
 use environment::Entity;
-use operators::Broken;
 use std::alloc::Global;
 use typing::Fault;
 

@@ -13,7 +13,7 @@ use crate::found::Found;
 use crate::known::Known;
 use crate::part::{Part, Told};
 use cbase::{Expr, NoMemory, Place};
-use operators::Broken;
+use ctypes::Broken;
 use typing::{Fault, Size};
 use values::{count_of, word_of};
 

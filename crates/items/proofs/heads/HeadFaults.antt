@@ -16,8 +16,8 @@ use Rattle.environment.specs.declared.entity.Definition.{Definition as Definitio
 use Rattle.environment.specs.declared.environment.Environment.{Environment}
 use Rattle.environment.specs.Names.{value_in}
 use Rattle.environment.specs.Scopes.{found_here, left}
-use Rattle.operators.specs.declared.found.Broken.{Broken}
-use Rattle.operators.specs.Kinds.{kind_of}
+use Rattle.ctypes.specs.declared.found.Broken.{Broken}
+use Rattle.ctypes.specs.Kinds.{kind_of}
 use Rattle.typing.specs.declared.fault.Fault.{Fault}
 use Rattle.typing.specs.Calls.{is_struct}
 use Rattle.typing.specs.Declarations.{IsAgain, LinkedGiven, Parameter, faults_of_all, found_of_all, function_given, function_name_faults, is_array, is_typedef}

@@ -15,10 +15,10 @@ use crate::heads::main_function::main_fault;
 use crate::heads::parts::Head;
 use crate::heads::structs::has_struct;
 use cbase::{Declared, Place};
+use ctypes::Broken;
 use declarations::definition_by_now;
 use environment::{Binding, Definition};
 use expressions::{Context, first_of, least, unless};
-use operators::Broken;
 use parameters::{Parameter, first_of_parameters, found_of_parameters, function_fault, is_other};
 use typing::Fault;
 

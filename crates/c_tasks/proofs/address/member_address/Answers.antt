@@ -1,7 +1,7 @@
 -- The member stands behind the front of the struct.
 use Rattle.std.proofs.Common.{[], ◌∷◌, Bool, List, ℕ, ap, refl, subst, sym, ◌∙◌}
 use Rattle.cbase.specs.declared.tree.expr.ExprForm.TheOpen as tree
-use Rattle.operators.specs.Kinds.{kind_of}
+use Rattle.ctypes.specs.Kinds.{kind_of}
 use Rattle.typing.specs.Idiom.{member_offset}
 use Rattle.typing.specs.Nodes.{pointed_offset}
 use Rattle.c_machine.specs.declared.task.Task.TheVariants.{AddressOf, Shift, ValueOf}

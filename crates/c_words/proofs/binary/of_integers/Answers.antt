@@ -1,5 +1,5 @@
 use Rattle.std.proofs.Common.{ap, ◌∙◌}
-use Rattle.operators.specs.declared.kind.IntegerType.{IntegerType}
+use Rattle.ctypes.specs.declared.kind.IntegerType.{IntegerType}
 use Rattle.values.specs.Values.{of_binary}
 use Rattle.c_words.proofs.Integers.{of_two}
 use Rattle.c_words.proofs.binary.of_integers.Goals as goal

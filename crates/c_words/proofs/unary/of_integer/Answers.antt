@@ -1,5 +1,5 @@
 use Rattle.std.proofs.Common.{ap, ◌∙◌}
-use Rattle.operators.specs.declared.kind.IntegerType.{IntegerType}
+use Rattle.ctypes.specs.declared.kind.IntegerType.{IntegerType}
 use Rattle.values.specs.Values.{of_unary}
 use Rattle.c_words.proofs.Integers.{of_one}
 use Rattle.c_words.proofs.unary.of_integer.Goals as goal

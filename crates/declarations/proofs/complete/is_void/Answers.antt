@@ -3,8 +3,8 @@ use Rattle.std.proofs.Common.{◌≡◌, ap, ◌∙◌}
 use Rattle.ctypes.specs.declared.shape.Shape.{Shape}
 use Rattle.ctypes.specs.declared.shape.Shape.TheVariants.{Void, Bool, Int, Pointer, Struct, Array}
 use Rattle.ctypes.specs.Table.{type_at, type_of}
-use Rattle.operators.specs.Kinds.{kind_of}
-use Rattle.operators.proofs.Shapes.{kind_of_shape, kind_is}
+use Rattle.ctypes.specs.Kinds.{kind_of}
+use Rattle.ctypes.proofs.ShapeKinds.{kind_of_shape, kind_is}
 use Rattle.typing.specs.Statements.{is_void}
 use Rattle.expressions.specs.Context.{Context, Agrees}
 use Rattle.expressions.specs.Numbers.{Numbering}

@@ -1,7 +1,7 @@
 -- What is broken at a name, in the order in which it is asked.
 use Rattle.std.proofs.Common.{Bool, ap, ◌∙◌, subst}
 use Rattle.cbase.specs.declared.tree.expr.ExprForm.TheViews.{out-Declared}
-use Rattle.operators.specs.declared.found.Broken.TheVariants.{Rule}
+use Rattle.ctypes.specs.declared.found.Broken.TheVariants.{Rule}
 use Rattle.typing.specs.Declarations.{IsAgain, given, is_complete}
 use Rattle.typing.specs.Faults.{unless, all_at}
 use Rattle.typing.specs.Forms.{DeclaratorParts}

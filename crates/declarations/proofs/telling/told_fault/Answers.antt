@@ -1,6 +1,6 @@
 -- What is broken at the name of an array whose size is told.
 use Rattle.std.proofs.Common.{Bool, not, ap, ◌∙◌, subst}
-use Rattle.operators.specs.declared.found.Broken.TheVariants.{Construct}
+use Rattle.ctypes.specs.declared.found.Broken.TheVariants.{Construct}
 use Rattle.typing.specs.Faults.{unless}
 use Rattle.typing.specs.NamedTypes.{is_large}
 use Rattle.expressions.specs.Settled.{IsFirstOf}

@@ -3,7 +3,7 @@ use Rattle.std.proofs.Common.{Bool, List, ℕ, ◌||◌, subst}
 use Rattle.std.specs.Prelude.{not}
 use Rattle.cbase.specs.declared.tree.decl.Storage.TheVariants.{Extern}
 use Rattle.cbase.specs.declared.tree.expr.ExprForm.TheViews.{out-Declared}
-use Rattle.operators.specs.declared.found.Broken.TheVariants.{Rule}
+use Rattle.ctypes.specs.declared.found.Broken.TheVariants.{Rule}
 use Rattle.typing.specs.Declarations.{IsAgain, given}
 use Rattle.typing.specs.Faults.{all_at, unless}
 use Rattle.typing.specs.Forms.{DeclaratorParts}

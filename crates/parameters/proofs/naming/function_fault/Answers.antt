@@ -1,7 +1,7 @@
 -- What is broken at the name of a function, in the order in which it is asked.
 use Rattle.std.proofs.Common.{Bool, subst}
 use Rattle.std.specs.Prelude.{not}
-use Rattle.operators.specs.declared.found.Broken.TheVariants.{Construct}
+use Rattle.ctypes.specs.declared.found.Broken.TheVariants.{Construct}
 use Rattle.typing.specs.Faults.{all_at, unless}
 use Rattle.expressions.specs.Settled.{IsFirstOf}
 use Rattle.parameters.proofs.naming.function_fault.Goals as goal

@@ -4,7 +4,7 @@ use Rattle.cbase.specs.declared.ctype.CType.{CType}
 use Rattle.cbase.specs.declared.structs.StructDef.{StructDef}
 use Rattle.ctypes.specs.declared.shape.Shape.{Shape}
 use Rattle.ctypes.specs.declared.shape.Shape.TheVariants.{Void as VoidShape, Bool as BoolShape, Int as IntShape, Pointer as PointerShape, Struct as StructShape, Array as ArrayShape}
-use Rattle.operators.proofs.Shapes.{kind_of_shape}
+use Rattle.ctypes.proofs.ShapeKinds.{kind_of_shape}
 use Rattle.typing.specs.Statements.{is_void}
 use Rattle.expressions.proofs.Meanings.{kind_meant}
 use Rattle.parameters.proofs.taking.is_void.Goals as goal

@@ -1,7 +1,7 @@
 -- A value is returned where a result is wanted, and converts to it.
 use Rattle.std.proofs.Common.{◌∙◌, sym, ap}
-use Rattle.operators.specs.Kinds.{kind_of, decayed}
-use Rattle.operators.specs.Converting.{converts}
+use Rattle.ctypes.specs.Kinds.{kind_of, decayed}
+use Rattle.ctypes.specs.Converting.{converts}
 use Rattle.expressions.specs.Numbers.{operand_at}
 use Rattle.statements.proofs.KindsAsked.{void_result_first, other_result_first}
 use Rattle.statements.proofs.demands.fault_of_result.Goals as goal

@@ -1,6 +1,6 @@
 -- Numbers and pointers are neither `void` nor structs.
 use Rattle.std.proofs.Common.{◌∙◌, sym}
-use Rattle.operators.specs.Kinds.{kind_of}
+use Rattle.ctypes.specs.Kinds.{kind_of}
 use Rattle.statements.proofs.KindsAsked.{no_scalar, scalar_of}
 use Rattle.statements.proofs.demands.is_scalar.Goals as goal
 

@@ -2,8 +2,8 @@
 use Rattle.std.proofs.Common.{List, sym, ap, ◌∙◌, subst}
 use Rattle.cbase.specs.declared.ctype.CType.{CType}
 use Rattle.cbase.specs.declared.structs.StructDef.{StructDef}
-use Rattle.operators.specs.Kinds.{Kind}
-use Rattle.operators.proofs.Shapes.{are_kinds}
+use Rattle.ctypes.specs.Kinds.{Kind}
+use Rattle.ctypes.proofs.ShapeKinds.{are_kinds}
 use Rattle.typing.specs.Idiom.{offset_in_struct, member_offset}
 use Rattle.expressions.specs.Context.{Context}
 use Rattle.c_machine.specs.Trees.{offset}

@@ -2,8 +2,8 @@
 use Rattle.std.proofs.Common.{List, sym, ap, ◌∙◌, subst}
 use Rattle.cbase.specs.declared.ctype.CType.{CType}
 use Rattle.cbase.specs.declared.structs.StructDef.{StructDef}
-use Rattle.operators.specs.Kinds.{Kind, kind_of}
-use Rattle.operators.proofs.Shapes.{are_kinds}
+use Rattle.ctypes.specs.Kinds.{Kind, kind_of}
+use Rattle.ctypes.proofs.ShapeKinds.{are_kinds}
 use Rattle.typing.specs.Nodes.{pointed_offset}
 use Rattle.expressions.specs.Context.{Context}
 use Rattle.c_machine.specs.Trees.{offset}

@@ -2,7 +2,7 @@
 use Rattle.std.proofs.Common.{◌≡◌, refl, sym, ap, ◌∙◌, None}
 use Rattle.ctypes.specs.declared.shape.Shape.TheVariants.{Array as ArrayShape}
 use Rattle.ctypes.specs.Table.{type_at}
-use Rattle.operators.specs.Kinds.{target_of}
+use Rattle.ctypes.specs.Kinds.{target_of}
 use Rattle.typing.specs.Idiom.{item_bytes}
 use Rattle.typing.specs.Nodes.{size_told}
 use Rattle.expressions.proofs.Meanings.{kind_meant}

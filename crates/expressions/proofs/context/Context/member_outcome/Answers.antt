@@ -2,10 +2,10 @@
 use Rattle.std.proofs.Common.{◌≡◌, false, true, refl, sym, ap, ◌∙◌}
 use Rattle.ctypes.specs.declared.shape.Shape.TheVariants.{Struct as StructShape}
 use Rattle.ctypes.specs.Table.{type_at}
-use Rattle.operators.specs.declared.found.Broken.TheVariants.{Rule}
-use Rattle.operators.specs.Broken.{Typed, Breaks}
-use Rattle.operators.specs.Kinds.{Struct, has_size}
-use Rattle.operators.specs.Members.{named, member_in}
+use Rattle.ctypes.specs.declared.found.Broken.TheVariants.{Rule}
+use Rattle.ctypes.specs.Broken.{Typed, Breaks}
+use Rattle.ctypes.specs.Kinds.{Struct, has_size}
+use Rattle.ctypes.specs.Members.{named, member_in}
 use Rattle.expressions.proofs.Meanings.{type_meant, kind_meant, below_now}
 use Rattle.expressions.proofs.Measuring.{member_as, member_is, no_member}
 use Rattle.expressions.proofs.OtherShapes.{no_struct}

@@ -6,8 +6,8 @@ use Rattle.cbase.specs.declared.structs.StructDef.{StructDef}
 use Rattle.ctypes.specs.declared.shape.Shape.{Shape}
 use Rattle.ctypes.specs.declared.shape.Shape.TheVariants.{Pointer as PointerShape, Array as ArrayShape}
 use Rattle.ctypes.specs.Table.{type_at, NamesBelow}
-use Rattle.operators.specs.Kinds.{Kind}
-use Rattle.operators.proofs.Shapes.{kind_of_shape}
+use Rattle.ctypes.specs.Kinds.{Kind}
+use Rattle.ctypes.proofs.ShapeKinds.{kind_of_shape}
 use Rattle.typing.specs.Idiom.{member_offset}
 use Rattle.typing.specs.Nodes.{pointed_offset}
 use Rattle.expressions.proofs.Meanings.{type_meant, kind_meant}

@@ -1,6 +1,6 @@
 -- What is no address of the offsetof idiom has the value of any cast.
 use Rattle.std.proofs.Common.{◌≡◌, ◌⊎◌, ℕ, refl, sym, ap, ◌∙◌, Option, None, inl, inr}
-use Rattle.operators.specs.Kinds.{Kind, Integer, Pointer, Array, Struct, Void}
+use Rattle.ctypes.specs.Kinds.{Kind, Integer, Pointer, Array, Struct, Void}
 use Rattle.typing.specs.declared.idiom.Idiom.{Idiom}
 use Rattle.typing.specs.declared.idiom.Idiom.TheVariants.{Outside, NullPointer, MemberAt}
 use Rattle.typing.specs.Idiom.{offset_in}

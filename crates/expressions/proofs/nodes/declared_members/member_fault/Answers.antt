@@ -6,7 +6,7 @@ use Rattle.cbase.specs.declared.structs.Field.{Field}
 use Rattle.cbase.specs.declared.tree.expr.ExprForm.TheViews.{out-FieldName}
 use Rattle.ctypes.specs.Structs.{fields_of}
 use Rattle.ctypes.specs.Table.{type_at}
-use Rattle.operators.specs.declared.found.Broken.TheVariants.{Construct, Rule}
+use Rattle.ctypes.specs.declared.found.Broken.TheVariants.{Construct, Rule}
 use Rattle.typing.specs.Braces.{has_member, member, is_large_struct}
 use Rattle.typing.specs.Faults.{unless, all_at}
 use Rattle.typing.specs.Forms.{MemberParts}

@@ -3,7 +3,7 @@ use Rattle.std.proofs.Common.{Bool, not, ◌++◌, Some, sym, ap, ◌∙◌, sub
 use Rattle.environment.specs.declared.entity.DeclaredType.{DeclaredType}
 use Rattle.environment.specs.declared.entity.DeclaredType.TheVariants.{Whole}
 use Rattle.environment.specs.declared.entity.Entity.TheVariants.{Object}
-use Rattle.operators.specs.declared.found.Broken.TheVariants.{Construct, Rule}
+use Rattle.ctypes.specs.declared.found.Broken.TheVariants.{Construct, Rule}
 use Rattle.typing.specs.Faults.{unless}
 use Rattle.typing.specs.Known.{Known}
 use Rattle.expressions.specs.Names.{name_faults, name_told}

@@ -1,0 +1,124 @@
+//! How a run starts (C11 5.1.2).
+ghost use Rattle.std.specs.Prelude.{◌≡◌, ◌+◌, ◌*◌, [], Some, IfOk};
+ghost use Rattle.expressions.specs.Numbers.{Numbering};
+ghost use Rattle.c_machine.specs.Program.{Program};
+ghost use Rattle.c_machine.specs.Run.{blank};
+ghost use Rattle.c_machine.specs.Trees.{main_as, nodes_in, text_of};
+ghost use Rattle.c_text.specs.Stands.{StandsFor};
+ghost use Rattle.c_run.specs.Started.{Calls, IsStart, IsStartOf};
+
+use crate::finishing::{finish, goes_on};
+use crate::starting::{main_tasks, static_tasks};
+use crate::stepped::Stepped;
+use c_statics::{MainFunction, StaticSets, main_item, static_sets};
+use c_steps::{Choices, Outcome, State};
+use c_tasks::{Room, TreeState};
+use c_text::TypedText;
+use cbase::{Item, NoMemory};
+use std::alloc::Global;
+
+/// What the start of a run comes to, with the state there.
+#[derive(Drop)]
+pub struct Started<'a> {
+    /// What it comes to.
+    pub stepped: Stepped,
+    /// The state, which is of use where the run goes on.
+    pub state: TreeState<'a>,
+}
+
+/// The start of a run (C11 5.1.2p1): the objects that live as long as it are made and initialised, and main is called, where there is one.
+///
+/// `strict` says whether main may not return while an allocated block lives.
+pub fn start<'a>(
+    alloc: Global,
+    text: &TypedText,
+    strict: bool,
+    items: &'a [Item],
+    choices: &mut Choices,
+) -> Result<Started<'a>, NoMemory>
+    ensures { IfOk result (λ started. (n : Numbering) (p : Program) → StandsFor n text.now p → p.strict ≡ strict → p.items ≡ items.now
+        → IsStart (text_of p) started.stepped choices.old started.state choices.new) }
+{
+    let mut state = State::blank(alloc);
+    match start_from(alloc, text, strict, items, &mut state, choices) {
+        Ok(stepped) => Ok(Started { stepped, state }),
+        Err(error) => Err(error),
+    }
+}
+
+/// The start of a run in a state in which nothing is made.
+pub(crate) fn start_from<'a>(
+    alloc: Global,
+    text: &TypedText,
+    strict: bool,
+    items: &'a [Item],
+    state: &mut TreeState<'a>,
+    choices: &mut Choices,
+) -> Result<Stepped, NoMemory>
+    ensures { IfOk result (λ stepped. (n : Numbering) (p : Program) → StandsFor n text.now p → p.strict ≡ strict → p.items ≡ items.now → state.old ≡ blank (text_of p) []
+        → IsStart (text_of p) stepped choices.old state.new choices.new) }
+{
+    match main_item(items) {
+        None => Ok(Stepped::Came(Outcome::Stuck)),
+        Some(main) => {
+            let found = static_sets(alloc, text, items)?;
+            start_main(alloc, text, strict, &found, &main, state, choices)
+        }
+    }
+}
+
+/// The start of a run of a program that has a main.
+fn start_main<'a>(
+    alloc: Global,
+    text: &TypedText,
+    strict: bool,
+    found: &StaticSets<'a>,
+    main: &MainFunction<'a>,
+    state: &mut TreeState<'a>,
+    choices: &mut Choices,
+) -> Result<Stepped, NoMemory>
+    ensures { IfOk result (λ stepped. (n : Numbering) (p : Program) → StandsFor n text.now p → p.strict ≡ strict
+        → found.now.sets ≡ (text_of p).sets → found.now.nodes ≡ nodes_in p.items → state.old ≡ blank (text_of p) []
+        → IsStartOf (text_of p) (Some (main_as p main.now)) stepped choices.old state.new choices.new) }
+{
+    match static_tasks(alloc, text, state, found.sets.as_slice())? {
+        None => Ok(Stepped::NotKept),
+        Some(count) => {
+            let steps = enough(count, found.nodes)?;
+            let stepped = finish(alloc, text, strict, state, choices, steps)?;
+            if !goes_on(stepped) {
+                return Ok(stepped);
+            }
+            call_main(alloc, text, state, main)
+        }
+    }
+}
+
+/// In how many steps so many objects are made, and so many parts of initialisers written. Where that would not fit, memory is wanting.
+fn enough(count: usize, nodes: u64) -> Result<u64, NoMemory>
+    ensures { IfOk result (λ steps. steps ≡ count + 8 * nodes) }
+{
+    let Some(written) = nodes.checked_mul(8) else {
+        return Err(NoMemory);
+    };
+    match (count as u64).checked_add(written) {
+        None => Err(NoMemory),
+        Some(steps) => Ok(steps),
+    }
+}
+
+/// Main is to be called.
+fn call_main<'a>(
+    alloc: Global,
+    text: &TypedText,
+    state: &mut TreeState<'a>,
+    main: &MainFunction<'a>,
+) -> Result<Stepped, NoMemory>
+    ensures { IfOk result (λ stepped. (n : Numbering) (p : Program) → StandsFor n text.now p
+        → Calls (text_of p) (main_as p main.now) stepped state.old state.new) }
+{
+    match main_tasks(alloc, text, state, main)? {
+        Room::Made => Ok(Stepped::Came(Outcome::Went)),
+        Room::NotKept => Ok(Stepped::NotKept),
+    }
+}

@@ -1,8 +1,0 @@
--- The run that is kept is that from a state in which nothing is made.
-use Rattle.c_start.proofs.WholeRuns.{whole_run}
-use Rattle.c_start.proofs.program_run.run_program.Goals as goal
-
-pub returns : goal.returns
-returns c =
-    whole_run c.args.text.now c.args.items.now c.args.strict c.args.choices.now c.args.steps c.blank-state.result c.run_from-came.new.state c.run_from-came.result c.kept.result
-    (λ p. c.blank-state.ensures) c.run_from-came.ensures c.kept.ensures
