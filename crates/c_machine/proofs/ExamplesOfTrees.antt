@@ -10,7 +10,7 @@ use Rattle.cbase.proofs.Types.{type_layout-Int, type_layout-Pointer}
 use Rattle.bytes_core.specs.Loss.{reached_within}
 use Rattle.choices.specs.declared.choice.Choice.{Choice}
 use Rattle.choices.specs.declared.choice.Choice.TheVariants.{None as NoBlock, Block as NewBlock}
-use Rattle.ctypes.specs.Binary.{int_type}
+use Rattle.typing.specs.ctypes.Binary.{int_type}
 use Rattle.typing.specs.Sample.{token}
 use Rattle.c_machine.specs.ExamplesOfTrees.{returning_body, returning, losing_body, losing, pointer, passing_body, passing, taking_body, taking, AreWholePrograms}
 use Rattle.c_machine.specs.Program.{Program, is_static, is_fixed_row}

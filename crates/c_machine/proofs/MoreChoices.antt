@@ -29,7 +29,7 @@ use Rattle.c_machine.specs.declared.kind.Kind.{Kind}
 use Rattle.c_machine.specs.Text.{Text}
 use Rattle.c_machine.specs.Trees.{text_of}
 use Rattle.c_machine.specs.Words.{is_true, as_kind, applied, operated, kind_after, scalar_bytes, is_pointer}
-use Rattle.ctypes.specs.Integers.{int}
+use Rattle.typing.specs.ctypes.Integers.{int}
 
 -- whatever a step tests
 by_test : {E S I : Type 0} (one one' other other' : Outcome E S I) (choices more : List Choice) (b : Bool) → LeavesMore more one one' → LeavesMore more other other' →

@@ -29,7 +29,7 @@ use Rattle.c_machine.specs.declared.kind.Kind.{Kind}
 use Rattle.c_machine.specs.Text.{Text}
 use Rattle.c_machine.specs.Trees.{text_of}
 use Rattle.c_machine.specs.Words.{is_true, as_kind, applied, operated, kind_after, scalar_bytes, is_pointer}
-use Rattle.ctypes.specs.Integers.{int}
+use Rattle.typing.specs.ctypes.Integers.{int}
 
 -- whatever a step tests
 by_test : {E S I : Type 0} (one other : Outcome E S I) (choices : List Choice) (b : Bool) → TakesOne choices one → TakesOne choices other → TakesOne choices (if b then one else other)

@@ -6,8 +6,8 @@ use Rattle.std.proofs.Math.Nat.{mod-eq_of_lt}
 use Rattle.arithmetic.specs.Conversion.{converted, truth as truth_of}
 use Rattle.arithmetic.specs.Value.{value}
 use Rattle.arithmetic.proofs.Residues.{residue-is, value-is}
-use Rattle.ctypes.specs.declared.kind.IntegerType.{IntegerType}
-use Rattle.values.specs.Values.{as_type}
+use Rattle.typing.specs.declared.ctypes.kind.IntegerType.{IntegerType}
+use Rattle.typing.specs.values.Values.{as_type}
 use Rattle.c_machine.specs.Laws.{DoConversionsAgree}
 use Rattle.c_machine.specs.Words.{is_same}
 

@@ -6,7 +6,7 @@ use Rattle.cbase.specs.declared.place.Place.{Place}
 use Rattle.cbase.specs.declared.tree.expr.ExprForm.TheVariants as tree
 use Rattle.cbase.specs.declared.tree.expr.ExprForm.TheOpen as layer
 use Rattle.cbase.specs.declared.tree.expr.ExprForm.TheViews.{out-roll-Decl, out-roll-Declared, outs-Name, outs-Constant, outs-Unary, outs-Binary, outs-Assign, outs-Count, outs-Choose, outs-Cast, outs-SizeOf, outs-SizeOfType, outs-OffsetOf, outs-Index, outs-ExprForm::Member, outs-Call, outs-Inner, outs-AssertFail, outs-Declare, outs-Eval, outs-Block, outs-If, outs-While, outs-Do, outs-For, outs-Break, outs-Continue, outs-Return, outs-Value, outs-Braces, roll-Decl}
-use Rattle.ctypes.proofs.ShapeKinds.{are_kinds}
+use Rattle.typing.proofs.ctypes.ShapeKinds.{are_kinds}
 use Rattle.typing.specs.Forms.{NamesParts, DeclaratorParts}
 use Rattle.c_machine.specs.Program.{Program}
 use Rattle.c_machine.specs.Reading.{expr_of, AreExpressionsRead, AreStatementsRead, AreTypesRead, AreRead}

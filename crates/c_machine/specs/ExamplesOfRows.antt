@@ -5,7 +5,7 @@ use Rattle.std.specs.Prelude.{◌≡◌, ℕ, true, false, List, [], ◌∷◌, 
 use Rattle.cbase.specs.declared.ctype.CType.{CType}
 use Rattle.typing.specs.Outcomes.{ObjectRow, Store, ParameterRow, Handed, StoreHanded, ObjectHanded, LinkHanded, FunctionHanded, ParameterHanded}
 use Rattle.typing.specs.Sample.{char_type, long_type}
-use Rattle.ctypes.specs.Binary.{int_type}
+use Rattle.typing.specs.ctypes.Binary.{int_type}
 use Rattle.c_machine.specs.Program.{first_in, is_linked_in, object_in, automatic_row, is_fixed_row, fixed_in, store_in, parameters_in}
 
 -- a declared object, a value of an initialiser, and a declaration outside of functions

@@ -21,8 +21,8 @@ use Rattle.cbase.specs.declared.tree.stmt.Stmt.{Stmt}
 use Rattle.cbase.specs.declared.tree.stmt.StmtForm.TheVariants.{Declare, Eval, Return}
 use Rattle.choices.specs.declared.choice.Choice.{Choice}
 use Rattle.choices.specs.declared.choice.Choice.TheVariants.{None as NoBlock, Block as NewBlock}
-use Rattle.ctypes.specs.Binary.{int_type}
-use Rattle.ctypes.specs.Unary.{size_type}
+use Rattle.typing.specs.ctypes.Binary.{int_type}
+use Rattle.typing.specs.ctypes.Unary.{size_type}
 use Rattle.typing.specs.Outcomes.{Handed, ExpressionHanded, StoreHanded, ObjectHanded, LinkHanded}
 use Rattle.typing.specs.Sample.{char_type, token, node, name, constant, identifier, declaration, field, declare, declarator, part}
 use Rattle.c_machine.specs.ExamplesOfTrees.{main_at, statement, function_row, valued, typed, named, called, object, pointer, ComesTo}

@@ -1,8 +1,8 @@
 -- Laws of the machine.
 use Rattle.std.specs.Prelude.{◌≡◌, ℕ, ◌^◌, ◌<◌, false, ◌⊎◌, List, [], ◌∷◌, ◌++◌}
 use Rattle.choices.specs.declared.choice.Choice.{Choice}
-use Rattle.ctypes.specs.declared.kind.IntegerType.{IntegerType}
-use Rattle.values.specs.Values.{as_type}
+use Rattle.typing.specs.declared.ctypes.kind.IntegerType.{IntegerType}
+use Rattle.typing.specs.values.Values.{as_type}
 use Rattle.c_machine.specs.Program.{Program}
 use Rattle.c_machine.specs.State.{StateIn, Outcome, Went, Waits, Ended, Faulted, NotYet, Stuck}
 use Rattle.c_machine.specs.Run.{run, run_of}

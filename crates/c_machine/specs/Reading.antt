@@ -18,8 +18,8 @@ use Rattle.cbase.specs.declared.tree.operators.UnaryOp.{UnaryOp}
 use Rattle.cbase.specs.declared.tree.stmt.Stmt.{Stmt}
 use Rattle.cbase.specs.declared.tree.stmt.StmtForm.{StmtForm}
 use Rattle.cbase.specs.declared.tree.stmt.StmtForm.TheVariants as stmt
-use Rattle.ctypes.specs.Integers.{integer, truth}
-use Rattle.ctypes.specs.Kinds.{kind_of, target_of}
+use Rattle.typing.specs.ctypes.Integers.{integer, truth}
+use Rattle.typing.specs.ctypes.Kinds.{kind_of, target_of}
 use Rattle.typing.specs.Forms.{NamesParts, DeclaratorParts}
 use Rattle.typing.specs.Idiom.{member_offset}
 use Rattle.typing.specs.Nodes.{pointed_offset}

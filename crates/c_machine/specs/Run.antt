@@ -2,7 +2,7 @@
 use Rattle.std.specs.Prelude.{◌≡◌, ℕ, zero, suc, true, List, [], ◌∷◌, ◌++◌, map, Option, None, Some}
 use Rattle.cbase.specs.declared.place.Place.{Place}
 use Rattle.choices.specs.declared.choice.Choice.{Choice}
-use Rattle.ctypes.specs.Integers.{int}
+use Rattle.typing.specs.ctypes.Integers.{int}
 use Rattle.c_machine.specs.declared.kind.Kind.TheVariants.{Integer}
 use Rattle.c_machine.specs.Text.{Main, Text}
 use Rattle.c_machine.specs.declared.task.Task.{Task}

@@ -3,7 +3,7 @@
 use Rattle.std.specs.Prelude.{◌≡◌, ℕ, Bool, true, false, List, [], ◌∷◌, replicate, nat_eq, ◌&&◌, Option, None, Some, slice_get, if◌then◌else◌}
 use Rattle.std.specs.Option.{option_map_or}
 use Rattle.choices.specs.declared.choice.Choice.{Choice}
-use Rattle.ctypes.specs.Integers.{integer, truth}
+use Rattle.typing.specs.ctypes.Integers.{integer, truth}
 use Rattle.typing.specs.Sample.{token}
 use Rattle.c_machine.specs.declared.kind.Kind.TheVariants.{Integer, Void}
 use Rattle.c_machine.specs.declared.kind.Kind.{Kind}

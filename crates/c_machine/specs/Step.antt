@@ -13,7 +13,7 @@ use Rattle.bytes_core.specs.Loss.{is_lost}
 use Rattle.bytes_core.specs.Release.{free_fault, freed, without}
 use Rattle.bytes_core.specs.Value.{address_number, moved}
 use Rattle.choices.specs.declared.choice.Choice.{Choice}
-use Rattle.ctypes.specs.Integers.{int}
+use Rattle.typing.specs.ctypes.Integers.{int}
 use Rattle.c_machine.specs.declared.kind.Kind.TheVariants.{Integer, Void}
 use Rattle.c_machine.specs.declared.kind.Kind.{Kind}
 use Rattle.c_machine.specs.Text.{Text}

@@ -10,10 +10,10 @@ use Rattle.cbase.specs.declared.tree.expr.ExprForm.TheViews.{out-ExprForm, out-S
 use Rattle.cbase.specs.declared.tree.init.Init.{Init}
 use Rattle.cbase.specs.declared.tree.item.Item.{Item}
 use Rattle.cbase.specs.declared.tree.stmt.Stmt.{Stmt}
-use Rattle.ctypes.specs.declared.kind.Target.{Target}
-use Rattle.ctypes.specs.declared.kind.Target.TheVariants.{Void as VoidTarget}
-use Rattle.ctypes.specs.Kinds.{Kind as TypeKind, kind_of}
-use Rattle.ctypes.specs.Kinds as type
+use Rattle.typing.specs.declared.ctypes.kind.Target.{Target}
+use Rattle.typing.specs.declared.ctypes.kind.Target.TheVariants.{Void as VoidTarget}
+use Rattle.typing.specs.ctypes.Kinds.{Kind as TypeKind, kind_of}
+use Rattle.typing.specs.ctypes.Kinds as type
 use Rattle.typing.specs.Entities.{Entity, FunctionEntity, ObjectIs, FunctionIs, EnumeratorIs}
 use Rattle.typing.specs.Forms.{Form as Layer, Clause as StatementLayer, Initialiser as InitialiserLayer, name_in}
 use Rattle.typing.specs.Idiom.{member_offset}

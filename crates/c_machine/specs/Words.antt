@@ -10,9 +10,9 @@ use Rattle.bytes_core.specs.declared.block.Block.{Block}
 use Rattle.bytes_core.specs.declared.word.Word.{Word}
 use Rattle.bytes_core.specs.declared.word.Word.TheVariants.{Plain}
 use Rattle.bytes_core.specs.Value.{address_number, is_same_address, moved}
-use Rattle.ctypes.specs.declared.kind.IntegerType.{IntegerType}
-use Rattle.ctypes.specs.Integers.{promoted, common}
-use Rattle.values.specs.Values.{as_type, offset_as, of_unary, of_binary}
+use Rattle.typing.specs.declared.ctypes.kind.IntegerType.{IntegerType}
+use Rattle.typing.specs.ctypes.Integers.{promoted, common}
+use Rattle.typing.specs.values.Values.{as_type, offset_as, of_unary, of_binary}
 use Rattle.c_machine.specs.declared.kind.Kind.TheVariants.{Integer, Pointer, Array, Void}
 use Rattle.c_machine.specs.declared.kind.Kind.{Kind}
 

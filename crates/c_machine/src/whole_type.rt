@@ -1,12 +1,12 @@
 ghost use Rattle.std.specs.Prelude.{◌≡◌, Some, true};
 ghost use Rattle.arithmetic.specs.Size.{bytes};
-ghost use Rattle.ctypes.specs.Integers.{int, promoted, common};
-ghost use Rattle.values.specs.Values.{is_whole, whole_in};
+ghost use Rattle.typing.specs.ctypes.Integers.{int, promoted, common};
+ghost use Rattle.typing.specs.values.Values.{is_whole, whole_in};
 
 use arithmetic::Size;
-use ctypes::IntegerType;
+use typing::ctypes::IntegerType;
 use std::marker::Model;
-use values::is_whole;
+use typing::values::is_whole;
 
 /// A type of integers that the data layouts have: one of 1, 2, 4 or 8 bytes (C11 6.2.5p4-8).
 #[derive(Clone, Copy)]
@@ -16,8 +16,8 @@ pub struct WholeType {
 
 impl Model for WholeType {
     ghost use Rattle.std.specs.Prelude.{◌≡◌, true};
-    ghost use Rattle.ctypes.specs.declared.kind.IntegerType.{IntegerType};
-    ghost use Rattle.values.specs.Values.{is_whole};
+    ghost use Rattle.typing.specs.declared.ctypes.kind.IntegerType.{IntegerType};
+    ghost use Rattle.typing.specs.values.Values.{is_whole};
 
     ghost Value = { IntegerType };
 

@@ -7,7 +7,7 @@ use Rattle.c_machine.specs.Statements.{LoopLeft, after_break, behind_loop, leave
 use Rattle.c_machine.specs.Step.{leave_loop, unless_lost}
 use Rattle.c_machine.specs.Text.{Clause, Declare, Eval, Block, If, While, Do, For, Break, Continue, Return, Text}
 use Rattle.c_steps.specs.Leaving.{behind_loop as behind, out_of_loop}
-use Rattle.c_tasks.specs.Loops.{is_for}
+use Rattle.c_run.specs.tasks.Loops.{is_for}
 
 behind_clause : (t : Text) (word : Place) (clause : Clause t.Expr t.Stmt t.Init) (rest : List (TaskIn t)) → behind (is_for clause) word rest ≡ behind_loop t word clause rest
 behind_clause t word (For first test semicolon next close body) rest = refl

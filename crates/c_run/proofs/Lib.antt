@@ -1,10 +1,10 @@
 mod ByCondition
 mod Leaving
 mod MakingSteps
-pub mod NoneLeft
 mod PlainSteps
+mod RunsOn
+pub mod NoneLeft
 pub mod Rooms
 pub mod RunStarts
-mod RunsOn
 pub mod StepsLeft
 pub mod WholeRuns

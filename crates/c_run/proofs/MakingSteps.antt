@@ -7,9 +7,9 @@ use Rattle.c_machine.specs.declared.task.Task.{Task}
 use Rattle.c_machine.specs.Statements.{again_parts, again_tasks, branch_parts, branch_tasks, test_parts, test_tasks}
 use Rattle.c_machine.specs.Step.{step_of}
 use Rattle.c_machine.specs.Text.{Clause, Declare, Eval, Block, If, While, Do, For, Break, Continue, Return, Text}
-use Rattle.c_tasks.specs.declared.room.Room.{Room}
-use Rattle.c_tasks.specs.declared.room.Room.TheVariants.{Made, NotKept}
-use Rattle.c_tasks.specs.Room.{are_kept, kinds_in, MakesRoom}
+use Rattle.c_run.specs.declared.tasks.room.Room.{Room}
+use Rattle.c_run.specs.declared.tasks.room.Room.TheVariants.{Made, NotKept}
+use Rattle.c_run.specs.tasks.Room.{are_kept, kinds_in, MakesRoom}
 use Rattle.c_run.specs.declared.stepped.Stepped.{Stepped}
 use Rattle.c_run.specs.declared.stepped.Stepped.TheVariants.{Came, NotKept as NoAnswer}
 use Rattle.c_run.specs.Stepped.{IsStep, IsStepOf, kinds_at, stepped_by}

@@ -10,10 +10,10 @@ use Rattle.c_machine.specs.declared.kind.Kind.TheVariants.{Struct}
 use Rattle.c_machine.specs.declared.object.Object.{Object}
 use Rattle.c_machine.specs.declared.task.Task.{Task}
 use Rattle.c_machine.specs.State.{State, doing}
-use Rattle.c_tasks.specs.declared.room.Room.{Room}
-use Rattle.c_tasks.specs.declared.room.Room.TheVariants.{Made, NotKept}
-use Rattle.c_tasks.specs.Room.{MakesRoom, are_kept, is_there, kinds_in, kinds_of}
-use Rattle.c_text.specs.Kept.{is_sized, kept, kept_objects}
+use Rattle.c_run.specs.declared.tasks.room.Room.{Room}
+use Rattle.c_run.specs.declared.tasks.room.Room.TheVariants.{Made, NotKept}
+use Rattle.c_run.specs.tasks.Room.{MakesRoom, are_kept, is_there, kinds_in, kinds_of}
+use Rattle.c_run.specs.text.Kept.{is_sized, kept, kept_objects}
 
 -- what is to be done in a program, and its states
 abbrev pub Tasks : Type 0

@@ -12,7 +12,7 @@ use Rattle.c_run.specs.declared.stepped.Stepped.{Stepped}
 use Rattle.c_run.specs.declared.stepped.Stepped.TheVariants.{Came, NotKept}
 use Rattle.c_run.specs.Started.{Calls, IsDone, IsStartOf, MakesStatics, keeps_kinds_at, keeps_kinds_until}
 use Rattle.c_run.specs.Stepped.{goes_on, keeps_on}
-use Rattle.c_tasks.specs.Room.{are_kept, kinds_in}
+use Rattle.c_run.specs.tasks.Room.{are_kept, kinds_in}
 
 pub same_start : (t : Text) (main other : Option (Main t.Stmt)) (stepped : Stepped) (choices : List Choice) (after : StateIn t) (left : List Choice) → main ≡ other
     → IsStartOf t main stepped choices after left → IsStartOf t other stepped choices after left

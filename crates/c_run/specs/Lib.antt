@@ -1,2 +1,5 @@
 pub mod Started
 pub mod Stepped
+pub mod statics
+pub mod tasks
+pub mod text

@@ -9,8 +9,8 @@ use Rattle.c_steps.specs.declared.outcome.Outcome.TheVariants as outcome
 use Rattle.c_steps.specs.ComesTo.{comes_to}
 use Rattle.c_run.specs.declared.stepped.Stepped.{Stepped}
 use Rattle.c_run.specs.declared.stepped.Stepped.TheVariants.{Came, NotKept}
-use Rattle.c_tasks.specs.declared.room.Room.TheVariants as room
-use Rattle.c_tasks.specs.Room.{are_kept, kinds_in, MakesRoom}
+use Rattle.c_run.specs.declared.tasks.room.Room.TheVariants as room
+use Rattle.c_run.specs.tasks.Room.{are_kept, kinds_in, MakesRoom}
 use Rattle.c_run.specs.Stepped.{keeps_kinds, keeps_on}
 
 -- whether the types are kept at each of so many steps, up to where nothing is left to do

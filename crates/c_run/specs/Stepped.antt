@@ -12,9 +12,9 @@ use Rattle.c_machine.specs.Step.{step, step_of}
 use Rattle.c_machine.specs.Text.{Text}
 use Rattle.c_steps.specs.declared.outcome.Outcome.TheVariants as outcome
 use Rattle.c_steps.specs.ComesTo.{comes_to}
-use Rattle.c_tasks.specs.declared.room.Room.{Room}
-use Rattle.c_tasks.specs.declared.room.Room.TheVariants as room
-use Rattle.c_tasks.specs.Room.{are_kept, kinds_in}
+use Rattle.c_run.specs.declared.tasks.room.Room.{Room}
+use Rattle.c_run.specs.declared.tasks.room.Room.TheVariants as room
+use Rattle.c_run.specs.tasks.Room.{are_kept, kinds_in}
 use Rattle.c_run.specs.declared.stepped.Stepped.{Stepped}
 use Rattle.c_run.specs.declared.stepped.Stepped.TheVariants.{Came, NotKept}
 

@@ -4,9 +4,9 @@ ghost use Rattle.c_machine.specs.declared.task.Task.TheVariants.{Execute, Initia
 ghost use Rattle.c_machine.specs.State.{doing};
 
 use c_machine::{Object, Task};
-use c_statics::StaticSet;
+use crate::statics::StaticSet;
 use c_steps::Tree;
-use c_tasks::TreeState;
+use crate::tasks::TreeState;
 use cbase::{NoMemory, Stmt};
 
 /// Objects of a block are made (C11 6.2.4p6).

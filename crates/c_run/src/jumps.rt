@@ -13,7 +13,7 @@ use crate::stepped::{Stepped, came};
 use c_machine::Kind;
 use c_steps::Outcome;
 use c_steps::leaving::{break_at, continue_at, give_back};
-use c_tasks::{TreeState, is_for};
+use crate::tasks::{TreeState, is_for};
 use cbase::{NoMemory, Place};
 use std::alloc::Global;
 

@@ -2,8 +2,8 @@
 //! 5.1.2.2.1, 6.2.4p3).
 //!
 //! A step takes the first thing to do off a state and does it, as the definitions of `c_machine` say, for each program that the text stands for. What a
-//! tree makes room for is said by `c_tasks`, and all else is done by `c_steps`: this crate says which of them is asked. What the items of a
-//! program hold is said by `c_statics`.
+//! tree makes room for is said by `c_run::tasks`, and all else is done by `c_steps`: this crate says which of them is asked. What the items of a
+//! program hold is said by `c_run::statics`.
 #![tactic(auto)]
 
 mod beginning;
@@ -14,13 +14,18 @@ mod jumps;
 mod program_run;
 mod running;
 mod starting;
+mod statics;
 mod stepped;
 mod stepping;
+mod tasks;
+mod text;
 mod trees;
 
 pub use beginning::{Started, start};
 pub use program_run::run_program;
 pub use running::run;
 pub use starting::{main_tasks, static_tasks};
+pub use statics::first_callee;
 pub use stepped::Stepped;
 pub use stepping::step;
+pub use text::TypedText;

@@ -1,7 +1,7 @@
 //! What a program does first: it makes and initialises the objects that live as long as it runs, and then calls main (C11 5.1.2p1, 5.1.2.2.1).
 ghost use Rattle.std.specs.Prelude.{◌≡◌, [], ◌∷◌, ◌++◌, map, true, IfOk};
 ghost use Rattle.std.specs.List.{list_all};
-ghost use Rattle.ctypes.specs.Integers.{int};
+ghost use Rattle.typing.specs.ctypes.Integers.{int};
 ghost use Rattle.expressions.specs.Numbers.{Numbering};
 ghost use Rattle.c_machine.specs.declared.kind.Kind.TheVariants.{Integer};
 ghost use Rattle.c_machine.specs.declared.task.Task.TheVariants.{EndOfBody, Execute};
@@ -9,16 +9,16 @@ ghost use Rattle.c_machine.specs.Blocks.{entered};
 ghost use Rattle.c_machine.specs.Program.{Program};
 ghost use Rattle.c_machine.specs.Run.{main_tasks};
 ghost use Rattle.c_machine.specs.Trees.{main_as, text_of};
-ghost use Rattle.c_text.specs.Stands.{StandsFor};
+ghost use Rattle.c_run.specs.text.Stands.{StandsFor};
 ghost use Rattle.c_run.specs.Started.{MakesStatics};
-ghost use Rattle.c_tasks.specs.Room.{MakesRoom};
-ghost use Rattle.c_text.specs.Kept.{is_sized};
+ghost use Rattle.c_run.specs.tasks.Room.{MakesRoom};
+ghost use Rattle.c_run.specs.text.Kept.{is_sized};
 
 use crate::doing::{execute_each, initialise_each, make_objects, make_statics};
 use c_machine::{Kind, Object, Task, WholeType};
-use c_statics::{MainFunction, StaticSet};
-use c_tasks::{Room, TreeState, entered};
-use c_text::TypedText;
+use crate::statics::{MainFunction, StaticSet};
+use crate::tasks::{Room, TreeState, entered};
+use crate::text::TypedText;
 use cbase::{NoMemory, Place, Stmt};
 use std::alloc::Global;
 

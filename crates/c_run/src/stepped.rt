@@ -3,7 +3,7 @@ ghost use Rattle.c_run.specs.declared.stepped.Stepped.TheVariants.{Came};
 ghost use Rattle.c_run.specs.Stepped.{goes_on, stepped_by};
 
 use c_steps::Outcome;
-use c_tasks::Room;
+use crate::tasks::Room;
 use cbase::NoMemory;
 
 /// What a step of a program comes to.
@@ -11,7 +11,7 @@ use cbase::NoMemory;
 pub enum Stepped {
     /// It is done, and came to that.
     Came(Outcome),
-    /// It speaks of a type that is not kept, as `c_text::type_kind` says. The state is of no use.
+    /// It speaks of a type that is not kept, as `crate::text::type_kind` says. The state is of no use.
     NotKept,
 }
 

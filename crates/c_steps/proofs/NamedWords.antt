@@ -9,8 +9,8 @@ use Rattle.bytes_core.specs.declared.word.Word.{Word}
 use Rattle.bytes_core.specs.declared.word.Word.TheVariants.{Plain, To}
 use Rattle.bytes_core.specs.Valid.{WordNamesBelow}
 use Rattle.bytes_core.specs.Value.{moved, address_number, is_same_address}
-use Rattle.ctypes.specs.declared.kind.IntegerType.{IntegerType}
-use Rattle.values.specs.Values.{of_unary, of_binary}
+use Rattle.typing.specs.declared.ctypes.kind.IntegerType.{IntegerType}
+use Rattle.typing.specs.values.Values.{of_unary, of_binary}
 use Rattle.c_machine.specs.declared.kind.Kind.{Kind}
 use Rattle.c_machine.specs.declared.kind.Kind.TheVariants.{Integer, Pointer, Array, Struct, Void}
 use Rattle.c_machine.specs.Step.{counted}

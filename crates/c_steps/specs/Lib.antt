@@ -1,8 +1,9 @@
 pub mod ComesTo
-pub mod Named
-pub mod Statics
+pub mod Ends
+pub mod Laws
 pub mod Leaving
 pub mod Making
+pub mod Named
 pub mod PlainStep
-pub mod Laws
-pub mod Ends
+pub mod Statics
+pub mod words

@@ -5,7 +5,7 @@ use Rattle.bytes_core.specs.Access.{range_fault, filled}
 use Rattle.bytes_core.specs.Copying.{copy_fault, copied}
 use Rattle.bytes_core.specs.Value.{moved}
 use Rattle.choices.specs.declared.choice.Choice.{Choice}
-use Rattle.ctypes.specs.Integers.{int}
+use Rattle.typing.specs.ctypes.Integers.{int}
 use Rattle.c_machine.specs.declared.kind.Kind.TheVariants.{Integer}
 use Rattle.c_machine.specs.declared.task.Task.{Task}
 use Rattle.c_machine.specs.declared.task.Task.TheVariants.{ValueOf, Push, ObjectAt, Shift, Load, Convert, Apply, Operate, Answer, AndThen, OrElse, Drop, Store, Update, CountBy, CopyStruct, RunBuiltIn, CallDefined, EndRun, Finish, Keep, OpenBlock, MakeObject, MakeStatic, LeaveBlock, Zero, LeaveFunction, EndOfBody, Unknown}

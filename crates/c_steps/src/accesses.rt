@@ -6,7 +6,7 @@ ghost use Rattle.bytes_core.specs.Access.{access_fault, filled, loaded, range_fa
 ghost use Rattle.bytes_core.specs.Copying.{copied, copy_fault};
 ghost use Rattle.bytes_core.specs.Valid.{WordNamesBelow};
 ghost use Rattle.choices.specs.declared.choice.Choice.{Choice};
-ghost use Rattle.ctypes.specs.Integers.{int};
+ghost use Rattle.typing.specs.ctypes.Integers.{int};
 ghost use Rattle.c_machine.specs.State.{Went, popped, unless_fault, with_memory, with_operand};
 ghost use Rattle.c_machine.specs.Step.{counted, counting, load_step, store_step, updated};
 ghost use Rattle.c_machine.specs.Words.{is_pointer, scalar_bytes};
@@ -17,7 +17,7 @@ use crate::outcome::Outcome;
 use crate::state::State;
 use bytes_core::{Memory, Word};
 use c_machine::{Kind, WholeType};
-use c_words::{as_kind, is_pointer, kind_after, operated, scalar_bytes};
+use crate::words::{as_kind, is_pointer, kind_after, operated, scalar_bytes};
 use cbase::{BinaryOp, NoMemory, Place};
 use std::alloc::Global;
 

@@ -12,7 +12,7 @@ use crate::outcome::Outcome;
 use crate::state::State;
 use bytes_core::Word;
 use c_machine::{Kind, Task};
-use c_words::is_true;
+use crate::words::is_true;
 use cbase::NoMemory;
 
 /// The right side is to be done, and then whether it is true.

@@ -17,7 +17,7 @@ use crate::pending::Choices;
 use crate::state::State;
 use bytes_core::{BlockKind, Word};
 use c_machine::{BuiltIn, Kind};
-use c_words::is_true;
+use crate::words::is_true;
 use cbase::{NoMemory, Place};
 use choices::Choice;
 use std::alloc::Global;

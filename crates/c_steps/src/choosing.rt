@@ -12,7 +12,7 @@ use crate::pending::Choices;
 use crate::state::State;
 use bytes_core::{BlockKind, Word};
 use c_machine::{Kind, Object, Variable};
-use c_words::is_input;
+use crate::words::is_input;
 use cbase::NoMemory;
 use choices::Choice;
 use std::alloc::Global;

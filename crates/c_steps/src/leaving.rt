@@ -15,7 +15,7 @@ use crate::outcome::Outcome;
 use crate::state::State;
 use bytes_core::Word;
 use c_machine::{Kind, Task};
-use c_words::as_kind;
+use crate::words::as_kind;
 use cbase::{NoMemory, Place};
 use std::alloc::Global;
 

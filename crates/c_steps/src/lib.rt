@@ -28,6 +28,7 @@ mod state;
 mod statics;
 mod tree;
 pub mod updates;
+pub mod words;
 
 pub use ends::{BodyEnd, LoopEnd};
 pub use losses::{finish, keep, leave_block};

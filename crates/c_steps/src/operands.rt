@@ -12,7 +12,7 @@ use crate::outcome::Outcome;
 use crate::state::State;
 use bytes_core::Word;
 use c_machine::Kind;
-use c_words::{applied, as_kind, is_true, moved, operated, told};
+use crate::words::{applied, as_kind, is_true, moved, operated, told};
 use cbase::{BinaryOp, NoMemory, UnaryOp};
 
 /// A number that is known.

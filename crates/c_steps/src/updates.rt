@@ -4,7 +4,7 @@ ghost use Rattle.bytes_core.specs.declared.word.Word.TheVariants.{Plain};
 ghost use Rattle.bytes_core.specs.Access.{access_fault, loaded};
 ghost use Rattle.bytes_core.specs.Valid.{WordNamesBelow};
 ghost use Rattle.choices.specs.declared.choice.Choice.{Choice};
-ghost use Rattle.ctypes.specs.Integers.{int};
+ghost use Rattle.typing.specs.ctypes.Integers.{int};
 ghost use Rattle.c_machine.specs.declared.kind.Kind.TheVariants.{Integer};
 ghost use Rattle.c_machine.specs.State.{popped};
 ghost use Rattle.c_machine.specs.Step.{counted, counting, stored_result, updated};
@@ -17,7 +17,7 @@ use crate::outcome::Outcome;
 use crate::state::State;
 use bytes_core::Word;
 use c_machine::{Kind, WholeType};
-use c_words::{as_kind, kind_after, operated, scalar_bytes};
+use crate::words::{as_kind, kind_after, operated, scalar_bytes};
 use cbase::{BinaryOp, NoMemory, Place};
 
 /// The value that an update has: the old one, or the new one.

@@ -13,11 +13,11 @@ use Rattle.expressions.specs.Language.{language}
 use Rattle.expressions.specs.Numbers.{Numbering, handed_at}
 use Rattle.expressions.specs.declared.handed_row.HandedRow.{HandedRow}
 use Rattle.expressions.proofs.Growth.{agrees_before}
-use Rattle.languages.specs.AtTypes.{declarations_at, HasSignatures}
-use Rattle.languages.specs.Begins.{Begins}
-use Rattle.languages.specs.CLanguage.{Declarations, c_language, c_file}
-use Rattle.languages.specs.CLaws.{FindsWhatContextsFind}
-use Rattle.languages.specs.LeadsBack.{LeadsBack}
+use Rattle.items.specs.languages.AtTypes.{declarations_at, HasSignatures}
+use Rattle.items.specs.languages.Begins.{Begins}
+use Rattle.items.specs.languages.CLanguage.{Declarations, c_language, c_file}
+use Rattle.items.specs.languages.CLaws.{FindsWhatContextsFind}
+use Rattle.items.specs.languages.LeadsBack.{LeadsBack}
 use Rattle.ccheck.specs.declared.items_checked.ItemsChecked.{ItemsChecked}
 use Rattle.ccheck.specs.declared.items_checked.ItemsChecked.TheVariants.{AllPass, FirstRefused}
 use Rattle.ccheck.specs.declared.refusal.Refusal.{Refusal}

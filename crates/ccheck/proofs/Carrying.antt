@@ -8,7 +8,7 @@ use Rattle.typing.specs.FileScope.{FileScope}
 use Rattle.typing.specs.Items.{ItemIs}
 use Rattle.typing.specs.Language.{Language}
 use Rattle.typing.specs.Outcomes.{Handed, Passes, Refused}
-use Rattle.languages.specs.Carries.{Carried}
+use Rattle.items.specs.languages.Carries.{Carried}
 use Rattle.ccheck.specs.declared.refusal.Refusal.{Refusal}
 use Rattle.ccheck.specs.Refusals.{place_at}
 use Rattle.ccheck.specs.Walk.{ArePassing, IsFirstRefused, NoItem, OneItem, NotRead, Broken, Later}

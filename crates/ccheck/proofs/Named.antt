@@ -14,8 +14,8 @@ use Rattle.ctokens.specs.declared.item_span.ItemSpan.{ItemSpan}
 use Rattle.ctokens.specs.declared.token.Token.{Token}
 use Rattle.ctokens.specs.declared.token.Tokens.{Tokens}
 use Rattle.ctokens.specs.TokenList.{HasNamedFiles}
-use Rattle.ctypes.specs.declared.found.Broken.{Broken}
-use Rattle.ctypes.specs.declared.found.Broken.TheVariants as broken
+use Rattle.typing.specs.declared.ctypes.found.Broken.{Broken}
+use Rattle.typing.specs.declared.ctypes.found.Broken.TheVariants as broken
 use Rattle.typing.specs.FileScope.{FileScope}
 use Rattle.typing.specs.Language.{Language}
 use Rattle.ccheck.specs.declared.checking.Checked.{Checked}

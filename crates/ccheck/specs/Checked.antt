@@ -10,10 +10,10 @@ use Rattle.definitions.specs.Defined.{bodied_names, defined_names}
 use Rattle.expressions.specs.Context.{declared, Agrees}
 use Rattle.expressions.specs.Numbers.{Numbering, handed_at}
 use Rattle.typing.specs.Outcomes.{Handed}
-use Rattle.languages.specs.AtTypes.{declarations_at}
-use Rattle.languages.specs.CBegin.{c_begin}
-use Rattle.languages.specs.CLanguage.{Declarations, c_language, c_file}
-use Rattle.languages.specs.LeadsBack.{LeadsBack}
+use Rattle.items.specs.languages.AtTypes.{declarations_at}
+use Rattle.items.specs.languages.CBegin.{c_begin}
+use Rattle.items.specs.languages.CLanguage.{Declarations, c_language, c_file}
+use Rattle.items.specs.languages.LeadsBack.{LeadsBack}
 use Rattle.ccheck.specs.declared.checking.Checked.{Checked}
 use Rattle.ccheck.specs.declared.checking.Checked.TheVariants.{Typed, Refused}
 use Rattle.ccheck.specs.declared.program.TypedProgram.{TypedProgram}

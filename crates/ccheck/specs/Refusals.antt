@@ -6,8 +6,8 @@ use Rattle.cgrammar.specs.Terminals.{no_place}
 use Rattle.cread.specs.declared.unread.Unread.{Unread}
 use Rattle.cread.specs.declared.unread.Unread.TheVariants as unread
 use Rattle.ctokens.specs.declared.token.Tokens.{Tokens}
-use Rattle.ctypes.specs.declared.found.Broken.{Broken}
-use Rattle.ctypes.specs.declared.found.Broken.TheVariants as broken
+use Rattle.typing.specs.declared.ctypes.found.Broken.{Broken}
+use Rattle.typing.specs.declared.ctypes.found.Broken.TheVariants as broken
 use Rattle.typing.specs.declared.fault.Fault.{Fault}
 use Rattle.ccheck.specs.declared.refusal.Refusal.{Refusal}
 use Rattle.ccheck.specs.declared.refusal.Refusal.TheVariants.{Construct, Syntax, Rule}

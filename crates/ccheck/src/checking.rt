@@ -14,7 +14,7 @@ use cbase::{Abi, List, NoMemory};
 use ctokens::{ItemSpan, Tokens, passed_over};
 use definitions::definitions;
 use items::begin;
-use languages::{c_finds_what_contexts_find, leads_back};
+use items::languages::{c_finds_what_contexts_find, leads_back};
 use std::alloc::Global;
 
 /// What is answered of the items that main needs: a program with its types, or why one of them is refused.

@@ -15,7 +15,7 @@ use cread::{ItemBehind, ItemRead, read_item};
 use ctokens::{ItemSpan, Tokens};
 use expressions::{Context, Found};
 use std::alloc::Global;
-use tree_walk::item_found;
+use items::item_found;
 
 /// What is found of items that are read and checked one behind the other.
 #[derive(Drop)]

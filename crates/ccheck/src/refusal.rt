@@ -4,7 +4,7 @@ ghost use Rattle.ccheck.specs.Refusals.{of_broken, of_fault, of_unread, place_at
 use cbase::Place;
 use cread::Unread;
 use ctokens::Tokens;
-use ctypes::Broken;
+use typing::ctypes::Broken;
 use typing::Fault;
 
 /// Why an item that main needs is refused.

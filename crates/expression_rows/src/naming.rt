@@ -1,13 +1,13 @@
 //! How names are declared, functions and structs.
 ghost use Rattle.std.specs.Prelude.{◌≡◌, ◌<◌, ℕ, [], List as Items, length, All, OnOk};
-ghost use Rattle.environment.specs.Bounds.{EntityBelow};
-ghost use Rattle.environment.specs.declared.entity.Entity.TheVariants.{Object};
-ghost use Rattle.environment.specs.declared.entity.Signature.{Signature as Signatures};
+ghost use Rattle.typing.specs.environment.Bounds.{EntityBelow};
+ghost use Rattle.typing.specs.declared.environment.entity.Entity.TheVariants.{Object};
+ghost use Rattle.typing.specs.declared.environment.entity.Signature.{Signature as Signatures};
 
 use crate::types::{Written, number_of, numbers_of};
 use cbase::{Abi, List, NoMemory, Text};
-use ctypes::Member;
-use environment::{DeclaredType, Entity, Lifetime, Signature};
+use typing::ctypes::Member;
+use typing::environment::{DeclaredType, Entity, Lifetime, Signature};
 use expressions::Context;
 
 /// What a name with a type is declared as.

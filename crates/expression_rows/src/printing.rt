@@ -3,7 +3,7 @@ ghost use Rattle.std.specs.Prelude.{◌<◌, length, IfOk, IfSome};
 
 use arithmetic::{Size, convert};
 use cbase::NoMemory;
-use ctypes::{Broken, Shape};
+use typing::ctypes::{Broken, Shape};
 use expressions::{Context, Known};
 use typing::Fault;
 

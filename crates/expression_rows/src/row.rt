@@ -12,7 +12,7 @@ use cread_expr::{ReadExpr, Scope, read_expr};
 use ctokens::Tokens;
 use expressions::{Context, Found};
 use std::alloc::Global;
-use tree_walk::expression_found;
+use items::expression_found;
 
 /// Puts what is printed for a line into an empty text.
 pub fn answer_line(alloc: Global, line: &str, answer: &mut String) -> Result<(), NoMemory> {

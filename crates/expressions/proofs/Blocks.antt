@@ -11,11 +11,11 @@ use Rattle.cbase.specs.declared.tree.expr.Expr.{Expr}
 use Rattle.cbase.specs.declared.tree.expr.ExprForm.TheOpen.{Inner}
 use Rattle.cbase.specs.declared.tree.expr.ExprForm.TheViews.{out-StmtForm}
 use Rattle.cbase.specs.declared.tree.stmt.Stmt.{Stmt}
-use Rattle.environment.specs.Environment.{scope_entered, scope_left}
-use Rattle.ctypes.specs.declared.found.Broken.{Broken}
-use Rattle.ctypes.specs.declared.found.Broken.TheVariants.{Rule}
-use Rattle.ctypes.specs.Broken.{Typed}
-use Rattle.ctypes.specs.Kinds.{kind_of}
+use Rattle.typing.specs.environment.Environment.{scope_entered, scope_left}
+use Rattle.typing.specs.declared.ctypes.found.Broken.{Broken}
+use Rattle.typing.specs.declared.ctypes.found.Broken.TheVariants.{Rule}
+use Rattle.typing.specs.ctypes.Broken.{Typed}
+use Rattle.typing.specs.ctypes.Kinds.{kind_of}
 use Rattle.typing.specs.declared.fault.Fault.{Fault}
 use Rattle.typing.specs.Calls.{is_struct}
 use Rattle.typing.specs.Faults.{fault}

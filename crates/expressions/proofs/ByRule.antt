@@ -14,13 +14,13 @@ use Rattle.cbase.specs.declared.tree.operators.BinaryOp.{BinaryOp}
 use Rattle.cbase.specs.declared.tree.operators.BinaryOp.TheVariants.{Mul, Div, Rem, Add, Sub, Left, Right, Less, Greater, LessEqual, GreaterEqual, Equal, NotEqual, And, Xor, Or, Both, Either, Comma}
 use Rattle.cbase.specs.declared.tree.operators.UnaryOp.{UnaryOp}
 use Rattle.cbase.specs.declared.tree.operators.UnaryOp.TheVariants.{Address, Follow, Plus, Minus, Flip, Not}
-use Rattle.constants.specs.declared.meaning.Meaning.{Meaning}
-use Rattle.constants.specs.declared.meaning.Meaning.TheVariants.{NoConstant, FitsNoType, Known as KnownConstant}
-use Rattle.constants.specs.Meanings.{Means}
-use Rattle.environment.specs.Environment.{name_found}
-use Rattle.ctypes.specs.declared.found.Broken.TheVariants.{Construct, Rule}
-use Rattle.ctypes.specs.Binary.{binary}
-use Rattle.ctypes.specs.Kinds.{Kind, Integer, Pointer, Array, Struct, Void}
+use Rattle.typing.specs.declared.constants.meaning.Meaning.{Meaning}
+use Rattle.typing.specs.declared.constants.meaning.Meaning.TheVariants.{NoConstant, FitsNoType, Known as KnownConstant}
+use Rattle.typing.specs.constants.Meanings.{Means}
+use Rattle.typing.specs.environment.Environment.{name_found}
+use Rattle.typing.specs.declared.ctypes.found.Broken.TheVariants.{Construct, Rule}
+use Rattle.typing.specs.ctypes.Binary.{binary}
+use Rattle.typing.specs.ctypes.Kinds.{Kind, Integer, Pointer, Array, Struct, Void}
 use Rattle.typing.specs.declared.fault.Fault.{Fault}
 use Rattle.typing.specs.Entities.{Entity, ObjectIs, FunctionIs, EnumeratorIs, TypedefIs}
 use Rattle.typing.specs.Faults.{fault, all_at}
@@ -33,7 +33,7 @@ use Rattle.typing.specs.Pieces.{Piece, Loaded, operand_of, pieces_in}
 use Rattle.typing.specs.Rules.{AtNode, UndeclaredName, TypeAsOperand, ObjectName, EnumeratorName, FunctionAsOperand, ConstantOfType, ConstantOfNoType, SpellingOfNoConstant, AssertionFailed, OffsetOfMember, ArithmeticOperator, AdditionOperator, SubtractionOperator, ShiftOperator, RelationalOperator, EqualityOperator, LogicalOperator, CommaOperator}
 use Rattle.typing.specs.Told.{OperandIs}
 use Rattle.typing.specs.Typing.{PiecesAre}
-use Rattle.values.specs.Values.{binary_value, is_whole}
+use Rattle.typing.specs.values.Values.{binary_value, is_whole}
 use Rattle.typing.proofs.OneFault.{one_settled}
 use Rattle.expressions.specs.declared.found.Found.{Found}
 use Rattle.expressions.specs.declared.known.Known.{Known as KnownByNumber}

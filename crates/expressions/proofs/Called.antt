@@ -5,9 +5,9 @@ use Rattle.std.specs.List.{list_any}
 use Rattle.std.proofs.lemmas.List.{length-map}
 use Rattle.cbase.specs.declared.structs.StructDef.{StructDef}
 use Rattle.cbase.specs.declared.tree.expr.Expr.{Expr}
-use Rattle.ctypes.specs.Kinds.{kind_of}
+use Rattle.typing.specs.ctypes.Kinds.{kind_of}
 use Rattle.typing.specs.Calls.{is_struct, has_struct, product, times}
-use Rattle.values.specs.Values.{cast_value}
+use Rattle.typing.specs.values.Values.{cast_value}
 use Rattle.expressions.specs.Arguments.{arguments_at}
 use Rattle.expressions.specs.declared.known.Known.{Known as KnownByNumber}
 use Rattle.expressions.specs.Numbers.{Numbering}

@@ -7,11 +7,11 @@ use Rattle.cbase.specs.declared.place.Place.{Place}
 use Rattle.cbase.specs.declared.structs.StructDef.{StructDef}
 use Rattle.cbase.specs.declared.tree.expr.Expr.{Expr}
 use Rattle.cbase.specs.declared.tree.expr.ExprForm.TheOpen.{Call}
-use Rattle.environment.specs.declared.entity.Entity.{Entity}
-use Rattle.environment.specs.declared.entity.Entity.TheVariants.{Object, Typedef, Enumerator, Function}
-use Rattle.environment.specs.Environment.{name_found}
-use Rattle.ctypes.specs.Kinds.{kind_of}
-use Rattle.ctypes.specs.declared.found.Broken.TheVariants.{Construct}
+use Rattle.typing.specs.declared.environment.entity.Entity.{Entity}
+use Rattle.typing.specs.declared.environment.entity.Entity.TheVariants.{Object, Typedef, Enumerator, Function}
+use Rattle.typing.specs.environment.Environment.{name_found}
+use Rattle.typing.specs.ctypes.Kinds.{kind_of}
+use Rattle.typing.specs.declared.ctypes.found.Broken.TheVariants.{Construct}
 use Rattle.typing.specs.Calls.{call_faults}
 use Rattle.typing.specs.declared.fault.Fault.{Fault}
 use Rattle.typing.specs.Faults.{fault}

@@ -4,7 +4,7 @@ use Rattle.std.proofs.lemmas.Bool.{cases_lt}
 use Rattle.std.proofs.lemmas.List.{drop_more, drop_all}
 use Rattle.cbase.specs.declared.structs.StructDef.{StructDef}
 use Rattle.cbase.specs.declared.tree.expr.Expr.{Expr}
-use Rattle.ctypes.specs.Kinds.{Kind, kind_of}
+use Rattle.typing.specs.ctypes.Kinds.{Kind, kind_of}
 use Rattle.typing.specs.Calls.{Argument}
 use Rattle.typing.specs.declared.fault.Fault.{Fault}
 use Rattle.typing.specs.Known.{operand}

@@ -10,20 +10,20 @@ use Rattle.cbase.specs.declared.tree.expr.ExprForm.TheOpen.{Enum}
 use Rattle.cbase.specs.declared.tree.expr.ExprForm.TheViews.{out-Enumerator}
 use Rattle.cbase.specs.declared.tree.identifier.Identifier.{Identifier}
 use Rattle.cbase.specs.declared.tree.spec.Enumerator.{Enumerator}
-use Rattle.environment.specs.declared.entity.Binding.TheVariants.{Own}
-use Rattle.environment.specs.declared.entity.Entity.TheVariants.{Enumerator as EnumeratorEntity}
-use Rattle.environment.specs.Environment.{name_bound}
-use Rattle.environment.specs.Scopes.{found_here}
-use Rattle.ctypes.specs.declared.found.Broken.TheVariants.{Rule}
-use Rattle.ctypes.specs.Binary.{int_type}
-use Rattle.ctypes.specs.Kinds.{kind_of}
+use Rattle.typing.specs.declared.environment.entity.Binding.TheVariants.{Own}
+use Rattle.typing.specs.declared.environment.entity.Entity.TheVariants.{Enumerator as EnumeratorEntity}
+use Rattle.typing.specs.environment.Environment.{name_bound}
+use Rattle.typing.specs.environment.Scopes.{found_here}
+use Rattle.typing.specs.declared.ctypes.found.Broken.TheVariants.{Rule}
+use Rattle.typing.specs.ctypes.Binary.{int_type}
+use Rattle.typing.specs.ctypes.Kinds.{kind_of}
 use Rattle.typing.specs.declared.fault.Fault.{Fault}
 use Rattle.typing.specs.Faults.{fault}
 use Rattle.typing.specs.NamedTypes.{NamedType, whole}
 use Rattle.typing.specs.Outcomes.{Outcome, Handed, Passes, Refused, with_front}
 use Rattle.typing.specs.Pieces.{Loaded}
 use Rattle.typing.specs.Typing.{PieceIs, WordsAre, EnumeratorsAre, ValueOfEnumerator, Finds, EnumWithConstants, EnumTwice, NoEnumerators, EnumeratorTwice, EnumeratorRefused, EnumeratorTwiceInside, MoreEnumerators, NextValue, NoNextValue, GivenValue, GivenNoInt, GivenRefused}
-use Rattle.values.specs.Values.{int_value, next_value}
+use Rattle.typing.specs.values.Values.{int_value, next_value}
 use Rattle.expressions.specs.declared.found.Found.{Found}
 use Rattle.expressions.specs.declared.found.Found.TheVariants.{Passes as FoundToPass, Refused as FoundRefused}
 use Rattle.expressions.specs.declared.handed_row.HandedRow.{HandedRow}

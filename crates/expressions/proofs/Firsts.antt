@@ -2,9 +2,9 @@
 use Rattle.std.proofs.Common.{◌≡◌, true, false, List, [], ◌∷◌, ◌++◌, sym, ap, ◌∙◌, subst, arith}
 use Rattle.std.proofs.lemmas.List.{append_assoc}
 use Rattle.std.specs.List.{AllByRecursion}
-use Rattle.ctypes.specs.declared.found.Broken.{Broken}
-use Rattle.ctypes.specs.declared.found.Broken.TheVariants.{Construct, Rule}
-use Rattle.ctypes.specs.Broken.{ComesBefore}
+use Rattle.typing.specs.declared.ctypes.found.Broken.{Broken}
+use Rattle.typing.specs.declared.ctypes.found.Broken.TheVariants.{Construct, Rule}
+use Rattle.typing.specs.ctypes.Broken.{ComesBefore}
 use Rattle.typing.specs.declared.fault.Fault.{Fault}
 use Rattle.typing.specs.Faults.{comes_before, IsFirst}
 use Rattle.typing.proofs.Least.{comes, comes_not, comes_far, before_all}

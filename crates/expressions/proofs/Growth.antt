@@ -3,7 +3,7 @@ use Rattle.std.proofs.Common.{◌≡◌, ℕ, zero, suc, ◌<◌, ◌≤◌, ref
 use Rattle.std.proofs.lemmas.Option.{slice_get_within, slice_get-get_or, get_or_from_slice_get}
 use Rattle.cbase.specs.declared.ctype.CType.{CType}
 use Rattle.cbase.specs.declared.ctype.CType.TheVariants.{Void}
-use Rattle.ctypes.specs.Table.{type_at, Grows as GrowsBy}
+use Rattle.typing.specs.ctypes.Table.{type_at, Grows as GrowsBy}
 use Rattle.expressions.specs.declared.known.Known.{Known}
 use Rattle.expressions.specs.Context.{Context, Agrees, Grows, OnlyTypes}
 use Rattle.expressions.specs.Numbers.{Numbering}

@@ -5,10 +5,10 @@ use Rattle.std.proofs.lemmas.Result.{IfOk-weaker}
 use Rattle.cbase.specs.declared.no_memory.NoMemory.{NoMemory}
 use Rattle.cbase.specs.declared.ctype.CType.{CType}
 use Rattle.cbase.specs.declared.place.Place.{Place}
-use Rattle.ctypes.specs.declared.found.Broken.{Broken}
-use Rattle.ctypes.specs.declared.found.Outcome.{Outcome}
-use Rattle.ctypes.specs.declared.found.Outcome.TheVariants.{Typed as TypedByNumber, Broken as BrokenHere}
-use Rattle.ctypes.specs.Broken.{Judgement, Typed, Breaks}
+use Rattle.typing.specs.declared.ctypes.found.Broken.{Broken}
+use Rattle.typing.specs.declared.ctypes.found.Outcome.{Outcome}
+use Rattle.typing.specs.declared.ctypes.found.Outcome.TheVariants.{Typed as TypedByNumber, Broken as BrokenHere}
+use Rattle.typing.specs.ctypes.Broken.{Judgement, Typed, Breaks}
 use Rattle.typing.specs.declared.fault.Fault.{Fault}
 use Rattle.typing.specs.Faults.{IsFirst}
 use Rattle.typing.specs.Known.{Known}

@@ -1,17 +1,17 @@
 -- The numbers in an environment stay below where what it says of a name changes, and those of what is found are below.
 use Rattle.std.proofs.Common.{◌≡◌, ◌<◌, ℕ, List, length, subst, ap, sym, Option, None, Some}
 use Rattle.std.specs.Prelude.{Result, Ok, Err, OnOk, OnErr, IfSome}
-use Rattle.environment.specs.declared.entity.Binding.{Binding}
-use Rattle.environment.specs.declared.entity.Binding.TheVariants.{Own, WithLinkage}
-use Rattle.environment.specs.declared.entity.Linked.{Linked}
-use Rattle.environment.specs.declared.entity.Entity.{Entity}
-use Rattle.environment.specs.declared.environment.Environment.{Environment}
-use Rattle.environment.specs.declared.entity.Signature.{Signature}
-use Rattle.environment.specs.Bounds.{AreBelow, EntityBelow, BindingBelow, LinkedBelow, SignatureBelow}
-use Rattle.environment.specs.Environment.{name_found, name_bound, name_bound_around, name_defined, resolved, signature_added}
-use Rattle.environment.specs.Names.{value_in}
-use Rattle.environment.specs.Scopes.{found_here}
-use Rattle.environment.proofs.Bounds.{bound_below, bound_around_below, defined_below, found_is_below, found_here_is_below, linked_is_below, result_is_below, added_below}
+use Rattle.typing.specs.declared.environment.entity.Binding.{Binding}
+use Rattle.typing.specs.declared.environment.entity.Binding.TheVariants.{Own, WithLinkage}
+use Rattle.typing.specs.declared.environment.entity.Linked.{Linked}
+use Rattle.typing.specs.declared.environment.entity.Entity.{Entity}
+use Rattle.typing.specs.declared.environment.environment.Environment.{Environment}
+use Rattle.typing.specs.declared.environment.entity.Signature.{Signature}
+use Rattle.typing.specs.environment.Bounds.{AreBelow, EntityBelow, BindingBelow, LinkedBelow, SignatureBelow}
+use Rattle.typing.specs.environment.Environment.{name_found, name_bound, name_bound_around, name_defined, resolved, signature_added}
+use Rattle.typing.specs.environment.Names.{value_in}
+use Rattle.typing.specs.environment.Scopes.{found_here}
+use Rattle.typing.proofs.environment.Bounds.{bound_below, bound_around_below, defined_below, found_is_below, found_here_is_below, linked_is_below, result_is_below, added_below}
 use Rattle.expressions.specs.Context.{Context}
 
 pub found_below : (count : ℕ) (name : List ℕ) (env : Environment) → AreBelow count env → (found : Option Entity) → found ≡ name_found name env

@@ -2,10 +2,10 @@
 use Rattle.std.proofs.Common.{◌≡◌, ℕ, ◌<◌, List, length, sym, ap, ◌∙◌, arith}
 use Rattle.cbase.specs.declared.ctype.CType.{CType}
 use Rattle.cbase.specs.declared.structs.StructDef.{StructDef}
-use Rattle.ctypes.specs.declared.shape.Shape.{Shape}
-use Rattle.ctypes.specs.Table.{type_at, type_of}
-use Rattle.ctypes.specs.Kinds.{kind_of}
-use Rattle.ctypes.proofs.ShapeKinds.{kind_of_shape, kind_is}
+use Rattle.typing.specs.declared.ctypes.shape.Shape.{Shape}
+use Rattle.typing.specs.ctypes.Table.{type_at, type_of}
+use Rattle.typing.specs.ctypes.Kinds.{kind_of}
+use Rattle.typing.proofs.ctypes.ShapeKinds.{kind_of_shape, kind_is}
 use Rattle.expressions.specs.Context.{Context, Agrees}
 use Rattle.expressions.specs.Numbers.{Numbering}
 use Rattle.expressions.proofs.Growth.{agrees_at}

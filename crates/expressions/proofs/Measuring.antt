@@ -8,9 +8,9 @@ use Rattle.cbase.specs.declared.measure.Extent.TheVariants.{Bytes, TooLarge}
 use Rattle.cbase.specs.declared.structs.StructDef.{StructDef}
 use Rattle.cbase.specs.Layout.{layout_of, extent_of}
 use Rattle.cbase.specs.Offset.{fields_of, index_of}
-use Rattle.ctypes.specs.declared.kind.Target.{Target}
-use Rattle.ctypes.specs.Kinds.{Kind, Array, kind_of, has_size}
-use Rattle.ctypes.specs.Members.{type_of_member, member_in, member_of}
+use Rattle.typing.specs.declared.ctypes.kind.Target.{Target}
+use Rattle.typing.specs.ctypes.Kinds.{Kind, Array, kind_of, has_size}
+use Rattle.typing.specs.ctypes.Members.{type_of_member, member_in, member_of}
 use Rattle.typing.specs.Idiom.{at_most, item_bytes}
 use Rattle.typing.specs.Nodes.{size_told}
 use Rattle.expressions.specs.Context.{Context}

@@ -25,13 +25,13 @@ use Rattle.cbase.proofs.Capped.{extent_of_kept}
 use Rattle.cbase.proofs.Fields.{capped-with_field, capped-again, capped-fields_layout}
 use Rattle.cbase.proofs.Deeper.{GivesMore, type_more}
 use Rattle.cbase.proofs.Growing.{grown}
-use Rattle.ctypes.specs.declared.structs.Member.{Member}
-use Rattle.ctypes.specs.Structs.{field_of, fields_of}
-use Rattle.ctypes.specs.Table.{type_at}
-use Rattle.environment.specs.Names.{Entries, value_in, with_value}
-use Rattle.environment.proofs.Tables.{value-put}
-use Rattle.ctypes.specs.declared.found.Broken.{Broken}
-use Rattle.ctypes.specs.declared.found.Broken.TheVariants.{Construct, Rule}
+use Rattle.typing.specs.declared.ctypes.structs.Member.{Member}
+use Rattle.typing.specs.ctypes.Structs.{field_of, fields_of}
+use Rattle.typing.specs.ctypes.Table.{type_at}
+use Rattle.typing.specs.environment.Names.{Entries, value_in, with_value}
+use Rattle.typing.proofs.environment.Tables.{value-put}
+use Rattle.typing.specs.declared.ctypes.found.Broken.{Broken}
+use Rattle.typing.specs.declared.ctypes.found.Broken.TheVariants.{Construct, Rule}
 use Rattle.typing.specs.declared.fault.Fault.{Fault}
 use Rattle.typing.specs.Braces.{has_member, member, is_large_struct, member_faults, faults_of_member}
 use Rattle.typing.specs.Faults.{unless, all_at, IsFirst}

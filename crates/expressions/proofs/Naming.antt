@@ -1,7 +1,7 @@
 -- Which thing is named of what is broken at a name.
 use Rattle.std.proofs.Common.{◌≡◌, Bool, true, false, not, [], ◌∷◌, ◌++◌, refl, arith}
 use Rattle.cbase.specs.declared.place.Place.{Place}
-use Rattle.ctypes.specs.declared.found.Broken.TheVariants.{Construct, Rule}
+use Rattle.typing.specs.declared.ctypes.found.Broken.TheVariants.{Construct, Rule}
 use Rattle.typing.specs.Faults.{fault, unless, IsFirst}
 
 pub function_there : (place : Place) (is_there : Bool) → is_there ≡ true → IsFirst (unless is_there place (Construct 12) ++ fault place (Construct 20) ∷ []) (fault place (Construct 20))

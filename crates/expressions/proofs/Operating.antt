@@ -4,17 +4,17 @@ use Rattle.std.specs.Prelude.{Result, Ok, Err, IfOk, OnErr}
 use Rattle.std.proofs.lemmas.Option.{slice_get_within}
 use Rattle.cbase.specs.declared.ctype.CType.{CType}
 use Rattle.cbase.specs.declared.structs.StructDef.{StructDef}
-use Rattle.ctypes.specs.Structs.{TypeTable}
-use Rattle.ctypes.specs.Table.{type_at, Interns}
-use Rattle.environment.specs.declared.environment.Environment.{Environment}
-use Rattle.environment.specs.Bounds.{AreBelow}
-use Rattle.environment.proofs.Bounds.{bounds_grow}
-use Rattle.ctypes.specs.declared.found.Outcome.{Outcome}
-use Rattle.ctypes.specs.declared.found.Outcome.TheVariants.{Typed as OutcomeTyped, Broken as OutcomeBroken}
-use Rattle.ctypes.specs.declared.operand.Operand.{Operand as OperandByNumber}
-use Rattle.ctypes.specs.Broken.{Judgement, Typed, Breaks}
-use Rattle.ctypes.specs.Kinds.{kind_of}
-use Rattle.ctypes.specs.Operands.{Operand, Answers}
+use Rattle.typing.specs.ctypes.Structs.{TypeTable}
+use Rattle.typing.specs.ctypes.Table.{type_at, Interns}
+use Rattle.typing.specs.declared.environment.environment.Environment.{Environment}
+use Rattle.typing.specs.environment.Bounds.{AreBelow}
+use Rattle.typing.proofs.environment.Bounds.{bounds_grow}
+use Rattle.typing.specs.declared.ctypes.found.Outcome.{Outcome}
+use Rattle.typing.specs.declared.ctypes.found.Outcome.TheVariants.{Typed as OutcomeTyped, Broken as OutcomeBroken}
+use Rattle.typing.specs.declared.ctypes.operand.Operand.{Operand as OperandByNumber}
+use Rattle.typing.specs.ctypes.Broken.{Judgement, Typed, Breaks}
+use Rattle.typing.specs.ctypes.Kinds.{kind_of}
+use Rattle.typing.specs.ctypes.Operands.{Operand, Answers}
 use Rattle.expressions.specs.Context.{Context, Agrees, OnlyTypes}
 use Rattle.expressions.specs.Numbers.{Numbering}
 use Rattle.expressions.specs.Operated.{Operates, Numbers}

@@ -2,14 +2,14 @@
 use Rattle.std.proofs.Common.{◌≡◌, ℕ, List, refl}
 use Rattle.cbase.specs.declared.ctype.CType.{CType}
 use Rattle.cbase.specs.declared.structs.StructDef.{StructDef}
-use Rattle.ctypes.specs.declared.shape.Shape.{Shape}
-use Rattle.ctypes.specs.declared.shape.Shape.TheVariants.{Void as VoidShape, Bool as BoolShape, Int as IntShape, Pointer as PointerShape, Struct as StructShape, Array as ArrayShape}
-use Rattle.ctypes.specs.Table.{type_at}
-use Rattle.ctypes.specs.declared.kind.IntegerType.{IntegerType}
-use Rattle.ctypes.specs.declared.kind.Target.{Target}
-use Rattle.ctypes.specs.Integers.{integer, truth}
-use Rattle.ctypes.specs.Kinds.{Kind, Integer, Pointer, Array, Struct, Void, target_of}
-use Rattle.ctypes.proofs.ShapeKinds.{kind_of_shape}
+use Rattle.typing.specs.declared.ctypes.shape.Shape.{Shape}
+use Rattle.typing.specs.declared.ctypes.shape.Shape.TheVariants.{Void as VoidShape, Bool as BoolShape, Int as IntShape, Pointer as PointerShape, Struct as StructShape, Array as ArrayShape}
+use Rattle.typing.specs.ctypes.Table.{type_at}
+use Rattle.typing.specs.declared.ctypes.kind.IntegerType.{IntegerType}
+use Rattle.typing.specs.declared.ctypes.kind.Target.{Target}
+use Rattle.typing.specs.ctypes.Integers.{integer, truth}
+use Rattle.typing.specs.ctypes.Kinds.{Kind, Integer, Pointer, Array, Struct, Void, target_of}
+use Rattle.typing.proofs.ctypes.ShapeKinds.{kind_of_shape}
 
 module _ (P : Kind → Type 0) (structs : List StructDef) (types : List CType) where
   pub no_array : ((t : IntegerType) → P (Integer t)) → ((item : CType) (target : Target) → P (Pointer item target)) → ((number : ℕ) → P (Struct number)) → P Void

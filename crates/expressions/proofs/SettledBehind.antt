@@ -1,7 +1,7 @@
 -- What is settled by the first of what is broken, where types got numbers before.
 use Rattle.std.proofs.Common.{◌≡◌, ℕ, List, [], ◌∷◌, ◌++◌, Option, None, Some, refl, sym, ap, ◌∙◌, subst}
 use Rattle.std.specs.Prelude.{slice_get}
-use Rattle.environment.specs.declared.environment.Environment.{Environment}
+use Rattle.typing.specs.declared.environment.environment.Environment.{Environment}
 use Rattle.typing.specs.declared.fault.Fault.{Fault}
 use Rattle.typing.specs.Faults.{IsFirst}
 use Rattle.typing.specs.Known.{Known}

@@ -10,8 +10,8 @@ use Rattle.cbase.specs.declared.tree.expr.Expr.{Expr}
 use Rattle.cbase.specs.declared.tree.expr.ExprForm.TheViews.{out-TypeSpec, out-FieldDecl, out-FieldName}
 use Rattle.cbase.specs.declared.tree.spec.FieldDecl.{FieldDecl}
 use Rattle.cbase.specs.declared.tree.spec.FieldName.{FieldName}
-use Rattle.ctypes.specs.declared.structs.Member.{Member}
-use Rattle.environment.specs.Names.{Entries}
+use Rattle.typing.specs.declared.ctypes.structs.Member.{Member}
+use Rattle.typing.specs.environment.Names.{Entries}
 use Rattle.typing.specs.declared.fault.Fault.{Fault}
 use Rattle.typing.specs.declared.size.Size.{Size}
 use Rattle.typing.specs.Braces.{member, faults_of_member, name_or_none}

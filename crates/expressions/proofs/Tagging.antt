@@ -1,11 +1,11 @@
 -- What follows where memory is there and where it is wanting, and that a tag keeps the numbers of an environment below.
 use Rattle.std.proofs.Common.{◌≡◌, ℕ, List}
 use Rattle.std.specs.Prelude.{Result, Ok, Err, IfOk, OnOk, OnErr}
-use Rattle.environment.proofs.Bounds.{tagged_below}
-use Rattle.environment.specs.Bounds.{AreBelow}
-use Rattle.environment.specs.Environment.{tag_declared}
-use Rattle.environment.specs.declared.entity.Tag.{Tag}
-use Rattle.environment.specs.declared.environment.Environment.{Environment}
+use Rattle.typing.proofs.environment.Bounds.{tagged_below}
+use Rattle.typing.specs.environment.Bounds.{AreBelow}
+use Rattle.typing.specs.environment.Environment.{tag_declared}
+use Rattle.typing.specs.declared.environment.entity.Tag.{Tag}
+use Rattle.typing.specs.declared.environment.environment.Environment.{Environment}
 
 module _ {T E : Type 0} where
   pub where_ok : {P Q : T → Type 0} (r : Result T E) → ((value : T) → P value → Q value) → IfOk r P → IfOk r Q

@@ -16,17 +16,17 @@ use Rattle.cbase.specs.declared.tree.spec.FieldDecl.{FieldDecl}
 use Rattle.cbase.specs.declared.tree.spec.TypeSpec.{TypeSpec}
 use Rattle.cbase.specs.Completing.{fieldless}
 use Rattle.cbase.specs.declared.tree.spec.TypeSpec.TheVariants.{Basic as BasicSpec, Named as NamedSpec, Struct as StructSpec, Enum as EnumSpec, OfExpr as TypeofExprSpec, OfType as TypeofSpec, rolls-Basic, rolls-Named, rolls-Struct, rolls-Enum, rolls-OfExpr, rolls-OfType}
-use Rattle.environment.specs.declared.entity.DeclaredType.TheVariants.{Whole}
-use Rattle.environment.specs.declared.entity.Entity.{Entity}
-use Rattle.environment.specs.declared.entity.Entity.TheVariants.{Typedef}
-use Rattle.environment.specs.declared.entity.Tag.{Tag}
-use Rattle.environment.specs.declared.entity.Tag.TheVariants.{Struct, Enum}
-use Rattle.environment.specs.declared.entity.TagForm.TheVariants.{Mentioned}
-use Rattle.environment.specs.declared.environment.Environment.{Environment}
-use Rattle.environment.specs.Environment.{name_found, tag_found}
-use Rattle.ctypes.specs.declared.found.Broken.{Broken}
-use Rattle.ctypes.specs.declared.found.Broken.TheVariants.{Rule}
-use Rattle.ctypes.specs.Binary.{int_type}
+use Rattle.typing.specs.declared.environment.entity.DeclaredType.TheVariants.{Whole}
+use Rattle.typing.specs.declared.environment.entity.Entity.{Entity}
+use Rattle.typing.specs.declared.environment.entity.Entity.TheVariants.{Typedef}
+use Rattle.typing.specs.declared.environment.entity.Tag.{Tag}
+use Rattle.typing.specs.declared.environment.entity.Tag.TheVariants.{Struct, Enum}
+use Rattle.typing.specs.declared.environment.entity.TagForm.TheVariants.{Mentioned}
+use Rattle.typing.specs.declared.environment.environment.Environment.{Environment}
+use Rattle.typing.specs.environment.Environment.{name_found, tag_found}
+use Rattle.typing.specs.declared.ctypes.found.Broken.{Broken}
+use Rattle.typing.specs.declared.ctypes.found.Broken.TheVariants.{Rule}
+use Rattle.typing.specs.ctypes.Binary.{int_type}
 use Rattle.typing.specs.declared.fault.Fault.{Fault}
 use Rattle.typing.specs.Faults.{fault}
 use Rattle.typing.specs.Forms.{Words}

@@ -14,8 +14,8 @@ use Rattle.cbase.specs.declared.tree.spec.FieldDecl.{FieldDecl}
 use Rattle.cbase.specs.Completing.{is_open, are_complete, may_complete, with_fields, completed}
 use Rattle.cbase.proofs.Growing.{GrowsTo}
 use Rattle.cbase.proofs.KeptStructs.{set_other}
-use Rattle.ctypes.specs.declared.structs.Member.{Member}
-use Rattle.ctypes.specs.Structs.{fields_of}
+use Rattle.typing.specs.declared.ctypes.structs.Member.{Member}
+use Rattle.typing.specs.ctypes.Structs.{fields_of}
 use Rattle.typing.specs.declared.fault.Fault.{Fault}
 use Rattle.typing.specs.Braces.{Opens, struct_opening}
 use Rattle.typing.specs.NamedTypes.{NamedType, whole}

@@ -1,8 +1,8 @@
 -- Where what is broken at an expression stands.
 use Rattle.std.specs.Prelude.{nat_eq, if◌then◌else◌}
 use Rattle.cbase.specs.declared.place.Place.{Place}
-use Rattle.ctypes.specs.declared.found.Broken.{Broken}
-use Rattle.ctypes.specs.declared.found.Broken.TheVariants.{Construct, Rule}
+use Rattle.typing.specs.declared.ctypes.found.Broken.{Broken}
+use Rattle.typing.specs.declared.ctypes.found.Broken.TheVariants.{Construct, Rule}
 use Rattle.expressions.specs.declared.nodes.finishing.Blame.{Blame}
 
 abbrev pub blamed : Blame → Broken → Place

@@ -3,8 +3,8 @@
 use Rattle.std.specs.Prelude.{◌≡◌, ◌≤◌, ℕ, true, List, Some, length, slice_get}
 use Rattle.cbase.specs.declared.ctype.CType.{CType}
 use Rattle.cbase.specs.declared.structs.StructDef.{StructDef}
-use Rattle.environment.specs.declared.entity.Signature.{Signature}
-use Rattle.environment.specs.declared.environment.Environment.{Environment}
+use Rattle.typing.specs.declared.environment.entity.Signature.{Signature}
+use Rattle.typing.specs.declared.environment.environment.Environment.{Environment}
 use Rattle.expressions.specs.declared.handed_row.HandedRow.{HandedRow}
 use Rattle.expressions.specs.Numbers.{Numbering}
 

@@ -7,8 +7,8 @@ use Rattle.cbase.specs.declared.tree.expr.ExprForm.TheViews.{out-FieldName}
 use Rattle.cbase.specs.declared.tree.identifier.Identifier.{Identifier}
 use Rattle.cbase.specs.declared.tree.spec.FieldName.{FieldName}
 use Rattle.cbase.specs.Completing.{is_open}
-use Rattle.ctypes.specs.declared.structs.Member.{Member}
-use Rattle.ctypes.specs.Structs.{fields_of}
+use Rattle.typing.specs.declared.ctypes.structs.Member.{Member}
+use Rattle.typing.specs.ctypes.Structs.{fields_of}
 use Rattle.typing.specs.declared.size.Size.{Size}
 use Rattle.typing.specs.Braces.{closing, faults_of_member, fixed_size, name_or_none}
 use Rattle.typing.specs.Faults.{IsFirst}

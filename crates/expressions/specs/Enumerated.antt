@@ -3,14 +3,14 @@ use Rattle.std.specs.Prelude.{◌≡◌, ℕ, List, ◌∷◌, ◌++◌, map, Op
 use Rattle.cbase.specs.declared.abi.Abi.{Abi}
 use Rattle.cbase.specs.declared.place.Place.{Place}
 use Rattle.cbase.specs.declared.tree.spec.Enumerator.{Enumerator}
-use Rattle.ctypes.specs.declared.found.Broken.TheVariants.{Rule}
-use Rattle.ctypes.specs.Kinds.{kind_of}
+use Rattle.typing.specs.declared.ctypes.found.Broken.TheVariants.{Rule}
+use Rattle.typing.specs.ctypes.Kinds.{kind_of}
 use Rattle.typing.specs.declared.fault.Fault.{Fault}
 use Rattle.typing.specs.Faults.{fault}
 use Rattle.typing.specs.Outcomes.{Outcome, Refused, with_front}
 use Rattle.typing.specs.NamedTypes.{NamedType}
 use Rattle.typing.specs.Typing.{Finds, EnumeratorsAre}
-use Rattle.values.specs.Values.{int_value, next_value}
+use Rattle.typing.specs.values.Values.{int_value, next_value}
 use Rattle.expressions.specs.declared.found.Found.{Found}
 use Rattle.expressions.specs.declared.found.Found.TheVariants.{Passes as FoundToPass, Refused as FoundRefused}
 use Rattle.expressions.specs.declared.handed_row.HandedRow.{HandedRow}

@@ -2,14 +2,14 @@
 use Rattle.std.specs.Prelude.{ℕ, true, List, Option, option_map}
 use Rattle.cbase.specs.declared.abi.Abi.{Abi}
 use Rattle.cbase.specs.declared.ctype.CType.{CType}
-use Rattle.environment.specs.declared.entity.DeclaredType.TheVariants.{Whole}
-use Rattle.environment.specs.declared.entity.Definition.{Definition as DefinitionByNow}
-use Rattle.environment.specs.declared.entity.Definition.TheVariants.{NotDefined as NotDefinedByNow, Tentative as TentativeByNow, Defined as DefinedByNow}
-use Rattle.environment.specs.declared.entity.Entity.TheVariants.{Object}
-use Rattle.environment.specs.declared.entity.Lifetime.TheVariants.{MainParameter}
-use Rattle.environment.specs.Environment.{definition_set, function_set}
-use Rattle.environment.specs.Linkage.{linked_declared_around, own_declared}
-use Rattle.environment.specs.Names.{value_in}
+use Rattle.typing.specs.declared.environment.entity.DeclaredType.TheVariants.{Whole}
+use Rattle.typing.specs.declared.environment.entity.Definition.{Definition as DefinitionByNow}
+use Rattle.typing.specs.declared.environment.entity.Definition.TheVariants.{NotDefined as NotDefinedByNow, Tentative as TentativeByNow, Defined as DefinedByNow}
+use Rattle.typing.specs.declared.environment.entity.Entity.TheVariants.{Object}
+use Rattle.typing.specs.declared.environment.entity.Lifetime.TheVariants.{MainParameter}
+use Rattle.typing.specs.environment.Environment.{definition_set, function_set}
+use Rattle.typing.specs.environment.Linkage.{linked_declared_around, own_declared}
+use Rattle.typing.specs.environment.Names.{value_in}
 use Rattle.typing.specs.Entities.{Linked, Definition, NotDefined, Tentative, Defined}
 use Rattle.typing.specs.FileScope.{FileScope}
 use Rattle.expressions.specs.Context.{Declared}

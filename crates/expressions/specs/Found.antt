@@ -2,7 +2,7 @@
 use Rattle.std.specs.Prelude.{◌<◌, ℕ, List, [], ◌∷◌, map, All}
 use Rattle.cbase.specs.declared.ctype.CType.{CType}
 use Rattle.cbase.specs.declared.structs.Field.{Field}
-use Rattle.ctypes.specs.declared.structs.Member.{Member}
+use Rattle.typing.specs.declared.ctypes.structs.Member.{Member}
 use Rattle.typing.specs.declared.size.Size.{Size}
 use Rattle.typing.specs.Known.{Known}
 use Rattle.typing.specs.NamedTypes.{NamedType}

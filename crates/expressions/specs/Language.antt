@@ -3,23 +3,23 @@ use Rattle.std.specs.Prelude.{ℕ, ◌++◌, Bool, true, false, List, [], ◌∷
 use Rattle.cbase.specs.declared.abi.Abi.{Abi}
 use Rattle.cbase.specs.declared.structs.Field.{Field}
 use Rattle.cbase.specs.Completing.{fieldless, may_complete, completed}
-use Rattle.environment.specs.declared.entity.Binding.TheVariants.{Own}
-use Rattle.environment.specs.declared.entity.DeclaredType.{DeclaredType as DeclaredByNumber}
-use Rattle.environment.specs.declared.entity.DeclaredType.TheVariants.{Whole, UnsizedArray}
-use Rattle.environment.specs.declared.entity.Definition.{Definition as DefinitionByNow}
-use Rattle.environment.specs.declared.entity.Definition.TheVariants.{NotDefined}
-use Rattle.environment.specs.declared.entity.Entity.{Entity as EntityByNumber}
-use Rattle.environment.specs.declared.entity.Entity.TheVariants.{Object, Typedef, Enumerator, Function}
-use Rattle.environment.specs.declared.entity.Lifetime.{Lifetime}
-use Rattle.environment.specs.declared.entity.Lifetime.TheVariants.{Automatic, Static}
-use Rattle.environment.specs.declared.entity.Linked.{Linked as LinkedByNumber}
-use Rattle.environment.specs.declared.environment.Environment.{Environment}
-use Rattle.environment.specs.declared.entity.Tag.TheVariants.{Struct, Enum}
-use Rattle.environment.specs.declared.entity.TagForm.TheVariants.{Declared as DeclaredHere, Mentioned}
-use Rattle.environment.specs.Environment.{name_found, tag_found, scope_entered, scope_left, name_bound, tag_declared, signature_added, loop_set}
-use Rattle.environment.specs.Linkage.{linked_declared, own_declared}
-use Rattle.environment.specs.Names.{value_in}
-use Rattle.environment.specs.Scopes.{found_here}
+use Rattle.typing.specs.declared.environment.entity.Binding.TheVariants.{Own}
+use Rattle.typing.specs.declared.environment.entity.DeclaredType.{DeclaredType as DeclaredByNumber}
+use Rattle.typing.specs.declared.environment.entity.DeclaredType.TheVariants.{Whole, UnsizedArray}
+use Rattle.typing.specs.declared.environment.entity.Definition.{Definition as DefinitionByNow}
+use Rattle.typing.specs.declared.environment.entity.Definition.TheVariants.{NotDefined}
+use Rattle.typing.specs.declared.environment.entity.Entity.{Entity as EntityByNumber}
+use Rattle.typing.specs.declared.environment.entity.Entity.TheVariants.{Object, Typedef, Enumerator, Function}
+use Rattle.typing.specs.declared.environment.entity.Lifetime.{Lifetime}
+use Rattle.typing.specs.declared.environment.entity.Lifetime.TheVariants.{Automatic, Static}
+use Rattle.typing.specs.declared.environment.entity.Linked.{Linked as LinkedByNumber}
+use Rattle.typing.specs.declared.environment.environment.Environment.{Environment}
+use Rattle.typing.specs.declared.environment.entity.Tag.TheVariants.{Struct, Enum}
+use Rattle.typing.specs.declared.environment.entity.TagForm.TheVariants.{Declared as DeclaredHere, Mentioned}
+use Rattle.typing.specs.environment.Environment.{name_found, tag_found, scope_entered, scope_left, name_bound, tag_declared, signature_added, loop_set}
+use Rattle.typing.specs.environment.Linkage.{linked_declared, own_declared}
+use Rattle.typing.specs.environment.Names.{value_in}
+use Rattle.typing.specs.environment.Scopes.{found_here}
 use Rattle.typing.specs.Entities.{DeclaredType, WholeType, ItemsOf, Linked, ObjectLinked, FunctionLinked}
 use Rattle.typing.specs.Language.{Language}
 use Rattle.expressions.specs.Context.{Declared}

@@ -7,9 +7,9 @@ use Rattle.cbase.specs.declared.structs.StructDef.{StructDef}
 use Rattle.cbase.specs.Completing.{are_complete}
 use Rattle.cbase.specs.Kept.{capped, IsSmall}
 use Rattle.cbase.specs.Layout.{layout_of, fields_layout, no_fields}
-use Rattle.ctypes.specs.declared.structs.Member.{Member}
-use Rattle.ctypes.specs.Structs.{fields_of}
-use Rattle.environment.specs.Names.{Entries, value_in}
+use Rattle.typing.specs.declared.ctypes.structs.Member.{Member}
+use Rattle.typing.specs.ctypes.Structs.{fields_of}
+use Rattle.typing.specs.environment.Names.{Entries, value_in}
 use Rattle.typing.specs.Braces.{has_member}
 use Rattle.expressions.specs.Context.{Context}
 

@@ -3,7 +3,7 @@ use Rattle.std.specs.Prelude.{◌++◌, List, [], ◌∷◌, Option, None, Some}
 use Rattle.cbase.specs.declared.ctype.CType.TheVariants.{Void}
 use Rattle.cbase.specs.declared.place.Place.{Place}
 use Rattle.cbase.specs.declared.structs.StructDef.{StructDef}
-use Rattle.ctypes.specs.declared.found.Broken.TheVariants.{Construct, Rule}
+use Rattle.typing.specs.declared.ctypes.found.Broken.TheVariants.{Construct, Rule}
 use Rattle.typing.specs.declared.fault.Fault.{Fault}
 use Rattle.typing.specs.Entities.{Entity, ObjectIs, FunctionIs, EnumeratorIs, TypedefIs}
 use Rattle.typing.specs.Faults.{fault}

@@ -6,25 +6,25 @@ use Rattle.std.specs.Prelude.{◌<◌, ℕ, Bool, true, false, List, map, Option
 use Rattle.cbase.specs.declared.ctype.CType.{CType}
 use Rattle.cbase.specs.declared.structs.Field.{Field}
 use Rattle.cbase.specs.declared.structs.StructDef.{StructDef}
-use Rattle.ctypes.specs.declared.structs.Member.{Member}
-use Rattle.environment.specs.declared.entity.DeclaredType.{DeclaredType}
-use Rattle.environment.specs.declared.entity.DeclaredType.TheVariants.{Whole, UnsizedArray}
-use Rattle.environment.specs.declared.entity.Lifetime.{Lifetime}
-use Rattle.environment.specs.declared.entity.Lifetime.TheVariants.{Automatic, Static, MainParameter}
-use Rattle.environment.specs.declared.entity.Entity.{Entity as EntityByNumber}
-use Rattle.environment.specs.declared.entity.Entity.TheVariants.{Object, Typedef, Enumerator, Function}
-use Rattle.environment.specs.declared.entity.Binding.{Binding}
-use Rattle.environment.specs.declared.entity.Binding.TheVariants.{Own, WithLinkage}
-use Rattle.environment.specs.declared.entity.Linked.{Linked as LinkedByNumber}
-use Rattle.environment.specs.declared.entity.Signature.{Signature}
-use Rattle.environment.specs.declared.entity.Tag.{Tag as TagByNumber}
-use Rattle.environment.specs.declared.entity.Tag.TheVariants.{Struct, Enum}
-use Rattle.ctypes.specs.declared.found.Outcome.{Outcome as Operated}
-use Rattle.ctypes.specs.declared.found.Outcome.TheVariants.{Typed as TypedByNumber, Broken as BrokenHere}
-use Rattle.ctypes.specs.declared.operand.Operand.{Operand as OperandByNumber}
-use Rattle.ctypes.specs.Broken.{Judgement, Typed, Breaks}
-use Rattle.ctypes.specs.Kinds.{kind_of}
-use Rattle.ctypes.specs.Operands.{Operand}
+use Rattle.typing.specs.declared.ctypes.structs.Member.{Member}
+use Rattle.typing.specs.declared.environment.entity.DeclaredType.{DeclaredType}
+use Rattle.typing.specs.declared.environment.entity.DeclaredType.TheVariants.{Whole, UnsizedArray}
+use Rattle.typing.specs.declared.environment.entity.Lifetime.{Lifetime}
+use Rattle.typing.specs.declared.environment.entity.Lifetime.TheVariants.{Automatic, Static, MainParameter}
+use Rattle.typing.specs.declared.environment.entity.Entity.{Entity as EntityByNumber}
+use Rattle.typing.specs.declared.environment.entity.Entity.TheVariants.{Object, Typedef, Enumerator, Function}
+use Rattle.typing.specs.declared.environment.entity.Binding.{Binding}
+use Rattle.typing.specs.declared.environment.entity.Binding.TheVariants.{Own, WithLinkage}
+use Rattle.typing.specs.declared.environment.entity.Linked.{Linked as LinkedByNumber}
+use Rattle.typing.specs.declared.environment.entity.Signature.{Signature}
+use Rattle.typing.specs.declared.environment.entity.Tag.{Tag as TagByNumber}
+use Rattle.typing.specs.declared.environment.entity.Tag.TheVariants.{Struct, Enum}
+use Rattle.typing.specs.declared.ctypes.found.Outcome.{Outcome as Operated}
+use Rattle.typing.specs.declared.ctypes.found.Outcome.TheVariants.{Typed as TypedByNumber, Broken as BrokenHere}
+use Rattle.typing.specs.declared.ctypes.operand.Operand.{Operand as OperandByNumber}
+use Rattle.typing.specs.ctypes.Broken.{Judgement, Typed, Breaks}
+use Rattle.typing.specs.ctypes.Kinds.{kind_of}
+use Rattle.typing.specs.ctypes.Operands.{Operand}
 use Rattle.typing.specs.Entities.{Entity, ObjectIs, FunctionIs, EnumeratorIs, TypedefIs, FunctionEntity, Tag, StructTag, EnumTag, TagHere, StructHere, EnumHere, DeclaredType as TypeDeclared, WholeType, ItemsOf, Linked, ObjectLinked, FunctionLinked, NameHere, OwnHere, TypedefHere, LinkedHere}
 use Rattle.typing.specs.Known.{Known}
 use Rattle.typing.specs.NamedTypes.{NamedType}

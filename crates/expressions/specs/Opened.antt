@@ -4,8 +4,8 @@ use Rattle.cbase.specs.declared.abi.Abi.{Abi}
 use Rattle.cbase.specs.declared.structs.StructDef.{StructDef}
 use Rattle.cbase.specs.declared.tree.identifier.Identifier.{Identifier}
 use Rattle.cbase.specs.Completing.{is_open}
-use Rattle.ctypes.specs.declared.structs.Member.{Member}
-use Rattle.ctypes.specs.Structs.{fields_of}
+use Rattle.typing.specs.declared.ctypes.structs.Member.{Member}
+use Rattle.typing.specs.ctypes.Structs.{fields_of}
 use Rattle.typing.specs.declared.fault.Fault.{Fault}
 use Rattle.typing.specs.Braces.{Opens, IsTwice, struct_opening, enum_opening, closing}
 use Rattle.expressions.specs.declared.found.Found.{Found}

@@ -2,10 +2,10 @@
 use Rattle.std.specs.Prelude.{◌≡◌, ◌<◌, ℕ, length}
 use Rattle.cbase.specs.declared.ctype.CType.{CType}
 use Rattle.cbase.specs.declared.place.Place.{Place}
-use Rattle.ctypes.specs.declared.found.Broken.{Broken}
-use Rattle.ctypes.specs.declared.found.Outcome.{Outcome}
-use Rattle.ctypes.specs.declared.found.Outcome.TheVariants.{Typed, Broken as BrokenHere}
-use Rattle.ctypes.specs.Broken.{Judgement}
+use Rattle.typing.specs.declared.ctypes.found.Broken.{Broken}
+use Rattle.typing.specs.declared.ctypes.found.Outcome.{Outcome}
+use Rattle.typing.specs.declared.ctypes.found.Outcome.TheVariants.{Typed, Broken as BrokenHere}
+use Rattle.typing.specs.ctypes.Broken.{Judgement}
 use Rattle.typing.specs.Faults.{fault}
 use Rattle.expressions.specs.declared.found.Found.{Found}
 use Rattle.expressions.specs.declared.found.Found.TheVariants.{Passes, Refused}

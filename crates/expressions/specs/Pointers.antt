@@ -1,7 +1,7 @@
 -- What a cast asks of the kind of its type (C11 6.3.2.3).
 use Rattle.std.specs.Prelude.{Bool, true, false}
-use Rattle.ctypes.specs.declared.kind.Target.TheVariants.{Void as VoidTarget}
-use Rattle.ctypes.specs.Kinds.{Kind, Pointer}
+use Rattle.typing.specs.declared.ctypes.kind.Target.TheVariants.{Void as VoidTarget}
+use Rattle.typing.specs.ctypes.Kinds.{Kind, Pointer}
 
 abbrev pub is_pointer : Kind → Bool
 is_pointer (Pointer item target) = true

@@ -1,13 +1,13 @@
 -- What is taken of an operand that passes: its value, an index as a word, the size of an array.
 use Rattle.std.specs.Prelude.{◌≡◌, ℕ, true, false, None, Some}
 use Rattle.cbase.specs.declared.place.Place.{Place}
-use Rattle.ctypes.specs.declared.found.Broken.TheVariants.{Rule}
-use Rattle.ctypes.specs.Kinds.{kind_of}
+use Rattle.typing.specs.declared.ctypes.found.Broken.TheVariants.{Rule}
+use Rattle.typing.specs.ctypes.Kinds.{kind_of}
 use Rattle.typing.specs.declared.size.Size.{Size}
 use Rattle.typing.specs.Faults.{fault}
 use Rattle.typing.specs.Known.{can_load}
 use Rattle.typing.specs.NamedTypes.{size_of}
-use Rattle.values.specs.Values.{word_of}
+use Rattle.typing.specs.values.Values.{word_of}
 use Rattle.expressions.specs.declared.found.Found.{Found}
 use Rattle.expressions.specs.declared.found.Found.TheVariants.{Passes, Refused}
 use Rattle.expressions.specs.declared.known.Known.{Known}

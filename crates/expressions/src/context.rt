@@ -1,5 +1,5 @@
 ghost use Rattle.std.specs.Prelude.{◌≡◌, ◌++◌, ◌∷◌, [], OnOk, OnErr};
-ghost use Rattle.environment.specs.Environment.{nothing_declared, scope_entered, scope_left};
+ghost use Rattle.typing.specs.environment.Environment.{nothing_declared, scope_entered, scope_left};
 
 mod casts;
 mod declaring;
@@ -14,8 +14,8 @@ mod standing;
 
 use crate::handed_row::HandedRow;
 use cbase::{List, NoMemory};
-use ctypes::Types;
-use environment::Environment;
+use typing::ctypes::Types;
+use typing::environment::Environment;
 use std::alloc::Global;
 use std::marker::Model;
 
@@ -34,7 +34,7 @@ pub struct Context {
 
 impl Model for Context {
     ghost use Rattle.std.specs.Prelude.{length};
-    ghost use Rattle.environment.specs.Bounds.{AreBelow};
+    ghost use Rattle.typing.specs.environment.Bounds.{AreBelow};
     ghost use Rattle.expressions.specs.Context.{Context as AtPlace};
     ghost use Rattle.cbase.specs.contracts.ctype.CType as e;
     ghost use Rattle.std.specs.Coded.{codes};

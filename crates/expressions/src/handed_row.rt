@@ -1,4 +1,4 @@
-use environment::Entity;
+use typing::environment::Entity;
 
 /// What is handed on of a text, behind what stands before it.
 #[derive(Clone, Copy)]

@@ -3,15 +3,15 @@ ghost use Rattle.cbase.specs.declared.abi.Abi.{Abi};
 ghost use Rattle.cbase.specs.declared.abi.Abi.TheVariants.{Lp64};
 ghost use Rattle.cbase.specs.Kept.{capped, IsSmall};
 ghost use Rattle.cbase.specs.Layout.{layout_of};
-ghost use Rattle.ctypes.specs.Structs.{fields_of};
-ghost use Rattle.ctypes.specs.Table.{type_at};
+ghost use Rattle.typing.specs.ctypes.Structs.{fields_of};
+ghost use Rattle.typing.specs.ctypes.Table.{type_at};
 ghost use Rattle.typing.specs.Braces.{has_member, member, is_large_struct};
 ghost use Rattle.expressions.specs.Context.{Context as AtPlace};
 ghost use Rattle.expressions.specs.Members.{AreMembers};
 
 use cbase::{Layout, List, NoMemory, Text};
-use ctypes::Member;
-use environment::Names;
+use typing::ctypes::Member;
+use typing::environment::Names;
 use std::alloc::Global;
 
 /// The most bytes that an object may have.

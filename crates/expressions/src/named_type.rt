@@ -1,4 +1,4 @@
-use ctypes::Broken;
+use typing::ctypes::Broken;
 
 /// What a type name is (C11 6.7.7).
 #[derive(Clone, Copy)]

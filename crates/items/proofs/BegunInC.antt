@@ -5,16 +5,16 @@ use Rattle.std.specs.Str.{bytes_eq}
 use Rattle.std.proofs.lemmas.Bool.Decides.{same_from_decides}
 use Rattle.std.proofs.lemmas.Slice.Eq.{bytes_eq-Decides}
 use Rattle.cbase.specs.declared.abi.Abi.{Abi}
-use Rattle.environment.specs.declared.environment.Environment.{Environment}
-use Rattle.environment.specs.BuiltIns.{FunctionType}
+use Rattle.typing.specs.declared.environment.environment.Environment.{Environment}
+use Rattle.typing.specs.environment.BuiltIns.{FunctionType}
 use Rattle.expressions.specs.Context.{Context, Agrees, declared}
 use Rattle.expressions.specs.Numbers.{Numbering}
-use Rattle.languages.specs.AtTypes.{declarations_at, HasSignatures}
-use Rattle.languages.specs.Begins.{Begins}
-use Rattle.languages.specs.CBegin.{c_begin}
-use Rattle.languages.specs.CBegin.{is_among as is_one_of}
-use Rattle.languages.specs.LeadsBack.{LeadsBack}
-use Rattle.languages.proofs.Beginning.{built_in_added, front_at}
+use Rattle.items.specs.languages.AtTypes.{declarations_at, HasSignatures}
+use Rattle.items.specs.languages.Begins.{Begins}
+use Rattle.items.specs.languages.CBegin.{c_begin}
+use Rattle.items.specs.languages.CBegin.{is_among as is_one_of}
+use Rattle.items.specs.languages.LeadsBack.{LeadsBack}
+use Rattle.items.proofs.languages.Beginning.{built_in_added, front_at}
 use Rattle.items.specs.Begun.{all_defined, begun, built_ins_declared, declared_unless, is_among}
 
 -- names are compared in either order

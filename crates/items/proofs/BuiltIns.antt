@@ -7,20 +7,20 @@ use Rattle.cbase.specs.declared.abi.Abi.TheVariants.{Lp64, Llp64}
 use Rattle.cbase.specs.declared.ctype.CType.{CType}
 use Rattle.cbase.specs.declared.ctype.CType.TheVariants.{Int as IntType, Pointer}
 use Rattle.cbase.specs.declared.no_memory.NoMemory.{NoMemory}
-use Rattle.environment.specs.declared.entity.Definition.TheVariants.{NotDefined}
-use Rattle.environment.specs.declared.entity.Entity.TheVariants.{Function}
-use Rattle.environment.specs.declared.entity.Linked.{Linked}
-use Rattle.environment.specs.declared.environment.Environment.{Environment}
-use Rattle.environment.specs.BuiltIns.{FunctionType, size_type}
-use Rattle.environment.specs.Environment.{is_defined, signature_added}
-use Rattle.environment.specs.Linkage.{linked_declared}
-use Rattle.environment.specs.Names.{Entries}
+use Rattle.typing.specs.declared.environment.entity.Definition.TheVariants.{NotDefined}
+use Rattle.typing.specs.declared.environment.entity.Entity.TheVariants.{Function}
+use Rattle.typing.specs.declared.environment.entity.Linked.{Linked}
+use Rattle.typing.specs.declared.environment.environment.Environment.{Environment}
+use Rattle.typing.specs.environment.BuiltIns.{FunctionType, size_type}
+use Rattle.typing.specs.environment.Environment.{is_defined, signature_added}
+use Rattle.typing.specs.environment.Linkage.{linked_declared}
+use Rattle.typing.specs.environment.Names.{Entries}
 use Rattle.expressions.specs.Context.{Context, Agrees, Grows, OnlyTypes}
 use Rattle.expressions.specs.Language.{linked_function}
 use Rattle.expressions.specs.Operated.{Numbers}
 use Rattle.expressions.proofs.Growth.{agrees_before, agrees_before_types, below_only_types, grows_same, grows_trans, keeps_behind, number_back, only_types_grows, only_types_same, only_types_trans}
 use Rattle.expressions.proofs.Loops.{next_item}
-use Rattle.parameters.proofs.TypesAlike.{numbers_back}
+use Rattle.items.proofs.parameters.TypesAlike.{numbers_back}
 use Rattle.items.specs.declared.built_ins.BuiltIn.{BuiltIn}
 use Rattle.items.specs.Begun.{AreNumbers, HasMore, IsBuiltIn, IsNumberBehind, built_ins_declared, declared_unless, function_in, is_among}
 

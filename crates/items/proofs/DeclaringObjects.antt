@@ -4,19 +4,19 @@ use Rattle.cbase.specs.declared.abi.Abi.{Abi}
 use Rattle.cbase.specs.declared.tree.decl.Declared.{Declared as DeclaredTree}
 use Rattle.cbase.specs.declared.tree.decl.Storage.TheVariants.{Extern}
 use Rattle.cbase.specs.declared.tree.expr.ExprForm.TheViews.{out-Declared}
-use Rattle.environment.specs.declared.entity.Definition.{Definition as DefinitionByNow}
-use Rattle.environment.specs.declared.entity.Linked.{Linked as LinkedByNumber}
-use Rattle.environment.specs.declared.environment.Environment.{Environment}
-use Rattle.environment.specs.Environment.{definition_of_linked, definition_set}
-use Rattle.environment.specs.Names.{value_in}
+use Rattle.typing.specs.declared.environment.entity.Definition.{Definition as DefinitionByNow}
+use Rattle.typing.specs.declared.environment.entity.Linked.{Linked as LinkedByNumber}
+use Rattle.typing.specs.declared.environment.environment.Environment.{Environment}
+use Rattle.typing.specs.environment.Environment.{definition_of_linked, definition_set}
+use Rattle.typing.specs.environment.Names.{value_in}
 use Rattle.typing.specs.Declarations.{given, name_declared}
 use Rattle.typing.specs.FileNames.{with_definition}
 use Rattle.expressions.specs.Context.{Context, declared}
 use Rattle.expressions.specs.FileScope.{definition_at, file_scope}
 use Rattle.expressions.specs.Language.{language}
 use Rattle.expressions.specs.Numbers.{Numbering, declared_type_at}
-use Rattle.declarations.specs.Given.{bound}
-use Rattle.declarations.proofs.Bound.{bound_signatures}
+use Rattle.items.specs.declarations.Given.{bound}
+use Rattle.items.proofs.declarations.Bound.{bound_signatures}
 use Rattle.items.specs.declared.object.Object.{Object}
 use Rattle.items.specs.Objects.{OnlyNames}
 use Rattle.items.proofs.GivingObjects.{definition_back}

@@ -3,8 +3,8 @@ use Rattle.std.proofs.Common.{◌≡◌, ◌∙◌, ◌<◌, ◌≤◌, ◌+◌,
 use Rattle.std.proofs.lemmas.List.{drop_all}
 use Rattle.cbase.specs.declared.abi.Abi.{Abi}
 use Rattle.cbase.specs.declared.no_memory.NoMemory.{NoMemory}
-use Rattle.environment.specs.BuiltIns.{built_ins}
-use Rattle.environment.specs.Environment.{name_defined, scope_entered, strict_set}
+use Rattle.typing.specs.environment.BuiltIns.{built_ins}
+use Rattle.typing.specs.environment.Environment.{name_defined, scope_entered, strict_set}
 use Rattle.expressions.specs.Context.{Context, declared, Agrees}
 use Rattle.expressions.specs.Numbers.{Numbering}
 use Rattle.expressions.proofs.Loops.{next_item}

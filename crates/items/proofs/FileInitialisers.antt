@@ -11,8 +11,8 @@ use Rattle.cbase.specs.declared.tree.expr.ExprForm.TheOpen.{Value, Braces}
 use Rattle.cbase.specs.declared.tree.expr.ExprForm.TheViews.{out-Declared, out-Init}
 use Rattle.cbase.specs.declared.tree.init.Init.{Init}
 use Rattle.cbase.specs.declared.tree.init.InitPart.{InitPart}
-use Rattle.environment.specs.declared.entity.DeclaredType.{DeclaredType}
-use Rattle.environment.specs.declared.entity.DeclaredType.TheVariants.{Whole, UnsizedArray}
+use Rattle.typing.specs.declared.environment.entity.DeclaredType.{DeclaredType}
+use Rattle.typing.specs.declared.environment.entity.DeclaredType.TheVariants.{Whole, UnsizedArray}
 use Rattle.typing.specs.declared.fault.Fault.{Fault}
 use Rattle.typing.specs.Declarations.{LinkedGiven, in_braces, name_declared, name_of, told_type}
 use Rattle.typing.specs.Entities.{ObjectLinked, WholeType}
@@ -35,7 +35,7 @@ use Rattle.expressions.specs.Walked.{Tells, Passed, Stopped, Walked, Says, SaysB
 use Rattle.expressions.proofs.Growth.{agrees_before, below_grows, grows_trans, only_types_grows}
 use Rattle.expressions.proofs.TypeWords.{declared_by_types, grows_to}
 use Rattle.expressions.proofs.Walking.{passed_of, stopped_of}
-use Rattle.declarations.proofs.DeclaredNames.{walked_by}
+use Rattle.items.proofs.declarations.DeclaredNames.{walked_by}
 use Rattle.items.specs.InFile.{SaysInFileBy}
 use Rattle.items.specs.Objects.{ArrayTold, IsArrayTold, static_rows}
 use Rattle.items.proofs.Behind.{of_result, rows_behind}

@@ -5,17 +5,17 @@ use Rattle.cbase.specs.declared.abi.Abi.{Abi}
 use Rattle.cbase.specs.declared.tree.decl.Declared.{Declared as DeclaredTree}
 use Rattle.cbase.specs.declared.tree.decl.Storage.{Storage}
 use Rattle.cbase.specs.declared.tree.expr.ExprForm.TheViews.{out-Declared}
-use Rattle.environment.specs.declared.entity.Definition.{Definition as DefinitionByNow}
-use Rattle.environment.specs.declared.entity.Definition.TheVariants as by_now
-use Rattle.environment.specs.declared.entity.DeclaredType.{DeclaredType}
-use Rattle.environment.specs.declared.entity.DeclaredType.TheVariants.{Whole, UnsizedArray}
-use Rattle.environment.specs.declared.entity.Entity.{Entity}
-use Rattle.environment.specs.declared.entity.Entity.TheVariants as entity
-use Rattle.environment.specs.declared.entity.Linked.{Linked as LinkedByNumber}
-use Rattle.environment.specs.declared.environment.Environment.{Environment}
-use Rattle.environment.specs.Bounds.{DeclaredBelow}
-use Rattle.environment.specs.Names.{value_in}
-use Rattle.ctypes.specs.declared.found.Broken.{Broken}
+use Rattle.typing.specs.declared.environment.entity.Definition.{Definition as DefinitionByNow}
+use Rattle.typing.specs.declared.environment.entity.Definition.TheVariants as by_now
+use Rattle.typing.specs.declared.environment.entity.DeclaredType.{DeclaredType}
+use Rattle.typing.specs.declared.environment.entity.DeclaredType.TheVariants.{Whole, UnsizedArray}
+use Rattle.typing.specs.declared.environment.entity.Entity.{Entity}
+use Rattle.typing.specs.declared.environment.entity.Entity.TheVariants as entity
+use Rattle.typing.specs.declared.environment.entity.Linked.{Linked as LinkedByNumber}
+use Rattle.typing.specs.declared.environment.environment.Environment.{Environment}
+use Rattle.typing.specs.environment.Bounds.{DeclaredBelow}
+use Rattle.typing.specs.environment.Names.{value_in}
+use Rattle.typing.specs.declared.ctypes.found.Broken.{Broken}
 use Rattle.typing.specs.declared.fault.Fault.{Fault}
 use Rattle.typing.specs.declared.size.Size.{Size}
 use Rattle.typing.specs.Declarations.{Given, IsAgain, LinkedGiven, found_of_name, given_type, name_declared, name_faults}
@@ -30,7 +30,7 @@ use Rattle.expressions.specs.Numbers.{Numbering, declared_type_at, linked_at, na
 use Rattle.expressions.specs.Settled.{IsFirstOf}
 use Rattle.expressions.proofs.Growth.{agrees_as, agrees_before_types, grows_trans, only_types_grows, only_types_trans}
 use Rattle.expressions.proofs.TypeWords.{declared_by_types, grows_to}
-use Rattle.declarations.specs.Given.{IsFoundOfName, IsGivenType, composite_by_now, here_at, linked_now}
+use Rattle.items.specs.declarations.Given.{IsFoundOfName, IsGivenType, composite_by_now, here_at, linked_now}
 use Rattle.items.specs.declared.object.Object.{Object}
 use Rattle.items.specs.Objects.{IsObjectAsked, IsObjectJudged, IsObjectOf, ObjectBreaks, ObjectGives, OnlyNames, link_rows}
 

@@ -14,7 +14,7 @@ use Rattle.cbase.specs.declared.tree.item.Item.{Item}
 use Rattle.cbase.specs.declared.tree.item.Item.TheVariants.{Empty, Declare, Function}
 use Rattle.cbase.specs.declared.tree.spec.TypeSpec.{TypeSpec}
 use Rattle.cbase.specs.declared.tree.stmt.Stmt.{Stmt}
-use Rattle.environment.specs.Environment.{function_set}
+use Rattle.typing.specs.environment.Environment.{function_set}
 use Rattle.typing.specs.declared.fault.Fault.{Fault}
 use Rattle.typing.specs.Declarations.{is_typedef}
 use Rattle.typing.specs.Items.{ItemIs, FileNameIs, FileNamesAre, HeadIs, DefinitionIs, FindsInFile, EmptyItem, NamelessItem, ItemWithNames, ItemWordsRefused, FunctionItem, FunctionWordsRefused, FileTypedef, FileFunction}
@@ -35,7 +35,7 @@ use Rattle.expressions.proofs.Blocks.{outside}
 use Rattle.expressions.proofs.Growth.{agrees_before, grows_same, grows_trans}
 use Rattle.expressions.proofs.TypeWords.{grows_to}
 use Rattle.expressions.proofs.Walking.{passed_of, stopped_of}
-use Rattle.declarations.proofs.DeclaredNames.{walked_by}
+use Rattle.items.proofs.declarations.DeclaredNames.{walked_by}
 use Rattle.items.specs.InFile.{SaysInFile, SaysInFileBy}
 use Rattle.items.specs.Names.{found_alone}
 use Rattle.items.proofs.Behind.{closed_behind, in_front, of_result}

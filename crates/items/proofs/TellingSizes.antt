@@ -6,7 +6,7 @@ use Rattle.cbase.specs.declared.ctype.CType.TheVariants.{Array as ArrayType}
 use Rattle.cbase.specs.declared.tree.decl.Declared.{Declared as DeclaredTree}
 use Rattle.cbase.specs.declared.tree.decl.Storage.TheVariants.{Extern}
 use Rattle.cbase.specs.declared.tree.expr.ExprForm.TheViews.{out-Declared}
-use Rattle.environment.specs.declared.entity.DeclaredType.TheVariants.{Whole}
+use Rattle.typing.specs.declared.environment.entity.DeclaredType.TheVariants.{Whole}
 use Rattle.typing.specs.declared.fault.Fault.{Fault}
 use Rattle.typing.specs.Declarations.{LinkedGiven, given, name_declared}
 use Rattle.typing.specs.Entities.{ObjectLinked, WholeType}
@@ -14,8 +14,8 @@ use Rattle.expressions.specs.Context.{Context, declared, Agrees}
 use Rattle.expressions.specs.Language.{language}
 use Rattle.expressions.specs.Numbers.{Numbering}
 use Rattle.expressions.proofs.TypeWords.{grows_to}
-use Rattle.declarations.specs.Given.{bound}
-use Rattle.declarations.proofs.Bound.{bound_signatures}
+use Rattle.items.specs.declarations.Given.{bound}
+use Rattle.items.proofs.declarations.Bound.{bound_signatures}
 use Rattle.items.specs.Objects.{ArrayTold, IsArrayAsked, static_rows}
 
 module _ (abi : Abi) (name : DeclaredTree) (listed : Bool) (number count : ℕ) (old mid new : Context) (text : List ℕ) (answer : Option Fault) (none : answer ≡ None)

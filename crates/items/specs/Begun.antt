@@ -5,12 +5,12 @@ use Rattle.cbase.specs.declared.abi.Abi.{Abi}
 use Rattle.cbase.specs.declared.ctype.CType.{CType}
 use Rattle.cbase.specs.declared.ctype.CType.TheVariants.{Void as VoidType, Bool as BoolType, Int as IntType}
 use Rattle.cbase.specs.IntegerSizes.{bytes_of_rank}
-use Rattle.environment.specs.declared.entity.Definition.TheVariants.{NotDefined}
-use Rattle.environment.specs.declared.environment.Environment.{Environment}
-use Rattle.environment.specs.BuiltIns.{FunctionType, any, built_ins, size_type}
-use Rattle.environment.specs.Environment.{is_defined, name_defined, nothing_declared, scope_entered, signature_added, strict_set}
-use Rattle.environment.specs.Linkage.{linked_declared}
-use Rattle.environment.specs.Names.{Entries}
+use Rattle.typing.specs.declared.environment.entity.Definition.TheVariants.{NotDefined}
+use Rattle.typing.specs.declared.environment.environment.Environment.{Environment}
+use Rattle.typing.specs.environment.BuiltIns.{FunctionType, any, built_ins, size_type}
+use Rattle.typing.specs.environment.Environment.{is_defined, name_defined, nothing_declared, scope_entered, signature_added, strict_set}
+use Rattle.typing.specs.environment.Linkage.{linked_declared}
+use Rattle.typing.specs.environment.Names.{Entries}
 use Rattle.expressions.specs.Context.{Context, Declared, Agrees, Grows, OnlyTypes}
 use Rattle.expressions.specs.Language.{linked_function}
 use Rattle.expressions.specs.Numbers.{Numbering}

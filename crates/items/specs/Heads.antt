@@ -6,14 +6,14 @@ use Rattle.cbase.specs.declared.tree.decl.Declared.{Declared as DeclaredName}
 use Rattle.cbase.specs.declared.tree.decl.Storage.{Storage}
 use Rattle.cbase.specs.declared.tree.expr.ExprForm.TheViews.{out-Declared}
 use Rattle.cbase.specs.declared.tree.identifier.Identifier.{Identifier}
-use Rattle.environment.specs.declared.entity.DeclaredType.TheVariants.{Whole}
-use Rattle.environment.specs.declared.entity.Entity.TheVariants.{Object}
-use Rattle.environment.specs.declared.entity.Lifetime.TheVariants.{MainParameter}
-use Rattle.environment.specs.Environment.{definition_set, is_defined, signature_added}
-use Rattle.environment.specs.Linkage.{linked_declared_around, own_declared}
-use Rattle.environment.specs.Names.{value_in}
-use Rattle.environment.specs.Scopes.{found_here, left}
-use Rattle.ctypes.specs.Kinds.{kind_of}
+use Rattle.typing.specs.declared.environment.entity.DeclaredType.TheVariants.{Whole}
+use Rattle.typing.specs.declared.environment.entity.Entity.TheVariants.{Object}
+use Rattle.typing.specs.declared.environment.entity.Lifetime.TheVariants.{MainParameter}
+use Rattle.typing.specs.environment.Environment.{definition_set, is_defined, signature_added}
+use Rattle.typing.specs.environment.Linkage.{linked_declared_around, own_declared}
+use Rattle.typing.specs.environment.Names.{value_in}
+use Rattle.typing.specs.environment.Scopes.{found_here, left}
+use Rattle.typing.specs.ctypes.Kinds.{kind_of}
 use Rattle.typing.specs.declared.fault.Fault.{Fault}
 use Rattle.typing.specs.Declarations.{IsAgain, LinkedGiven, faults_of_all, found_of_all, function_given, function_name_faults, is_array, is_typedef}
 use Rattle.typing.specs.Entities.{FunctionLinked}
@@ -30,8 +30,8 @@ use Rattle.expressions.specs.FileScope.{definition_at, definition_in_text, file_
 use Rattle.expressions.specs.Language.{built_in_by_now, definition_by_now, language, linked_function}
 use Rattle.expressions.specs.Numbers.{Numbering, linked_at, name_here_at, named_at}
 use Rattle.expressions.specs.Settled.{IsFirstOf}
-use Rattle.parameters.specs.declared.parameter.Parameter.{Parameter as ParameterByNumber}
-use Rattle.parameters.specs.Parameters.{parameter_at}
+use Rattle.items.specs.declared.parameters.parameter.Parameter.{Parameter as ParameterByNumber}
+use Rattle.items.specs.parameters.Parameters.{parameter_at}
 use Rattle.items.specs.declared.heads.parts.Head.{Head}
 
 -- a parameter of `main`, where it has a name, and parameters of it by their names and types, one behind the other

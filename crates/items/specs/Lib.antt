@@ -3,3 +3,9 @@ pub mod Heads
 pub mod InFile
 pub mod Names
 pub mod Objects
+pub mod declarations
+pub mod initialisers
+pub mod languages
+pub mod parameters
+pub mod statements
+pub mod tree_walk

@@ -8,11 +8,11 @@ use Rattle.cbase.specs.declared.tree.decl.Declared.{Declared}
 use Rattle.cbase.specs.declared.tree.decl.Storage.{Storage}
 use Rattle.cbase.specs.declared.tree.decl.Storage.TheVariants.{Extern}
 use Rattle.cbase.specs.declared.tree.expr.ExprForm.TheViews.{out-Declared}
-use Rattle.environment.specs.declared.entity.DeclaredType.{DeclaredType}
-use Rattle.environment.specs.declared.entity.DeclaredType.TheVariants.{Whole, UnsizedArray}
-use Rattle.environment.specs.Bounds.{DeclaredBelow}
-use Rattle.environment.specs.Names.{value_in}
-use Rattle.ctypes.specs.declared.found.Broken.{Broken}
+use Rattle.typing.specs.declared.environment.entity.DeclaredType.{DeclaredType}
+use Rattle.typing.specs.declared.environment.entity.DeclaredType.TheVariants.{Whole, UnsizedArray}
+use Rattle.typing.specs.environment.Bounds.{DeclaredBelow}
+use Rattle.typing.specs.environment.Names.{value_in}
+use Rattle.typing.specs.declared.ctypes.found.Broken.{Broken}
 use Rattle.typing.specs.declared.fault.Fault.{Fault}
 use Rattle.typing.specs.declared.size.Size.{Size}
 use Rattle.typing.specs.Declarations.{IsAgain, IsOther, LinkedGiven, given, given_type, name_declared, name_faults, told_type}
@@ -28,7 +28,7 @@ use Rattle.expressions.specs.FileScope.{definition_at, file_scope}
 use Rattle.expressions.specs.Language.{definition_by_now, language, token_by_now}
 use Rattle.expressions.specs.Numbers.{Numbering, declared_type_at, named_at}
 use Rattle.expressions.specs.Settled.{IsFirstOf}
-use Rattle.declarations.specs.Given.{composite_by_now, here_at, linked_now}
+use Rattle.items.specs.declarations.Given.{composite_by_now, here_at, linked_now}
 use Rattle.items.specs.declared.object.Object.{Object}
 
 -- an object of that name which a declaration gives that type, behind those before it

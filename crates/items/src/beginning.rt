@@ -2,7 +2,7 @@ ghost use Rattle.std.specs.Prelude.{◌≡◌, [], ℕ, IfOk, OnOk};
 ghost use Rattle.expressions.specs.Context.{Agrees, declared};
 ghost use Rattle.expressions.specs.Numbers.{Numbering};
 ghost use Rattle.items.specs.Begun.{all_defined, at_first, begun};
-ghost use Rattle.languages.specs.Begins.{Begins};
+ghost use Rattle.items.specs.languages.Begins.{Begins};
 
 use crate::built_ins::declare_built_ins;
 use cbase::{Abi, NoMemory, Text};

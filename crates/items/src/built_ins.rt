@@ -1,10 +1,10 @@
 ghost use Rattle.std.specs.Prelude.{◌≡◌, [], ◌∷◌, map, OnOk};
-ghost use Rattle.environment.specs.BuiltIns.{built_ins};
+ghost use Rattle.typing.specs.environment.BuiltIns.{built_ins};
 ghost use Rattle.items.specs.Begun.{HasMore, IsBuiltIn, function_in, is_among, type_in, types_in};
 
 use crate::built_in_types::{BuiltInType, Parameters, number_of, put_numbers};
 use cbase::{Abi, List, NoMemory, Rank, Text};
-use environment::{Definition, Entity, Linked, Signature};
+use typing::environment::{Definition, Entity, Linked, Signature};
 use expressions::Context;
 use std::alloc::Global;
 

@@ -1,13 +1,13 @@
 ghost use Rattle.std.specs.Prelude.{◌≡◌, length};
-ghost use Rattle.environment.specs.Bounds.{DeclaredBelow};
+ghost use Rattle.typing.specs.environment.Bounds.{DeclaredBelow};
 ghost use Rattle.expressions.specs.Context.{Agrees};
 ghost use Rattle.expressions.specs.FileScope.{definition_at};
 ghost use Rattle.expressions.specs.Numbers.{Numbering, declared_type_at};
 ghost use Rattle.typing.specs.FileNames.{is_complete_by};
 
 use cbase::Storage;
-use declarations::is_complete;
-use environment::{DeclaredType, Definition};
+use crate::declarations::is_complete;
+use typing::environment::{DeclaredType, Definition};
 use expressions::Context;
 
 /// Whether an object outside of functions is complete: one that its declaration defines, once its initialiser stands (C11 6.9.2p3, 6.7.9p22); one that it

@@ -2,7 +2,7 @@ ghost use Rattle.std.specs.Prelude.{◌≡◌, length, OnOk};
 ghost use Rattle.cbase.specs.declared.abi.Abi.{Abi};
 ghost use Rattle.cbase.specs.declared.tree.decl.Storage.TheVariants.{Extern};
 ghost use Rattle.cbase.specs.declared.tree.expr.ExprForm.TheViews.{out-Declared};
-ghost use Rattle.environment.specs.Bounds.{DeclaredBelow};
+ghost use Rattle.typing.specs.environment.Bounds.{DeclaredBelow};
 ghost use Rattle.expressions.specs.Context.{Agrees, declared};
 ghost use Rattle.expressions.specs.FileScope.{definition_at, file_scope};
 ghost use Rattle.expressions.specs.Language.{language};
@@ -15,7 +15,7 @@ ghost use Rattle.items.specs.Objects.{OnlyNames};
 use crate::definitions::with_definition;
 use crate::object::Object;
 use cbase::{Declared, NoMemory, Storage};
-use declarations::declare_name;
+use crate::declarations::declare_name;
 use expressions::Context;
 use std::alloc::Global;
 

@@ -3,7 +3,7 @@ ghost use Rattle.expressions.specs.FileScope.{definition_at};
 ghost use Rattle.typing.specs.FileNames.{definition_by, is_declared_only, is_defined, is_listed, is_twice, with_definition};
 
 use cbase::Storage;
-use environment::Definition;
+use typing::environment::Definition;
 
 /// What a declaration of an object outside of functions adds: one with an initialiser defines it, and one without does so tentatively, but for `extern`
 /// (C11 6.9.2p1, p2).

@@ -2,8 +2,8 @@ ghost use Rattle.std.specs.Prelude.{◌≡◌, ◌++◌, OnOk};
 ghost use Rattle.items.specs.Objects.{link_rows, static_rows};
 
 use cbase::{Declared, NoMemory, Place};
-use declarations::{hand_object, token_by_now};
-use environment::DeclaredType;
+use crate::declarations::{hand_object, token_by_now};
+use typing::environment::DeclaredType;
 use expressions::{Context, HandedRow};
 
 /// Hands on the declaration of an object outside of functions, by the name that declared it first (C11 6.2.2p2).

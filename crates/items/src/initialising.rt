@@ -12,8 +12,8 @@ ghost use Rattle.items.specs.InFile.{SaysInFileBy};
 use crate::handing::hand_static;
 use crate::telling::tell_size;
 use cbase::{Declared, Init, NoMemory};
-use declarations::in_braces;
-use environment::DeclaredType;
+use crate::declarations::in_braces;
+use typing::environment::DeclaredType;
 use expressions::{Checker, Context, Found, Part, Slot, Subject, Told, Within};
 use std::alloc::Global;
 

@@ -11,7 +11,7 @@ ghost use Rattle.items.specs.Names.{found_alone};
 use crate::heads::head;
 use crate::objects::object;
 use cbase::{Declared, NoMemory, Storage};
-use declarations::object_name;
+use crate::declarations::object_name;
 use expressions::{Checker, Context, Found, NamedType, Part, Told, Within};
 use std::alloc::Global;
 

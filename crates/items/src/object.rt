@@ -1,4 +1,4 @@
-use environment::{DeclaredType, Definition};
+use typing::environment::{DeclaredType, Definition};
 
 /// What a declaration outside of functions says of an object, with what those before it say (C11 6.9.2).
 #[derive(Clone, Copy)]

@@ -1,7 +1,7 @@
 ghost use Rattle.std.specs.Prelude.{◌≡◌, ◌≤◌, ◌<◌, None, false, length, IfOk};
 ghost use Rattle.cbase.specs.declared.tree.expr.ExprForm.TheViews.{out-Declared};
 ghost use Rattle.ctrees.specs.Levels.{declared_levels};
-ghost use Rattle.environment.specs.Bounds.{DeclaredBelow};
+ghost use Rattle.typing.specs.environment.Bounds.{DeclaredBelow};
 ghost use Rattle.expressions.specs.Found.{nothing};
 ghost use Rattle.expressions.specs.Nests.{Nests};
 ghost use Rattle.expressions.specs.Numbers.{declared_type_at, named_at};
@@ -15,7 +15,7 @@ use crate::giving::give;
 use crate::handing::hand_static;
 use crate::initialising::{array_initialised, object_initialised};
 use cbase::{Declared, NoMemory, Storage};
-use environment::DeclaredType;
+use typing::environment::DeclaredType;
 use expressions::{Checker, Context, Found, NamedType, Part, Told, Within};
 use std::alloc::Global;
 

@@ -8,9 +8,9 @@ ghost use Rattle.items.specs.Objects.{IsArrayAsked, IsArrayTold};
 
 use crate::handing::hand_static;
 use cbase::{Declared, NoMemory, Storage};
-use ctypes::Broken;
-use declarations::{declare_name, is_other, told_fault};
-use environment::DeclaredType;
+use typing::ctypes::Broken;
+use crate::declarations::{declare_name, is_other, told_fault};
+use typing::environment::DeclaredType;
 use expressions::{Context, Found, first_of, unless};
 use std::alloc::Global;
 use typing::Fault;

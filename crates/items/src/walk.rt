@@ -11,7 +11,7 @@ ghost use Rattle.items.specs.InFile.{SaysInFile};
 use crate::heads::definition;
 use crate::names::names;
 use cbase::{Decl, Declared, Item, List, NoMemory, Place, Stmt, Storage, TypeSpec};
-use declarations::declaration;
+use crate::declarations::declaration;
 use expressions::{Checker, Context, Found, Part, Told, Within};
 use std::alloc::Global;
 

@@ -15,7 +15,7 @@ use Rattle.ctokens.specs.declared.item_span.Deep.{Deep}
 use Rattle.ctokens.specs.declared.item_span.ItemSpan.{ItemSpan}
 use Rattle.ctokens.specs.declared.token.Lexical.{Lexical}
 use Rattle.ctokens.specs.declared.token.Tokens.{Tokens}
-use Rattle.languages.specs.CLanguage.{Declarations, c_language, c_file}
+use Rattle.items.specs.languages.CLanguage.{Declarations, c_language, c_file}
 use Rattle.typing.specs.Outcomes.{Handed}
 use Rattle.ccheck.specs.declared.refusal.Refusal.{Refusal}
 use Rattle.ccheck.specs.declared.refusal.Refusal.TheVariants as refusal
@@ -23,7 +23,7 @@ use Rattle.ccheck.specs.Checked.{IsRefused, at_beginning}
 use Rattle.ccheck.specs.Needed.{spans_of}
 use Rattle.ccheck.specs.Refusals.{place_at}
 use Rattle.ccheck.specs.Walk.{HaveOneAnswer}
-use Rattle.c_statics.specs.Calls.{IsFirstCallee}
+use Rattle.c_run.specs.statics.Calls.{IsFirstCallee}
 use Rattle.c_machine.specs.Program.{Program}
 use Rattle.c_machine.specs.Run.{run_of}
 use Rattle.c_machine.specs.Trees.{text_of}

@@ -23,8 +23,8 @@ use Rattle.ctokens.specs.declared.token.Token.{Token as Lexeme}
 use Rattle.ctokens.specs.declared.token.Tokens.{Tokens}
 use Rattle.expressions.specs.Context.{Agrees, Context, declared}
 use Rattle.expressions.specs.Numbers.{Numbering, handed_at}
-use Rattle.languages.specs.AtTypes.{declarations_at}
-use Rattle.languages.specs.LeadsBack.{LeadsBack}
+use Rattle.items.specs.languages.AtTypes.{declarations_at}
+use Rattle.items.specs.languages.LeadsBack.{LeadsBack}
 use Rattle.ccheck.specs.Checked.{IsAnswer, IsRefused, IsTyped}
 use Rattle.ccheck.specs.Named.{AnswerIsNamed, IsNamed}
 use Rattle.ccheck.specs.Refusals.{place_at}
@@ -33,11 +33,11 @@ use Rattle.ccheck.specs.declared.checking.Checked.TheVariants.{Typed as TypedAns
 use Rattle.ccheck.specs.declared.program.TypedProgram.{TypedProgram}
 use Rattle.ccheck.specs.declared.refusal.Refusal.{Refusal}
 use Rattle.ccheck.specs.declared.refusal.Refusal.TheVariants as refusal
-use Rattle.c_statics.specs.Calls.{IsFirstCallee}
+use Rattle.c_run.specs.statics.Calls.{IsFirstCallee}
 use Rattle.c_machine.specs.Program.{Program}
 use Rattle.c_machine.specs.Run.{run_of}
 use Rattle.c_machine.specs.Trees.{text_of}
-use Rattle.c_text.specs.Stands.{StandsFor}
+use Rattle.c_run.specs.text.Stands.{StandsFor}
 use Rattle.report.specs.ReplayReport.{HasPrintableRun}
 use Rattle.report.specs.declared.answer.Why.{Why}
 use Rattle.report.specs.declared.answer.Why.TheVariants as why

@@ -1,7 +1,7 @@
 -- What an answer of `replay` says of the bytes of FILE and of CHOICES.
 use Rattle.std.specs.Prelude.{◌≡◌, ℕ, ◌+◌, ◌≤◌, ◌↔◌, true, false, None, Some, List, length}
 use Rattle.cbase.specs.declared.place.Place.{Place}
-use Rattle.c_statics.specs.Calls.{IsFirstCallee}
+use Rattle.c_run.specs.statics.Calls.{IsFirstCallee}
 use Rattle.choices.specs.declared.choice.Choice.{Choice}
 use Rattle.choices.specs.Format.{SpellsChoices}
 use Rattle.command_line.specs.declared.replay.ReplayCommand.{ReplayCommand}

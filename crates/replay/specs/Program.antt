@@ -5,7 +5,7 @@ use Rattle.cgrammar.specs.Phrases.{Context as Standing}
 use Rattle.cread.specs.InOrder.{at_file}
 use Rattle.ctokens.specs.declared.item_span.ItemSpan.{ItemSpan}
 use Rattle.ctokens.specs.declared.token.Tokens.{Tokens}
-use Rattle.languages.specs.CLanguage.{Declarations, c_language, c_file}
+use Rattle.items.specs.languages.CLanguage.{Declarations, c_language, c_file}
 use Rattle.ccheck.specs.Checked.{at_beginning}
 use Rattle.ccheck.specs.Needed.{spans_of}
 use Rattle.ccheck.specs.Refusals.{place_at}

@@ -12,14 +12,14 @@ use Rattle.ctokens.specs.declared.item_span.ItemSpan.{ItemSpan}
 use Rattle.ctokens.specs.declared.token.Tokens.{Tokens}
 use Rattle.expressions.specs.Context.{Agrees, Context}
 use Rattle.expressions.specs.Numbers.{Numbering}
-use Rattle.languages.specs.LeadsBack.{LeadsBack}
+use Rattle.items.specs.languages.LeadsBack.{LeadsBack}
 use Rattle.ccheck.specs.Checked.{IsTyped}
 use Rattle.ccheck.specs.declared.program.TypedProgram.{TypedProgram}
 use Rattle.ccheck.specs.declared.refusal.Refusal.{Refusal}
 use Rattle.ccheck.specs.declared.refusal.Refusal.TheVariants as refusal
-use Rattle.c_statics.specs.Calls.{IsFirstCallee}
+use Rattle.c_run.specs.statics.Calls.{IsFirstCallee}
 use Rattle.c_machine.specs.Program.{Program}
-use Rattle.c_text.specs.Stands.{StandsFor}
+use Rattle.c_run.specs.text.Stands.{StandsFor}
 use Rattle.report.specs.ReplayReport.{HasPrintableReplay}
 use Rattle.report.specs.declared.answer.Why.TheVariants as why
 use Rattle.report.specs.declared.replay_answer.ReplayAnswer.{ReplayAnswer}

@@ -11,7 +11,7 @@ use cbase::{List, NoMemory, Text};
 use ccheck::{Checked, Refusal, TypedProgram, check};
 use command_line::ReplayCommand;
 use ctokens::{Deep, ItemSpan, Lexical, Tokens, items, needed, tokens_of_bytes};
-use languages::leads_back;
+use items::languages::leads_back;
 use report::{ReplayAnswer, Why};
 use std::alloc::Global;
 

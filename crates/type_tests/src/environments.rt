@@ -1,5 +1,5 @@
 use cbase::{List, NoMemory};
-use environment::{
+use typing::environment::{
     Binding, DeclaredType, Definition, Entity, Environment, Linked, Signature, Tag, TagForm,
 };
 use std::alloc::Global;

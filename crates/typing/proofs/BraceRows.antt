@@ -13,9 +13,9 @@ use Rattle.cbase.specs.declared.tree.spec.Enumerator.{Enumerator}
 use Rattle.cbase.specs.declared.tree.spec.FieldDecl.{FieldDecl}
 use Rattle.cbase.specs.declared.tree.spec.FieldName.{FieldName}
 use Rattle.cbase.specs.Completing.{is_open}
-use Rattle.ctypes.specs.declared.found.Broken.TheVariants.{Rule}
-use Rattle.ctypes.specs.Binary.{int_type}
-use Rattle.ctypes.specs.Operands.{Operand}
+use Rattle.typing.specs.declared.ctypes.found.Broken.TheVariants.{Rule}
+use Rattle.typing.specs.ctypes.Binary.{int_type}
+use Rattle.typing.specs.ctypes.Operands.{Operand}
 use Rattle.typing.specs.declared.fault.Fault.{Fault}
 use Rattle.typing.specs.declared.size.Size.{Size}
 use Rattle.typing.specs.declared.size.Size.TheVariants.{LeftOut}
@@ -30,7 +30,7 @@ use Rattle.typing.specs.Pieces.{Loaded, SizeOfArray}
 use Rattle.typing.specs.Told.{Told, OperandIs, SizeIs}
 use Rattle.typing.specs.Typing.{Finds, PieceIs, WordsAre, MembersAre, DeclarationIs, NamesAre, MemberIs, MemberSizesAre, MemberSizeIs, WidthIs, EnumeratorsAre, ValueOfEnumerator, StructWithMembers, StructCompletedInside, MembersRefused, StructTwice, EnumWithConstants, EnumTwice, NoDeclarations, MoreDeclarations, DeclarationRefused, MembersDeclared, MemberWordsRefused, NoNames, MoreNames, NameRefused, MemberFound, MemberSizesRefused, MemberWidthRefused, NoMemberSizes, MoreMemberSizes, MemberSizeRefusedHere, MemberSizeRefusedBehind, MemberSizeLeftOut, MemberSizeGiven, MemberSizeRefused, NoWidth, WidthGiven, NoEnumerators, EnumeratorTwice, EnumeratorRefused, EnumeratorTwiceInside, MoreEnumerators, NextValue, NoNextValue, GivenValue, GivenNoInt, GivenRefused}
 use Rattle.typing.proofs.Sequences.{Given, Made, Both}
-use Rattle.values.specs.Values.{int_value, next_value}
+use Rattle.typing.specs.values.Values.{int_value, next_value}
 
 -- what is found of each part, by the part
 abbrev pub WordsFound : (l : Language) → l.Environment → Words → Outcome NamedType → l.Environment → Type 0

@@ -15,8 +15,8 @@ use Rattle.cbase.specs.declared.tree.expr.ExprForm.TheViews.{out-TypeSpec, outs-
 use Rattle.cbase.specs.declared.tree.spec.TypeSpec.{TypeSpec}
 use Rattle.cbase.specs.declared.tree.stmt.StmtForm.TheVariants.{Declare}
 use Rattle.cbase.specs.Layout.{layout_of}
-use Rattle.ctypes.specs.Binary.{int_type}
-use Rattle.ctypes.specs.Kinds.{Kind, kind_of}
+use Rattle.typing.specs.ctypes.Binary.{int_type}
+use Rattle.typing.specs.ctypes.Kinds.{Kind, kind_of}
 use Rattle.typing.specs.declared.fault.Fault.{Fault}
 use Rattle.typing.specs.declared.size.Size.{Size}
 use Rattle.typing.specs.Declarations.{ObjectGiven, LinkedGiven, TypeGiven, Parameter, tag_alone, given_type, IsAgain, found_of_name, name_faults, faults_of_name, name_declared, name_of, parameter_found, parameter_faults, asked_type, is_named_here, parameter_declared, function_name_faults, function_given, found_of_all, faults_of_all, is_array, is_typedef}

@@ -7,9 +7,9 @@ use Rattle.cbase.specs.declared.structs.StructDef.{StructDef}
 use Rattle.cbase.specs.declared.tree.expr.Expr.{Expr}
 use Rattle.cbase.specs.declared.tree.expr.ExprForm.TheOpen.{Part::Member, At}
 use Rattle.cbase.specs.declared.tree.identifier.Identifier.{Identifier}
-use Rattle.ctypes.specs.Broken.{Judgement, Typed, Breaks}
-use Rattle.ctypes.specs.Kinds.{kind_of}
-use Rattle.ctypes.specs.Members.{member_of}
+use Rattle.typing.specs.ctypes.Broken.{Judgement, Typed, Breaks}
+use Rattle.typing.specs.ctypes.Kinds.{kind_of}
+use Rattle.typing.specs.ctypes.Members.{member_of}
 use Rattle.typing.specs.Forms.{Step}
 use Rattle.typing.specs.Idiom.{plus, times, item_bytes, member_offset}
 use Rattle.typing.specs.Laws.{EachPathLeads}

@@ -18,14 +18,14 @@ use Rattle.cbase.specs.declared.tree.spec.TypeSpec.{TypeSpec}
 use Rattle.cbase.specs.declared.tree.spec.TypeSpec.TheVariants.{Basic}
 use Rattle.cbase.specs.Layout.{layout_of, struct_at, extent_of, fields_layout, no_fields, scalar, repeated}
 use Rattle.cbase.proofs.Types.{type_layout-Void, type_layout-Int, type_layout-Pointer, type_layout-Array, type_layout-Struct}
-use Rattle.constants.specs.Deciding.{letter, integer, meaning_of}
-use Rattle.constants.specs.declared.meaning.Meaning.TheVariants.{Known as Meant}
-use Rattle.ctypes.specs.declared.found.Broken.{Broken}
-use Rattle.ctypes.specs.declared.found.Broken.TheVariants.{Construct, Rule}
-use Rattle.ctypes.specs.Binary.{int_type}
-use Rattle.ctypes.specs.Integers.{integer as integer_of}
-use Rattle.ctypes.specs.Kinds.{Integer as IntegerKind, kind_of}
-use Rattle.ctypes.proofs.ShapeKinds.{are_kinds}
+use Rattle.typing.specs.constants.Deciding.{letter, integer, meaning_of}
+use Rattle.typing.specs.declared.constants.meaning.Meaning.TheVariants.{Known as Meant}
+use Rattle.typing.specs.declared.ctypes.found.Broken.{Broken}
+use Rattle.typing.specs.declared.ctypes.found.Broken.TheVariants.{Construct, Rule}
+use Rattle.typing.specs.ctypes.Binary.{int_type}
+use Rattle.typing.specs.ctypes.Integers.{integer as integer_of}
+use Rattle.typing.specs.ctypes.Kinds.{Integer as IntegerKind, kind_of}
+use Rattle.typing.proofs.ctypes.ShapeKinds.{are_kinds}
 use Rattle.typing.specs.declared.fault.Fault.{Fault}
 use Rattle.typing.specs.declared.size.Size.{Size}
 use Rattle.typing.specs.declared.size.Size.TheVariants.{Counted, NotConstant, LeftOut}

@@ -2,12 +2,12 @@
 use Rattle.std.proofs.Common.{◌≡◌, ℕ, List, [], ◌∷◌, refl, ap, arith}
 use Rattle.std.specs.Prelude.{option_and_then, codes}
 use Rattle.cbase.specs.declared.tree.expr.ExprForm.TheVariants.{Name}
-use Rattle.ctypes.specs.Kinds.{Kind}
+use Rattle.typing.specs.ctypes.Kinds.{Kind}
 use Rattle.typing.specs.Forms.{Form, name_in}
 use Rattle.typing.specs.Nodes.{is_function}
 use Rattle.cbase.specs.declared.tree.expr.ExprForm.TheViews.{outs-Name, outs-Call, out-ExprForm}
 use Rattle.typing.specs.Faults.{fault}
-use Rattle.ctypes.specs.declared.found.Broken.TheVariants.{Construct, Rule}
+use Rattle.typing.specs.declared.ctypes.found.Broken.TheVariants.{Construct, Rule}
 use Rattle.typing.specs.Examples.{AreCalled, AreCallsOfMain}
 use Rattle.typing.specs.Sample.{start, token, names, named_in, name}
 use Rattle.typing.specs.Rules.{NoArguments, MoreArguments, CallOfFunction, CallOfOther}

@@ -16,14 +16,14 @@ use Rattle.cbase.specs.declared.layout.Layout.{Layout}
 use Rattle.cbase.specs.declared.structs.StructDef.{StructDef}
 use Rattle.cbase.specs.Layout.{layout_of, struct_at, fields_layout, no_fields, scalar, repeated}
 use Rattle.cbase.proofs.Types.{type_layout-Struct}
-use Rattle.constants.specs.declared.meaning.Meaning.TheVariants.{Known as Meant}
-use Rattle.constants.specs.Deciding.{letter, integer, meaning_of}
-use Rattle.ctypes.specs.declared.found.Broken.TheVariants.{Construct, Rule}
-use Rattle.ctypes.specs.declared.kind.Target.TheVariants.{Sized, Void as VoidTarget}
-use Rattle.ctypes.specs.Binary.{int_type}
-use Rattle.ctypes.specs.Integers.{integer as integer_of}
-use Rattle.ctypes.specs.Kinds.{Integer as IntegerKind, Pointer, Array, Struct, Void as VoidKind, kind_of, target_in, target_of}
-use Rattle.ctypes.proofs.ShapeKinds.{are_kinds}
+use Rattle.typing.specs.declared.constants.meaning.Meaning.TheVariants.{Known as Meant}
+use Rattle.typing.specs.constants.Deciding.{letter, integer, meaning_of}
+use Rattle.typing.specs.declared.ctypes.found.Broken.TheVariants.{Construct, Rule}
+use Rattle.typing.specs.declared.ctypes.kind.Target.TheVariants.{Sized, Void as VoidTarget}
+use Rattle.typing.specs.ctypes.Binary.{int_type}
+use Rattle.typing.specs.ctypes.Integers.{integer as integer_of}
+use Rattle.typing.specs.ctypes.Kinds.{Integer as IntegerKind, Pointer, Array, Struct, Void as VoidKind, kind_of, target_in, target_of}
+use Rattle.typing.proofs.ctypes.ShapeKinds.{are_kinds}
 use Rattle.typing.specs.declared.size.Size.TheVariants.{Counted, NotConstant, LeftOut}
 use Rattle.typing.specs.Braces.{member_faults}
 use Rattle.typing.specs.Declarations.{items_in}

@@ -20,12 +20,12 @@ use Rattle.cbase.specs.declared.tree.spec.TypeSpec.TheVariants.{Basic, Struct as
 use Rattle.cbase.specs.declared.tree.stmt.StmtForm.TheVariants.{Declare}
 use Rattle.cbase.specs.Layout.{no_fields, scalar, repeated}
 use Rattle.cbase.specs.Offset.{fields_of, offset_of, offset_behind}
-use Rattle.ctypes.specs.declared.found.Broken.TheVariants.{Construct, Rule}
-use Rattle.ctypes.specs.declared.kind.Target.TheVariants.{Sized}
-use Rattle.ctypes.specs.Binary.{int_type}
-use Rattle.ctypes.specs.Integers.{integer as integer_of}
-use Rattle.ctypes.specs.Kinds.{Integer as IntegerKind, Array, kind_of, target_in}
-use Rattle.ctypes.proofs.ShapeKinds.{are_kinds}
+use Rattle.typing.specs.declared.ctypes.found.Broken.TheVariants.{Construct, Rule}
+use Rattle.typing.specs.declared.ctypes.kind.Target.TheVariants.{Sized}
+use Rattle.typing.specs.ctypes.Binary.{int_type}
+use Rattle.typing.specs.ctypes.Integers.{integer as integer_of}
+use Rattle.typing.specs.ctypes.Kinds.{Integer as IntegerKind, Array, kind_of, target_in}
+use Rattle.typing.proofs.ctypes.ShapeKinds.{are_kinds}
 use Rattle.typing.specs.declared.size.Size.TheVariants.{Counted, LeftOut}
 use Rattle.typing.specs.Entities.{ObjectEntity, WholeType}
 use Rattle.typing.specs.ExamplesOfInitialisers.{AreInitialisers}

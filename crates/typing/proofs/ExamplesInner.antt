@@ -3,8 +3,8 @@ use Rattle.std.proofs.Common.{◌≡◌, ℕ, true, List, [], Some, None, refl, 
 use Rattle.std.specs.Prelude.{is_some, codes}
 use Rattle.cbase.specs.declared.ctype.CType.{CType}
 use Rattle.cbase.specs.declared.ctype.CType.TheVariants.{Struct as StructType, Array as ArrayType}
-use Rattle.ctypes.specs.Binary.{int_type}
-use Rattle.ctypes.specs.Kinds.{has_size}
+use Rattle.typing.specs.ctypes.Binary.{int_type}
+use Rattle.typing.specs.ctypes.Kinds.{has_size}
 use Rattle.typing.specs.Entities.{ObjectIs}
 use Rattle.typing.specs.Known.{behind}
 use Rattle.typing.specs.Nodes.{object_known}

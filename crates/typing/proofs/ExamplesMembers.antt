@@ -2,10 +2,10 @@
 use Rattle.std.proofs.Common.{◌≡◌, ℕ, Bool, true, false, List, refl, ap}
 use Rattle.std.specs.Prelude.{is_some, codes}
 use Rattle.cbase.specs.declared.ctype.CType.TheVariants.{Struct as StructType}
-use Rattle.ctypes.specs.Binary.{int_type}
-use Rattle.ctypes.specs.Kinds.{Kind, Struct, has_size}
-use Rattle.ctypes.specs.Members.{member_in, member_of}
-use Rattle.ctypes.proofs.ShapeKinds.{are_kinds}
+use Rattle.typing.specs.ctypes.Binary.{int_type}
+use Rattle.typing.specs.ctypes.Kinds.{Kind, Struct, has_size}
+use Rattle.typing.specs.ctypes.Members.{member_in, member_of}
+use Rattle.typing.proofs.ctypes.ShapeKinds.{are_kinds}
 use Rattle.cbase.specs.declared.tree.expr.ExprForm.TheViews.{outs-Index, outs-ExprForm::Member}
 use Rattle.typing.specs.Examples.{AreMembers}
 use Rattle.typing.specs.Sample.{start, name}

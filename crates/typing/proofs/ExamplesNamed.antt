@@ -2,13 +2,13 @@
 use Rattle.std.proofs.Common.{◌≡◌, true, [], ◌∷◌, refl, ap, subst, arith}
 use Rattle.std.specs.Prelude.{is_some, codes}
 use Rattle.cbase.specs.declared.abi.Abi.TheVariants.{Lp64}
-use Rattle.constants.specs.declared.meaning.Meaning.TheVariants.{NoConstant, FitsNoType, Known as Meant}
-use Rattle.constants.specs.Deciding.{letter, integer, meaning_of}
-use Rattle.constants.specs.Meanings.{Means}
-use Rattle.constants.proofs.Exact.{means}
+use Rattle.typing.specs.declared.constants.meaning.Meaning.TheVariants.{NoConstant, FitsNoType, Known as Meant}
+use Rattle.typing.specs.constants.Deciding.{letter, integer, meaning_of}
+use Rattle.typing.specs.constants.Meanings.{Means}
+use Rattle.typing.proofs.constants.Exact.{means}
 use Rattle.cbase.specs.declared.tree.expr.ExprForm.TheViews.{outs-Name, outs-Constant, outs-AssertFail}
 use Rattle.typing.specs.Faults.{fault}
-use Rattle.ctypes.specs.declared.found.Broken.TheVariants.{Construct}
+use Rattle.typing.specs.declared.ctypes.found.Broken.TheVariants.{Construct}
 use Rattle.typing.specs.Examples.{AreNamed}
 use Rattle.typing.specs.Sample.{start, token}
 use Rattle.typing.specs.Rules.{TypeAsOperand, ObjectName, FunctionAsOperand, ConstantOfNoType, SpellingOfNoConstant, AssertionFailed}

@@ -14,11 +14,11 @@ use Rattle.cbase.specs.declared.tree.spec.BasicType.TheVariants.{Void, Integer}
 use Rattle.cbase.specs.declared.tree.spec.Rank.TheVariants.{Char, Int, Long}
 use Rattle.cbase.specs.Layout.{no_fields, extent_of}
 use Rattle.cbase.specs.Offset.{offset_behind}
-use Rattle.ctypes.specs.declared.kind.Target.TheVariants.{Sized, Unsized}
-use Rattle.ctypes.specs.Binary.{int_type}
-use Rattle.ctypes.specs.Kinds.{Kind, Pointer, Struct, kind_of, has_size}
-use Rattle.ctypes.specs.Members.{member_in, member_of}
-use Rattle.ctypes.proofs.ShapeKinds.{are_kinds, are_targets}
+use Rattle.typing.specs.declared.ctypes.kind.Target.TheVariants.{Sized, Unsized}
+use Rattle.typing.specs.ctypes.Binary.{int_type}
+use Rattle.typing.specs.ctypes.Kinds.{Kind, Pointer, Struct, kind_of, has_size}
+use Rattle.typing.specs.ctypes.Members.{member_in, member_of}
+use Rattle.typing.proofs.ctypes.ShapeKinds.{are_kinds, are_targets}
 use Rattle.typing.specs.Forms.{Step}
 use Rattle.typing.specs.Idiom.{at_most, item_bytes, member_offset, offset_in_struct}
 use Rattle.typing.specs.NamedTypes.{NamedType, is_over}
@@ -31,7 +31,7 @@ use Rattle.typing.specs.Typing.{Finds, PieceIs, PiecesAre}
 use Rattle.cbase.specs.declared.tree.expr.ExprForm.TheViews.{out-Part, outs-Unary, outs-Cast, outs-SizeOf, outs-SizeOfType, outs-OffsetOf, outs-ExprForm::Member, outs-Part::Member, outs-At, outs-Basic, outs-Struct, outs-OfExpr, out-roll-TypeName}
 use Rattle.cbase.specs.declared.tree.operators.UnaryOp.TheVariants.{Follow, Address, Minus}
 use Rattle.typing.specs.Faults.{fault}
-use Rattle.ctypes.specs.declared.found.Broken.TheVariants.{Construct, Rule}
+use Rattle.typing.specs.declared.ctypes.found.Broken.TheVariants.{Construct, Rule}
 use Rattle.typing.specs.Examples.{AreSizes}
 use Rattle.typing.specs.Sample.{start, token, identifier, char_type, name, node, constant}
 use Rattle.typing.specs.Rules.{MemberOfPointed, AddressOf, Indirection, SizeOfExpression, SizeOfTypeName, OffsetOfMember, CastToType}

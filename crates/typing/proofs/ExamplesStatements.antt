@@ -6,9 +6,9 @@ use Rattle.cbase.specs.declared.tree.expr.ExprForm.TheViews.{outs-Name, outs-Cal
 use Rattle.cbase.specs.declared.tree.spec.TypeSpec.TheVariants.{Enum as EnumWords}
 use Rattle.cbase.specs.declared.tree.stmt.StmtForm.TheVariants.{Eval, If, While, Break, Continue}
 use Rattle.cbase.specs.Layout.{extent_of}
-use Rattle.ctypes.specs.declared.found.Broken.TheVariants.{Rule}
-use Rattle.ctypes.specs.Binary.{int_type}
-use Rattle.ctypes.specs.Kinds.{Kind}
+use Rattle.typing.specs.declared.ctypes.found.Broken.TheVariants.{Rule}
+use Rattle.typing.specs.ctypes.Binary.{int_type}
+use Rattle.typing.specs.ctypes.Kinds.{Kind}
 use Rattle.typing.specs.ExamplesOfStatements.{AreStatements}
 use Rattle.typing.specs.Faults.{unless}
 use Rattle.typing.specs.Forms.{name_in, value_in}

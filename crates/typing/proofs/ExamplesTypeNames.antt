@@ -6,16 +6,16 @@ use Rattle.cbase.specs.declared.structs.StructDef.{StructDef}
 use Rattle.cbase.specs.declared.tree.spec.BasicType.TheVariants.{Void, Bool as BoolWord, Integer}
 use Rattle.cbase.specs.declared.tree.spec.Rank.TheVariants.{Char, Int}
 use Rattle.cbase.specs.Layout.{extent_of}
-use Rattle.ctypes.specs.Kinds.{Kind, Struct}
-use Rattle.ctypes.specs.Members.{member_in, member_of}
-use Rattle.ctypes.proofs.ShapeKinds.{are_kinds}
+use Rattle.typing.specs.ctypes.Kinds.{Kind, Struct}
+use Rattle.typing.specs.ctypes.Members.{member_in, member_of}
+use Rattle.typing.proofs.ctypes.ShapeKinds.{are_kinds}
 use Rattle.typing.specs.Forms.{name_in}
 use Rattle.typing.specs.NamedTypes.{is_over}
 use Rattle.typing.specs.Paths.{NoFirst}
 use Rattle.typing.proofs.ExamplesSizes.{path_pieces, lead_by}
 use Rattle.cbase.specs.declared.tree.expr.ExprForm.TheViews.{outs-Name, outs-Cast, outs-SizeOf, outs-SizeOfType, outs-OffsetOf, outs-Call, outs-Basic, outs-Struct, outs-OfExpr, outs-Named, outs-Enum, outs-OfType, out-roll-TypeName}
 use Rattle.typing.specs.Faults.{fault}
-use Rattle.ctypes.specs.declared.found.Broken.TheVariants.{Construct, Rule}
+use Rattle.typing.specs.declared.ctypes.found.Broken.TheVariants.{Construct, Rule}
 use Rattle.typing.specs.Examples.{AreTypeNames}
 use Rattle.typing.specs.Sample.{start, token, sample}
 use Rattle.typing.specs.Rules.{ObjectName, FunctionAsOperand, NoArguments, CallOfFunction, SizeOfTypeName, OffsetOfMember, CastToType}

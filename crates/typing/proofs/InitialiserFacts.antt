@@ -19,10 +19,10 @@ use Rattle.cbase.specs.declared.tree.init.Init.TheVariants.{Braces}
 use Rattle.cbase.specs.declared.tree.init.InitPart.{InitPart}
 use Rattle.cbase.specs.Layout.{no_fields}
 use Rattle.cbase.specs.Offset.{fields_of, offset_of, offset_behind}
-use Rattle.ctypes.specs.declared.found.Broken.TheVariants.{Rule}
-use Rattle.ctypes.specs.Binary.{int_type}
-use Rattle.ctypes.specs.Converting.{converts}
-use Rattle.ctypes.specs.Kinds.{Kind, kind_of, decayed}
+use Rattle.typing.specs.declared.ctypes.found.Broken.TheVariants.{Rule}
+use Rattle.typing.specs.ctypes.Binary.{int_type}
+use Rattle.typing.specs.ctypes.Converting.{converts}
+use Rattle.typing.specs.ctypes.Kinds.{Kind, kind_of, decayed}
 use Rattle.typing.specs.declared.fault.Fault.{Fault}
 use Rattle.typing.specs.Faults.{fault, IsFirst}
 use Rattle.typing.specs.Initialisers.{Slot, Subject, Filled, One, Members, Items, Sets, Full, AsValue, AsPlace, Ends, IsConstant, EndsThere, LeadsOn, filled_in, filled_of, next_in, items_of, row_of, is_fixed, is_array_row, is_pointer_row, is_constant_row, if_constant, if_cast, if_item, value_leads, place_leads}

@@ -8,7 +8,7 @@ use Rattle.cbase.specs.declared.tree.expr.ExprForm.TheViews.{out-Init, out-InitP
 use Rattle.cbase.specs.declared.tree.identifier.Identifier.{Identifier}
 use Rattle.cbase.specs.declared.tree.init.Init.{Init}
 use Rattle.cbase.specs.declared.tree.init.InitPart.{InitPart}
-use Rattle.ctypes.specs.declared.found.Broken.TheVariants.{Rule}
+use Rattle.typing.specs.declared.ctypes.found.Broken.TheVariants.{Rule}
 use Rattle.typing.specs.declared.fault.Fault.{Fault}
 use Rattle.typing.specs.Declarations.{Given as Gives, ObjectGiven, LinkedGiven, TypeGiven, name_declared, object_row, in_braces, initialised, told_type, told_faults}
 use Rattle.typing.specs.Entities.{WholeType, ItemsOf}

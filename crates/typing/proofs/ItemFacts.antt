@@ -16,7 +16,7 @@ use Rattle.cbase.specs.declared.tree.item.Item.TheVariants.{Declare, Function}
 use Rattle.cbase.specs.declared.tree.spec.TypeSpec.{TypeSpec}
 use Rattle.cbase.specs.declared.tree.stmt.Stmt.{Stmt}
 use Rattle.cbase.specs.Layout.{layout_of}
-use Rattle.ctypes.specs.Kinds.{Kind, kind_of}
+use Rattle.typing.specs.ctypes.Kinds.{Kind, kind_of}
 use Rattle.typing.specs.declared.fault.Fault.{Fault}
 use Rattle.typing.specs.declared.size.Size.{Size}
 use Rattle.typing.specs.Declarations.{LinkedGiven, Parameter, given_type, IsAgain, found_of_name, name_faults, name_of, function_name_faults, function_given, found_of_all, faults_of_all, is_array, is_typedef}

@@ -1,7 +1,7 @@
 -- Of what is broken at an expression one thing is named.
 use Rattle.std.proofs.Common.{◌≡◌, List, [], ◌∷◌, ◌++◌, sym, ap, ◌∙◌, subst}
 use Rattle.std.specs.List.{AllByRecursion}
-use Rattle.ctypes.specs.Broken.{ComesBefore}
+use Rattle.typing.specs.ctypes.Broken.{ComesBefore}
 use Rattle.typing.specs.declared.fault.Fault.{Fault}
 use Rattle.typing.specs.Faults.{IsFirst}
 use Rattle.typing.specs.Outcomes.{Outcome, Passes, Refused, Handed, IsSettled}

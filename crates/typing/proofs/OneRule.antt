@@ -11,20 +11,20 @@ use Rattle.cbase.specs.declared.tree.operators.BinaryOp.{BinaryOp}
 use Rattle.cbase.specs.declared.tree.operators.BinaryOp.TheVariants.{Comma}
 use Rattle.cbase.specs.declared.tree.operators.UnaryOp.{UnaryOp}
 use Rattle.cbase.specs.declared.tree.operators.UnaryOp.TheVariants.{Address, Follow, Plus, Minus, Flip, Not}
-use Rattle.constants.specs.declared.meaning.Constant.{Constant as ConstantMeant}
-use Rattle.constants.specs.declared.meaning.Meaning.TheVariants.{NoConstant, FitsNoType, Known as Meant}
-use Rattle.constants.specs.Meanings.{Means, constant_of}
-use Rattle.constants.proofs.Exact.{one_reading}
-use Rattle.ctypes.specs.declared.binary.Group.{Group}
-use Rattle.ctypes.specs.declared.found.Broken.TheVariants.{Construct, Rule}
-use Rattle.ctypes.specs.Assigning.{assigned, updated}
-use Rattle.ctypes.specs.Binary.{group_of, operated}
-use Rattle.ctypes.specs.Choosing.{chosen}
-use Rattle.ctypes.specs.Converting.{cast}
-use Rattle.ctypes.specs.Kinds.{Kind, Integer, Pointer, Array, Struct, Void, decayed}
-use Rattle.ctypes.specs.Members.{indexed, member_through}
-use Rattle.ctypes.specs.Operands.{Operand}
-use Rattle.ctypes.specs.Unary.{unary, counted}
+use Rattle.typing.specs.declared.constants.meaning.Constant.{Constant as ConstantMeant}
+use Rattle.typing.specs.declared.constants.meaning.Meaning.TheVariants.{NoConstant, FitsNoType, Known as Meant}
+use Rattle.typing.specs.constants.Meanings.{Means, constant_of}
+use Rattle.typing.proofs.constants.Exact.{one_reading}
+use Rattle.typing.specs.declared.ctypes.binary.Group.{Group}
+use Rattle.typing.specs.declared.ctypes.found.Broken.TheVariants.{Construct, Rule}
+use Rattle.typing.specs.ctypes.Assigning.{assigned, updated}
+use Rattle.typing.specs.ctypes.Binary.{group_of, operated}
+use Rattle.typing.specs.ctypes.Choosing.{chosen}
+use Rattle.typing.specs.ctypes.Converting.{cast}
+use Rattle.typing.specs.ctypes.Kinds.{Kind, Integer, Pointer, Array, Struct, Void, decayed}
+use Rattle.typing.specs.ctypes.Members.{indexed, member_through}
+use Rattle.typing.specs.ctypes.Operands.{Operand}
+use Rattle.typing.specs.ctypes.Unary.{unary, counted}
 use Rattle.typing.specs.Calls.{call_faults}
 use Rattle.typing.specs.Entities.{Entity, ObjectIs, FunctionIs, EnumeratorIs, TypedefIs}
 use Rattle.typing.specs.declared.fault.Fault.{Fault}
@@ -39,7 +39,7 @@ use Rattle.typing.specs.Outcomes.{Outcome, Handed, Passes, Refused, IsSettled}
 use Rattle.typing.specs.Paths.{Way, LeadsFrom, way_faults, way_offset}
 use Rattle.typing.specs.Rules.{AtNode, UndeclaredName, TypeAsOperand, ObjectName, EnumeratorName, FunctionAsOperand, ConstantOfType, ConstantOfNoType, SpellingOfNoConstant, StatementExpression, AssertionFailed, Subscript, CallOfFunction, CallOfOther, MemberOfStruct, MemberOfPointed, Counting, AddressOf, Indirection, UnaryArithmetic, SizeOfExpression, SizeOfTypeName, OffsetOfMember, CastToType, ArithmeticOperator, AdditionOperator, SubtractionOperator, ShiftOperator, RelationalOperator, EqualityOperator, LogicalOperator, ConditionalOperator, Assignment, CompoundAssignment, CommaOperator}
 use Rattle.typing.specs.Told.{Told, OperandIs, IndexIs}
-use Rattle.values.specs.Values.{is_whole, unary_value, binary_value, choice_value, word_of}
+use Rattle.typing.specs.values.Values.{is_whole, unary_value, binary_value, choice_value, word_of}
 use Rattle.typing.proofs.OneFault.{one_first, one_settled, settled_alike}
 use Rattle.typing.proofs.OneWay.{one_way, one_arguments}
 

@@ -5,8 +5,8 @@ use Rattle.cbase.specs.declared.ctype.CType.{CType}
 use Rattle.cbase.specs.declared.place.Place.{Place}
 use Rattle.cbase.specs.declared.structs.StructDef.{StructDef}
 use Rattle.cbase.specs.declared.tree.expr.Expr.{Expr}
-use Rattle.ctypes.specs.declared.found.Broken.{Broken}
-use Rattle.ctypes.specs.Broken.{Judgement, Typed, Breaks}
+use Rattle.typing.specs.declared.ctypes.found.Broken.{Broken}
+use Rattle.typing.specs.ctypes.Broken.{Judgement, Typed, Breaks}
 use Rattle.typing.specs.Calls.{Argument}
 use Rattle.typing.specs.Forms.{Step}
 use Rattle.typing.specs.Idiom.{plus, times}

@@ -13,20 +13,20 @@ use Rattle.cbase.specs.declared.tree.expr.ExprForm.TheViews.{outs-Name, outs-Con
 use Rattle.cbase.specs.declared.tree.operators.UnaryOp.TheVariants.{Minus}
 use Rattle.cbase.specs.Layout.{layout_of, struct_at, fields_layout, no_fields, scalar, repeated}
 use Rattle.cbase.proofs.Types.{type_layout-Void, type_layout-Bool, type_layout-Int, type_layout-Pointer, type_layout-Array, type_layout-Struct}
-use Rattle.constants.specs.declared.meaning.Constant.{Constant}
-use Rattle.constants.specs.declared.meaning.Meaning.TheVariants.{Known as Meant}
-use Rattle.constants.specs.Deciding.{letter, integer, meaning_of}
-use Rattle.constants.specs.Meanings.{Means}
-use Rattle.constants.proofs.Exact.{means}
-use Rattle.ctypes.specs.declared.found.Broken.{Broken}
-use Rattle.ctypes.specs.declared.found.Broken.TheVariants.{Construct, Rule}
-use Rattle.ctypes.specs.declared.kind.Target.TheVariants.{Void as VoidTarget, Sized, Unsized}
-use Rattle.ctypes.specs.Binary.{int_type}
-use Rattle.ctypes.specs.Integers.{integer as integer_of, truth}
-use Rattle.ctypes.specs.Kinds.{Kind, Integer, Pointer, Array, Struct, Void, kind_of, target_in, target_of, has_size}
-use Rattle.ctypes.specs.Operands.{Operand}
-use Rattle.ctypes.specs.Unary.{size_type}
-use Rattle.ctypes.proofs.ShapeKinds.{are_kinds, are_targets}
+use Rattle.typing.specs.declared.constants.meaning.Constant.{Constant}
+use Rattle.typing.specs.declared.constants.meaning.Meaning.TheVariants.{Known as Meant}
+use Rattle.typing.specs.constants.Deciding.{letter, integer, meaning_of}
+use Rattle.typing.specs.constants.Meanings.{Means}
+use Rattle.typing.proofs.constants.Exact.{means}
+use Rattle.typing.specs.declared.ctypes.found.Broken.{Broken}
+use Rattle.typing.specs.declared.ctypes.found.Broken.TheVariants.{Construct, Rule}
+use Rattle.typing.specs.declared.ctypes.kind.Target.TheVariants.{Void as VoidTarget, Sized, Unsized}
+use Rattle.typing.specs.ctypes.Binary.{int_type}
+use Rattle.typing.specs.ctypes.Integers.{integer as integer_of, truth}
+use Rattle.typing.specs.ctypes.Kinds.{Kind, Integer, Pointer, Array, Struct, Void, kind_of, target_in, target_of, has_size}
+use Rattle.typing.specs.ctypes.Operands.{Operand}
+use Rattle.typing.specs.ctypes.Unary.{size_type}
+use Rattle.typing.proofs.ctypes.ShapeKinds.{are_kinds, are_targets}
 use Rattle.typing.specs.Entities.{ObjectEntity, ObjectIs}
 use Rattle.typing.specs.declared.fault.Fault.{Fault}
 use Rattle.typing.specs.Faults.{fault, unless, IsFirst}

@@ -11,9 +11,9 @@ use Rattle.cbase.specs.declared.tree.stmt.Stmt.{Stmt}
 use Rattle.cbase.specs.declared.tree.stmt.StmtForm.TheVariants.{Eval, Block}
 use Rattle.cbase.specs.Layout.{layout_of, struct_at, scalar, repeated}
 use Rattle.cbase.proofs.Types.{type_layout-Void, type_layout-Int, type_layout-Pointer, type_layout-Array}
-use Rattle.ctypes.specs.declared.found.Broken.TheVariants.{Rule}
-use Rattle.ctypes.specs.Binary.{int_type, is_scalar}
-use Rattle.ctypes.specs.Kinds.{Kind, kind_of, decayed}
+use Rattle.typing.specs.declared.ctypes.found.Broken.TheVariants.{Rule}
+use Rattle.typing.specs.ctypes.Binary.{int_type, is_scalar}
+use Rattle.typing.specs.ctypes.Kinds.{Kind, kind_of, decayed}
 use Rattle.typing.specs.Calls.{is_struct}
 use Rattle.typing.specs.declared.fault.Fault.{Fault}
 use Rattle.typing.specs.Entities.{ObjectIs}

@@ -14,10 +14,10 @@ use Rattle.cbase.specs.declared.tree.expr.ExprForm.TheViews.{out-ExprForm, out-S
 use Rattle.cbase.specs.declared.tree.identifier.Identifier.{Identifier}
 use Rattle.cbase.specs.declared.tree.spec.BasicType.{BasicType}
 use Rattle.cbase.specs.declared.tree.stmt.Stmt.{Stmt}
-use Rattle.ctypes.specs.declared.found.Broken.TheVariants.{Rule}
-use Rattle.ctypes.specs.Binary.{int_type}
-use Rattle.ctypes.specs.Kinds.{Kind}
-use Rattle.ctypes.specs.Operands.{Operand}
+use Rattle.typing.specs.declared.ctypes.found.Broken.TheVariants.{Rule}
+use Rattle.typing.specs.ctypes.Binary.{int_type}
+use Rattle.typing.specs.ctypes.Kinds.{Kind}
+use Rattle.typing.specs.ctypes.Operands.{Operand}
 use Rattle.typing.specs.Calls.{is_struct}
 use Rattle.typing.specs.declared.size.Size.{Size}
 use Rattle.typing.specs.declared.size.Size.TheVariants.{LeftOut}
@@ -33,7 +33,7 @@ use Rattle.typing.specs.Pieces.{Piece, Loaded, Unloaded, Called, OfType, Constan
 use Rattle.typing.specs.Rules.{AtNode}
 use Rattle.typing.specs.Told.{Told, OperandIs, FunctionNamed, NoFunction, TypeIs, IndexIs, SizeIs, ValueIs}
 use Rattle.typing.specs.Typing.{ExpressionIs, PieceIs, PiecesAre, WordsAre, SizesAre, NameOfTypeIs, StatementsAre, StatementIs, named, Finds, RefusedInside, Walked, NoPieces, MorePieces, RefusedHere, RefusedBehind, LoadedValue, LoadOfIncomplete, LoadedRefused, UnloadedOperand, UnloadedRefused, CalledFunction, CalledOther, CalledRefused, TypeInside, TypeRefused, IndexOfPath, IndexNotConstant, IndexRefused, SizeOfItems, SizeUnderOne, SizeRefused, BlockInside, BlockRefused, NoStatements, LastExpression, LastStruct, LastRefused, MoreStatements, StatementRefused, StatementsRefused, BasicSpecifier, TypedefSpecifier, StructSpecifier, StructDeclared, StructIsEnum, EnumSpecifier, EnumDeclared, EnumIsStruct, StructOfNothing, EnumOfNothing, TypeofExpression, TypeofRefused, TypeofType, NoSizes, SizeLeftOut, SizeLeftOutRefused, MoreSizes, SizesRefusedHere, SizesRefusedBehind, TypeNamed, WordsRefused, SizesRefused}
-use Rattle.values.specs.Values.{word_of}
+use Rattle.typing.specs.values.Values.{word_of}
 use Rattle.typing.proofs.OneRule.{one_rule}
 use Rattle.typing.proofs.Sequences.{Same}
 

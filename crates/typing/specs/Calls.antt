@@ -3,13 +3,13 @@ use Rattle.std.specs.Prelude.{ℕ, suc, ◌++◌, ◌*◌, ◌||◌, ◌&&◌, n
 use Rattle.std.specs.List.{list_any}
 use Rattle.std.specs.Str.{bytes_eq}
 use Rattle.cbase.specs.declared.place.Place.{Place}
-use Rattle.ctypes.specs.declared.found.Broken.TheVariants.{Construct, Rule}
-use Rattle.ctypes.specs.Converting.{converts}
-use Rattle.ctypes.specs.Kinds.{Kind, Integer, Pointer, Array, Struct, Void, decayed}
-use Rattle.ctypes.specs.Operands.{Operand}
+use Rattle.typing.specs.declared.ctypes.found.Broken.TheVariants.{Construct, Rule}
+use Rattle.typing.specs.ctypes.Converting.{converts}
+use Rattle.typing.specs.ctypes.Kinds.{Kind, Integer, Pointer, Array, Struct, Void, decayed}
+use Rattle.typing.specs.ctypes.Operands.{Operand}
 use Rattle.typing.specs.declared.fault.Fault.{Fault}
 use Rattle.typing.specs.Faults.{unless}
-use Rattle.values.specs.Values.{cast_value}
+use Rattle.typing.specs.values.Values.{cast_value}
 
 -- an argument: its place, what it is as an operand, and its value where it is an integer constant expression
 pub record Argument : Type 0 where

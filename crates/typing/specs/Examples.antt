@@ -10,9 +10,9 @@ use Rattle.cbase.specs.declared.tree.spec.BasicType.TheVariants.{Void, Bool as B
 use Rattle.cbase.specs.declared.tree.spec.Rank.TheVariants.{Char, Int, Long}
 use Rattle.cbase.specs.declared.tree.spec.TypeSpec.TheVariants.{Basic, Named, Struct as StructWords, Enum as EnumWords, OfExpr, OfType}
 use Rattle.cbase.specs.declared.tree.stmt.StmtForm.TheVariants.{Eval}
-use Rattle.ctypes.specs.declared.found.Broken.TheVariants.{Construct, Rule}
-use Rattle.ctypes.specs.Binary.{int_type}
-use Rattle.ctypes.specs.Unary.{size_type}
+use Rattle.typing.specs.declared.ctypes.found.Broken.TheVariants.{Construct, Rule}
+use Rattle.typing.specs.ctypes.Binary.{int_type}
+use Rattle.typing.specs.ctypes.Unary.{size_type}
 use Rattle.typing.specs.Entities.{FunctionIs}
 use Rattle.typing.specs.Faults.{fault}
 use Rattle.typing.specs.Known.{Known}

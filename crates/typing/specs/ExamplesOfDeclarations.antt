@@ -5,8 +5,8 @@ use Rattle.cbase.specs.declared.tree.spec.BasicType.TheVariants.{Void, Integer}
 use Rattle.cbase.specs.declared.tree.spec.Rank.TheVariants.{Char, Int}
 use Rattle.cbase.specs.declared.tree.spec.TypeSpec.TheVariants.{Basic, Struct as StructWords, Enum as EnumWords, OfExpr, OfType}
 use Rattle.cbase.specs.declared.tree.stmt.StmtForm.TheVariants.{Eval, Block, Declare}
-use Rattle.ctypes.specs.declared.found.Broken.TheVariants.{Construct, Rule}
-use Rattle.ctypes.specs.Binary.{int_type}
+use Rattle.typing.specs.declared.ctypes.found.Broken.TheVariants.{Construct, Rule}
+use Rattle.typing.specs.ctypes.Binary.{int_type}
 use Rattle.typing.specs.Sample.{name, constant, identifier, type_name, declaration, field_of_bits, statement_at, declare, declarator, function_declarator, parameter_of, in_function, PassesIn, IsRefusedIn, MakesIn}
 
 -- declarations (C11 6.7), in the body of a function

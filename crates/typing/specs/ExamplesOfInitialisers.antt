@@ -10,8 +10,8 @@ use Rattle.cbase.specs.declared.tree.spec.BasicType.TheVariants.{Void, Integer}
 use Rattle.cbase.specs.declared.tree.spec.Rank.TheVariants.{Char, Int}
 use Rattle.cbase.specs.declared.tree.spec.TypeSpec.TheVariants.{Basic, Struct as StructWords}
 use Rattle.cbase.specs.declared.tree.stmt.StmtForm.TheVariants.{Block, Declare}
-use Rattle.ctypes.specs.declared.found.Broken.TheVariants.{Construct, Rule}
-use Rattle.ctypes.specs.Binary.{int_type}
+use Rattle.typing.specs.declared.ctypes.found.Broken.TheVariants.{Construct, Rule}
+use Rattle.typing.specs.ctypes.Binary.{int_type}
 use Rattle.typing.specs.Sample.{char_type, node, name, constant, identifier, type_name, statement_at, declare, declarator, value_of, part, part_named, in_function, PassesIn, IsRefusedIn, MakesIn}
 
 -- initialisers (C11 6.7.9), in the body of a function

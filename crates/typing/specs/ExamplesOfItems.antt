@@ -10,8 +10,8 @@ use Rattle.cbase.specs.declared.tree.spec.BasicType.TheVariants.{Void, Integer}
 use Rattle.cbase.specs.declared.tree.spec.Rank.TheVariants.{Char, Int}
 use Rattle.cbase.specs.declared.tree.spec.TypeSpec.TheVariants.{Basic, Struct as StructWords, Enum as EnumWords, OfExpr, OfType}
 use Rattle.cbase.specs.declared.tree.stmt.StmtForm.TheVariants.{Block, Break, Declare, Eval, Return}
-use Rattle.ctypes.specs.declared.found.Broken.TheVariants.{Construct, Rule}
-use Rattle.ctypes.specs.Binary.{int_type}
+use Rattle.typing.specs.declared.ctypes.found.Broken.TheVariants.{Construct, Rule}
+use Rattle.typing.specs.ctypes.Binary.{int_type}
 use Rattle.typing.specs.Outcomes.{StoreHanded, ObjectHanded, LinkHanded, FunctionHanded, ParameterHanded}
 use Rattle.typing.specs.Sample.{char_type, enumerator, type_name, token, node, name, constant, identifier, statement_at, declare, declarator, function_declarator, parameter_of, value_of, part}
 use Rattle.typing.specs.SampleFile.{PassInFile, HandOn, AreRefused}

@@ -3,7 +3,7 @@ use Rattle.std.specs.Prelude.{[], ◌∷◌, None, Some, codes}
 use Rattle.cbase.specs.declared.tree.expr.ExprForm.TheVariants.{SizeOfType, Call, Inner}
 use Rattle.cbase.specs.declared.tree.spec.TypeSpec.TheVariants.{Enum as EnumWords}
 use Rattle.cbase.specs.declared.tree.stmt.StmtForm.TheVariants.{Eval, Block, If, While, Do, For, Break, Continue, Return}
-use Rattle.ctypes.specs.declared.found.Broken.TheVariants.{Rule}
+use Rattle.typing.specs.declared.ctypes.found.Broken.TheVariants.{Rule}
 use Rattle.typing.specs.Sample.{start, token, node, name, type_name, enumerator, statement_at, in_function, in_procedure, PassesIn, IsRefusedIn}
 
 -- statements (C11 6.8), in the body of a function whose result is an int, of one without, and outside of functions

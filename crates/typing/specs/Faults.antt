@@ -4,9 +4,9 @@
 use Rattle.std.specs.Prelude.{◌≡◌, Bool, true, false, List, [], ◌∷◌, ◌++◌, Option, None, Some, nat_le, if◌then◌else◌}
 use Rattle.std.specs.List.{AllByRecursion}
 use Rattle.cbase.specs.declared.place.Place.{Place}
-use Rattle.ctypes.specs.declared.found.Broken.{Broken}
-use Rattle.ctypes.specs.declared.found.Broken.TheVariants.{Construct, Rule}
-use Rattle.ctypes.specs.Broken.{Judgement, Typed, Breaks, ComesBefore}
+use Rattle.typing.specs.declared.ctypes.found.Broken.{Broken}
+use Rattle.typing.specs.declared.ctypes.found.Broken.TheVariants.{Construct, Rule}
+use Rattle.typing.specs.ctypes.Broken.{Judgement, Typed, Breaks, ComesBefore}
 use Rattle.typing.specs.declared.fault.Fault.{Fault}
 
 abbrev pub fault : Place → Broken → Fault

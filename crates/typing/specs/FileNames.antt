@@ -7,7 +7,7 @@ use Rattle.cbase.specs.declared.place.Place.{Place}
 use Rattle.cbase.specs.declared.structs.StructDef.{StructDef}
 use Rattle.cbase.specs.declared.tree.decl.Storage.{Storage}
 use Rattle.cbase.specs.declared.tree.decl.Storage.TheVariants.{Plain, Typedef, Extern, Static}
-use Rattle.ctypes.specs.declared.found.Broken.TheVariants.{Rule}
+use Rattle.typing.specs.declared.ctypes.found.Broken.TheVariants.{Rule}
 use Rattle.typing.specs.declared.fault.Fault.{Fault}
 use Rattle.typing.specs.declared.size.Size.{Size}
 use Rattle.typing.specs.Declarations.{ObjectGiven, LinkedGiven, given_type, is_complete, found_of_name, name_faults, composite_type, name_declared, object_row, told_faults}

@@ -10,8 +10,8 @@ use Rattle.cbase.specs.declared.tree.decl.Param.{Param}
 use Rattle.cbase.specs.declared.tree.decl.Storage.{Storage}
 use Rattle.cbase.specs.declared.tree.expr.ExprForm.TheViews.{out-Param}
 use Rattle.cbase.specs.declared.tree.identifier.Identifier.{Identifier}
-use Rattle.ctypes.specs.declared.found.Broken.TheVariants.{Construct, Rule}
-use Rattle.ctypes.specs.Kinds.{kind_of}
+use Rattle.typing.specs.declared.ctypes.found.Broken.TheVariants.{Construct, Rule}
+use Rattle.typing.specs.ctypes.Kinds.{kind_of}
 use Rattle.typing.specs.declared.fault.Fault.{Fault}
 use Rattle.typing.specs.Calls.{is_struct}
 use Rattle.typing.specs.Declarations.{Parameter, composite, faults_of_function, function_given}

@@ -6,7 +6,7 @@ use Rattle.cbase.specs.declared.ctype.CType.{CType}
 use Rattle.cbase.specs.declared.structs.StructDef.{StructDef}
 use Rattle.cbase.specs.Layout.{layout_of}
 use Rattle.cbase.specs.Offset.{fields_of, index_of, offset_of}
-use Rattle.ctypes.specs.Kinds.{Kind, Integer, Pointer, Array, Struct, kind_of}
+use Rattle.typing.specs.ctypes.Kinds.{Kind, Integer, Pointer, Array, Struct, kind_of}
 use Rattle.typing.specs.declared.idiom.Idiom.{Idiom}
 use Rattle.typing.specs.declared.idiom.Idiom.TheVariants.{Outside, NullPointer, MemberAt, AddressAt}
 

@@ -15,7 +15,7 @@ use Rattle.cbase.specs.declared.tree.identifier.Identifier.{Identifier}
 use Rattle.cbase.specs.declared.tree.operators.UnaryOp.TheVariants.{Address}
 use Rattle.cbase.specs.Layout.{layout_of}
 use Rattle.cbase.specs.Offset.{fields_of, index_of, offset_of}
-use Rattle.ctypes.specs.declared.found.Broken.TheVariants.{Rule}
+use Rattle.typing.specs.declared.ctypes.found.Broken.TheVariants.{Rule}
 use Rattle.typing.specs.Entities.{Entity, ObjectIs}
 use Rattle.typing.specs.Faults.{fault}
 use Rattle.typing.specs.Forms.{Form}

@@ -4,10 +4,10 @@ use Rattle.cbase.specs.declared.ctype.CType.{CType}
 use Rattle.cbase.specs.declared.ctype.CType.TheVariants.{Pointer as PointerType}
 use Rattle.cbase.specs.declared.place.Place.{Place}
 use Rattle.cbase.specs.declared.structs.StructDef.{StructDef}
-use Rattle.ctypes.specs.declared.found.Broken.{Broken}
-use Rattle.ctypes.specs.Broken.{Judgement, Typed, Breaks}
-use Rattle.ctypes.specs.Kinds.{Kind, Integer, Pointer, Array, Struct, Void, kind_of, has_size}
-use Rattle.ctypes.specs.Operands.{Operand}
+use Rattle.typing.specs.declared.ctypes.found.Broken.{Broken}
+use Rattle.typing.specs.ctypes.Broken.{Judgement, Typed, Breaks}
+use Rattle.typing.specs.ctypes.Kinds.{Kind, Integer, Pointer, Array, Struct, Void, kind_of, has_size}
+use Rattle.typing.specs.ctypes.Operands.{Operand}
 use Rattle.typing.specs.Entities.{Entity}
 use Rattle.typing.specs.Faults.{fault}
 use Rattle.typing.specs.declared.idiom.Idiom.{Idiom}

@@ -7,7 +7,7 @@ use Rattle.cbase.specs.declared.structs.StructDef.{StructDef}
 use Rattle.cbase.specs.declared.tree.expr.Expr.{Expr}
 use Rattle.cbase.specs.declared.tree.item.Item.{Item}
 use Rattle.cbase.specs.declared.tree.stmt.Stmt.{Stmt}
-use Rattle.ctypes.specs.declared.found.Broken.{Broken}
+use Rattle.typing.specs.declared.ctypes.found.Broken.{Broken}
 use Rattle.typing.specs.declared.fault.Fault.{Fault}
 use Rattle.typing.specs.Faults.{fault, least, all_at, IsFirst}
 use Rattle.typing.specs.FileScope.{FileScope}

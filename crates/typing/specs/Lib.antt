@@ -29,3 +29,7 @@ pub mod SampleFile
 pub mod Statements
 pub mod Told
 pub mod Typing
+pub mod constants
+pub mod ctypes
+pub mod environment
+pub mod values

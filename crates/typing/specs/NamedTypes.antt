@@ -10,10 +10,10 @@ use Rattle.cbase.specs.declared.tree.spec.BasicType.TheVariants.{Void as VoidWor
 use Rattle.cbase.specs.IntegerSizes.{bytes_of_rank}
 use Rattle.cbase.specs.Layout.{layout_of}
 use Rattle.arithmetic.specs.Value.{value}
-use Rattle.ctypes.specs.declared.found.Broken.{Broken}
-use Rattle.ctypes.specs.declared.found.Broken.TheVariants.{Construct, Rule}
-use Rattle.ctypes.specs.Kinds.{Kind, Integer}
-use Rattle.values.specs.Values.{is_whole}
+use Rattle.typing.specs.declared.ctypes.found.Broken.{Broken}
+use Rattle.typing.specs.declared.ctypes.found.Broken.TheVariants.{Construct, Rule}
+use Rattle.typing.specs.ctypes.Kinds.{Kind, Integer}
+use Rattle.typing.specs.values.Values.{is_whole}
 use Rattle.typing.specs.declared.size.Size.{Size}
 use Rattle.typing.specs.declared.size.Size.TheVariants.{Counted, NotConstant, LeftOut}
 use Rattle.typing.specs.Entities.{Entity, ObjectIs, FunctionIs, EnumeratorIs, TypedefIs}

@@ -13,14 +13,14 @@ use Rattle.cbase.specs.declared.tree.operators.UnaryOp.TheVariants.{Address, Fol
 use Rattle.cbase.specs.declared.tree.stmt.Stmt.{Stmt}
 use Rattle.cbase.specs.Layout.{layout_of, extent_of}
 use Rattle.arithmetic.specs.Conversion.{converted, truth}
-use Rattle.constants.specs.declared.meaning.Constant.{Constant}
-use Rattle.ctypes.specs.declared.found.Broken.{Broken}
-use Rattle.ctypes.specs.declared.found.Broken.TheVariants.{Construct, Rule}
-use Rattle.ctypes.specs.declared.kind.IntegerType.{IntegerType}
-use Rattle.ctypes.specs.declared.kind.Target.TheVariants.{Void as VoidTarget}
-use Rattle.ctypes.specs.Binary.{int_type}
-use Rattle.ctypes.specs.Kinds.{Kind, Integer, Pointer, Array, Struct, Void, has_size}
-use Rattle.ctypes.specs.Unary.{size_type}
+use Rattle.typing.specs.declared.constants.meaning.Constant.{Constant}
+use Rattle.typing.specs.declared.ctypes.found.Broken.{Broken}
+use Rattle.typing.specs.declared.ctypes.found.Broken.TheVariants.{Construct, Rule}
+use Rattle.typing.specs.declared.ctypes.kind.IntegerType.{IntegerType}
+use Rattle.typing.specs.declared.ctypes.kind.Target.TheVariants.{Void as VoidTarget}
+use Rattle.typing.specs.ctypes.Binary.{int_type}
+use Rattle.typing.specs.ctypes.Kinds.{Kind, Integer, Pointer, Array, Struct, Void, has_size}
+use Rattle.typing.specs.ctypes.Unary.{size_type}
 use Rattle.typing.specs.Entities.{Entity, ObjectEntity, FunctionEntity, ObjectIs, FunctionIs, EnumeratorIs, TypedefIs}
 use Rattle.typing.specs.declared.fault.Fault.{Fault}
 use Rattle.typing.specs.declared.idiom.Idiom.TheVariants.{Outside}
@@ -28,7 +28,7 @@ use Rattle.typing.specs.Faults.{fault, unless}
 use Rattle.typing.specs.Idiom.{offset_in, null_cast, member_offset}
 use Rattle.typing.specs.Known.{Known, valued, is_zero}
 use Rattle.typing.specs.Forms.{value_in}
-use Rattle.values.specs.Values.{is_whole, cast_value}
+use Rattle.typing.specs.values.Values.{is_whole, cast_value}
 
 -- an object by its name (C11 6.5.1p2)
 abbrev pub object_type : Option CType → CType

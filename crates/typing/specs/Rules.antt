@@ -16,20 +16,20 @@ use Rattle.cbase.specs.declared.tree.operators.BinaryOp.TheVariants.{Comma}
 use Rattle.cbase.specs.declared.tree.operators.UnaryOp.{UnaryOp}
 use Rattle.cbase.specs.declared.tree.operators.UnaryOp.TheVariants.{Address, Follow}
 use Rattle.cbase.specs.declared.tree.stmt.Stmt.{Stmt}
-use Rattle.constants.specs.declared.meaning.Constant.{Constant as ConstantMeant}
-use Rattle.constants.specs.declared.meaning.Meaning.TheVariants.{NoConstant, FitsNoType, Known as Meant}
-use Rattle.constants.specs.Meanings.{Means}
-use Rattle.ctypes.specs.declared.binary.Group.TheVariants.{Arithmetic, Shift, Sum, Difference, Order, Equality, Logic, Sequence}
-use Rattle.ctypes.specs.declared.found.Broken.TheVariants.{Construct, Rule}
-use Rattle.ctypes.specs.Assigning.{assigned, updated}
-use Rattle.ctypes.specs.Binary.{group_of, operated}
-use Rattle.ctypes.specs.Broken.{Judgement}
-use Rattle.ctypes.specs.Choosing.{chosen}
-use Rattle.ctypes.specs.Converting.{cast}
-use Rattle.ctypes.specs.Kinds.{Kind, kind_of, decayed}
-use Rattle.ctypes.specs.Members.{indexed, member_of, member_through}
-use Rattle.ctypes.specs.Operands.{Operand}
-use Rattle.ctypes.specs.Unary.{unary, counted}
+use Rattle.typing.specs.declared.constants.meaning.Constant.{Constant as ConstantMeant}
+use Rattle.typing.specs.declared.constants.meaning.Meaning.TheVariants.{NoConstant, FitsNoType, Known as Meant}
+use Rattle.typing.specs.constants.Meanings.{Means}
+use Rattle.typing.specs.declared.ctypes.binary.Group.TheVariants.{Arithmetic, Shift, Sum, Difference, Order, Equality, Logic, Sequence}
+use Rattle.typing.specs.declared.ctypes.found.Broken.TheVariants.{Construct, Rule}
+use Rattle.typing.specs.ctypes.Assigning.{assigned, updated}
+use Rattle.typing.specs.ctypes.Binary.{group_of, operated}
+use Rattle.typing.specs.ctypes.Broken.{Judgement}
+use Rattle.typing.specs.ctypes.Choosing.{chosen}
+use Rattle.typing.specs.ctypes.Converting.{cast}
+use Rattle.typing.specs.ctypes.Kinds.{Kind, kind_of, decayed}
+use Rattle.typing.specs.ctypes.Members.{indexed, member_of, member_through}
+use Rattle.typing.specs.ctypes.Operands.{Operand}
+use Rattle.typing.specs.ctypes.Unary.{unary, counted}
 use Rattle.typing.specs.Calls.{Argument, call_faults}
 use Rattle.typing.specs.Entities.{ObjectEntity, FunctionEntity, ObjectIs, FunctionIs, EnumeratorIs, TypedefIs}
 use Rattle.typing.specs.declared.fault.Fault.{Fault}
@@ -44,7 +44,7 @@ use Rattle.typing.specs.Outcomes.{Outcome, Handed, Passes, Refused, IsSettled}
 use Rattle.typing.specs.Paths.{Way, LeadsFrom, way_faults, way_offset}
 use Rattle.typing.specs.Forms.{Form}
 use Rattle.typing.specs.Told.{Told, OperandIs, FunctionNamed, NoFunction, TypeIs, IndexIs, ValueIs}
-use Rattle.values.specs.Values.{unary_value, binary_value, choice_value, word_of}
+use Rattle.typing.specs.values.Values.{unary_value, binary_value, choice_value, word_of}
 
 -- arguments with their expressions, where the structs are these
 pub data AreArguments (structs : List StructDef) : List Expr → List Told → List Argument → Type 0 where

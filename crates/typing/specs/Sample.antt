@@ -34,9 +34,9 @@ use Rattle.cbase.specs.declared.tree.spec.TypeSpec.{TypeSpec}
 use Rattle.cbase.specs.declared.tree.stmt.Stmt.{Stmt}
 use Rattle.cbase.specs.declared.tree.stmt.StmtForm.{StmtForm}
 use Rattle.cbase.specs.Completing.{fieldless, completed}
-use Rattle.ctypes.specs.declared.found.Broken.{Broken}
-use Rattle.ctypes.specs.Binary.{int_type}
-use Rattle.ctypes.specs.Unary.{size_type}
+use Rattle.typing.specs.declared.ctypes.found.Broken.{Broken}
+use Rattle.typing.specs.ctypes.Binary.{int_type}
+use Rattle.typing.specs.ctypes.Unary.{size_type}
 use Rattle.typing.specs.Entities.{Entity, ObjectEntity, FunctionEntity, DeclaredType, WholeType, ItemsOf, Linked, ObjectLinked, FunctionLinked, Definition, Tentative, Defined, NameHere, OwnHere, TypedefHere, LinkedHere, ObjectIs, FunctionIs, EnumeratorIs, TypedefIs, Tag, StructTag, EnumTag, TagHere, StructHere, EnumHere}
 use Rattle.typing.specs.Faults.{fault}
 use Rattle.typing.specs.Known.{Known}

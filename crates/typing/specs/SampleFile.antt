@@ -6,7 +6,7 @@
 use Rattle.std.specs.Prelude.{◌≡◌, ℕ, List, [], ◌∷◌, map, codes, true, false, Option, None, Some}
 use Rattle.cbase.specs.declared.place.Place.{Place}
 use Rattle.cbase.specs.declared.tree.item.Item.{Item}
-use Rattle.ctypes.specs.declared.found.Broken.{Broken}
+use Rattle.typing.specs.declared.ctypes.found.Broken.{Broken}
 use Rattle.typing.specs.Entities.{ObjectIs, Definition, NotDefined}
 use Rattle.typing.specs.Faults.{fault}
 use Rattle.typing.specs.FileScope.{FileScope}

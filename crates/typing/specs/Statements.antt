@@ -7,10 +7,10 @@ use Rattle.cbase.specs.declared.tree.decl.Decl.{Decl}
 use Rattle.cbase.specs.declared.tree.expr.Expr.{Expr}
 use Rattle.cbase.specs.declared.tree.expr.ExprForm.TheOpen.{Declare, Eval, Block, If, While, Do, For, Break, Continue, Return}
 use Rattle.cbase.specs.declared.tree.stmt.Stmt.{Stmt}
-use Rattle.ctypes.specs.declared.found.Broken.TheVariants.{Rule}
-use Rattle.ctypes.specs.Binary.{is_scalar}
-use Rattle.ctypes.specs.Converting.{converts}
-use Rattle.ctypes.specs.Kinds.{Kind, Integer, Pointer, Array, Struct, Void, kind_of, decayed}
+use Rattle.typing.specs.declared.ctypes.found.Broken.TheVariants.{Rule}
+use Rattle.typing.specs.ctypes.Binary.{is_scalar}
+use Rattle.typing.specs.ctypes.Converting.{converts}
+use Rattle.typing.specs.ctypes.Kinds.{Kind, Integer, Pointer, Array, Struct, Void, kind_of, decayed}
 use Rattle.typing.specs.Calls.{is_struct}
 use Rattle.typing.specs.declared.fault.Fault.{Fault}
 use Rattle.typing.specs.Faults.{fault, unless}

@@ -26,9 +26,9 @@ use Rattle.cbase.specs.declared.tree.spec.FieldDecl.{FieldDecl}
 use Rattle.cbase.specs.declared.tree.spec.FieldName.{FieldName}
 use Rattle.cbase.specs.declared.tree.stmt.Stmt.{Stmt}
 use Rattle.cbase.specs.Completing.{is_open}
-use Rattle.ctypes.specs.declared.found.Broken.TheVariants.{Rule}
-use Rattle.ctypes.specs.Binary.{int_type}
-use Rattle.ctypes.specs.Operands.{Operand}
+use Rattle.typing.specs.declared.ctypes.found.Broken.TheVariants.{Rule}
+use Rattle.typing.specs.ctypes.Binary.{int_type}
+use Rattle.typing.specs.ctypes.Operands.{Operand}
 use Rattle.typing.specs.declared.fault.Fault.{Fault}
 use Rattle.typing.specs.declared.size.Size.{Size}
 use Rattle.typing.specs.declared.size.Size.TheVariants.{LeftOut}
@@ -48,7 +48,7 @@ use Rattle.typing.specs.Pieces.{Piece, Loaded, Unloaded, Called, OfType as OfTyp
 use Rattle.typing.specs.Rules.{AtNode}
 use Rattle.typing.specs.Statements.{Demand, Returned, Stored, Surplus, StatementPart, ValueOf, Whole, Branch, LoopBody, StatementsOf, LeavesLoop, ReturnsNothing, Returns, Declares, parts_in, has_scope, faults_of_value, return_faults, without_value}
 use Rattle.typing.specs.Told.{Told, OperandIs, FunctionNamed, NoFunction, TypeIs, IndexIs, SizeIs, ValueIs}
-use Rattle.values.specs.Values.{word_of, int_value, next_value}
+use Rattle.typing.specs.values.Values.{word_of, int_value, next_value}
 
 -- what is said of which part of a tree
 pub data Saying : Type 0 where

@@ -1,5 +1,5 @@
 use cbase::Place;
-use ctypes::Broken;
+use crate::ctypes::Broken;
 
 /// What is broken in a text, with the place where it is.
 #[derive(Clone, Copy)]

@@ -6,11 +6,15 @@
 //! functions its laws.
 #![tactic(auto)]
 
+pub mod constants;
+pub mod ctypes;
+pub mod environment;
 mod fault;
 mod idiom;
 mod laws;
 mod rows;
 mod size;
+pub mod values;
 
 pub use fault::Fault;
 pub use idiom::Idiom;

@@ -13,7 +13,7 @@ use Rattle.ctokens.specs.ItemRows.{item_rows}
 use Rattle.cbase.specs.declared.abi.Abi.{Abi}
 use Rattle.cbase.specs.declared.abi.Abi.TheVariants.{Lp64}
 use Rattle.cread.specs.InOrder.{at_file}
-use Rattle.languages.specs.CLanguage.{c_language, c_file}
+use Rattle.items.specs.languages.CLanguage.{c_language, c_file}
 use Rattle.ccheck.specs.declared.refusal.Refusal.{Refusal}
 use Rattle.ccheck.specs.declared.refusal.Refusal.TheVariants as refusal
 use Rattle.ccheck.specs.Checked.{IsChecked, IsRefused, at_beginning}

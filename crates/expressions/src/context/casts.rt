@@ -1,5 +1,5 @@
 ghost use Rattle.std.specs.Prelude.{◌≡◌, ◌<◌, ℕ, length};
-ghost use Rattle.ctypes.specs.Kinds.{Kind, kind_of, integer_in};
+ghost use Rattle.typing.specs.ctypes.Kinds.{Kind, kind_of, integer_in};
 ghost use Rattle.typing.specs.Idiom.{offset_in, null_cast};
 ghost use Rattle.typing.specs.Known.{is_zero};
 ghost use Rattle.typing.specs.Nodes.{value_of_cast, null_of_cast, cast_known};
@@ -9,9 +9,9 @@ ghost use Rattle.expressions.specs.Pointers.{is_pointer, is_void_pointer};
 
 use crate::context::Context;
 use crate::known::Known;
-use ctypes::{IntegerType, Shape};
+use typing::ctypes::{IntegerType, Shape};
 use typing::Idiom;
-use values::{cast_value, offset_as};
+use typing::values::{cast_value, offset_as};
 
 impl Context {
     /// What is known of a cast to the type of number `to`, where it passes (C11 6.5.4): its value, whether it is a null pointer constant (6.3.2.3p3),

@@ -1,17 +1,17 @@
 ghost use Rattle.std.specs.Prelude.{◌≡◌, ◌<◌, ◌++◌, ◌∷◌, [], ℕ, length, true, All, IfOk, OnErr, OnOk, if◌then◌else◌};
 ghost use Rattle.cbase.specs.Completing.{fieldless, may_complete, completed};
-ghost use Rattle.ctypes.specs.Structs.{fields_of};
-ghost use Rattle.environment.specs.Bounds.{EntityBelow, SignatureBelow};
-ghost use Rattle.environment.specs.Environment.{name_bound, tag_declared, signature_added};
-ghost use Rattle.environment.specs.declared.entity.Binding.TheVariants.{Own};
-ghost use Rattle.environment.specs.declared.entity.Tag.TheVariants.{Struct, Enum};
+ghost use Rattle.typing.specs.ctypes.Structs.{fields_of};
+ghost use Rattle.typing.specs.environment.Bounds.{EntityBelow, SignatureBelow};
+ghost use Rattle.typing.specs.environment.Environment.{name_bound, tag_declared, signature_added};
+ghost use Rattle.typing.specs.declared.environment.entity.Binding.TheVariants.{Own};
+ghost use Rattle.typing.specs.declared.environment.entity.Tag.TheVariants.{Struct, Enum};
 ghost use Rattle.expressions.specs.Context.{declared};
 ghost use Rattle.expressions.specs.Language.{struct_declared, enum_declared};
 
 use crate::context::Context;
 use cbase::{List, NoMemory, Text};
-use ctypes::Member;
-use environment::{Binding, Entity, Signature, Tag};
+use typing::ctypes::Member;
+use typing::environment::{Binding, Entity, Signature, Tag};
 use std::alloc::Global;
 
 impl Context {

@@ -1,13 +1,13 @@
 ghost use Rattle.std.specs.Prelude.{◌<◌, ℕ, length, IfOk};
 ghost use Rattle.cbase.specs.declared.ctype.CType.{CType};
-ghost use Rattle.ctypes.specs.Kinds.{kind_of};
+ghost use Rattle.typing.specs.ctypes.Kinds.{kind_of};
 ghost use Rattle.typing.specs.Known.{value_type};
 ghost use Rattle.expressions.specs.Numbers.{Numbering};
 ghost use Rattle.expressions.specs.Operated.{Numbers};
 
 use crate::context::Context;
 use cbase::{CType, NoMemory};
-use ctypes::Shape;
+use typing::ctypes::Shape;
 
 impl Context {
     /// The number of `void`. Only types get numbers, by each call here. Want of memory is the only error, and nothing is said of the context then.

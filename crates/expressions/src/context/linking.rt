@@ -1,13 +1,13 @@
 ghost use Rattle.std.specs.Prelude.{◌≡◌, length, IfSome, OnOk, OnErr};
-ghost use Rattle.environment.specs.Bounds.{BindingBelow, EntityBelow, LinkedBelow};
-ghost use Rattle.environment.specs.Environment.{name_linked, definition_set};
-ghost use Rattle.environment.specs.Linkage.{linked_declared, linked_declared_around};
-ghost use Rattle.environment.specs.Names.{value_in};
-ghost use Rattle.environment.specs.Scopes.{found_here, left};
+ghost use Rattle.typing.specs.environment.Bounds.{BindingBelow, EntityBelow, LinkedBelow};
+ghost use Rattle.typing.specs.environment.Environment.{name_linked, definition_set};
+ghost use Rattle.typing.specs.environment.Linkage.{linked_declared, linked_declared_around};
+ghost use Rattle.typing.specs.environment.Names.{value_in};
+ghost use Rattle.typing.specs.environment.Scopes.{found_here, left};
 
 use crate::context::Context;
 use cbase::NoMemory;
-use environment::{Binding, Definition, Linked};
+use typing::environment::{Binding, Definition, Linked};
 use std::alloc::Global;
 
 impl Context {

@@ -1,16 +1,16 @@
 ghost use Rattle.std.specs.Prelude.{◌≡◌, ◌<◌, ℕ, length, nat_lt, Some, IfSome, is_some, slice_get};
 ghost use Rattle.cbase.specs.Completing.{is_open};
-ghost use Rattle.ctypes.specs.Table.{type_at, type_of, NamesBelow};
-ghost use Rattle.environment.specs.Bounds.{EntityBelow, SignatureBelow};
-ghost use Rattle.environment.specs.Environment.{name_found, tag_found};
-ghost use Rattle.environment.specs.Scopes.{found_here};
-ghost use Rattle.environment.specs.declared.entity.TagForm.TheVariants.{Declared, Mentioned};
+ghost use Rattle.typing.specs.ctypes.Table.{type_at, type_of, NamesBelow};
+ghost use Rattle.typing.specs.environment.Bounds.{EntityBelow, SignatureBelow};
+ghost use Rattle.typing.specs.environment.Environment.{name_found, tag_found};
+ghost use Rattle.typing.specs.environment.Scopes.{found_here};
+ghost use Rattle.typing.specs.declared.environment.entity.TagForm.TheVariants.{Declared, Mentioned};
 ghost use Rattle.expressions.specs.Context.{Agrees};
 ghost use Rattle.expressions.specs.Numbers.{Numbering};
 
 use crate::context::Context;
-use ctypes::{Shape, Types};
-use environment::{Entity, Signature, Tag, TagForm};
+use typing::ctypes::{Shape, Types};
+use typing::environment::{Entity, Signature, Tag, TagForm};
 
 impl Context {
     /// The type of that number, taken apart: what it names has lower numbers.

@@ -3,8 +3,8 @@ ghost use Rattle.cbase.specs.declared.abi.Abi.{Abi};
 ghost use Rattle.cbase.specs.declared.abi.Abi.TheVariants.{Lp64};
 ghost use Rattle.cbase.specs.Kept.{capped, IsSmall};
 ghost use Rattle.cbase.specs.Layout.{layout_of};
-ghost use Rattle.ctypes.specs.Table.{type_at};
-ghost use Rattle.ctypes.specs.Kinds.{Struct, kind_of, integer_in, has_size};
+ghost use Rattle.typing.specs.ctypes.Table.{type_at};
+ghost use Rattle.typing.specs.ctypes.Kinds.{Struct, kind_of, integer_in, has_size};
 ghost use Rattle.typing.specs.Calls.{is_struct};
 ghost use Rattle.typing.specs.Idiom.{at_most, item_bytes, offset_in_struct, member_offset};
 ghost use Rattle.typing.specs.NamedTypes.{is_large};
@@ -14,7 +14,7 @@ ghost use Rattle.expressions.specs.Numbers.{Numbering};
 
 use crate::context::Context;
 use cbase::{Extent, Layout};
-use ctypes::{IntegerType, Shape, integer_type};
+use typing::ctypes::{IntegerType, Shape, integer_type};
 
 /// How many bytes an object may have.
 const MOST_BYTES: u32 = 65_536;

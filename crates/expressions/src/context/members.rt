@@ -1,15 +1,15 @@
 ghost use Rattle.std.specs.Prelude.{◌≡◌, ◌<◌, ℕ, None, Some, length, min, slice_get, IfSome, IfNone, option_map};
 ghost use Rattle.cbase.specs.declared.abi.Abi.{Abi};
 ghost use Rattle.cbase.specs.Offset.{fields_of, index_of, offset_of};
-ghost use Rattle.ctypes.specs.Table.{type_at};
-ghost use Rattle.ctypes.specs.Kinds.{kind_of};
-ghost use Rattle.ctypes.specs.Members.{member_of};
+ghost use Rattle.typing.specs.ctypes.Table.{type_at};
+ghost use Rattle.typing.specs.ctypes.Kinds.{kind_of};
+ghost use Rattle.typing.specs.ctypes.Members.{member_of};
 ghost use Rattle.typing.specs.Paths.{item_in};
 ghost use Rattle.expressions.specs.Context.{Agrees};
 ghost use Rattle.expressions.specs.Numbers.{Numbering, judgement_at, IsTypedBelow};
 
 use crate::context::Context;
-use ctypes::{Broken, MemberAt, Outcome, Shape};
+use typing::ctypes::{Broken, MemberAt, Outcome, Shape};
 
 impl Context {
     /// The type of the member of that name, of a value of the type of that number (C11 6.5.2.3p1), or what is broken there. It takes no memory.

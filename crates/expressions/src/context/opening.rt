@@ -1,7 +1,7 @@
 ghost use Rattle.std.specs.Prelude.{◌≡◌, ◌<◌, ℕ, length, slice_get, All, IfOk, if◌then◌else◌};
 ghost use Rattle.cbase.specs.declared.abi.Abi.{Abi};
 ghost use Rattle.cbase.specs.Completing.{is_open};
-ghost use Rattle.ctypes.specs.declared.found.Broken.TheVariants.{Rule};
+ghost use Rattle.typing.specs.declared.ctypes.found.Broken.TheVariants.{Rule};
 ghost use Rattle.typing.specs.Braces.{closing};
 ghost use Rattle.typing.specs.Faults.{fault};
 ghost use Rattle.expressions.specs.declared.found.Found.TheVariants.{Passes, Refused};
@@ -10,8 +10,8 @@ ghost use Rattle.expressions.specs.Opened.{IsStructOpened, IsEnumOpened, IsStruc
 use crate::context::Context;
 use crate::found::Found;
 use cbase::{Identifier, List, NoMemory};
-use ctypes::{Broken, Member};
-use environment::Tag;
+use typing::ctypes::{Broken, Member};
+use typing::environment::Tag;
 use std::alloc::Global;
 use typing::Fault;
 

@@ -1,18 +1,18 @@
 ghost use Rattle.std.specs.Prelude.{◌≡◌, ◌<◌, ℕ, length, IfOk};
-ghost use Rattle.ctypes.specs.Assigning.{assigned, updated};
-ghost use Rattle.ctypes.specs.Binary.{binary};
-ghost use Rattle.ctypes.specs.Choosing.{chosen};
-ghost use Rattle.ctypes.specs.Converting.{cast, converts};
-ghost use Rattle.ctypes.specs.Kinds.{kind_of, decayed};
-ghost use Rattle.ctypes.specs.Members.{indexed, member_of, member_through};
-ghost use Rattle.ctypes.specs.Unary.{unary, counted};
+ghost use Rattle.typing.specs.ctypes.Assigning.{assigned, updated};
+ghost use Rattle.typing.specs.ctypes.Binary.{binary};
+ghost use Rattle.typing.specs.ctypes.Choosing.{chosen};
+ghost use Rattle.typing.specs.ctypes.Converting.{cast, converts};
+ghost use Rattle.typing.specs.ctypes.Kinds.{kind_of, decayed};
+ghost use Rattle.typing.specs.ctypes.Members.{indexed, member_of, member_through};
+ghost use Rattle.typing.specs.ctypes.Unary.{unary, counted};
 ghost use Rattle.expressions.specs.Context.{Agrees};
 ghost use Rattle.expressions.specs.Numbers.{Numbering, operand_at};
 ghost use Rattle.expressions.specs.Operated.{Operates};
 
 use crate::context::Context;
 use cbase::{BinaryOp, NoMemory, UnaryOp};
-use ctypes::{
+use typing::ctypes::{
     Operand, Outcome, assignment_type, binary_type, cast_type, choice_type, converts, count_type,
     index_type, member_type, pointed_member_type, unary_type, update_type,
 };

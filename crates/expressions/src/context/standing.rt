@@ -1,5 +1,5 @@
 ghost use Rattle.std.specs.Prelude.{◌≡◌, ◌<◌, length, IfSome, OnOk, OnErr};
-ghost use Rattle.environment.specs.Environment.{loop_set, function_set, name_defined, is_defined, strict_set};
+ghost use Rattle.typing.specs.environment.Environment.{loop_set, function_set, name_defined, is_defined, strict_set};
 ghost use Rattle.expressions.specs.Context.{Agrees};
 ghost use Rattle.expressions.specs.Numbers.{Numbering};
 

@@ -2,9 +2,9 @@ ghost use Rattle.std.specs.Prelude.{◌≡◌, ◌<◌, ◌||◌, not, ℕ, List
 ghost use Rattle.std.specs.List.{list_any};
 ghost use Rattle.cbase.specs.declared.structs.StructDef.{StructDef};
 ghost use Rattle.cbase.specs.declared.tree.expr.Expr.{Expr as ExprTree};
-ghost use Rattle.ctypes.specs.Kinds.{kind_of};
+ghost use Rattle.typing.specs.ctypes.Kinds.{kind_of};
 ghost use Rattle.typing.specs.Calls.{call_faults, calls_main, is_struct, is_length, lengths_of, length_faults, inconstant_lengths, large_lengths, large_product, product, unconverted, is_small, is_constant, times};
-ghost use Rattle.values.specs.Values.{cast_value};
+ghost use Rattle.typing.specs.values.Values.{cast_value};
 ghost use Rattle.expressions.specs.Arguments.{arguments_at};
 ghost use Rattle.expressions.specs.Context.{Agrees};
 ghost use Rattle.expressions.specs.Numbers.{Numbering};
@@ -16,10 +16,10 @@ use crate::nodes::calling::Callee;
 use crate::nodes::finishing::Node;
 use crate::nodes::first::{first_of, unless};
 use cbase::{Expr, Place};
-use ctypes::Broken;
-use environment::Signature;
+use typing::ctypes::Broken;
+use typing::environment::Signature;
 use typing::Fault;
-use values::cast_value;
+use typing::values::cast_value;
 
 /// How many bytes a block may have.
 const MOST_BYTES: u64 = 65_536;

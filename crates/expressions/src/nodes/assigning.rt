@@ -1,6 +1,6 @@
 ghost use Rattle.std.specs.Prelude.{◌<◌, ℕ, length, IfOk};
 ghost use Rattle.cbase.specs.declared.place.Place.{Place};
-ghost use Rattle.ctypes.specs.Assigning.{assigned, updated};
+ghost use Rattle.typing.specs.ctypes.Assigning.{assigned, updated};
 ghost use Rattle.typing.specs.Known.{plain};
 ghost use Rattle.typing.specs.Nodes.{place_of_assignment};
 ghost use Rattle.expressions.specs.Numbers.{Numbering, operand_at, operand_in};

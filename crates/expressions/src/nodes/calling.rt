@@ -1,6 +1,6 @@
 ghost use Rattle.std.specs.Prelude.{◌≡◌, ◌<◌, ℕ, length, map, All, Some, slice_get, IfOk};
-ghost use Rattle.environment.specs.declared.entity.Signature.{Signature};
-ghost use Rattle.ctypes.specs.Kinds.{kind_of};
+ghost use Rattle.typing.specs.declared.environment.entity.Signature.{Signature};
+ghost use Rattle.typing.specs.ctypes.Kinds.{kind_of};
 ghost use Rattle.typing.specs.Calls.{call_faults};
 ghost use Rattle.typing.specs.Known.{plain};
 ghost use Rattle.expressions.specs.Arguments.{arguments_at};

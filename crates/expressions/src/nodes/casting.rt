@@ -1,6 +1,6 @@
 ghost use Rattle.std.specs.Prelude.{◌≡◌, ◌<◌, ◌++◌, ℕ, length, IfOk};
-ghost use Rattle.ctypes.specs.Converting.{cast};
-ghost use Rattle.ctypes.specs.Kinds.{kind_of, decayed};
+ghost use Rattle.typing.specs.ctypes.Converting.{cast};
+ghost use Rattle.typing.specs.ctypes.Kinds.{kind_of, decayed};
 ghost use Rattle.typing.specs.Faults.{all_at, faults_of};
 ghost use Rattle.typing.specs.Idiom.{is_idiom};
 ghost use Rattle.typing.specs.Nodes.{cast_known};
@@ -14,7 +14,7 @@ use crate::named_type::NamedType;
 use crate::nodes::finishing::{Node, settle};
 use crate::nodes::first::{all_at, first_of};
 use cbase::{NoMemory, Place};
-use ctypes::Outcome;
+use typing::ctypes::Outcome;
 use typing::{Fault, Idiom};
 
 /// What is found at a cast (C11 6.5.4).

@@ -1,8 +1,8 @@
 ghost use Rattle.std.specs.Prelude.{◌<◌, ℕ, length, IfOk};
-ghost use Rattle.ctypes.specs.Choosing.{chosen};
-ghost use Rattle.ctypes.specs.Kinds.{kind_of};
+ghost use Rattle.typing.specs.ctypes.Choosing.{chosen};
+ghost use Rattle.typing.specs.ctypes.Kinds.{kind_of};
 ghost use Rattle.typing.specs.Known.{valued};
-ghost use Rattle.values.specs.Values.{choice_value};
+ghost use Rattle.typing.specs.values.Values.{choice_value};
 ghost use Rattle.expressions.specs.Numbers.{Numbering, operand_at, operand_in};
 ghost use Rattle.expressions.specs.Settled.{Judged};
 
@@ -11,7 +11,7 @@ use crate::found::Found;
 use crate::known::Known;
 use crate::nodes::finishing::{Node, finish};
 use cbase::NoMemory;
-use values::choice_value;
+use typing::values::choice_value;
 
 /// What is found at `?:` (C11 6.5.15).
 pub(crate) fn choice_node(

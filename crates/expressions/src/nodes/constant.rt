@@ -1,8 +1,8 @@
 ghost use Rattle.std.specs.Prelude.{◌≡◌, ℕ, [], IfOk};
-ghost use Rattle.constants.specs.declared.meaning.Meaning.{Meaning};
-ghost use Rattle.constants.specs.declared.meaning.Meaning.TheVariants.{NoConstant, FitsNoType, Known as KnownConstant};
-ghost use Rattle.constants.specs.Meanings.{Means};
-ghost use Rattle.ctypes.specs.declared.found.Broken.TheVariants.{Rule};
+ghost use Rattle.typing.specs.declared.constants.meaning.Meaning.{Meaning};
+ghost use Rattle.typing.specs.declared.constants.meaning.Meaning.TheVariants.{NoConstant, FitsNoType, Known as KnownConstant};
+ghost use Rattle.typing.specs.constants.Meanings.{Means};
+ghost use Rattle.typing.specs.declared.ctypes.found.Broken.TheVariants.{Rule};
 ghost use Rattle.typing.specs.Faults.{fault};
 ghost use Rattle.expressions.specs.Constants.{constant_faults, constant_told};
 ghost use Rattle.expressions.specs.Settled.{Settled};
@@ -12,8 +12,8 @@ use crate::found::Found;
 use crate::known::Known;
 use crate::nodes::finishing::{Node, pass};
 use cbase::{Abi, NoMemory, Place};
-use constants::{Meaning, read_constant};
-use ctypes::Broken;
+use typing::constants::{Meaning, read_constant};
+use typing::ctypes::Broken;
 use typing::Fault;
 
 /// What is found at a constant (C11 6.4.4): one that fits no type is rule 9 (6.4.4p2).

@@ -1,5 +1,5 @@
 ghost use Rattle.std.specs.Prelude.{◌≡◌, ◌<◌, ℕ, length, Option, None, Some, IfOk};
-ghost use Rattle.ctypes.specs.declared.found.Broken.{Broken};
+ghost use Rattle.typing.specs.declared.ctypes.found.Broken.{Broken};
 ghost use Rattle.expressions.specs.Blame.{blamed};
 ghost use Rattle.expressions.specs.Numbers.{IsTypedBelow};
 ghost use Rattle.expressions.specs.Finished.{FinishedBy};
@@ -10,7 +10,7 @@ use crate::found::Found;
 use crate::handed_row::HandedRow;
 use crate::known::Known;
 use cbase::{NoMemory, Place};
-use ctypes::{Broken, Outcome};
+use typing::ctypes::{Broken, Outcome};
 use typing::Fault;
 
 /// An expression by its number and its place.

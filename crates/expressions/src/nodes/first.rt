@@ -4,7 +4,7 @@ ghost use Rattle.typing.specs.Faults.{unless, all_at, comes_before, least};
 ghost use Rattle.expressions.specs.Settled.{IsFirstOf};
 
 use cbase::Place;
-use ctypes::Broken;
+use typing::ctypes::Broken;
 use typing::Fault;
 
 /// Whether one thing that is broken comes before another, or is the same: constructs come before rules, and lower numbers first.

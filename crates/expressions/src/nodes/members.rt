@@ -1,11 +1,11 @@
 ghost use Rattle.std.specs.Prelude.{◌≡◌, ◌<◌, ℕ, length, IfOk};
 ghost use Rattle.cbase.specs.declared.abi.Abi.{Abi};
-ghost use Rattle.ctypes.specs.Kinds.{kind_of, decayed};
-ghost use Rattle.ctypes.specs.Members.{indexed, member_of, member_through};
+ghost use Rattle.typing.specs.ctypes.Kinds.{kind_of, decayed};
+ghost use Rattle.typing.specs.ctypes.Members.{indexed, member_of, member_through};
 ghost use Rattle.typing.specs.Idiom.{through, within, at_index, item_bytes, member_offset};
 ghost use Rattle.typing.specs.Known.{located};
 ghost use Rattle.typing.specs.Nodes.{place_of_member, pointed_offset};
-ghost use Rattle.values.specs.Values.{word_of};
+ghost use Rattle.typing.specs.values.Values.{word_of};
 ghost use Rattle.expressions.specs.Numbers.{Numbering, operand_at, operand_in, IsTypedBelow};
 ghost use Rattle.expressions.specs.Finished.{FinishedBy};
 ghost use Rattle.expressions.specs.Settled.{Judged};
@@ -15,9 +15,9 @@ use crate::found::Found;
 use crate::known::Known;
 use crate::nodes::finishing::{Blame, Node, finish, finish_blaming};
 use cbase::{Identifier, NoMemory};
-use ctypes::Outcome;
+use typing::ctypes::Outcome;
 use typing::Idiom;
-use values::word_of;
+use typing::values::word_of;
 
 /// What is found at `base[index]` (C11 6.5.2.1).
 pub(crate) fn index_node(

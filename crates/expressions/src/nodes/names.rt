@@ -1,8 +1,8 @@
 ghost use Rattle.std.specs.Prelude.{◌≡◌, ◌<◌, ◌++◌, ◌∷◌, [], ℕ, Bool, not, Some, length, IfOk, option_map};
-ghost use Rattle.environment.specs.Bounds.{DeclaredBelow};
-ghost use Rattle.environment.specs.Environment.{name_found};
-ghost use Rattle.environment.specs.declared.entity.Entity.TheVariants.{Object, Enumerator};
-ghost use Rattle.ctypes.specs.declared.found.Broken.TheVariants.{Construct, Rule};
+ghost use Rattle.typing.specs.environment.Bounds.{DeclaredBelow};
+ghost use Rattle.typing.specs.environment.Environment.{name_found};
+ghost use Rattle.typing.specs.declared.environment.entity.Entity.TheVariants.{Object, Enumerator};
+ghost use Rattle.typing.specs.declared.ctypes.found.Broken.TheVariants.{Construct, Rule};
 ghost use Rattle.typing.specs.Faults.{fault, unless, IsFirst};
 ghost use Rattle.expressions.specs.Names.{name_faults, name_told};
 ghost use Rattle.expressions.specs.Numbers.{Numbering, entity_at, is_of_main};
@@ -14,8 +14,8 @@ use crate::known::Known;
 use crate::nodes::finishing::{Node, pass, settle};
 use crate::nodes::first::{first_of, unless};
 use cbase::{NoMemory, Place};
-use ctypes::Broken;
-use environment::{DeclaredType, Entity, Lifetime};
+use typing::ctypes::Broken;
+use typing::environment::{DeclaredType, Entity, Lifetime};
 use typing::{Fault, Idiom};
 
 /// What is found at a name that is an operand (C11 6.5.1p2).

@@ -3,7 +3,7 @@ ghost use Rattle.cbase.specs.declared.abi.Abi.{Abi};
 ghost use Rattle.cbase.specs.declared.tree.expr.Expr.{Expr as ExprTree};
 ghost use Rattle.cbase.specs.declared.tree.expr.ExprForm.TheOpen.{Part::Member as NamedStep, At as IndexedStep};
 ghost use Rattle.cbase.specs.declared.tree.expr.ExprForm.TheViews.{out-Part};
-ghost use Rattle.ctypes.specs.declared.found.Broken.TheVariants.{Construct};
+ghost use Rattle.typing.specs.declared.ctypes.found.Broken.TheVariants.{Construct};
 ghost use Rattle.typing.specs.Faults.{all_at, fault};
 ghost use Rattle.typing.specs.Forms.{Step};
 ghost use Rattle.typing.specs.Nodes.{offset_known};
@@ -21,7 +21,7 @@ use crate::named_type::NamedType;
 use crate::nodes::finishing::{Node, settle};
 use crate::nodes::first::{all_at, first_of};
 use cbase::{Identifier, NoMemory, Part, Place};
-use ctypes::{Broken, Outcome};
+use typing::ctypes::{Broken, Outcome};
 use typing::Fault;
 
 /// What is found at `__builtin_offsetof` (C11 7.19p3), where the indices on the way have these values, as words.

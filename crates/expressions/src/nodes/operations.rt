@@ -1,12 +1,12 @@
 ghost use Rattle.std.specs.Prelude.{◌≡◌, ◌<◌, ℕ, length, IfOk};
-ghost use Rattle.ctypes.specs.Binary.{binary};
-ghost use Rattle.ctypes.specs.Kinds.{kind_of};
-ghost use Rattle.ctypes.specs.Unary.{unary, counted};
+ghost use Rattle.typing.specs.ctypes.Binary.{binary};
+ghost use Rattle.typing.specs.ctypes.Kinds.{kind_of};
+ghost use Rattle.typing.specs.ctypes.Unary.{unary, counted};
 ghost use Rattle.cbase.specs.declared.tree.operators.UnaryOp.TheVariants.{Address, Follow};
 ghost use Rattle.typing.specs.Idiom.{address};
 ghost use Rattle.typing.specs.Known.{plain, located, valued};
 ghost use Rattle.typing.specs.declared.idiom.Idiom.TheVariants.{Outside};
-ghost use Rattle.values.specs.Values.{unary_value, binary_value};
+ghost use Rattle.typing.specs.values.Values.{unary_value, binary_value};
 ghost use Rattle.expressions.specs.Numbers.{Numbering, operand_at, operand_in};
 ghost use Rattle.expressions.specs.Settled.{Judged};
 
@@ -16,7 +16,7 @@ use crate::known::Known;
 use crate::nodes::finishing::{Node, finish};
 use cbase::{BinaryOp, NoMemory, UnaryOp};
 use typing::Idiom;
-use values::{binary_value, unary_value};
+use typing::values::{binary_value, unary_value};
 
 /// What is found at a unary operator on a value: `+`, `-`, `~` and `!` (C11 6.5.3.3).
 pub(crate) fn unary_node(

@@ -12,7 +12,7 @@ use crate::named_type::NamedType;
 use crate::nodes::finishing::{Node, settle};
 use crate::nodes::first::{all_at, first_of};
 use cbase::{Extent, NoMemory, Place};
-use ctypes::Broken;
+use typing::ctypes::Broken;
 use typing::Fault;
 
 /// What is found at `sizeof` of an expression (C11 6.5.3.4).

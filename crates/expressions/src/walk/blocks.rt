@@ -21,7 +21,7 @@ use crate::known::Known;
 use crate::nodes::finishing::{Node, pass};
 use crate::part::{Part, Told};
 use cbase::{Expr, NoMemory, Place, Stmt, StmtForm};
-use ctypes::Broken;
+use typing::ctypes::Broken;
 use std::alloc::Global;
 use typing::Fault;
 

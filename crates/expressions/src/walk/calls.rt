@@ -1,8 +1,8 @@
 ghost use Rattle.std.specs.Prelude.{◌≡◌, ◌<◌, ◌≤◌, ◌||◌, ℕ, Bool, List, All, Some, IfOk, IfSome, IfNone, length};
 ghost use Rattle.cbase.specs.declared.tree.expr.ExprForm.TheOpen.{Call};
 ghost use Rattle.ctrees.specs.Levels.{expr_levels};
-ghost use Rattle.environment.specs.Environment.{name_found};
-ghost use Rattle.environment.specs.declared.entity.Entity.TheVariants.{Function};
+ghost use Rattle.typing.specs.environment.Environment.{name_found};
+ghost use Rattle.typing.specs.declared.environment.entity.Entity.TheVariants.{Function};
 ghost use Rattle.typing.specs.Nodes.{function_faults, called_of};
 ghost use Rattle.typing.specs.Typing.{named};
 ghost use Rattle.expressions.specs.Found.{an_expression};
@@ -20,8 +20,8 @@ use crate::nodes::finishing::{Node, settle};
 use crate::nodes::first::unless;
 use crate::part::{Part, Told};
 use cbase::{Expr, ExprForm, NoMemory};
-use ctypes::Broken;
-use environment::Entity;
+use typing::ctypes::Broken;
+use typing::environment::Entity;
 use std::alloc::Global;
 use typing::Fault;
 

@@ -3,7 +3,7 @@ ghost use Rattle.cbase.specs.declared.tree.expr.ExprForm.TheOpen.{Enum};
 ghost use Rattle.cbase.specs.declared.tree.spec.TypeSpec.TheVariants.{Enum as EnumSpec};
 ghost use Rattle.ctrees.specs.Levels.{spec_levels, enumerator_levels, maybe_levels};
 ghost use Rattle.typing.specs.Typing.{WordsAre, ValueOfEnumerator};
-ghost use Rattle.ctypes.specs.declared.found.Broken.TheVariants.{Rule};
+ghost use Rattle.typing.specs.declared.ctypes.found.Broken.TheVariants.{Rule};
 ghost use Rattle.typing.specs.Faults.{fault};
 ghost use Rattle.expressions.specs.Enumerated.{IsEnumerated, IsIntValue, int_found};
 ghost use Rattle.expressions.specs.Found.{a_type, some_bits};
@@ -17,11 +17,11 @@ use crate::known::Known;
 use crate::named_type::NamedType;
 use crate::part::{Part, Told};
 use cbase::{Enumerator, Expr, Identifier, List, NoMemory, Place};
-use ctypes::Broken;
-use environment::Entity;
+use typing::ctypes::Broken;
+use typing::environment::Entity;
 use std::alloc::Global;
 use typing::Fault;
-use values::{int_value, next_value};
+use typing::values::{int_value, next_value};
 
 impl<F: Fn(&mut Context, Within, Part<'_>) -> Result<Found<Told>, NoMemory>> Checker<F> {
     /// What is found of an enum with its constants in braces (C11 6.7.2.2): its tag, and the constants in the order of the text, each of which is in scope

@@ -13,9 +13,9 @@ use crate::found::Found;
 use crate::known::Known;
 use crate::part::{Part, Told};
 use cbase::{Expr, NoMemory, Place};
-use ctypes::Broken;
+use typing::ctypes::Broken;
 use typing::{Fault, Size};
-use values::{count_of, word_of};
+use typing::values::{count_of, word_of};
 
 impl<F: Fn(&mut Context, Within, Part<'_>) -> Result<Found<Told>, NoMemory>> Checker<F> {
     /// An operand whose value is taken, or that is stored to: an lvalue of an incomplete type is rule 3 at it (C11 6.3.2.1p2).
@@ -97,7 +97,7 @@ fn size_in(context: &Context, place: Place, known: Known) -> Found<Size>
     let Some(bits) = known.value else {
         return Found::Passes(Size::NotConstant);
     };
-    if !values::is_whole(of) {
+    if !typing::values::is_whole(of) {
         return Found::Passes(Size::NotConstant);
     }
     match count_of(of, bits) {

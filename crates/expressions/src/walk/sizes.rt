@@ -6,7 +6,7 @@ ghost use Rattle.expressions.specs.Operated.{Numbers};
 use crate::context::Context;
 use crate::nodes::first::least;
 use cbase::NoMemory;
-use ctypes::Broken;
+use typing::ctypes::Broken;
 use typing::Size;
 
 /// The type of stars behind a type (C11 6.7.6.1).

@@ -21,7 +21,7 @@ use crate::nodes::declared_members::{add_member, member_fault};
 use crate::part::{Part, Told};
 use crate::walk::type_names::declare;
 use cbase::{Expr, FieldDecl, FieldName, Identifier, List, NoMemory, Place};
-use ctypes::{Broken, Member};
+use typing::ctypes::{Broken, Member};
 use std::alloc::Global;
 use typing::{Fault, Size};
 

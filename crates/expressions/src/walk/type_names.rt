@@ -1,7 +1,7 @@
 ghost use Rattle.std.specs.Prelude.{◌≡◌, ◌≤◌, ◌+◌, ◌<◌, ℕ, [], length, IfOk, All, Some, None, if◌then◌else◌};
 ghost use Rattle.cbase.specs.declared.abi.Abi.{Abi};
 ghost use Rattle.ctrees.specs.Levels.{type_name_levels, maybe_levels};
-ghost use Rattle.ctypes.specs.declared.found.Broken.TheVariants.{Construct};
+ghost use Rattle.typing.specs.declared.ctypes.found.Broken.TheVariants.{Construct};
 ghost use Rattle.typing.specs.Typing.{NameOfTypeIs, SizesAre};
 ghost use Rattle.expressions.specs.Found.{a_type, some_sizes};
 ghost use Rattle.expressions.specs.Nests.{Nests};
@@ -16,7 +16,7 @@ use crate::nodes::first::least;
 use crate::part::{Part, Told};
 use crate::walk::sizes::{arrays_of, found_of_sizes, pointers_to};
 use cbase::{Expr, NoMemory, TypeName};
-use ctypes::Broken;
+use typing::ctypes::Broken;
 use std::alloc::Global;
 use typing::Size;
 

@@ -3,7 +3,7 @@ ghost use Rattle.cbase.specs.declared.tree.expr.ExprForm.TheOpen.{Basic, Named, 
 ghost use Rattle.cbase.specs.declared.tree.expr.ExprForm.TheViews.{out-TypeSpec};
 ghost use Rattle.cbase.specs.declared.abi.Abi.{Abi};
 ghost use Rattle.ctrees.specs.Levels.{spec_levels};
-ghost use Rattle.ctypes.specs.declared.found.Broken.TheVariants.{Rule};
+ghost use Rattle.typing.specs.declared.ctypes.found.Broken.TheVariants.{Rule};
 ghost use Rattle.typing.specs.Faults.{fault};
 ghost use Rattle.typing.specs.Typing.{WordsAre};
 ghost use Rattle.expressions.specs.declared.found.Found.TheVariants.{Passes, Refused};
@@ -19,8 +19,8 @@ use crate::known::Known;
 use crate::named_type::NamedType;
 use crate::part::{Part, Told};
 use cbase::{Abi, BasicType, Identifier, NoMemory, TypeSpec, bytes_of_rank};
-use ctypes::Broken;
-use environment::{DeclaredType, Entity, Tag};
+use typing::ctypes::Broken;
+use typing::environment::{DeclaredType, Entity, Tag};
 use std::alloc::Global;
 use typing::Fault;
 

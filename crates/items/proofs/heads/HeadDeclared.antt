@@ -4,13 +4,13 @@ use Rattle.std.specs.Prelude.{option_and_then}
 use Rattle.cbase.specs.declared.abi.Abi.{Abi}
 use Rattle.cbase.specs.declared.tree.decl.Declared.{Declared as DeclaredName}
 use Rattle.cbase.specs.declared.tree.expr.ExprForm.TheViews.{out-Declared}
-use Rattle.environment.specs.declared.entity.Definition.{Definition as DefinitionByNow}
-use Rattle.environment.specs.declared.entity.Definition.TheVariants.{NotDefined as NotDefinedByNow, Tentative as TentativeByNow, Defined as DefinedByNow}
-use Rattle.environment.specs.declared.entity.Linked.{Linked as LinkedByNumber}
-use Rattle.environment.specs.declared.environment.Environment.{Environment}
-use Rattle.environment.specs.Environment.{definition_of_linked, definition_set, is_defined, signature_added}
-use Rattle.environment.specs.Linkage.{linked_declared_around}
-use Rattle.environment.specs.Names.{value_in}
+use Rattle.typing.specs.declared.environment.entity.Definition.{Definition as DefinitionByNow}
+use Rattle.typing.specs.declared.environment.entity.Definition.TheVariants.{NotDefined as NotDefinedByNow, Tentative as TentativeByNow, Defined as DefinedByNow}
+use Rattle.typing.specs.declared.environment.entity.Linked.{Linked as LinkedByNumber}
+use Rattle.typing.specs.declared.environment.environment.Environment.{Environment}
+use Rattle.typing.specs.environment.Environment.{definition_of_linked, definition_set, is_defined, signature_added}
+use Rattle.typing.specs.environment.Linkage.{linked_declared_around}
+use Rattle.typing.specs.environment.Names.{value_in}
 use Rattle.typing.specs.Declarations.{Parameter}
 use Rattle.typing.specs.Entities.{Definition, Linked}
 use Rattle.typing.specs.FileNames.{with_definition}
@@ -23,10 +23,10 @@ use Rattle.expressions.specs.Language.{built_in_by_now, definition_by_now, langu
 use Rattle.expressions.specs.Numbers.{Numbering, linked_at, named_at}
 use Rattle.expressions.proofs.Growth.{grows_trans, keeps_behind, number_back}
 use Rattle.expressions.proofs.TypeWords.{grows_to}
-use Rattle.parameters.specs.declared.parameter.Parameter.{Parameter as ParameterByNumber}
-use Rattle.parameters.specs.Parameters.{numbers_of, parameter_at}
-use Rattle.parameters.proofs.NamesTaken.{composite_is, types_meant}
-use Rattle.parameters.proofs.TypesAlike.{numbers_back}
+use Rattle.items.specs.declared.parameters.parameter.Parameter.{Parameter as ParameterByNumber}
+use Rattle.items.specs.parameters.Parameters.{numbers_of, parameter_at}
+use Rattle.items.proofs.parameters.NamesTaken.{composite_is, types_meant}
+use Rattle.items.proofs.parameters.TypesAlike.{numbers_back}
 use Rattle.items.specs.declared.heads.parts.Head.{Head}
 use Rattle.items.specs.Heads.{function_around, head_declared_in, marked_if_main}
 use Rattle.items.proofs.heads.HeadMarked.{Alike, if_alike, if_declared}

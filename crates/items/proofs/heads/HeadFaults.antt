@@ -9,15 +9,15 @@ use Rattle.cbase.specs.declared.ctype.CType.TheViews.{out-CType, outs-Void, outs
 use Rattle.cbase.specs.declared.tree.decl.Declared.{Declared as DeclaredName}
 use Rattle.cbase.specs.declared.tree.decl.Storage.{Storage}
 use Rattle.cbase.specs.declared.tree.expr.ExprForm.TheViews.{out-Declared}
-use Rattle.ctypes.specs.declared.shape.Shape.{Shape}
-use Rattle.ctypes.specs.declared.shape.Shape.TheVariants.{Void as VoidShape, Bool as BoolShape, Int as IntShape, Pointer as PointerShape, Struct as StructShape, Array as ArrayShape}
-use Rattle.ctypes.specs.Table.{type_at, type_of}
-use Rattle.environment.specs.declared.entity.Definition.{Definition as DefinitionByNow}
-use Rattle.environment.specs.declared.environment.Environment.{Environment}
-use Rattle.environment.specs.Names.{value_in}
-use Rattle.environment.specs.Scopes.{found_here, left}
-use Rattle.ctypes.specs.declared.found.Broken.{Broken}
-use Rattle.ctypes.specs.Kinds.{kind_of}
+use Rattle.typing.specs.declared.ctypes.shape.Shape.{Shape}
+use Rattle.typing.specs.declared.ctypes.shape.Shape.TheVariants.{Void as VoidShape, Bool as BoolShape, Int as IntShape, Pointer as PointerShape, Struct as StructShape, Array as ArrayShape}
+use Rattle.typing.specs.ctypes.Table.{type_at, type_of}
+use Rattle.typing.specs.declared.environment.entity.Definition.{Definition as DefinitionByNow}
+use Rattle.typing.specs.declared.environment.environment.Environment.{Environment}
+use Rattle.typing.specs.environment.Names.{value_in}
+use Rattle.typing.specs.environment.Scopes.{found_here, left}
+use Rattle.typing.specs.declared.ctypes.found.Broken.{Broken}
+use Rattle.typing.specs.ctypes.Kinds.{kind_of}
 use Rattle.typing.specs.declared.fault.Fault.{Fault}
 use Rattle.typing.specs.Calls.{is_struct}
 use Rattle.typing.specs.Declarations.{IsAgain, LinkedGiven, Parameter, faults_of_all, found_of_all, function_given, function_name_faults, is_array, is_typedef}
@@ -36,10 +36,10 @@ use Rattle.expressions.specs.Operated.{Numbers}
 use Rattle.expressions.specs.Settled.{IsFirstOf}
 use Rattle.expressions.proofs.Growth.{agrees_at}
 use Rattle.expressions.proofs.Loops.{next_item}
-use Rattle.parameters.specs.declared.parameter.Parameter.{Parameter as ParameterByNumber}
-use Rattle.parameters.specs.Parameters.{numbers_of, parameter_at}
-use Rattle.parameters.proofs.NamesTaken.{array_is, types_meant}
-use Rattle.parameters.proofs.ParametersTaken.{there_alike}
+use Rattle.items.specs.declared.parameters.parameter.Parameter.{Parameter as ParameterByNumber}
+use Rattle.items.specs.parameters.Parameters.{numbers_of, parameter_at}
+use Rattle.items.proofs.parameters.NamesTaken.{array_is, types_meant}
+use Rattle.items.proofs.parameters.ParametersTaken.{there_alike}
 use Rattle.items.specs.declared.heads.parts.Head.{Head}
 use Rattle.items.specs.Heads.{IsHeadJudged, HeadAsked, faults_of_head}
 

@@ -5,10 +5,10 @@ use Rattle.cbase.specs.declared.abi.Abi.{Abi}
 use Rattle.cbase.specs.declared.tree.decl.Param.{Param}
 use Rattle.cbase.specs.declared.tree.expr.ExprForm.TheViews.{out-Param}
 use Rattle.cbase.specs.declared.tree.identifier.Identifier.{Identifier}
-use Rattle.environment.specs.declared.entity.DeclaredType.TheVariants.{Whole}
-use Rattle.environment.specs.declared.entity.Entity.TheVariants.{Object}
-use Rattle.environment.specs.declared.entity.Lifetime.TheVariants.{MainParameter}
-use Rattle.environment.specs.Linkage.{own_declared}
+use Rattle.typing.specs.declared.environment.entity.DeclaredType.TheVariants.{Whole}
+use Rattle.typing.specs.declared.environment.entity.Entity.TheVariants.{Object}
+use Rattle.typing.specs.declared.environment.entity.Lifetime.TheVariants.{MainParameter}
+use Rattle.typing.specs.environment.Linkage.{own_declared}
 use Rattle.typing.specs.Heads.{names_of, marked_one as marked_one_in, marked as marked_in, marked_if as marked_if_in}
 use Rattle.expressions.specs.Context.{Context, Declared, declared, Agrees}
 use Rattle.expressions.specs.FileScope.{file_scope}
@@ -16,8 +16,8 @@ use Rattle.expressions.specs.Language.{language}
 use Rattle.expressions.specs.Numbers.{Numbering}
 use Rattle.expressions.proofs.Growth.{number_back}
 use Rattle.expressions.proofs.Loops.{next_item}
-use Rattle.parameters.specs.declared.parameter.Parameter.{Parameter as ParameterByNumber}
-use Rattle.parameters.specs.Parameters.{parameter_at}
+use Rattle.items.specs.declared.parameters.parameter.Parameter.{Parameter as ParameterByNumber}
+use Rattle.items.specs.parameters.Parameters.{parameter_at}
 use Rattle.items.specs.Heads.{marked_one, marked, marked_if}
 
 -- the same types, structs, rows and signatures

@@ -14,8 +14,8 @@ use Rattle.expressions.specs.declared.handed_row.HandedRow.TheVariants.{Paramete
 use Rattle.expressions.specs.Context.{Context}
 use Rattle.expressions.specs.Numbers.{Numbering, handed_at}
 use Rattle.expressions.proofs.Loops.{next_item}
-use Rattle.parameters.specs.declared.parameter.Parameter.{Parameter as ParameterByNumber}
-use Rattle.parameters.specs.Parameters.{parameter_at}
+use Rattle.items.specs.declared.parameters.parameter.Parameter.{Parameter as ParameterByNumber}
+use Rattle.items.specs.parameters.Parameters.{parameter_at}
 use Rattle.items.specs.Heads.{rows_if_bodied, rows_of_parameters}
 
 -- what the rows mean

@@ -14,9 +14,9 @@ use Rattle.expressions.specs.Numbers.{Numbering}
 use Rattle.expressions.specs.Operated.{Numbers}
 use Rattle.expressions.proofs.Growth.{agrees_before, below_only_types, grows_trans, only_types_grows}
 use Rattle.expressions.proofs.TypeWords.{declared_by_types}
-use Rattle.parameters.specs.declared.parameter.Parameter.{Parameter as ParameterByNumber}
-use Rattle.parameters.specs.Parameters.{numbers_of}
-use Rattle.parameters.proofs.NamesTaken.{types_below}
+use Rattle.items.specs.declared.parameters.parameter.Parameter.{Parameter as ParameterByNumber}
+use Rattle.items.specs.parameters.Parameters.{numbers_of}
+use Rattle.items.proofs.parameters.NamesTaken.{types_below}
 use Rattle.items.specs.Heads.{IsHeadJudged, HeadToPass, HeadBreaks, head_declared_in, rows_of_head}
 use Rattle.items.proofs.heads.HeadDeclared.{head_declares, head_grows, head_handed, head_types}
 use Rattle.items.proofs.heads.HeadFaults.{asked_by, head_of}

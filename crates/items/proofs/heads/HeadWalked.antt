@@ -14,7 +14,7 @@ use Rattle.cbase.specs.declared.tree.stmt.Stmt.{Stmt}
 use Rattle.ctrees.specs.Levels.{depth, declared_levels, param_levels}
 use Rattle.ctrees.specs.Weight.{list_or_nothing}
 use Rattle.ctrees.proofs.Sizes.{declared_levels_parts}
-use Rattle.environment.specs.Environment.{function_set, loop_set}
+use Rattle.typing.specs.environment.Environment.{function_set, loop_set}
 use Rattle.typing.specs.declared.fault.Fault.{Fault}
 use Rattle.typing.specs.Heads.{head_declared, head_rows, names_in, params_of, result_of}
 use Rattle.typing.specs.Items.{HeadIs, DefinitionIs, HeadRefused, HeadBroken, HeadGiven, DefinitionHeadRefused, DefinitionWithBody}
@@ -33,9 +33,9 @@ use Rattle.expressions.proofs.Blocks.{inside}
 use Rattle.expressions.proofs.Growth.{agrees_before, below_grows, grows_trans, number_back}
 use Rattle.expressions.proofs.Levels.{each_within}
 use Rattle.expressions.proofs.Walking.{handed_behind, passed_of, stopped_of}
-use Rattle.parameters.specs.declared.parameter.Parameter.{Parameter as ParameterByNumber}
-use Rattle.parameters.specs.Parameters.{parameter_at, some_parameters}
-use Rattle.parameters.proofs.FunctionNames.{inside_grows}
+use Rattle.items.specs.declared.parameters.parameter.Parameter.{Parameter as ParameterByNumber}
+use Rattle.items.specs.parameters.Parameters.{parameter_at, some_parameters}
+use Rattle.items.proofs.parameters.FunctionNames.{inside_grows}
 use Rattle.items.specs.Heads.{IsHead, rows_if_bodied}
 use Rattle.items.specs.InFile.{SaysInFileBy}
 use Rattle.items.proofs.heads.HeadRows.{rows_meant}

@@ -1,6 +1,6 @@
 ghost use Rattle.std.specs.Prelude.{◌≡◌, ◌<◌, ℕ, map, length, All, option_map, option_and_then};
-ghost use Rattle.environment.specs.Names.{value_in};
-ghost use Rattle.environment.specs.Scopes.{found_here, left};
+ghost use Rattle.typing.specs.environment.Names.{value_in};
+ghost use Rattle.typing.specs.environment.Scopes.{found_here, left};
 ghost use Rattle.typing.specs.Declarations.{IsAgain, LinkedGiven};
 ghost use Rattle.typing.specs.Entities.{FunctionLinked};
 ghost use Rattle.typing.specs.Heads.{body_faults, definition_of_head};
@@ -15,11 +15,11 @@ use crate::heads::main_function::main_fault;
 use crate::heads::parts::Head;
 use crate::heads::structs::has_struct;
 use cbase::{Declared, Place};
-use ctypes::Broken;
-use declarations::definition_by_now;
-use environment::{Binding, Definition};
+use typing::ctypes::Broken;
+use crate::declarations::definition_by_now;
+use typing::environment::{Binding, Definition};
 use expressions::{Context, first_of, least, unless};
-use parameters::{Parameter, first_of_parameters, found_of_parameters, function_fault, is_other};
+use crate::parameters::{Parameter, first_of_parameters, found_of_parameters, function_fault, is_other};
 use typing::Fault;
 
 /// The first of what is broken at the head of a function, if anything is: what is broken at the name of every function and at those of its parameters; one

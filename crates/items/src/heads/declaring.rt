@@ -6,10 +6,10 @@ use crate::heads::broken::definition_of_head;
 use crate::heads::marking::mark_parameters;
 use crate::heads::parts::Head;
 use cbase::{Declared, List, NoMemory};
-use declarations::definition_by_now;
-use environment::Signature;
+use crate::declarations::definition_by_now;
+use typing::environment::Signature;
 use expressions::Context;
-use parameters::{Parameter, function_linked};
+use crate::parameters::{Parameter, function_linked};
 use std::alloc::Global;
 
 /// Declares a function by its head (C11 6.9.1) around the scope of its parameters, which are marked where it is `main`; the text has from here on what it

@@ -7,7 +7,7 @@ use crate::heads::parts::Head;
 use crate::heads::walking::params_of;
 use cbase::{Declared, Identifier, NoMemory, Param};
 use expressions::{Context, HandedRow};
-use parameters::Parameter;
+use crate::parameters::Parameter;
 
 /// Hands on a function that is defined, and behind it its parameters (C11 6.9.1); of a head without a body nothing.
 pub(crate) fn hand_on_head(

@@ -6,7 +6,7 @@ ghost use Rattle.expressions.specs.Numbers.{Numbering};
 ghost use Rattle.expressions.specs.Settled.{IsFirstOf};
 
 use cbase::Place;
-use ctypes::{Broken, Shape};
+use typing::ctypes::{Broken, Shape};
 use expressions::{Context, unless};
 use typing::Fault;
 

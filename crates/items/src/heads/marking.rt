@@ -6,9 +6,9 @@ use crate::heads::main_function::is_main;
 use crate::heads::pairs::pairs;
 use crate::heads::walking::params_of;
 use cbase::{Declared, Identifier, NoMemory, Param};
-use environment::{DeclaredType, Entity, Lifetime};
+use typing::environment::{DeclaredType, Entity, Lifetime};
 use expressions::Context;
-use parameters::Parameter;
+use crate::parameters::Parameter;
 use std::alloc::Global;
 
 /// Declares the parameters of `main` anew as such, in the innermost scope; those of any other function stay as they are.

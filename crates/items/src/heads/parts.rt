@@ -1,5 +1,5 @@
 use cbase::Storage;
-use ctypes::Broken;
+use typing::ctypes::Broken;
 
 /// The head of a function by what is asked at its name, beside its parameters (C11 6.9.1).
 #[derive(Clone, Copy)]

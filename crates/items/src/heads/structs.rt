@@ -2,10 +2,10 @@ ghost use Rattle.std.specs.Prelude.{◌≡◌, ◌<◌, map, length, All};
 ghost use Rattle.typing.specs.Heads.{has_struct, takes_struct};
 ghost use Rattle.expressions.specs.Context.{Agrees};
 ghost use Rattle.expressions.specs.Numbers.{Numbering};
-ghost use Rattle.parameters.specs.Parameters.{parameter_at};
+ghost use Rattle.items.specs.parameters.Parameters.{parameter_at};
 
 use expressions::Context;
-use parameters::Parameter;
+use crate::parameters::Parameter;
 
 /// Whether a function takes or gives a struct.
 pub(crate) fn has_struct(context: &Context, result_type: u32, params: &[Parameter]) -> bool

@@ -8,7 +8,7 @@ use crate::heads::handing::hand_on_head;
 use crate::heads::parts::Head;
 use cbase::{Declared, NoMemory, Storage};
 use expressions::{Context, Found, NamedType, pointers_to};
-use parameters::{Parameter, types_of};
+use crate::parameters::{Parameter, types_of};
 use std::alloc::Global;
 
 /// The name of a function behind its parameters (C11 6.9.1): what is broken at it and at theirs, or it is declared around their scope, and handed on with

@@ -2,7 +2,7 @@
 use Rattle.std.proofs.Common.{◌∙◌, sym}
 use Rattle.c_machine.specs.Run.{main_tasks}
 use Rattle.c_machine.specs.Trees.{main_as, text_of}
-use Rattle.c_tasks.specs.declared.room.Room.TheVariants.{Made, NotKept}
+use Rattle.c_run.specs.declared.tasks.room.Room.TheVariants.{Made, NotKept}
 use Rattle.c_run.proofs.Rooms.{that_room}
 use Rattle.c_run.proofs.beginning.call_main.Goals as goal
 

@@ -5,7 +5,7 @@ use Rattle.c_machine.specs.State.{StateIn, doing}
 use Rattle.c_machine.specs.Statements.{branch_place, branch_tasks}
 use Rattle.c_machine.specs.Step.{unless_lost}
 use Rattle.c_machine.specs.Trees.{text_of}
-use Rattle.c_tasks.proofs.MakingRoom.{on_ok}
+use Rattle.c_run.proofs.tasks.MakingRoom.{on_ok}
 use Rattle.c_run.proofs.MakingSteps.{made_alone, branch_speaks_of_none}
 use Rattle.c_run.proofs.conditions.branched.Goals as goal
 

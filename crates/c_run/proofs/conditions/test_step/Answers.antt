@@ -2,7 +2,7 @@
 use Rattle.std.proofs.Common.{ℕ, refl, subst, sym}
 use Rattle.c_machine.specs.declared.task.Task.TheVariants.{Test}
 use Rattle.c_machine.specs.Statements.{test_tasks}
-use Rattle.c_tasks.specs.Room.{MakesRoom}
+use Rattle.c_run.specs.tasks.Room.{MakesRoom}
 use Rattle.c_machine.specs.Trees.{text_of}
 use Rattle.c_run.specs.Stepped.{stepped_by}
 use Rattle.c_run.proofs.MakingSteps.{answered_by, room_step, test_speaks_of_none}

@@ -3,7 +3,7 @@ use Rattle.std.proofs.Common.{[], ◌∷◌, ap, ◌∙◌, arith}
 use Rattle.cbase.specs.declared.tree.stmt.Stmt.{Stmt}
 use Rattle.c_machine.specs.declared.task.Task.TheVariants.{Execute}
 use Rattle.c_machine.specs.State.{doing}
-use Rattle.c_tasks.proofs.EachInFront.{item_done}
+use Rattle.c_run.proofs.tasks.EachInFront.{item_done}
 use Rattle.c_run.proofs.doing.execute_each.Goals as goal
 
 pub loop-left-preserved : goal.loop-left-preserved

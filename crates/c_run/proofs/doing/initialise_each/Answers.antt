@@ -4,7 +4,7 @@ use Rattle.cbase.specs.declared.place.Place.{Place}
 use Rattle.cbase.specs.declared.tree.init.Init.{Init}
 use Rattle.c_machine.specs.declared.task.Task.TheVariants.{Initialise}
 use Rattle.c_machine.specs.State.{doing}
-use Rattle.c_tasks.proofs.EachInFront.{item_done}
+use Rattle.c_run.proofs.tasks.EachInFront.{item_done}
 use Rattle.c_run.proofs.doing.initialise_each.Goals as goal
 
 pub loop-left-preserved : goal.loop-left-preserved

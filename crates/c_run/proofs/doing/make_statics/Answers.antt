@@ -1,7 +1,7 @@
 -- One object in front of the others.
 use Rattle.std.proofs.Common.{◌-◌, arith}
 use Rattle.c_machine.specs.declared.task.Task.TheVariants.{MakeStatic}
-use Rattle.c_tasks.proofs.EachInFront.{item_done}
+use Rattle.c_run.proofs.tasks.EachInFront.{item_done}
 use Rattle.c_run.proofs.Rooms.{get_or_twice}
 use Rattle.c_run.proofs.doing.make_statics.Goals as goal
 

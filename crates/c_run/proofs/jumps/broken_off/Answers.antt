@@ -2,8 +2,8 @@
 use Rattle.std.proofs.Common.{ap, ◌∙◌}
 use Rattle.cbase.specs.declared.tree.stmt.Stmt.{Stmt}
 use Rattle.c_machine.specs.Trees.{text_of}
-use Rattle.c_tasks.specs.Loops.{is_for}
-use Rattle.c_tasks.proofs.MakingRoom.{on_ok}
+use Rattle.c_run.specs.tasks.Loops.{is_for}
+use Rattle.c_run.proofs.tasks.MakingRoom.{on_ok}
 use Rattle.c_run.proofs.Leaving.{breaks_off}
 use Rattle.c_run.proofs.jumps.broken_off.Goals as goal
 

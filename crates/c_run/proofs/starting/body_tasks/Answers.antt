@@ -1,6 +1,6 @@
 -- The objects of the body, in front of its statements.
 use Rattle.std.proofs.Common.{◌++◌, [], ◌∷◌, map, true, refl, ap, ◌∙◌}
-use Rattle.ctypes.specs.Integers.{int}
+use Rattle.typing.specs.ctypes.Integers.{int}
 use Rattle.c_machine.specs.declared.kind.Kind.TheVariants.{Integer}
 use Rattle.c_machine.specs.declared.task.Task.TheVariants.{EndOfBody, Execute}
 use Rattle.c_machine.specs.Blocks.{entered}

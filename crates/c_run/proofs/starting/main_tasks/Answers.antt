@@ -1,7 +1,7 @@
 -- The parameters of main, whose sizes are all kept or not.
 use Rattle.std.proofs.Common.{ℕ, Bool, ◌&&◌, ◌++◌, [], ◌∷◌, List, map, true, refl, ap, sym, ◌∙◌}
 use Rattle.std.specs.List.{list_all}
-use Rattle.ctypes.specs.Integers.{int}
+use Rattle.typing.specs.ctypes.Integers.{int}
 use Rattle.c_machine.specs.declared.kind.Kind.TheVariants.{Integer}
 use Rattle.c_machine.specs.declared.object.Object.{Object}
 use Rattle.c_machine.specs.declared.task.Task.TheVariants.{EndOfBody, Execute, MakeObject, OpenBlock}
@@ -9,9 +9,9 @@ use Rattle.c_machine.specs.Blocks.{entered}
 use Rattle.c_machine.specs.Program.{Program, parameters_in}
 use Rattle.c_machine.specs.Run.{main_tasks}
 use Rattle.c_machine.specs.Trees.{main_as, text_of}
-use Rattle.c_tasks.specs.Room.{are_kept, kinds_in}
-use Rattle.c_text.specs.Kept.{is_sized}
-use Rattle.c_text.specs.Functions.{parameter_of}
+use Rattle.c_run.specs.tasks.Room.{are_kept, kinds_in}
+use Rattle.c_run.specs.text.Kept.{is_sized}
+use Rattle.c_run.specs.text.Functions.{parameter_of}
 use Rattle.c_run.proofs.Rooms.{both_kept, objects_kept, objects_told, objects_not_told, on_ok, same_room}
 use Rattle.c_run.proofs.starting.main_tasks.Goals as goal
 

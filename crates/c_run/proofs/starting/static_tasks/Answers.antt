@@ -6,9 +6,9 @@ use Rattle.c_machine.specs.declared.task.Task.TheVariants.{Initialise, MakeStati
 use Rattle.c_machine.specs.State.{doing}
 use Rattle.c_machine.specs.Text.{Set}
 use Rattle.c_machine.specs.Trees.{text_of}
-use Rattle.c_tasks.specs.Room.{are_kept, kinds_in}
+use Rattle.c_run.specs.tasks.Room.{are_kept, kinds_in}
 use Rattle.c_run.proofs.Rooms.{Tasks, both_kept, in_front, none_spoken, objects_kept, objects_told, objects_not_told}
-use Rattle.c_tasks.specs.declared.room.Room.TheVariants.{Made}
+use Rattle.c_run.specs.declared.tasks.room.Room.TheVariants.{Made}
 use Rattle.c_run.proofs.starting.static_tasks.Goals as goal
 
 abbrev initialised : List (Set Init) → Tasks

@@ -1,12 +1,12 @@
 -- A block with the parameters, whose sizes are kept, in front of the body.
 use Rattle.std.proofs.Common.{◌++◌, [], ◌∷◌, map, true, refl, ap, ◌∙◌}
-use Rattle.ctypes.specs.Integers.{int}
+use Rattle.typing.specs.ctypes.Integers.{int}
 use Rattle.c_machine.specs.declared.kind.Kind.TheVariants.{Integer}
 use Rattle.c_machine.specs.declared.task.Task.TheVariants.{EndOfBody, Execute, MakeObject, OpenBlock}
 use Rattle.c_machine.specs.Blocks.{entered}
 use Rattle.c_machine.specs.State.{doing}
 use Rattle.c_machine.specs.Trees.{text_of}
-use Rattle.c_tasks.specs.declared.room.Room.TheVariants.{Made, NotKept}
+use Rattle.c_run.specs.declared.tasks.room.Room.TheVariants.{Made, NotKept}
 use Rattle.c_run.proofs.Rooms.{in_front, not_behind, objects_kept, that_room}
 use Rattle.c_run.proofs.starting.with_parameters.Goals as goal
 

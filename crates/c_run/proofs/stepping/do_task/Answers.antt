@@ -4,7 +4,7 @@ use Rattle.cbase.specs.declared.tree.expr.Expr.{Expr}
 use Rattle.cbase.specs.declared.tree.stmt.Stmt.{Stmt}
 use Rattle.c_machine.specs.declared.task.Task.TheVariants.{ValueOf, AddressOf, Pick, Execute, Branch, Test, Again, Initialise, BreakAt, ContinueAt, GiveBack}
 use Rattle.c_machine.specs.Trees.{text_of}
-use Rattle.c_tasks.proofs.MakingRoom.{on_ok}
+use Rattle.c_run.proofs.tasks.MakingRoom.{on_ok}
 use Rattle.c_run.proofs.MakingSteps.{same_task}
 use Rattle.c_run.proofs.PlainSteps.{other_task}
 use Rattle.c_run.specs.Stepped.{IsStepOf}

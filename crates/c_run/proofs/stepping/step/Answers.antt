@@ -1,6 +1,6 @@
 -- The first thing to do is done.
 use Rattle.c_machine.specs.Trees.{text_of}
-use Rattle.c_tasks.proofs.MakingRoom.{on_ok}
+use Rattle.c_run.proofs.tasks.MakingRoom.{on_ok}
 use Rattle.c_run.proofs.MakingSteps.{first_done}
 use Rattle.c_run.proofs.stepping.step.Goals as goal
 

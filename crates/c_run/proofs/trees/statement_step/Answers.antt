@@ -2,7 +2,7 @@
 use Rattle.std.proofs.Common.{ℕ, refl, subst}
 use Rattle.c_machine.specs.declared.task.Task.TheVariants.{Execute}
 use Rattle.c_machine.specs.Statements.{statement_tasks}
-use Rattle.c_tasks.specs.Room.{MakesRoom}
+use Rattle.c_run.specs.tasks.Room.{MakesRoom}
 use Rattle.c_machine.specs.Trees.{text_of}
 use Rattle.c_run.specs.Stepped.{stepped_by}
 use Rattle.c_run.proofs.MakingSteps.{answered_by, room_step}

@@ -3,8 +3,8 @@ use Rattle.std.proofs.Common.{◌≡◌, List, IfOk, subst}
 use Rattle.cbase.specs.declared.tree.operators.BinaryOp.{BinaryOp}
 use Rattle.bytes_core.specs.declared.word.Word.TheVariants.{Plain}
 use Rattle.choices.specs.declared.choice.Choice.{Choice}
-use Rattle.ctypes.specs.Integers.{int}
-use Rattle.ctypes.specs.declared.kind.IntegerType.{IntegerType}
+use Rattle.typing.specs.ctypes.Integers.{int}
+use Rattle.typing.specs.declared.ctypes.kind.IntegerType.{IntegerType}
 use Rattle.c_machine.specs.declared.kind.Kind.TheVariants.{Integer}
 use Rattle.c_machine.specs.Step.{updated, counted, counting}
 use Rattle.c_machine.specs.Words.{scalar_bytes}

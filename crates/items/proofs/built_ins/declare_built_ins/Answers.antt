@@ -1,7 +1,7 @@
 -- The functions of the table are those that are built in.
 use Rattle.std.proofs.Common.{OnOk, ap, map, subst}
-use Rattle.environment.specs.BuiltIns.{FunctionType}
-use Rattle.environment.specs.Names.{Entries}
+use Rattle.typing.specs.environment.BuiltIns.{FunctionType}
+use Rattle.typing.specs.environment.Names.{Entries}
 use Rattle.items.specs.Begun.{HasMore, function_in}
 use Rattle.items.proofs.built_ins.declare_built_ins.Goals as goal
 

@@ -1,7 +1,7 @@
 -- The name of an object: its type, what is broken at it, and what is declared.
 use Rattle.std.proofs.Common.{length, sym, subst}
 use Rattle.cbase.specs.declared.abi.Abi.TheVariants.{Lp64}
-use Rattle.environment.specs.Bounds.{DeclaredBelow}
+use Rattle.typing.specs.environment.Bounds.{DeclaredBelow}
 use Rattle.expressions.proofs.Growth.{below_only_types}
 use Rattle.items.proofs.GivingObjects.{breaks, gives}
 use Rattle.items.proofs.giving.give.Goals as goal

@@ -3,13 +3,13 @@ use Rattle.std.proofs.Common.{Bool, List, ℕ, ◌||◌, subst}
 use Rattle.std.specs.Prelude.{not}
 use Rattle.cbase.specs.declared.tree.decl.Storage.TheVariants.{Extern}
 use Rattle.cbase.specs.declared.tree.expr.ExprForm.TheViews.{out-Declared}
-use Rattle.ctypes.specs.declared.found.Broken.TheVariants.{Rule}
+use Rattle.typing.specs.declared.ctypes.found.Broken.TheVariants.{Rule}
 use Rattle.typing.specs.Declarations.{IsAgain, given}
 use Rattle.typing.specs.Faults.{all_at, unless}
 use Rattle.typing.specs.Forms.{DeclaratorParts}
 use Rattle.expressions.specs.Numbers.{declared_type_at}
 use Rattle.expressions.specs.Settled.{IsFirstOf}
-use Rattle.declarations.specs.Given.{here_at, linked_now}
+use Rattle.items.specs.declarations.Given.{here_at, linked_now}
 use Rattle.items.proofs.giving.object_fault.Goals as goal
 
 pub returns : goal.returns

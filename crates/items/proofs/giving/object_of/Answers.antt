@@ -1,13 +1,13 @@
 -- What a declaration says of an object.
 use Rattle.std.proofs.Common.{◌≡◌, ◌∙◌, List, ℕ, Option, length, ap, sym, subst, refl}
 use Rattle.cbase.specs.declared.tree.expr.ExprForm.TheViews.{out-Declared}
-use Rattle.environment.specs.declared.entity.Linked.{Linked}
-use Rattle.environment.specs.Bounds.{DeclaredBelow}
-use Rattle.environment.specs.Names.{value_in}
+use Rattle.typing.specs.declared.environment.entity.Linked.{Linked}
+use Rattle.typing.specs.environment.Bounds.{DeclaredBelow}
+use Rattle.typing.specs.environment.Names.{value_in}
 use Rattle.typing.specs.FileNames.{definition_by}
 use Rattle.expressions.specs.Language.{definition_by_now}
-use Rattle.declarations.specs.Given.{composite_by_now}
-use Rattle.declarations.proofs.Bound.{composite_below}
+use Rattle.items.specs.declarations.Given.{composite_by_now}
+use Rattle.items.proofs.declarations.Bound.{composite_below}
 use Rattle.items.proofs.giving.object_of.Goals as goal
 
 pub returns-clause-is : goal.returns-clause-is

@@ -1,6 +1,6 @@
 -- An array whose size its initialiser tells.
 use Rattle.std.proofs.Common.{refl}
-use Rattle.declarations.proofs.BehindNames.{braces_layer, value_layer}
+use Rattle.items.proofs.declarations.BehindNames.{braces_layer, value_layer}
 use Rattle.items.proofs.FileInitialisers.{array_by_value, array_refused, array_told, number_below}
 use Rattle.items.proofs.initialising.array_initialised.Goals as goal
 

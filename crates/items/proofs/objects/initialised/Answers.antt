@@ -1,8 +1,8 @@
 -- What stands behind the name of an object outside of functions.
 use Rattle.std.proofs.Common.{length, subst}
-use Rattle.environment.specs.declared.entity.DeclaredType.TheVariants.{Whole, UnsizedArray}
-use Rattle.environment.specs.Bounds.{DeclaredBelow}
-use Rattle.declarations.proofs.DeclLevels.{init_within}
+use Rattle.typing.specs.declared.environment.entity.DeclaredType.TheVariants.{Whole, UnsizedArray}
+use Rattle.typing.specs.environment.Bounds.{DeclaredBelow}
+use Rattle.items.proofs.declarations.DeclLevels.{init_within}
 use Rattle.items.proofs.FileInitialisers.{not_initialised, some_initialised}
 use Rattle.items.proofs.objects.initialised.Goals as goal
 

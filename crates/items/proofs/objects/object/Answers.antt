@@ -1,7 +1,7 @@
 -- The name of an object outside of functions: its sizes, what is found at it, and what stands behind it.
 use Rattle.std.proofs.Common.{List, subst}
 use Rattle.typing.specs.declared.size.Size.{Size}
-use Rattle.declarations.proofs.DeclLevels.{sizes_within}
+use Rattle.items.proofs.declarations.DeclLevels.{sizes_within}
 use Rattle.expressions.proofs.Growth.{below_grows}
 use Rattle.items.specs.Objects.{IsObjectGiven}
 use Rattle.items.proofs.ObjectNames.{sizes_stop, sizes_grow, name_broken, gives_of, object_initialised}

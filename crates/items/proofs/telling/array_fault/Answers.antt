@@ -3,8 +3,8 @@ use Rattle.std.proofs.Common.{◌≡◌, ◌∙◌, List, ℕ, Option, ap, subst
 use Rattle.std.specs.Prelude.{option_and_then}
 use Rattle.cbase.specs.declared.ctype.CType.{CType}
 use Rattle.cbase.specs.declared.tree.expr.ExprForm.TheViews.{out-Declared}
-use Rattle.environment.specs.declared.entity.Linked.{Linked as LinkedByNumber}
-use Rattle.environment.specs.Names.{value_in}
+use Rattle.typing.specs.declared.environment.entity.Linked.{Linked as LinkedByNumber}
+use Rattle.typing.specs.environment.Names.{value_in}
 use Rattle.typing.specs.Declarations.{IsOther}
 use Rattle.typing.specs.Entities.{ObjectLinked, WholeType}
 use Rattle.expressions.specs.Numbers.{linked_at}

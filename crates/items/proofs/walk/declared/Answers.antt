@@ -1,6 +1,6 @@
 -- A declaration outside of functions: without names, or its words and its names.
 use Rattle.cbase.specs.declared.tree.expr.ExprForm.TheViews.{out-Decl}
-use Rattle.declarations.proofs.DeclLevels.{words_within, names_within}
+use Rattle.items.proofs.declarations.DeclLevels.{words_within, names_within}
 use Rattle.items.proofs.Items.{nameless, names_walked, words_below, words_stop}
 use Rattle.items.proofs.walk.declared.Goals as goal
 

@@ -1,6 +1,6 @@
 -- A signature behind the others keeps the numbers below.
 use Rattle.std.proofs.Common.{length, subst, sym}
-use Rattle.environment.specs.Bounds.{SignatureBelow}
+use Rattle.typing.specs.environment.Bounds.{SignatureBelow}
 use Rattle.expressions.specs.Context.{Context}
 use Rattle.expressions.proofs.Kept.{added_below_behind}
 use Rattle.expressions.proofs.context.Context.add_signature.Goals as goal

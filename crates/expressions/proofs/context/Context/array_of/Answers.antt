@@ -2,7 +2,7 @@
 use Rattle.std.proofs.Common.{ap}
 use Rattle.cbase.specs.declared.ctype.CType.{CType}
 use Rattle.cbase.specs.declared.ctype.CType.TheVariants.{Array as ArrayType}
-use Rattle.ctypes.specs.Table.{type_at}
+use Rattle.typing.specs.ctypes.Table.{type_at}
 use Rattle.expressions.proofs.Meanings.{type_meant}
 use Rattle.expressions.proofs.Operating.{numbered_now, numbered_below}
 use Rattle.expressions.proofs.context.Context.array_of.Goals as goal

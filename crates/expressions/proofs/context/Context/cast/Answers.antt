@@ -2,10 +2,10 @@
 use Rattle.std.proofs.Common.{List}
 use Rattle.cbase.specs.declared.ctype.CType.{CType}
 use Rattle.cbase.specs.declared.structs.StructDef.{StructDef}
-use Rattle.ctypes.specs.Table.{type_at}
-use Rattle.ctypes.specs.Broken.{Judgement}
-use Rattle.ctypes.specs.Converting.{cast}
-use Rattle.ctypes.specs.Kinds.{kind_of, decayed}
+use Rattle.typing.specs.ctypes.Table.{type_at}
+use Rattle.typing.specs.ctypes.Broken.{Judgement}
+use Rattle.typing.specs.ctypes.Converting.{cast}
+use Rattle.typing.specs.ctypes.Kinds.{kind_of, decayed}
 use Rattle.expressions.proofs.Operating.{operates_two, answered_below}
 use Rattle.expressions.proofs.context.Context.cast.Goals as goal
 

@@ -2,8 +2,8 @@
 use Rattle.std.proofs.Common.{◌≡◌, ◌<◌, Bool, length, ap, sym, subst, ◌∙◌, IfOk}
 use Rattle.std.specs.Prelude.{All, if◌then◌else◌}
 use Rattle.cbase.specs.Completing.{may_complete, completed}
-use Rattle.ctypes.specs.Structs.{fields_of}
-use Rattle.ctypes.specs.declared.structs.Member.{Member}
+use Rattle.typing.specs.ctypes.Structs.{fields_of}
+use Rattle.typing.specs.declared.ctypes.structs.Member.{Member}
 use Rattle.expressions.specs.Context.{Context}
 use Rattle.expressions.proofs.Tagging.{where_ok, where_err}
 use Rattle.expressions.proofs.context.Context.complete.Goals as goal

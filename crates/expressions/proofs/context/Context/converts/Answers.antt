@@ -1,7 +1,7 @@
 -- What is found of the table and of the context alike.
 use Rattle.std.proofs.Common.{sym, ◌∙◌}
-use Rattle.ctypes.specs.Converting.{converts}
-use Rattle.ctypes.specs.Kinds.{kind_of, decayed}
+use Rattle.typing.specs.ctypes.Converting.{converts}
+use Rattle.typing.specs.ctypes.Kinds.{kind_of, decayed}
 use Rattle.expressions.proofs.Meanings.{of_two}
 use Rattle.expressions.proofs.context.Context.converts.Goals as goal
 

@@ -1,6 +1,6 @@
 -- What is declared keeps the numbers below.
 use Rattle.std.proofs.Common.{length, subst, sym}
-use Rattle.environment.specs.Bounds.{EntityBelow}
+use Rattle.typing.specs.environment.Bounds.{EntityBelow}
 use Rattle.expressions.specs.Context.{Context}
 use Rattle.expressions.proofs.Kept.{declared_below}
 use Rattle.expressions.proofs.context.Context.declare.Goals as goal

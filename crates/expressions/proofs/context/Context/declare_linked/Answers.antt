@@ -1,8 +1,8 @@
 -- What has linkage keeps the numbers below.
 use Rattle.std.proofs.Common.{length, subst, sym}
-use Rattle.environment.specs.declared.entity.Binding.TheVariants.{WithLinkage}
-use Rattle.environment.specs.Bounds.{AreBelow, EntityBelow}
-use Rattle.environment.proofs.Bounds.{linked_below}
+use Rattle.typing.specs.declared.environment.entity.Binding.TheVariants.{WithLinkage}
+use Rattle.typing.specs.environment.Bounds.{AreBelow, EntityBelow}
+use Rattle.typing.proofs.environment.Bounds.{linked_below}
 use Rattle.expressions.specs.Context.{Context}
 use Rattle.expressions.proofs.Kept.{bound_below_behind}
 use Rattle.expressions.proofs.context.Context.declare_linked.Goals as goal

@@ -2,9 +2,9 @@
 use Rattle.std.proofs.Common.{ℕ, List, [], ◌∷◌, ◌++◌, length, ap, ◌∙◌}
 use Rattle.std.proofs.lemmas.Result.{IfOk-from_err}
 use Rattle.cbase.specs.Completing.{fieldless}
-use Rattle.environment.proofs.Bounds.{tagged_below}
-use Rattle.environment.specs.declared.entity.Tag.TheVariants.{Struct}
-use Rattle.environment.specs.Environment.{tag_declared}
+use Rattle.typing.proofs.environment.Bounds.{tagged_below}
+use Rattle.typing.specs.declared.environment.entity.Tag.TheVariants.{Struct}
+use Rattle.typing.specs.environment.Environment.{tag_declared}
 use Rattle.expressions.specs.Context.{Context, declared}
 use Rattle.expressions.specs.Language.{struct_declared}
 use Rattle.expressions.proofs.context.Context.declare_struct.Goals as goal

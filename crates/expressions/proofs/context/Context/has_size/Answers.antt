@@ -1,7 +1,7 @@
 -- Whether the type has a size is what the table tells of it.
 use Rattle.std.proofs.Common.{sym, ◌∙◌}
 use Rattle.cbase.specs.declared.abi.Abi.TheVariants.{Lp64}
-use Rattle.ctypes.specs.Kinds.{has_size}
+use Rattle.typing.specs.ctypes.Kinds.{has_size}
 use Rattle.expressions.proofs.Extents.{sized, unsized}
 use Rattle.expressions.proofs.Meanings.{of_one}
 use Rattle.expressions.proofs.context.Context.has_size.Goals as goal

@@ -1,6 +1,6 @@
 -- The type of integers that the table tells is the context's.
 use Rattle.std.proofs.Common.{sym, ◌∙◌}
-use Rattle.ctypes.specs.Kinds.{kind_of, integer_in}
+use Rattle.typing.specs.ctypes.Kinds.{kind_of, integer_in}
 use Rattle.expressions.proofs.Meanings.{of_one}
 use Rattle.expressions.proofs.context.Context.integer_type.Goals as goal
 

@@ -1,7 +1,7 @@
 -- Whether the type is large is what the table tells of its size.
 use Rattle.std.proofs.Common.{sym, ◌∙◌}
 use Rattle.cbase.specs.Layout.{layout_of}
-use Rattle.ctypes.specs.Table.{type_at}
+use Rattle.typing.specs.ctypes.Table.{type_at}
 use Rattle.typing.specs.NamedTypes.{is_large}
 use Rattle.expressions.proofs.Extents.{large, not_large}
 use Rattle.expressions.proofs.Meanings.{of_one}

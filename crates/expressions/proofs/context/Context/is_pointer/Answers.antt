@@ -1,6 +1,6 @@
 -- The kind of the type is that of its shape.
 use Rattle.std.proofs.Common.{◌≡◌, false, refl, sym, ap, ◌∙◌}
-use Rattle.ctypes.specs.declared.shape.Shape.TheVariants.{Pointer as PointerShape}
+use Rattle.typing.specs.declared.ctypes.shape.Shape.TheVariants.{Pointer as PointerShape}
 use Rattle.expressions.specs.Pointers.{is_pointer}
 use Rattle.expressions.proofs.Meanings.{kind_meant}
 use Rattle.expressions.proofs.OtherShapes.{no_pointer}

@@ -1,6 +1,6 @@
 -- The kind of the type is that of its shape.
 use Rattle.std.proofs.Common.{◌≡◌, false, refl, sym, ap, ◌∙◌}
-use Rattle.ctypes.specs.declared.shape.Shape.TheVariants.{Struct as StructShape}
+use Rattle.typing.specs.declared.ctypes.shape.Shape.TheVariants.{Struct as StructShape}
 use Rattle.typing.specs.Calls.{is_struct}
 use Rattle.expressions.proofs.Meanings.{kind_meant}
 use Rattle.expressions.proofs.OtherShapes.{no_struct}

@@ -2,12 +2,12 @@
 use Rattle.std.proofs.Common.{◌≡◌, Bool, true, false, refl, sym, ap, ◌∙◌}
 use Rattle.std.specs.Prelude.{if◌then◌else◌}
 use Rattle.cbase.specs.declared.ctype.CType.{CType}
-use Rattle.ctypes.specs.declared.shape.Shape.TheVariants.{Void as VoidShape, Pointer as PointerShape}
-use Rattle.ctypes.specs.Table.{type_at}
-use Rattle.ctypes.specs.declared.kind.Target.{Target}
-use Rattle.ctypes.specs.declared.kind.Target.TheVariants.{Sized, Unsized}
-use Rattle.ctypes.specs.Kinds.{Pointer, has_size}
-use Rattle.ctypes.proofs.ShapeKinds.{target_is, sized_target_is}
+use Rattle.typing.specs.declared.ctypes.shape.Shape.TheVariants.{Void as VoidShape, Pointer as PointerShape}
+use Rattle.typing.specs.ctypes.Table.{type_at}
+use Rattle.typing.specs.declared.ctypes.kind.Target.{Target}
+use Rattle.typing.specs.declared.ctypes.kind.Target.TheVariants.{Sized, Unsized}
+use Rattle.typing.specs.ctypes.Kinds.{Pointer, has_size}
+use Rattle.typing.proofs.ctypes.ShapeKinds.{target_is, sized_target_is}
 use Rattle.expressions.specs.Pointers.{is_void_pointer}
 use Rattle.expressions.proofs.Meanings.{kind_meant}
 use Rattle.expressions.proofs.OtherShapes.{no_pointer}

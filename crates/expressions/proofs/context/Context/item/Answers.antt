@@ -1,6 +1,6 @@
 -- The kind of the type is that of its shape.
 use Rattle.std.proofs.Common.{◌≡◌, refl, sym, ap, ◌∙◌, None, Some, arith}
-use Rattle.ctypes.specs.declared.shape.Shape.TheVariants.{Array as ArrayShape}
+use Rattle.typing.specs.declared.ctypes.shape.Shape.TheVariants.{Array as ArrayShape}
 use Rattle.typing.specs.Paths.{item_in}
 use Rattle.expressions.proofs.Meanings.{type_meant, kind_meant}
 use Rattle.expressions.proofs.OtherShapes.{no_array}

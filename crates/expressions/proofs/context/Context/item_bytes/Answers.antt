@@ -1,8 +1,8 @@
 -- The kind of the type is that of its shape.
 use Rattle.std.proofs.Common.{◌≡◌, refl, sym, ap, ◌∙◌, None}
-use Rattle.ctypes.specs.declared.shape.Shape.TheVariants.{Array as ArrayShape}
-use Rattle.ctypes.specs.Table.{type_at}
-use Rattle.ctypes.specs.Kinds.{target_of}
+use Rattle.typing.specs.declared.ctypes.shape.Shape.TheVariants.{Array as ArrayShape}
+use Rattle.typing.specs.ctypes.Table.{type_at}
+use Rattle.typing.specs.ctypes.Kinds.{target_of}
 use Rattle.typing.specs.Idiom.{item_bytes}
 use Rattle.typing.specs.Nodes.{size_told}
 use Rattle.expressions.proofs.Meanings.{kind_meant}

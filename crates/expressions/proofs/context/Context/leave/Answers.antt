@@ -1,6 +1,6 @@
 -- What is left declared keeps the numbers below.
 use Rattle.std.proofs.Common.{length}
-use Rattle.environment.proofs.Bounds.{left_below}
+use Rattle.typing.proofs.environment.Bounds.{left_below}
 use Rattle.expressions.proofs.context.Context.leave.Goals as goal
 
 pub invariant_of-self : goal.invariant_of-self

@@ -2,9 +2,9 @@
 use Rattle.std.proofs.Common.{◌≡◌, List, length, true, ap, ◌∙◌}
 use Rattle.cbase.specs.declared.ctype.CType.{CType}
 use Rattle.cbase.specs.declared.structs.StructDef.{StructDef}
-use Rattle.environment.specs.declared.entity.Tag.TheVariants.{Enum}
-use Rattle.environment.specs.declared.environment.Environment.{Environment}
-use Rattle.environment.specs.Environment.{tag_declared}
+use Rattle.typing.specs.declared.environment.entity.Tag.TheVariants.{Enum}
+use Rattle.typing.specs.declared.environment.environment.Environment.{Environment}
+use Rattle.typing.specs.environment.Environment.{tag_declared}
 use Rattle.expressions.specs.declared.handed_row.HandedRow.{HandedRow}
 use Rattle.expressions.specs.Context.{Context}
 use Rattle.expressions.proofs.Tagging.{where_ok, where_err, tagged_below_behind}

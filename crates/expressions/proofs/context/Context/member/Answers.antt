@@ -2,9 +2,9 @@
 use Rattle.std.proofs.Common.{List}
 use Rattle.cbase.specs.declared.ctype.CType.{CType}
 use Rattle.cbase.specs.declared.structs.StructDef.{StructDef}
-use Rattle.ctypes.specs.Table.{type_at}
-use Rattle.ctypes.specs.Broken.{Judgement}
-use Rattle.ctypes.specs.Members.{member_of}
+use Rattle.typing.specs.ctypes.Table.{type_at}
+use Rattle.typing.specs.ctypes.Broken.{Judgement}
+use Rattle.typing.specs.ctypes.Members.{member_of}
 use Rattle.expressions.proofs.Operating.{operates_one, answered_below}
 use Rattle.expressions.proofs.context.Context.member.Goals as goal
 

@@ -1,7 +1,7 @@
 -- The kind of the type is that of its shape.
 use Rattle.std.proofs.Common.{◌≡◌, refl, sym, ap, ◌∙◌, None}
-use Rattle.ctypes.specs.declared.shape.Shape.TheVariants.{Struct as StructShape}
-use Rattle.ctypes.specs.Kinds.{Kind}
+use Rattle.typing.specs.declared.ctypes.shape.Shape.TheVariants.{Struct as StructShape}
+use Rattle.typing.specs.ctypes.Kinds.{Kind}
 use Rattle.typing.specs.Idiom.{offset_in_struct}
 use Rattle.expressions.proofs.Meanings.{kind_meant}
 use Rattle.expressions.proofs.OtherShapes.{no_struct}

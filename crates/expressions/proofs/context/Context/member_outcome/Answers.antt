@@ -1,11 +1,11 @@
 -- The kind of the type is that of its shape, and what the table has of a member is what the struct has.
 use Rattle.std.proofs.Common.{◌≡◌, false, true, refl, sym, ap, ◌∙◌}
-use Rattle.ctypes.specs.declared.shape.Shape.TheVariants.{Struct as StructShape}
-use Rattle.ctypes.specs.Table.{type_at}
-use Rattle.ctypes.specs.declared.found.Broken.TheVariants.{Rule}
-use Rattle.ctypes.specs.Broken.{Typed, Breaks}
-use Rattle.ctypes.specs.Kinds.{Struct, has_size}
-use Rattle.ctypes.specs.Members.{named, member_in}
+use Rattle.typing.specs.declared.ctypes.shape.Shape.TheVariants.{Struct as StructShape}
+use Rattle.typing.specs.ctypes.Table.{type_at}
+use Rattle.typing.specs.declared.ctypes.found.Broken.TheVariants.{Rule}
+use Rattle.typing.specs.ctypes.Broken.{Typed, Breaks}
+use Rattle.typing.specs.ctypes.Kinds.{Struct, has_size}
+use Rattle.typing.specs.ctypes.Members.{named, member_in}
 use Rattle.expressions.proofs.Meanings.{type_meant, kind_meant, below_now}
 use Rattle.expressions.proofs.Measuring.{member_as, member_is, no_member}
 use Rattle.expressions.proofs.OtherShapes.{no_struct}

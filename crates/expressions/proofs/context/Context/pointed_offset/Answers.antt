@@ -3,11 +3,11 @@ use Rattle.std.proofs.Common.{◌≡◌, ◌⊎◌, ℕ, ◌<◌, List, refl, sy
 use Rattle.cbase.specs.declared.abi.Abi.{Abi}
 use Rattle.cbase.specs.declared.ctype.CType.{CType}
 use Rattle.cbase.specs.declared.structs.StructDef.{StructDef}
-use Rattle.ctypes.specs.declared.shape.Shape.{Shape}
-use Rattle.ctypes.specs.declared.shape.Shape.TheVariants.{Pointer as PointerShape, Array as ArrayShape}
-use Rattle.ctypes.specs.Table.{type_at, NamesBelow}
-use Rattle.ctypes.specs.Kinds.{Kind}
-use Rattle.ctypes.proofs.ShapeKinds.{kind_of_shape}
+use Rattle.typing.specs.declared.ctypes.shape.Shape.{Shape}
+use Rattle.typing.specs.declared.ctypes.shape.Shape.TheVariants.{Pointer as PointerShape, Array as ArrayShape}
+use Rattle.typing.specs.ctypes.Table.{type_at, NamesBelow}
+use Rattle.typing.specs.ctypes.Kinds.{Kind}
+use Rattle.typing.proofs.ctypes.ShapeKinds.{kind_of_shape}
 use Rattle.typing.specs.Idiom.{member_offset}
 use Rattle.typing.specs.Nodes.{pointed_offset}
 use Rattle.expressions.proofs.Meanings.{type_meant, kind_meant}

@@ -1,7 +1,7 @@
 -- The number that the table gives is the context's.
 use Rattle.std.proofs.Common.{ap}
 use Rattle.cbase.specs.declared.ctype.CType.TheVariants.{Pointer as PointerType}
-use Rattle.ctypes.specs.Table.{type_at}
+use Rattle.typing.specs.ctypes.Table.{type_at}
 use Rattle.expressions.proofs.Meanings.{type_meant}
 use Rattle.expressions.proofs.Operating.{numbered_now, numbered_below}
 use Rattle.expressions.proofs.context.Context.pointer_to.Goals as goal

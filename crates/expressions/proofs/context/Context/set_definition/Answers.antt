@@ -1,6 +1,6 @@
 -- What the text so far has for a name has no number.
 use Rattle.std.proofs.Common.{length}
-use Rattle.environment.proofs.Bounds.{definition_below}
+use Rattle.typing.proofs.environment.Bounds.{definition_below}
 use Rattle.expressions.proofs.context.Context.set_definition.Goals as goal
 
 pub invariant_of-self : goal.invariant_of-self

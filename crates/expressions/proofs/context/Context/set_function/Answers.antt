@@ -1,7 +1,7 @@
 -- The number of the result type is below.
 use Rattle.std.proofs.Common.{◌<◌, length, subst, sym}
 use Rattle.std.specs.Prelude.{IfSome}
-use Rattle.environment.proofs.Bounds.{function_below}
+use Rattle.typing.proofs.environment.Bounds.{function_below}
 use Rattle.expressions.specs.Context.{Context}
 use Rattle.expressions.proofs.context.Context.set_function.Goals as goal
 

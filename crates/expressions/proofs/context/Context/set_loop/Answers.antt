@@ -1,6 +1,6 @@
 -- Whether the place lies in a loop has no number.
 use Rattle.std.proofs.Common.{length}
-use Rattle.environment.proofs.Bounds.{loop_below}
+use Rattle.typing.proofs.environment.Bounds.{loop_below}
 use Rattle.expressions.proofs.context.Context.set_loop.Goals as goal
 
 pub invariant_of-self : goal.invariant_of-self

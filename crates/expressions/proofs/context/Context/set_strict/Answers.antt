@@ -1,6 +1,6 @@
 -- Whether `main` may not be called has no number.
 use Rattle.std.proofs.Common.{length}
-use Rattle.environment.proofs.Bounds.{strict_below}
+use Rattle.typing.proofs.environment.Bounds.{strict_below}
 use Rattle.expressions.proofs.context.Context.set_strict.Goals as goal
 
 pub invariant_of-self : goal.invariant_of-self

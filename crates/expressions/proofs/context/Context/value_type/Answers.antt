@@ -1,8 +1,8 @@
 -- The kind of the type is that of its shape.
 use Rattle.std.proofs.Common.{◌≡◌, refl, sym, ap, ◌∙◌, arith}
 use Rattle.cbase.specs.declared.ctype.CType.TheVariants.{Pointer}
-use Rattle.ctypes.specs.declared.shape.Shape.TheVariants.{Array as ArrayShape}
-use Rattle.ctypes.specs.Kinds.{Kind, kind_of}
+use Rattle.typing.specs.declared.ctypes.shape.Shape.TheVariants.{Array as ArrayShape}
+use Rattle.typing.specs.ctypes.Kinds.{Kind, kind_of}
 use Rattle.typing.specs.Known.{value_type}
 use Rattle.expressions.proofs.Interning.{numbers_as, numbers_here}
 use Rattle.expressions.proofs.Meanings.{type_meant, kind_meant}

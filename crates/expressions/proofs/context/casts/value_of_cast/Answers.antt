@@ -1,11 +1,11 @@
 -- What is no address of the offsetof idiom has the value of any cast.
 use Rattle.std.proofs.Common.{◌≡◌, ◌⊎◌, ℕ, refl, sym, ap, ◌∙◌, Option, None, inl, inr}
-use Rattle.ctypes.specs.Kinds.{Kind, Integer, Pointer, Array, Struct, Void}
+use Rattle.typing.specs.ctypes.Kinds.{Kind, Integer, Pointer, Array, Struct, Void}
 use Rattle.typing.specs.declared.idiom.Idiom.{Idiom}
 use Rattle.typing.specs.declared.idiom.Idiom.TheVariants.{Outside, NullPointer, MemberAt}
 use Rattle.typing.specs.Idiom.{offset_in}
 use Rattle.typing.specs.Nodes.{value_of_cast}
-use Rattle.values.specs.Values.{cast_value}
+use Rattle.typing.specs.values.Values.{cast_value}
 use Rattle.expressions.proofs.context.casts.value_of_cast.Goals as goal
 
 no_address : (idiom : Idiom) → (idiom ≡ Outside) ⊎ ((idiom ≡ NullPointer) ⊎ ((before : ℕ) × idiom ≡ MemberAt before)) → offset_in idiom ≡ None

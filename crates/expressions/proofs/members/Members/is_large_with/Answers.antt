@@ -1,6 +1,6 @@
 -- A struct with one member more is large, or not.
 use Rattle.std.proofs.Common.{sym, ◌∙◌}
-use Rattle.ctypes.specs.Table.{type_at}
+use Rattle.typing.specs.ctypes.Table.{type_at}
 use Rattle.expressions.proofs.MembersSoFar.{large_without, large_with}
 use Rattle.expressions.proofs.members.Members.is_large_with.Goals as goal
 

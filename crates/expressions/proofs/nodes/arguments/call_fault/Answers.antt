@@ -1,8 +1,8 @@
 use Rattle.std.proofs.Common.{List, ℕ, Bool, ap, subst, sym, ◌∙◌, length}
 use Rattle.std.specs.Prelude.{not, nat_eq}
-use Rattle.environment.specs.declared.entity.Signature.{Signature}
-use Rattle.ctypes.specs.declared.found.Broken.TheVariants.{Construct, Rule}
-use Rattle.ctypes.specs.Kinds.{kind_of}
+use Rattle.typing.specs.declared.environment.entity.Signature.{Signature}
+use Rattle.typing.specs.declared.ctypes.found.Broken.TheVariants.{Construct, Rule}
+use Rattle.typing.specs.ctypes.Kinds.{kind_of}
 use Rattle.typing.specs.Calls.{Argument, call_faults, calls_main, length_faults, unconverted}
 use Rattle.typing.specs.Faults.{unless}
 use Rattle.expressions.specs.Arguments.{arguments_at}

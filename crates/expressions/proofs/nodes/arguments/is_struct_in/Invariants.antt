@@ -1,6 +1,6 @@
 use Rattle.std.proofs.Common.{◌≡◌, false, take}
 use Rattle.std.specs.List.{list_any}
-use Rattle.ctypes.specs.Kinds.{kind_of}
+use Rattle.typing.specs.ctypes.Kinds.{kind_of}
 use Rattle.typing.specs.Calls.{is_struct}
 use Rattle.expressions.specs.Context.{Agrees}
 use Rattle.expressions.specs.Numbers.{Numbering}

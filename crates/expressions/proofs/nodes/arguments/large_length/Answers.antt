@@ -1,6 +1,6 @@
 use Rattle.std.proofs.Common.{◌||◌, not, ℕ, List, Bool, arith, get_or, ap, ◌∙◌, refl, subst}
 use Rattle.cbase.specs.declared.tree.expr.Expr.{Expr as ExprTree}
-use Rattle.ctypes.specs.declared.found.Broken.TheVariants.{Construct}
+use Rattle.typing.specs.declared.ctypes.found.Broken.TheVariants.{Construct}
 use Rattle.typing.specs.Calls.{large_lengths, lengths_of, is_length, is_small, length_in}
 use Rattle.typing.specs.Faults.{unless}
 use Rattle.expressions.specs.Settled.{IsFirstOf}

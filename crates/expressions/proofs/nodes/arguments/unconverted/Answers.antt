@@ -1,8 +1,8 @@
 use Rattle.std.proofs.Common.{ℕ, Bool, arith, get_or, ◌∙◌, refl, subst}
 use Rattle.cbase.specs.declared.tree.expr.Expr.{Expr as ExprTree}
-use Rattle.ctypes.specs.Converting.{converts}
-use Rattle.ctypes.specs.declared.found.Broken.TheVariants.{Rule}
-use Rattle.ctypes.specs.Kinds.{kind_of, decayed}
+use Rattle.typing.specs.ctypes.Converting.{converts}
+use Rattle.typing.specs.declared.ctypes.found.Broken.TheVariants.{Rule}
+use Rattle.typing.specs.ctypes.Kinds.{kind_of, decayed}
 use Rattle.typing.specs.Calls.{unconverted}
 use Rattle.typing.specs.Faults.{unless}
 use Rattle.expressions.specs.declared.known.Known.{Known as KnownByNumber}

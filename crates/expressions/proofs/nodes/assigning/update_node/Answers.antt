@@ -1,6 +1,6 @@
 -- What a context answers of `+=` and its like is what is found there.
 use Rattle.std.proofs.Common.{ap}
-use Rattle.ctypes.specs.Assigning.{updated}
+use Rattle.typing.specs.ctypes.Assigning.{updated}
 use Rattle.typing.specs.Known.{Known}
 use Rattle.expressions.specs.Numbers.{operand_at}
 use Rattle.expressions.proofs.Judging.{each_finished, answer_below}

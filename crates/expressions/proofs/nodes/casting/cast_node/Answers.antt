@@ -1,8 +1,8 @@
 -- What a context answers of a cast is what is found there, behind what is found of the type name.
 use Rattle.std.proofs.Common.{◌<◌, ℕ, length, sym, ◌∙◌, subst}
-use Rattle.ctypes.specs.Broken.{Judgement}
-use Rattle.ctypes.specs.Converting.{cast}
-use Rattle.ctypes.specs.Kinds.{kind_of, decayed}
+use Rattle.typing.specs.ctypes.Broken.{Judgement}
+use Rattle.typing.specs.ctypes.Converting.{cast}
+use Rattle.typing.specs.ctypes.Kinds.{kind_of, decayed}
 use Rattle.typing.specs.Faults.{faults_of}
 use Rattle.expressions.specs.Numbers.{operand_at}
 use Rattle.expressions.specs.Settled.{IsFirstOf}

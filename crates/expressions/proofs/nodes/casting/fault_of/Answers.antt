@@ -1,6 +1,6 @@
 -- What is broken is one thing alone.
 use Rattle.std.proofs.Common.{ap}
-use Rattle.ctypes.specs.declared.found.Outcome.{Outcome}
+use Rattle.typing.specs.declared.ctypes.found.Outcome.{Outcome}
 use Rattle.typing.specs.Faults.{faults_of}
 use Rattle.expressions.specs.Numbers.{judgement_at}
 use Rattle.expressions.proofs.Firsts.{first_alone}

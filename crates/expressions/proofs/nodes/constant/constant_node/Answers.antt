@@ -1,7 +1,7 @@
 -- What fits no type is one thing alone, and so is what is no constant.
 use Rattle.std.proofs.Common.{[], ◌∷◌, None, Some, refl, sym, ap, ◌∙◌}
 use Rattle.std.proofs.lemmas.Result.{IfOk-weaker}
-use Rattle.constants.specs.declared.meaning.Meaning.TheVariants.{NoConstant, FitsNoType, Known as KnownConstant}
+use Rattle.typing.specs.declared.constants.meaning.Meaning.TheVariants.{NoConstant, FitsNoType, Known as KnownConstant}
 use Rattle.typing.specs.declared.fault.Fault.{Fault}
 use Rattle.typing.specs.Known.{valued}
 use Rattle.expressions.specs.Constants.{constant_faults, constant_told}

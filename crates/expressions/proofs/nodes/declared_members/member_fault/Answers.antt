@@ -4,9 +4,9 @@ use Rattle.std.specs.Prelude.{not, is_some}
 use Rattle.cbase.specs.declared.ctype.CType.{CType}
 use Rattle.cbase.specs.declared.structs.Field.{Field}
 use Rattle.cbase.specs.declared.tree.expr.ExprForm.TheViews.{out-FieldName}
-use Rattle.ctypes.specs.Structs.{fields_of}
-use Rattle.ctypes.specs.Table.{type_at}
-use Rattle.ctypes.specs.declared.found.Broken.TheVariants.{Construct, Rule}
+use Rattle.typing.specs.ctypes.Structs.{fields_of}
+use Rattle.typing.specs.ctypes.Table.{type_at}
+use Rattle.typing.specs.declared.ctypes.found.Broken.TheVariants.{Construct, Rule}
 use Rattle.typing.specs.Braces.{has_member, member, is_large_struct}
 use Rattle.typing.specs.Faults.{unless, all_at}
 use Rattle.typing.specs.Forms.{MemberParts}

@@ -1,7 +1,7 @@
 -- What a context answers of an index is what is found there.
 use Rattle.std.proofs.Common.{ap, sym, ◌∙◌}
-use Rattle.ctypes.specs.Kinds.{kind_of, decayed}
-use Rattle.ctypes.specs.Members.{indexed}
+use Rattle.typing.specs.ctypes.Kinds.{kind_of, decayed}
+use Rattle.typing.specs.ctypes.Members.{indexed}
 use Rattle.typing.specs.declared.idiom.Idiom.{Idiom}
 use Rattle.typing.specs.Idiom.{at_index}
 use Rattle.typing.specs.Known.{Known, located}

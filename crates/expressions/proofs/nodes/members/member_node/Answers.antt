@@ -1,6 +1,6 @@
 -- What a context answers of a member is what is found there.
 use Rattle.std.proofs.Common.{ap, ◌∙◌}
-use Rattle.ctypes.specs.Members.{member_of}
+use Rattle.typing.specs.ctypes.Members.{member_of}
 use Rattle.typing.specs.declared.idiom.Idiom.{Idiom}
 use Rattle.typing.specs.Idiom.{within, member_offset}
 use Rattle.typing.specs.Known.{Known, located}

@@ -1,7 +1,7 @@
 -- What a context answers of a member behind a pointer is what is found there.
 use Rattle.std.proofs.Common.{ap, ◌∙◌}
-use Rattle.ctypes.specs.Kinds.{kind_of}
-use Rattle.ctypes.specs.Members.{member_through}
+use Rattle.typing.specs.ctypes.Kinds.{kind_of}
+use Rattle.typing.specs.ctypes.Members.{member_through}
 use Rattle.typing.specs.declared.idiom.Idiom.{Idiom}
 use Rattle.typing.specs.Idiom.{through}
 use Rattle.typing.specs.Known.{Known, located}

@@ -1,6 +1,6 @@
 -- A constant of an enum passes with the type int.
 use Rattle.std.proofs.Common.{None, Some, false, nat_eq, refl}
-use Rattle.environment.specs.declared.entity.Entity.TheVariants.{Enumerator}
+use Rattle.typing.specs.declared.environment.entity.Entity.TheVariants.{Enumerator}
 use Rattle.typing.specs.declared.idiom.Idiom.TheVariants.{Outside}
 use Rattle.typing.specs.Nodes.{enumerator_known}
 use Rattle.expressions.specs.declared.known.Known.{Known}

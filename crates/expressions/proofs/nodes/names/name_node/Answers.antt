@@ -1,6 +1,6 @@
 -- What stands for no value is one thing alone.
 use Rattle.std.proofs.Common.{[], ◌∷◌, Option, Some, option_map, sym, ap, ◌∙◌}
-use Rattle.environment.specs.declared.entity.Entity.{Entity}
+use Rattle.typing.specs.declared.environment.entity.Entity.{Entity}
 use Rattle.typing.specs.declared.fault.Fault.{Fault}
 use Rattle.expressions.specs.Names.{name_faults}
 use Rattle.expressions.specs.Numbers.{entity_at}

@@ -1,6 +1,6 @@
 -- What is named of three things is what is named of the first and of the rest.
 use Rattle.std.proofs.Common.{Bool, not, subst}
-use Rattle.ctypes.specs.declared.found.Broken.TheVariants.{Rule}
+use Rattle.typing.specs.declared.ctypes.found.Broken.TheVariants.{Rule}
 use Rattle.typing.specs.Faults.{unless}
 use Rattle.expressions.specs.Settled.{IsFirstOf}
 use Rattle.expressions.proofs.nodes.names.object_fault.Goals as goal

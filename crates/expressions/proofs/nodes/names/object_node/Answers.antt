@@ -1,9 +1,9 @@
 -- An object whose type can be written down passes, or the first thing that is broken at its name is refused.
 use Rattle.std.proofs.Common.{Bool, not, ◌++◌, Some, sym, ap, ◌∙◌, subst}
-use Rattle.environment.specs.declared.entity.DeclaredType.{DeclaredType}
-use Rattle.environment.specs.declared.entity.DeclaredType.TheVariants.{Whole}
-use Rattle.environment.specs.declared.entity.Entity.TheVariants.{Object}
-use Rattle.ctypes.specs.declared.found.Broken.TheVariants.{Construct, Rule}
+use Rattle.typing.specs.declared.environment.entity.DeclaredType.{DeclaredType}
+use Rattle.typing.specs.declared.environment.entity.DeclaredType.TheVariants.{Whole}
+use Rattle.typing.specs.declared.environment.entity.Entity.TheVariants.{Object}
+use Rattle.typing.specs.declared.ctypes.found.Broken.TheVariants.{Construct, Rule}
 use Rattle.typing.specs.Faults.{unless}
 use Rattle.typing.specs.Known.{Known}
 use Rattle.expressions.specs.Names.{name_faults, name_told}

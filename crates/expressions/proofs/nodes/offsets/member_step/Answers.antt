@@ -1,5 +1,5 @@
 use Rattle.std.proofs.Common.{ℕ, List, ◌∷◌, sym, ap, ◌∙◌, subst}
-use Rattle.ctypes.specs.Members.{member_of}
+use Rattle.typing.specs.ctypes.Members.{member_of}
 use Rattle.typing.specs.Idiom.{member_offset}
 use Rattle.typing.specs.Paths.{Stops, ToMember, MemberTooFar, NoMember}
 use Rattle.typing.specs.declared.fault.Fault.{Fault}

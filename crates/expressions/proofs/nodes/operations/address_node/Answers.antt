@@ -1,7 +1,7 @@
 -- What a context answers of `&` is what is found there.
 use Rattle.std.proofs.Common.{ap, ◌∙◌}
 use Rattle.cbase.specs.declared.tree.operators.UnaryOp.TheVariants.{Address}
-use Rattle.ctypes.specs.Unary.{unary}
+use Rattle.typing.specs.ctypes.Unary.{unary}
 use Rattle.typing.specs.declared.idiom.Idiom.{Idiom}
 use Rattle.typing.specs.Known.{Known, plain}
 use Rattle.expressions.specs.Numbers.{operand_at}

@@ -1,7 +1,7 @@
 -- What a context answers of `*` is what is found there.
 use Rattle.std.proofs.Common.{ap}
 use Rattle.cbase.specs.declared.tree.operators.UnaryOp.TheVariants.{Follow}
-use Rattle.ctypes.specs.Unary.{unary}
+use Rattle.typing.specs.ctypes.Unary.{unary}
 use Rattle.typing.specs.Known.{Known}
 use Rattle.expressions.specs.Numbers.{operand_at}
 use Rattle.expressions.proofs.Judging.{each_finished, answer_below}

@@ -1,7 +1,7 @@
 -- What a context answers of an operator on a value is what is found there.
 use Rattle.std.proofs.Common.{ℕ, Option, ap, sym, ◌∙◌}
-use Rattle.ctypes.specs.Kinds.{kind_of}
-use Rattle.ctypes.specs.Unary.{unary}
+use Rattle.typing.specs.ctypes.Kinds.{kind_of}
+use Rattle.typing.specs.ctypes.Unary.{unary}
 use Rattle.typing.specs.Known.{Known, valued}
 use Rattle.expressions.specs.Numbers.{operand_at}
 use Rattle.expressions.proofs.Judging.{each_finished, answer_below}

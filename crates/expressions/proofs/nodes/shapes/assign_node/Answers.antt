@@ -2,7 +2,7 @@
 use Rattle.std.proofs.Common.{◌≡◌, refl, sym, subst, None, Some, IfOk}
 use Rattle.cbase.specs.declared.place.Place.{Place}
 use Rattle.cbase.specs.declared.tree.expr.ExprForm.TheOpen.{Assign}
-use Rattle.ctypes.specs.Assigning.{assigned}
+use Rattle.typing.specs.ctypes.Assigning.{assigned}
 use Rattle.typing.specs.Known.{plain}
 use Rattle.typing.specs.Nodes.{place_of_assignment}
 use Rattle.typing.specs.Rules.{Assignment, CompoundAssignment}

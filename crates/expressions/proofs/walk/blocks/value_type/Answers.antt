@@ -1,7 +1,7 @@
 -- The type of the value of a block.
 use Rattle.std.proofs.Common.{◌∙◌, [], ◌∷◌, refl, sym, subst}
 use Rattle.cbase.specs.declared.place.Place.{Place}
-use Rattle.ctypes.specs.declared.found.Broken.TheVariants.{Rule}
+use Rattle.typing.specs.declared.ctypes.found.Broken.TheVariants.{Rule}
 use Rattle.typing.specs.Faults.{fault}
 use Rattle.typing.specs.Typing.{StatementsAre}
 use Rattle.expressions.specs.declared.found.Found.TheVariants.{Passes}

@@ -1,7 +1,7 @@
 -- The name of a function passes with the type of the call, or has no definition.
 use Rattle.std.proofs.Common.{Bool, Some, ap, ◌∙◌, subst}
-use Rattle.environment.specs.declared.entity.Entity.TheVariants.{Function}
-use Rattle.ctypes.specs.declared.found.Broken.TheVariants.{Construct}
+use Rattle.typing.specs.declared.environment.entity.Entity.TheVariants.{Function}
+use Rattle.typing.specs.declared.ctypes.found.Broken.TheVariants.{Construct}
 use Rattle.typing.specs.Entities.{FunctionIs}
 use Rattle.typing.specs.Faults.{unless}
 use Rattle.typing.specs.Known.{Known, plain}

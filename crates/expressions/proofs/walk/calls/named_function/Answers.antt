@@ -1,9 +1,9 @@
 -- The function that a callee names.
 use Rattle.std.proofs.Common.{ℕ, ◌∙◌, List, length, Some, ap, sym, subst}
 use Rattle.cbase.specs.declared.tree.expr.ExprForm.TheViews.{out-ExprForm, outs-Name}
-use Rattle.environment.specs.Bounds.{EntityBelow}
-use Rattle.environment.specs.Environment.{name_found}
-use Rattle.environment.specs.declared.entity.Entity.{Entity}
+use Rattle.typing.specs.environment.Bounds.{EntityBelow}
+use Rattle.typing.specs.environment.Environment.{name_found}
+use Rattle.typing.specs.declared.environment.entity.Entity.{Entity}
 use Rattle.typing.specs.Forms.{name_in}
 use Rattle.expressions.proofs.walk.calls.named_function.Goals as goal
 

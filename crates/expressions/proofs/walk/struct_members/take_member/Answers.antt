@@ -1,7 +1,7 @@
 -- A member at which nothing is broken has a size.
 use Rattle.std.proofs.Common.{sym, ◌∙◌}
 use Rattle.cbase.specs.declared.tree.expr.ExprForm.TheViews.{out-FieldName}
-use Rattle.ctypes.specs.declared.found.Broken.TheVariants.{Rule}
+use Rattle.typing.specs.declared.ctypes.found.Broken.TheVariants.{Rule}
 use Rattle.typing.specs.Faults.{fault}
 use Rattle.expressions.proofs.MembersSoFar.{taken_sized}
 use Rattle.expressions.proofs.walk.struct_members.take_member.Goals as goal

@@ -2,8 +2,8 @@
 use Rattle.std.proofs.Common.{◌≡◌, ℕ, Bool, List, Option, Some, None, ap, ◌∙◌}
 use Rattle.std.specs.Prelude.{if◌then◌else◌}
 use Rattle.cbase.specs.declared.abi.Abi.{Abi}
-use Rattle.ctypes.specs.declared.found.Broken.{Broken}
-use Rattle.ctypes.specs.declared.found.Broken.TheVariants.{Construct}
+use Rattle.typing.specs.declared.ctypes.found.Broken.{Broken}
+use Rattle.typing.specs.declared.ctypes.found.Broken.TheVariants.{Construct}
 use Rattle.typing.specs.declared.size.Size.{Size}
 use Rattle.typing.specs.Faults.{least}
 use Rattle.typing.specs.NamedTypes.{declared_type, found_of_sizes, is_large, with_sizes, with_stars}

@@ -1,10 +1,10 @@
 -- The tag of an enum.
 use Rattle.std.proofs.Common.{List, ℕ, Some, None, ap, ◌∙◌, subst}
 use Rattle.cbase.specs.declared.tree.expr.ExprForm.TheOpen.{Enum as EnumWords}
-use Rattle.ctypes.specs.Binary.{int_type}
+use Rattle.typing.specs.ctypes.Binary.{int_type}
 use Rattle.typing.specs.Faults.{fault}
 use Rattle.typing.specs.Typing.{WordsAre}
-use Rattle.ctypes.specs.declared.found.Broken.TheVariants.{Rule}
+use Rattle.typing.specs.declared.ctypes.found.Broken.TheVariants.{Rule}
 use Rattle.expressions.specs.declared.found.Found.TheVariants.{Passes, Refused}
 use Rattle.expressions.specs.Context.{Context, declared}
 use Rattle.expressions.specs.Found.{a_type}

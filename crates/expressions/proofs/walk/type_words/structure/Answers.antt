@@ -2,8 +2,8 @@
 use Rattle.std.proofs.Common.{List, ℕ, Some, None, ap, sym, ◌∙◌, subst}
 use Rattle.cbase.specs.declared.ctype.CType.TheVariants.{Struct as StructType}
 use Rattle.cbase.specs.declared.tree.expr.ExprForm.TheOpen.{Struct as StructWords}
-use Rattle.environment.specs.declared.entity.Tag.TheVariants.{Struct}
-use Rattle.ctypes.specs.declared.found.Broken.TheVariants.{Rule}
+use Rattle.typing.specs.declared.environment.entity.Tag.TheVariants.{Struct}
+use Rattle.typing.specs.declared.ctypes.found.Broken.TheVariants.{Rule}
 use Rattle.typing.specs.Faults.{fault}
 use Rattle.typing.specs.Typing.{WordsAre}
 use Rattle.expressions.specs.declared.found.Found.TheVariants.{Passes, Refused}

@@ -1,9 +1,9 @@
 -- A name as the name of a type.
 use Rattle.std.proofs.Common.{◌≡◌, ◌<◌, ◌∙◌, ap, sym, Some, None, refl, length}
-use Rattle.environment.specs.declared.entity.DeclaredType.TheVariants.{Whole}
-use Rattle.environment.specs.declared.entity.Entity.TheVariants.{Typedef}
-use Rattle.environment.specs.Environment.{name_found}
-use Rattle.ctypes.specs.declared.found.Broken.TheVariants.{Rule}
+use Rattle.typing.specs.declared.environment.entity.DeclaredType.TheVariants.{Whole}
+use Rattle.typing.specs.declared.environment.entity.Entity.TheVariants.{Typedef}
+use Rattle.typing.specs.environment.Environment.{name_found}
+use Rattle.typing.specs.declared.ctypes.found.Broken.TheVariants.{Rule}
 use Rattle.expressions.proofs.walk.type_words.typedef.Goals as goal
 use Rattle.expressions.proofs.walk.type_words.typedef.Goals.{in-Some-Typedef-UnsizedArray, in-Some-Object, in-Some-Enumerator, in-Some-Function, in-None}
 use Rattle.expressions.proofs.Growth.{only_types_same}

@@ -1,6 +1,6 @@
 -- The name of a function behind its parameters: what is broken at it, or what declares it and is handed on.
 use Rattle.std.proofs.Common.{◌∙◌}
-use Rattle.parameters.proofs.NamesTaken.{types_below}
+use Rattle.items.proofs.parameters.NamesTaken.{types_below}
 use Rattle.items.proofs.heads.HeadTaken.{head_breaks, head_passes, params_below}
 use Rattle.items.proofs.heads.taking.take_head.Goals as goal
 

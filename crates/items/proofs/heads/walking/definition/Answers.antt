@@ -2,7 +2,7 @@
 use Rattle.std.proofs.Common.{◌≤◌, List, All, false, sym, ap, subst, ◌∙◌}
 use Rattle.cbase.specs.declared.tree.stmt.Stmt.{Stmt}
 use Rattle.ctrees.specs.Levels.{stmt_levels}
-use Rattle.environment.specs.Environment.{loop_set}
+use Rattle.typing.specs.environment.Environment.{loop_set}
 use Rattle.typing.specs.Typing.{StatementsAre}
 use Rattle.expressions.specs.Context.{Context}
 use Rattle.expressions.specs.Found.{a_value_type}

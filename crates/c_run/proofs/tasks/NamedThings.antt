@@ -1,0 +1,33 @@
+-- What a name stands for decides what is to be done.
+use Rattle.std.proofs.Common.{◌≡◌, ℕ, List, [], ◌∷◌, Option, None, Some, refl}
+use Rattle.cbase.specs.declared.tree.expr.Expr.{Expr}
+use Rattle.expressions.specs.Numbers.{Numbering}
+use Rattle.c_machine.specs.declared.task.Task.TheVariants.{Unknown}
+use Rattle.c_machine.specs.Expressions.{loaded, name_parts, named}
+use Rattle.c_machine.specs.Program.{Program}
+use Rattle.c_machine.specs.Trees.{text_of}
+use Rattle.c_run.specs.declared.text.standing.Standing.{Standing as Told}
+use Rattle.c_run.specs.declared.text.standing.Standing.TheVariants.{Object, Constant, BuiltIn, Body, Nothing}
+use Rattle.c_run.specs.text.Standing.{standing_by}
+
+-- what is no object has no address
+pub no_object : (n : Numbering) (p : Program) (name : Option (List ℕ)) (told : Told) → ((token : ℕ) → told ≡ Object token → ⊥) →
+    named (text_of p) (standing_by n p name told) ≡ Unknown ∷ []
+no_object n p name (Object token) not = absurd (not token refl)
+no_object n p name (Constant bits) not = refl
+no_object n p None (BuiltIn signature) not = refl
+no_object n p (Some name) (BuiltIn signature) not = refl
+no_object n p None Body not = refl
+no_object n p (Some name) Body not = refl
+no_object n p name Nothing not = refl
+
+-- what is no constant is loaded
+pub no_constant : (n : Numbering) (p : Program) (expr : Expr) (name : Option (List ℕ)) (told : Told) → ((bits : ℕ) → told ≡ Constant bits → ⊥) →
+    name_parts (text_of p) expr (standing_by n p name told) ≡ loaded (text_of p) expr
+no_constant n p expr name (Object token) not = refl
+no_constant n p expr name (Constant bits) not = absurd (not bits refl)
+no_constant n p expr None (BuiltIn signature) not = refl
+no_constant n p expr (Some name) (BuiltIn signature) not = refl
+no_constant n p expr None Body not = refl
+no_constant n p expr (Some name) Body not = refl
+no_constant n p expr name Nothing not = refl

@@ -1,0 +1,17 @@
+-- One type, of the operand.
+use Rattle.std.proofs.Common.{[], ◌∷◌, sym, ◌∙◌}
+use Rattle.c_machine.specs.declared.kind.Kind.{Kind}
+use Rattle.c_machine.specs.declared.task.Task.TheVariants.{Apply, ValueOf}
+use Rattle.c_machine.specs.Expressions.{value_kind}
+use Rattle.c_machine.specs.Trees.{text_of}
+use Rattle.c_run.proofs.tasks.MakingRoom.{lacks_one, on_ok, room_with_one}
+use Rattle.c_run.proofs.tasks.operations.applied.Goals as goal
+
+pub returns-in_default : goal.returns-in_default
+returns-in_default c = λ n p stands. lacks_one (value_kind (text_of p) c.args.arg.now) [] (sym c.in_default.is ∙ c.value_kind.ensures n p stands)
+
+pub returns : goal.returns
+returns c = on_ok _ _ c.value_then.result
+    (λ room made. λ n p stands. room_with_one (λ (kind : Kind). ValueOf c.args.arg.now ∷ Apply c.args.op kind ∷ []) (value_kind (text_of p) c.args.arg.now) c.in-Some.kind room c.args.state.now
+    c.value_then.new.state (sym c.in-Some.is ∙ c.value_kind.ensures n p stands) made)
+    c.value_then.ensures

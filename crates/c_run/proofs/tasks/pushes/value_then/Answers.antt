@@ -1,0 +1,12 @@
+-- The value stands in front.
+use Rattle.std.proofs.Common.{[], ◌∷◌}
+use Rattle.c_machine.specs.declared.task.Task.TheVariants.{ValueOf}
+use Rattle.c_run.proofs.tasks.MakingRoom.{on_ok}
+use Rattle.c_run.proofs.tasks.RoomBehind.{in_front}
+use Rattle.c_run.proofs.tasks.pushes.value_then.Goals as goal
+
+pub returns : goal.returns
+returns c = on_ok _ _ c.value_alone.result
+    (λ room made. λ fits.
+    in_front (ValueOf c.args.expr.now ∷ []) (c.args.task ∷ []) room c.args.state.now c.do_first.new.self c.value_alone.new.state (c.in_ok-do_first.ensures.ok, fits) made)
+    c.value_alone.ensures

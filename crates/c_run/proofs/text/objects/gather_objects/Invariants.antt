@@ -1,0 +1,11 @@
+-- What is gathered, and what is handed on behind it.
+use Rattle.std.proofs.Common.{◌≡◌, ℕ, nat_eq, drop}
+use Rattle.std.specs.Map.{lookup}
+use Rattle.c_machine.specs.Program.{or_else}
+use Rattle.c_run.specs.text.FirstRows.{first_in}
+use Rattle.c_run.specs.text.Objects.{object_here}
+use Rattle.c_run.proofs.text.objects.gather_objects.Given as goal
+
+abbrev pub invariant-loop-row : goal.invariant-loop-row
+invariant-loop-row l = (token : ℕ) →
+    or_else (lookup (nat_eq token) l.objects.entries) (first_in (object_here token) (drop l.row-index l.handed)) ≡ first_in (object_here token) l.handed

@@ -1,7 +1,0 @@
-use Rattle.std.proofs.Common.{◌≡◌, ◌+◌, drop}
-use Rattle.std.specs.List.{prefix_len}
-use Rattle.constants.specs.Deciding.{is_before_suffix}
-use Rattle.constants.proofs.integer.suffix_start.Given as goal
-
-abbrev pub invariant-loop-index : goal.invariant-loop-index
-invariant-loop-index l = prefix_len is_before_suffix l.bytes ≡ l.index + prefix_len is_before_suffix (drop l.index l.bytes)

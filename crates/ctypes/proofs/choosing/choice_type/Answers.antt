@@ -1,6 +1,0 @@
--- The numbers of types that are found are those of the operands.
-use Rattle.std.proofs.Common.{length}
-use Rattle.ctypes.proofs.choosing.choice_type.Goals as goal
-
-pub settle-requires : goal.settle-requires
-settle-requires c = c.chosen-found.ensures.below (length c.args.types.now.types) c.seen-2.ensures.below c.seen-3.ensures.below

@@ -1,7 +1,0 @@
-use Rattle.std.proofs.Common.{◌∙◌}
-use Rattle.ctypes.specs.Table.{type_at}
-use Rattle.ctypes.proofs.Laid.{extent_alike}
-use Rattle.ctypes.proofs.types.Types.size.Goals as goal
-
-pub returns : goal.returns
-returns c = λ abi. c.told.ensures ∙ extent_alike abi c.args.self.now.structs (type_at c.args.self.now.types c.args.number) c.layout.result c.layout.ensures.value

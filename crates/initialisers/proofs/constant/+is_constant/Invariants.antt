@@ -1,5 +1,0 @@
-use Rattle.ctrees.specs.Levels.{expr_levels}
-use Rattle.initialisers.proofs.constant.+is_constant.Given as goal
-
-abbrev pub decreases-is_constant : goal.decreases-is_constant
-decreases-is_constant l = expr_levels l.expr.now

@@ -1,5 +1,0 @@
-use Rattle.initialisers.proofs.Constants.{IsNone}
-use Rattle.initialisers.proofs.rows.row_of.Given as goal
-
-abbrev pub invariant-loop-at : goal.invariant-loop-at
-invariant-loop-at l = IsNone l.number l.rows l.at

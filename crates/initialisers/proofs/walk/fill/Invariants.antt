@@ -1,5 +1,0 @@
-use Rattle.initialisers.proofs.Filling.{Fills}
-use Rattle.initialisers.proofs.walk.fill.Given as goal
-
-abbrev pub invariant-loop-at : goal.invariant-loop-at
-invariant-loop-at g l = Fills l.checker.abi l.subject l.filled l.parts l.index l.initial.context l.context l.at

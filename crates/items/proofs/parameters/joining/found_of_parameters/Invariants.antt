@@ -1,0 +1,14 @@
+use Rattle.std.proofs.Common.{◌≡◌, ◌≤◌, drop, length, map}
+use Rattle.typing.specs.Declarations.{found_of_all}
+use Rattle.expressions.specs.Numbers.{Numbering}
+use Rattle.items.specs.parameters.Parameters.{parameter_at}
+use Rattle.items.proofs.parameters.joining.found_of_parameters.Given as goal
+
+abbrev pub invariant-loop-left : goal.invariant-loop-left
+invariant-loop-left l = record {
+  inside : l.left ≤ length l.params;
+  found : (n : Numbering) → l.found ≡ found_of_all (map (parameter_at n) (drop l.left l.params));
+}
+
+abbrev pub decreases-loop-left : goal.decreases-loop-left
+decreases-loop-left l = l.left

@@ -1,6 +1,0 @@
--- What is found from the front of a text on carries over, too.
-use Rattle.languages.proofs.FromTheFront.{finds_from_the_front}
-use Rattle.languages.proofs.contexts.c_finds_from_the_front.Goals as goal
-
-pub returns : goal.returns
-returns c = finds_from_the_front

@@ -1,6 +1,0 @@
-use Rattle.std.proofs.Common.{◌≡◌, take}
-use Rattle.parameters.specs.Parameters.{numbers_of}
-use Rattle.parameters.proofs.joining.put_types.Given as goal
-
-abbrev pub invariant-loop-param : goal.invariant-loop-param
-invariant-loop-param l = l.types ≡ numbers_of (take l.param-index l.params)

@@ -1,7 +1,0 @@
--- A statement in an `if` is a scope of its own.
-use Rattle.statements.proofs.Scopes.{branch_walked}
-use Rattle.statements.proofs.blocks.branch.Goals as goal
-
-pub returns : goal.returns
-returns g c = branch_walked c.args.checker.now.abi c.args.stmt.now c.args.context.now c.enter.new.self c.ask_statement.new.context c.leave.new.self c.in_ok-found.found
-    c.in_ok-enter.ensures.ok c.leave.ensures c.in_ok-found.ensures

@@ -1,6 +1,0 @@
-use Rattle.tree_walk.proofs.NothingElse.{item_result}
-use Rattle.tree_walk.proofs.walking.item_found.Goals as goal
-
-pub returns-clause-nothing_else : goal.returns-clause-nothing_else
-returns-clause-nothing_else c =
-    item_result c.args.abi c.args.place c.args.it.now c.args.context.now _ c.item_walked.result c.item_walked.ensures

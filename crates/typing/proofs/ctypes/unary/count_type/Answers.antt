@@ -1,0 +1,6 @@
+-- The numbers of types that are found are those of the operands.
+use Rattle.std.proofs.Common.{length}
+use Rattle.typing.proofs.ctypes.unary.count_type.Goals as goal
+
+pub settle-requires : goal.settle-requires
+settle-requires c = c.counted-found.ensures.below (length c.args.types.now.types) c.seen.ensures.below

@@ -1,0 +1,101 @@
+ghost use Rattle.std.specs.Prelude.{◌≡◌, ◌<◌, reverse, length, OnOk, OnErr};
+ghost use Rattle.typing.specs.environment.Scopes.{declared, left};
+ghost use Rattle.typing.specs.environment.Kept.{scopes_of, seen, around, kept_here, kept_in, AreVisible};
+
+use crate::environment::kept::Kept;
+use crate::environment::names::{Names, uncover};
+use cbase::NoMemory;
+use std::alloc::Global;
+
+/// What a name is visible as, by what a table says of it.
+pub(crate) fn seen<A: Copy>(answer: Option<Option<A>>) -> Option<A>
+    ensures { result ≡ seen answer }
+{
+    match answer {
+        None => None,
+        Some(visible) => visible,
+    }
+}
+
+/// What the innermost scope, which is the last, keeps of a name.
+pub(crate) fn kept_here<A: Copy>(levels: &[Names<Kept<A>>], name: &[u8]) -> Option<Kept<A>>
+    ensures { result ≡ kept_here name.now (reverse levels.now) }
+{
+    let count = levels.len();
+    if count == 0 {
+        return None;
+    }
+    levels[count - 1].get(name)
+}
+
+/// What the scope around the innermost one keeps of a name.
+pub(crate) fn kept_around<A: Copy>(levels: &[Names<Kept<A>>], name: &[u8]) -> Option<Kept<A>>
+    ensures { result ≡ kept_here name.now (left (reverse levels.now)) }
+{
+    let count = levels.len();
+    if count == 0 {
+        return None;
+    }
+    kept_here(&levels[..count - 1], name)
+}
+
+/// Declares a name in the innermost scope, where there is one.
+pub(crate) fn declare_in<A: Copy>(
+    alloc: Global,
+    visible: &mut Names<Option<A>>,
+    levels: &mut Vec<Names<Kept<A>>>,
+    name: &[u8],
+    meaning: A,
+) -> Result<(), NoMemory>
+    requires { AreVisible visible.old (reverse levels.old.items) }
+    ensures kept { AreVisible visible.new (reverse levels.new.items) }
+    ensures ok { OnOk result (scopes_of (reverse levels.new.items) ≡ declared name.now meaning (scopes_of (reverse levels.old.items))) }
+    ensures err { OnErr result (levels.new.items ≡ levels.old.items) }
+{
+    if levels.len() == 0 {
+        return Ok(());
+    }
+    let before = seen(visible.get(name));
+    let hidden = around(kept_here(levels, name), before);
+    visible.put(alloc, name, before)?;
+    keep(alloc, levels, name, Kept { meaning, hidden })?;
+    visible.change(name, Some(meaning));
+    Ok(())
+}
+
+/// What a name is visible as around the innermost scope, by what that scope keeps of it and what it is visible as.
+pub(crate) fn around<A: Copy>(kept: Option<Kept<A>>, before: Option<A>) -> Option<A>
+    ensures { result ≡ around kept before }
+{
+    match kept {
+        None => before,
+        Some(here) => here.hidden,
+    }
+}
+
+/// Keeps a name in the innermost scope.
+fn keep<A: Copy>(
+    alloc: Global,
+    levels: &mut Vec<Names<Kept<A>>>,
+    name: &[u8],
+    kept: Kept<A>,
+) -> Result<(), NoMemory>
+    requires { 0 < length levels.old.items }
+    ensures ok { OnOk result (reverse levels.new.items ≡ kept_in name.now kept (reverse levels.old.items)) }
+    ensures err { OnErr result (levels.new.items ≡ levels.old.items) }
+{
+    let last = levels.len() - 1;
+    levels[last].put(alloc, name, kept)
+}
+
+/// Leaves the innermost scope, where there is one.
+pub(crate) fn leave_in<A: Copy>(visible: &mut Names<Option<A>>, levels: &mut Vec<Names<Kept<A>>>)
+    requires { AreVisible visible.old (reverse levels.old.items) }
+    ensures kept { AreVisible visible.new (reverse levels.new.items) }
+    ensures left { scopes_of (reverse levels.new.items) ≡ left (scopes_of (reverse levels.old.items)) }
+{
+    let last = levels.pop();
+    if let Some(level) = last {
+        uncover(visible, &level);
+    }
+}
