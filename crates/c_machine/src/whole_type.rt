@@ -4,8 +4,8 @@ ghost use Rattle.typing.specs.ctypes.Integers.{int, promoted, common};
 ghost use Rattle.typing.specs.values.Values.{is_whole, whole_in};
 
 use arithmetic::Size;
-use typing::ctypes::IntegerType;
 use std::marker::Model;
+use typing::ctypes::IntegerType;
 use typing::values::is_whole;
 
 /// A type of integers that the data layouts have: one of 1, 2, 4 or 8 bytes (C11 6.2.5p4-8).

@@ -9,11 +9,11 @@ ghost use Rattle.c_run.specs.Started.{Calls, IsStart, IsStartOf};
 
 use crate::finishing::{finish, goes_on};
 use crate::starting::{main_tasks, static_tasks};
-use crate::stepped::Stepped;
 use crate::statics::{MainFunction, StaticSets, main_item, static_sets};
-use c_steps::{Choices, Outcome, State};
+use crate::stepped::Stepped;
 use crate::tasks::{Room, TreeState};
 use crate::text::TypedText;
+use c_steps::{Choices, Outcome, State};
 use cbase::{Item, NoMemory};
 use std::alloc::Global;
 

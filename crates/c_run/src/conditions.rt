@@ -13,12 +13,12 @@ ghost use Rattle.c_run.specs.text.Stands.{StandsFor};
 ghost use Rattle.c_run.specs.Stepped.{IsStepOf};
 
 use crate::stepped::{Stepped, came, stepped_by};
-use c_machine::Kind;
-use c_steps::branches::pick;
-use c_steps::{Outcome, Tree, keep};
 use crate::tasks::{TreeState, again_tasks, branch_place, branch_tasks, test_tasks, value_kind};
 use crate::text::TypedText;
+use c_machine::Kind;
+use c_steps::branches::pick;
 use c_steps::words::is_true;
+use c_steps::{Outcome, Tree, keep};
 use cbase::{Expr, NoMemory, Stmt};
 use std::alloc::Global;
 

@@ -9,9 +9,9 @@ ghost use Rattle.c_run.specs.Stepped.{goes_on};
 
 use crate::stepped::Stepped;
 use crate::stepping::step;
-use c_steps::{Choices, Outcome};
 use crate::tasks::TreeState;
 use crate::text::TypedText;
+use c_steps::{Choices, Outcome};
 use cbase::NoMemory;
 use std::alloc::Global;
 

@@ -10,10 +10,10 @@ ghost use Rattle.c_steps.specs.ComesTo.{comes_to};
 ghost use Rattle.c_run.specs.Stepped.{IsStepOf};
 
 use crate::stepped::{Stepped, came};
+use crate::tasks::{TreeState, is_for};
 use c_machine::Kind;
 use c_steps::Outcome;
 use c_steps::leaving::{break_at, continue_at, give_back};
-use crate::tasks::{TreeState, is_for};
 use cbase::{NoMemory, Place};
 use std::alloc::Global;
 

@@ -2,8 +2,8 @@
 //! 5.1.2.2.1, 6.2.4p3).
 //!
 //! A step takes the first thing to do off a state and does it, as the definitions of `c_machine` say, for each program that the text stands for. What a
-//! tree makes room for is said by `c_run::tasks`, and all else is done by `c_steps`: this crate says which of them is asked. What the items of a
-//! program hold is said by `c_run::statics`.
+//! tree makes room for is said in `tasks`, and all else is done by `c_steps`: the modules beside them say which of them is asked. What the items of a
+//! program hold is said in `statics`, and what typing says of the parts of a program in `text`.
 #![tactic(auto)]
 
 mod beginning;

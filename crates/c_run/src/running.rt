@@ -7,9 +7,9 @@ ghost use Rattle.c_run.specs.Stepped.{IsRun};
 
 use crate::stepped::{Stepped, goes_on};
 use crate::stepping::step;
-use c_steps::{Choices, Outcome};
 use crate::tasks::TreeState;
 use crate::text::TypedText;
+use c_steps::{Choices, Outcome};
 use cbase::NoMemory;
 use std::alloc::Global;
 

@@ -15,10 +15,10 @@ ghost use Rattle.c_run.specs.tasks.Room.{MakesRoom};
 ghost use Rattle.c_run.specs.text.Kept.{is_sized};
 
 use crate::doing::{execute_each, initialise_each, make_objects, make_statics};
-use c_machine::{Kind, Object, Task, WholeType};
 use crate::statics::{MainFunction, StaticSet};
 use crate::tasks::{Room, TreeState, entered};
 use crate::text::TypedText;
+use c_machine::{Kind, Object, Task, WholeType};
 use cbase::{NoMemory, Place, Stmt};
 use std::alloc::Global;
 

@@ -4,6 +4,7 @@
 //!
 //! It goes through trees by a list of parts that are still to be looked at, and so needs no stack for deep ones: those of all items for initialisers, those of the
 //! bodies for calls. It knows of typing only what a name stands for and which names declare such objects. It knows nothing of states, steps and values.
+
 mod callee;
 mod first;
 mod main_function;

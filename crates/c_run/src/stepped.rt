@@ -2,8 +2,8 @@ ghost use Rattle.std.specs.Prelude.{◌≡◌, MatchResult, Ok, Err};
 ghost use Rattle.c_run.specs.declared.stepped.Stepped.TheVariants.{Came};
 ghost use Rattle.c_run.specs.Stepped.{goes_on, stepped_by};
 
-use c_steps::Outcome;
 use crate::tasks::Room;
+use c_steps::Outcome;
 use cbase::NoMemory;
 
 /// What a step of a program comes to.

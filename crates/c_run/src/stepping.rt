@@ -9,11 +9,11 @@ ghost use Rattle.c_run.specs.Stepped.{IsStep, IsStepOf};
 use crate::conditions::{again_step, branch_step, pick_step, test_step};
 use crate::jumps::{break_step, continue_step, return_step};
 use crate::stepped::{Stepped, came};
+use crate::tasks::TreeState;
+use crate::text::TypedText;
 use crate::trees::{address_step, initialiser_step, statement_step, value_step};
 use c_machine::Task;
 use c_steps::{Choices, Outcome, Tree, plain_step};
-use crate::tasks::TreeState;
-use crate::text::TypedText;
 use cbase::{Expr, Init, NoMemory, Stmt};
 use std::alloc::Global;
 

@@ -2,6 +2,7 @@
 //!
 //! Each function puts on the stack of a state exactly what the definitions of `c_machine` put there, for each program that the text stands for. It
 //! looks at one layer of one tree, and pushes references to the trees below. What is done last is put there first.
+
 mod address;
 mod arguments;
 mod assignments;

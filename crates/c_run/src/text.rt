@@ -4,8 +4,9 @@
 //! number of an expression or by the token of a name, and says what the definitions of `c_machine` say of the program that the context stands for. So it answers of
 //! an expression: its type, its value where it is constant, what its name stands for, and where a member lies in it; of a function that is built in, by the
 //! number of its signature, the kinds of its parameters and of its result; of a name that declares something, which object that is, and what a value of its
-//! initialiser sets; and which objects the parameters of a function are, and those that live as long as the program runs. The crate knows nothing of
+//! initialiser sets; and which objects the parameters of a function are, and those that live as long as the program runs. It knows nothing of
 //! states and steps.
+
 mod expression_row;
 mod first_rows;
 mod fixed;

@@ -15,9 +15,9 @@ ghost use Rattle.c_steps.specs.ComesTo.{comes_to};
 use crate::going_on::{go_on_unless, go_on_with};
 use crate::outcome::Outcome;
 use crate::state::State;
+use crate::words::{as_kind, is_pointer, kind_after, operated, scalar_bytes};
 use bytes_core::{Memory, Word};
 use c_machine::{Kind, WholeType};
-use crate::words::{as_kind, is_pointer, kind_after, operated, scalar_bytes};
 use cbase::{BinaryOp, NoMemory, Place};
 use std::alloc::Global;
 

@@ -10,9 +10,9 @@ ghost use Rattle.c_steps.specs.ComesTo.{comes_to};
 use crate::going_on::{go_on_doing, go_on_with};
 use crate::outcome::Outcome;
 use crate::state::State;
+use crate::words::is_true;
 use bytes_core::Word;
 use c_machine::{Kind, Task};
-use crate::words::is_true;
 use cbase::NoMemory;
 
 /// The right side is to be done, and then whether it is true.

@@ -13,9 +13,9 @@ use crate::ends::{BodyEnd, LoopEnd};
 use crate::losses::unless_lost;
 use crate::outcome::Outcome;
 use crate::state::State;
+use crate::words::as_kind;
 use bytes_core::Word;
 use c_machine::{Kind, Task};
-use crate::words::as_kind;
 use cbase::{NoMemory, Place};
 use std::alloc::Global;
 

@@ -2,7 +2,7 @@
 //!
 //! A [`State`] is what stands between two steps: what is to be done, the operands of unfinished expressions, the objects, the memory. It is generic in
 //! expressions, statements and initialisers, which its steps only hand on. The crate knows no tree, no name and no text: what a tree makes room
-//! for is said by the layer above.
+//! for is said by the layer above. What operators and conversions make of words is said in [`words`].
 #![tactic(auto)]
 
 pub mod accesses;

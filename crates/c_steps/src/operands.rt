@@ -10,9 +10,9 @@ ghost use Rattle.c_steps.specs.ComesTo.{comes_to};
 use crate::going_on::go_on_with;
 use crate::outcome::Outcome;
 use crate::state::State;
+use crate::words::{applied, as_kind, is_true, moved, operated, told};
 use bytes_core::Word;
 use c_machine::Kind;
-use crate::words::{applied, as_kind, is_true, moved, operated, told};
 use cbase::{BinaryOp, NoMemory, UnaryOp};
 
 /// A number that is known.

@@ -15,9 +15,9 @@ use crate::accesses::load_at;
 use crate::going_on::go_on_with;
 use crate::outcome::Outcome;
 use crate::state::State;
+use crate::words::{as_kind, kind_after, operated, scalar_bytes};
 use bytes_core::Word;
 use c_machine::{Kind, WholeType};
-use crate::words::{as_kind, kind_after, operated, scalar_bytes};
 use cbase::{BinaryOp, NoMemory, Place};
 
 /// The value that an update has: the old one, or the new one.

@@ -2,6 +2,7 @@
 //!
 //! Each function gives what a definition of the source machine says. It knows types by what an access and an operator ask of them, and
 //! nothing of programs, states or steps. No call takes memory.
+
 mod binary;
 mod conversion;
 mod input;

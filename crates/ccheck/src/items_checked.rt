@@ -14,8 +14,8 @@ use cgrammar::Scope;
 use cread::{ItemBehind, ItemRead, read_item};
 use ctokens::{ItemSpan, Tokens};
 use expressions::{Context, Found};
-use std::alloc::Global;
 use items::item_found;
+use std::alloc::Global;
 
 /// What is found of items that are read and checked one behind the other.
 #[derive(Drop)]

@@ -4,8 +4,8 @@ ghost use Rattle.ccheck.specs.Refusals.{of_broken, of_fault, of_unread, place_at
 use cbase::Place;
 use cread::Unread;
 use ctokens::Tokens;
-use typing::ctypes::Broken;
 use typing::Fault;
+use typing::ctypes::Broken;
 
 /// Why an item that main needs is refused.
 #[derive(Clone, Copy, Debug, PartialEq, Eq)]

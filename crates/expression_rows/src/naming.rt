@@ -6,9 +6,9 @@ ghost use Rattle.typing.specs.declared.environment.entity.Signature.{Signature a
 
 use crate::types::{Written, number_of, numbers_of};
 use cbase::{Abi, List, NoMemory, Text};
+use expressions::Context;
 use typing::ctypes::Member;
 use typing::environment::{DeclaredType, Entity, Lifetime, Signature};
-use expressions::Context;
 
 /// What a name with a type is declared as.
 pub enum Kind {

@@ -3,9 +3,9 @@ ghost use Rattle.std.specs.Prelude.{◌<◌, length, IfOk, IfSome};
 
 use arithmetic::{Size, convert};
 use cbase::NoMemory;
-use typing::ctypes::{Broken, Shape};
 use expressions::{Context, Known};
 use typing::Fault;
+use typing::ctypes::{Broken, Shape};
 
 /// What is refused, with the number of its token.
 pub fn push_fault(fault: Fault, shown: &mut String) -> Result<(), NoMemory> {

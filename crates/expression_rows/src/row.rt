@@ -11,8 +11,8 @@ use cbuild::let_go_of_expression;
 use cread_expr::{ReadExpr, Scope, read_expr};
 use ctokens::Tokens;
 use expressions::{Context, Found};
-use std::alloc::Global;
 use items::expression_found;
+use std::alloc::Global;
 
 /// Puts what is printed for a line into an empty text.
 pub fn answer_line(alloc: Global, line: &str, answer: &mut String) -> Result<(), NoMemory> {

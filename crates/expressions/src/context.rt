@@ -14,10 +14,10 @@ mod standing;
 
 use crate::handed_row::HandedRow;
 use cbase::{List, NoMemory};
-use typing::ctypes::Types;
-use typing::environment::Environment;
 use std::alloc::Global;
 use std::marker::Model;
+use typing::ctypes::Types;
+use typing::environment::Environment;
 
 /// What is known at a place of a text: types and structs by their numbers, what names and tags are declared as, and what was handed on of the
 /// expressions before it.

@@ -2,9 +2,9 @@ ghost use Rattle.std.specs.Prelude.{◌≡◌};
 ghost use Rattle.typing.specs.Known.{plain, located, valued};
 ghost use Rattle.expressions.specs.Numbers.{Numbering, known_at, operand_in};
 
+use typing::Idiom;
 use typing::ctypes::Operand;
 use typing::environment::Entity;
-use typing::Idiom;
 
 /// What is known of an expression that passes.
 #[derive(Clone, Copy)]

@@ -10,9 +10,9 @@ ghost use Rattle.expressions.specs.Context.{Context as AtPlace};
 ghost use Rattle.expressions.specs.Members.{AreMembers};
 
 use cbase::{Layout, List, NoMemory, Text};
+use std::alloc::Global;
 use typing::ctypes::Member;
 use typing::environment::Names;
-use std::alloc::Global;
 
 /// The most bytes that an object may have.
 const MOST_BYTES: u32 = 65_536;

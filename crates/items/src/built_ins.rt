@@ -4,9 +4,9 @@ ghost use Rattle.items.specs.Begun.{HasMore, IsBuiltIn, function_in, is_among, t
 
 use crate::built_in_types::{BuiltInType, Parameters, number_of, put_numbers};
 use cbase::{Abi, List, NoMemory, Rank, Text};
-use typing::environment::{Definition, Entity, Linked, Signature};
 use expressions::Context;
 use std::alloc::Global;
+use typing::environment::{Definition, Entity, Linked, Signature};
 
 /// A function that is built in.
 struct BuiltIn {

@@ -5,10 +5,10 @@ ghost use Rattle.expressions.specs.FileScope.{definition_at};
 ghost use Rattle.expressions.specs.Numbers.{Numbering, declared_type_at};
 ghost use Rattle.typing.specs.FileNames.{is_complete_by};
 
-use cbase::Storage;
 use crate::declarations::is_complete;
-use typing::environment::{DeclaredType, Definition};
+use cbase::Storage;
 use expressions::Context;
+use typing::environment::{DeclaredType, Definition};
 
 /// Whether an object outside of functions is complete: one that its declaration defines, once its initialiser stands (C11 6.9.2p3, 6.7.9p22); one that it
 /// does not define is no `void` (6.7p7).

@@ -2,6 +2,7 @@
 //!
 //! It walks over trees by reference, and asks a context what is declared. The walk over what lies in a tree is handed in. It knows nothing of tokens or
 //! of the text.
+
 mod again;
 mod alone;
 mod complete;

@@ -12,10 +12,10 @@ ghost use Rattle.typing.specs.FileNames.{with_definition};
 ghost use Rattle.typing.specs.FileScope.{FileScope};
 ghost use Rattle.items.specs.Objects.{OnlyNames};
 
+use crate::declarations::declare_name;
 use crate::definitions::with_definition;
 use crate::object::Object;
 use cbase::{Declared, NoMemory, Storage};
-use crate::declarations::declare_name;
 use expressions::Context;
 use std::alloc::Global;
 

@@ -6,16 +6,18 @@ ghost use Rattle.expressions.specs.Numbers.{Numbering};
 ghost use Rattle.items.specs.Objects.{IsObjectGiven, IsObjectJudged, IsObjectOf};
 
 use crate::complete::is_complete_by;
+use crate::declarations::{
+    composite_by_now, definition_by_now, found_of_name, given_type, is_again,
+};
 use crate::declaring::declare;
 use crate::definitions::{definition_by, is_twice};
 use crate::handing::hand_link;
 use crate::object::Object;
 use cbase::{Declared, NoMemory, Storage};
-use typing::ctypes::Broken;
-use crate::declarations::{composite_by_now, definition_by_now, found_of_name, given_type, is_again};
-use typing::environment::DeclaredType;
 use expressions::{Context, Found, NamedType, all_at, first_of, unless};
 use std::alloc::Global;
+use typing::ctypes::Broken;
+use typing::environment::DeclaredType;
 use typing::{Fault, Size};
 
 /// The name of an object outside of functions, of words, stars and sizes (C11 6.9.2): where nothing is broken at it, it is declared with the type that all

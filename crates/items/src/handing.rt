@@ -1,10 +1,10 @@
 ghost use Rattle.std.specs.Prelude.{◌≡◌, ◌++◌, OnOk};
 ghost use Rattle.items.specs.Objects.{link_rows, static_rows};
 
-use cbase::{Declared, NoMemory, Place};
 use crate::declarations::{hand_object, token_by_now};
-use typing::environment::DeclaredType;
+use cbase::{Declared, NoMemory, Place};
 use expressions::{Context, HandedRow};
+use typing::environment::DeclaredType;
 
 /// Hands on the declaration of an object outside of functions, by the name that declared it first (C11 6.2.2p2).
 pub(crate) fn hand_link(context: &mut Context, name: &Declared) -> Result<(), NoMemory>

@@ -2,6 +2,7 @@
 //!
 //! It walks over the parts in braces by reference, finds where in its object each of them stands, and hands on a store for each value. Expressions, and
 //! the initialisers that lie in braces, are asked of the walk that is handed in.
+
 mod constant;
 mod filled;
 mod next;

@@ -9,13 +9,13 @@ ghost use Rattle.typing.specs.Entities.{ItemsOf, WholeType};
 ghost use Rattle.typing.specs.Items.{FileInitialisedIs};
 ghost use Rattle.items.specs.InFile.{SaysInFileBy};
 
+use crate::declarations::in_braces;
 use crate::handing::hand_static;
 use crate::telling::tell_size;
 use cbase::{Declared, Init, NoMemory};
-use crate::declarations::in_braces;
-use typing::environment::DeclaredType;
 use expressions::{Checker, Context, Found, Part, Slot, Subject, Told, Within};
 use std::alloc::Global;
+use typing::environment::DeclaredType;
 
 /// The initialiser of an object of the type of a number (C11 6.7.9), which lives as long as the program runs, and behind which it is handed on where it is
 /// `listed`.

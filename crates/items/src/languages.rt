@@ -2,9 +2,10 @@
 //! what the one finds in a part of a text, the other finds in it too. And what does C say of a text? What the numbers of a context say, where each is read as
 //! the type that it stands for.
 //!
-//! It knows the relation of `typing` and what a context declares, and must not know the trees' own numbers. It has no code: `specs/CLanguage.antt` has the
-//! language of C and `specs/CBegin.antt` where a text begins, `specs/Carries.antt` when a language carries over, `proofs/Carried.antt` that what it finds does,
+//! It knows the relation of `typing` and what a context declares, and must not know the trees' own numbers. It has no code: `specs/languages/CLanguage.antt` has the
+//! language of C and `specs/languages/CBegin.antt` where a text begins, `specs/languages/Carries.antt` when a language carries over, `proofs/languages/Carried.antt` that what it finds does,
 //! for every two languages, and the functions here are laws.
+
 mod contexts;
 mod laws;
 

@@ -1,7 +1,8 @@
-//! What is found of an item of a file (C11 6.9): of a declaration outside of functions, and of a function with its body.
+//! What is found of an item of a file (C11 6.9): of a declaration outside of functions, and of a function with its body; and of what lies in it: of parameters,
+//! of declarations in blocks, of initialisers and statements (C11 6.7, 6.8).
 //!
-//! It walks over trees by reference, and asks a context what is declared. Statements, declarations without names, initialisers and parameters are walked
-//! by the crates below. It knows nothing of tokens or of the text.
+//! It walks over trees by reference, and asks a context what is declared. A walk over one kind of part has the walk over what lies in it handed in, and
+//! `tree_walk` puts them together. [`languages`] has the laws by which what is found with numbers is what C says. It knows nothing of tokens or of the text.
 #![tactic(auto)]
 
 mod beginning;

@@ -8,10 +8,10 @@ ghost use Rattle.typing.specs.Items.{FileNameIs, FileNamesAre};
 ghost use Rattle.items.specs.InFile.{SaysInFileBy};
 ghost use Rattle.items.specs.Names.{found_alone};
 
+use crate::declarations::object_name;
 use crate::heads::head;
 use crate::objects::object;
 use cbase::{Declared, NoMemory, Storage};
-use crate::declarations::object_name;
 use expressions::{Checker, Context, Found, NamedType, Part, Told, Within};
 use std::alloc::Global;
 

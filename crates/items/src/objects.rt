@@ -15,9 +15,9 @@ use crate::giving::give;
 use crate::handing::hand_static;
 use crate::initialising::{array_initialised, object_initialised};
 use cbase::{Declared, NoMemory, Storage};
-use typing::environment::DeclaredType;
 use expressions::{Checker, Context, Found, NamedType, Part, Told, Within};
 use std::alloc::Global;
+use typing::environment::DeclaredType;
 
 /// The name of an object outside of functions (C11 6.9.2): its sizes, which are integer constant expressions (6.7.6.2p2), then what is found at it, then its
 /// initialiser, in which it is in scope (6.2.1p7).

@@ -2,6 +2,7 @@
 //!
 //! It takes the words and the sizes of parameters from the walk of `expressions`, and knows how a context declares a parameter and what has linkage. It
 //! knows nothing of the body of a function, nor of other names that are declared.
+
 mod joining;
 mod linking;
 mod naming;

@@ -6,14 +6,14 @@ ghost use Rattle.expressions.specs.Context.{Agrees};
 ghost use Rattle.expressions.specs.Numbers.{Numbering};
 ghost use Rattle.items.specs.Objects.{IsArrayAsked, IsArrayTold};
 
+use crate::declarations::{declare_name, is_other, told_fault};
 use crate::handing::hand_static;
 use cbase::{Declared, NoMemory, Storage};
-use typing::ctypes::Broken;
-use crate::declarations::{declare_name, is_other, told_fault};
-use typing::environment::DeclaredType;
 use expressions::{Context, Found, first_of, unless};
 use std::alloc::Global;
 use typing::Fault;
+use typing::ctypes::Broken;
+use typing::environment::DeclaredType;
 
 /// An array outside of functions whose size its initialiser tells (C11 6.7.9p22), of that type of so many items, behind its initialiser: where nothing is
 /// broken at its name, it is declared with its size, and handed on where it is `listed`.

@@ -2,6 +2,7 @@
 //! over each kind of part, put together.
 //!
 //! It knows nothing of tokens or of the text.
+
 mod walking;
 
 pub use walking::{expression_found, item_found, statement_found};

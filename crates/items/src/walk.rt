@@ -8,10 +8,10 @@ ghost use Rattle.expressions.specs.Walked.{Walked};
 ghost use Rattle.typing.specs.Items.{ItemIs};
 ghost use Rattle.items.specs.InFile.{SaysInFile};
 
+use crate::declarations::declaration;
 use crate::heads::definition;
 use crate::names::names;
 use cbase::{Decl, Declared, Item, List, NoMemory, Place, Stmt, Storage, TypeSpec};
-use crate::declarations::declaration;
 use expressions::{Checker, Context, Found, Part, Told, Within};
 use std::alloc::Global;
 

@@ -12,8 +12,7 @@ ghost use Rattle.replay.specs.Told.{HoldsProgramOf, HoldsRunnable, HoldsTyped, I
 use crate::judging::{Answered, JudgedFile, judge, with_names};
 use crate::places::place_at;
 use crate::playing::play;
-use c_run::first_callee;
-use c_run::TypedText;
+use c_run::{TypedText, first_callee};
 use cbase::{Item, List, NoMemory, Place, Text};
 use cbuild::let_go_of_items;
 use ccheck::TypedProgram;

@@ -12,9 +12,8 @@ ghost use Rattle.report.specs.ReplayReport.{HasPrintableRun};
 ghost use Rattle.replay.specs.Program.{what_of};
 
 use crate::places::place_at;
-use c_run::run_program;
+use c_run::{TypedText, run_program};
 use c_steps::Outcome;
-use c_run::TypedText;
 use cbase::{Item, NoMemory};
 use choices::Choice;
 use ctokens::Tokens;

@@ -1,9 +1,9 @@
 use cbase::{List, NoMemory};
+use std::alloc::Global;
+use std::test::Fail;
 use typing::environment::{
     Binding, DeclaredType, Definition, Entity, Environment, Linked, Signature, Tag, TagForm,
 };
-use std::alloc::Global;
-use std::test::Fail;
 
 /// Whether a typedef of a block is found in it, and that of the file behind it.
 fn inner_names_hide(alloc: Global, env: &mut Environment) -> Result<bool, NoMemory> {

@@ -1,6 +1,6 @@
 //! Tests of the types that every crate speaks with: lists, texts and boxes, and C's types with their layouts; and of names in scope.
 //!
-//! A crate with tests is proved twice, so those of `cbase`, `typing::ctypes` and `typing::environment` stand here, where there is no other code.
+//! A crate with tests is proved twice, so those of `cbase`, `ctypes` and `environment` of `typing` stand here, where there is no other code.
 #![tactic(auto)]
 
 #[cfg(test)]

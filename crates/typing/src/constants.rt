@@ -2,6 +2,7 @@
 //!
 //! It knows how constants are spelled and the ranges of types in both data layouts, and nothing of expressions, of
 //! names or of places. No call takes memory, and each takes time in proportion to the bytes.
+
 mod base;
 mod digits;
 mod integer;

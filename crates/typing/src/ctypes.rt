@@ -2,6 +2,7 @@
 //! what is broken at it (C11 6.5).
 //!
 //! It knows how types are built from one another, and operands by their types and by what is said of them, and nothing of names, of scopes or of trees.
+
 mod assigning;
 mod binary;
 mod casting;

@@ -2,6 +2,7 @@
 //!
 //! It knows scopes, name spaces and linkage, and types, structs and signatures as numbers alone; nothing of expressions, of
 //! the grammar or of texts.
+
 mod around;
 mod entity;
 mod environment;

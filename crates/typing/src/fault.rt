@@ -1,5 +1,5 @@
-use cbase::Place;
 use crate::ctypes::Broken;
+use cbase::Place;
 
 /// What is broken in a text, with the place where it is.
 #[derive(Clone, Copy)]

@@ -1,9 +1,9 @@
 //! Which type an expression of C has where it stands, which statements, declarations and items of a file pass, and what is broken in
 //! them first where they do not (C11 6.3, 6.5 to 6.9).
 //!
-//! It knows the trees of `cbase`, the rules of operators on types and the values of constants; of what is declared it
-//! asks. It has no code: `specs/` has the relation, the types here are what it tells, and the
-//! functions its laws.
+//! It knows the trees of `cbase`, and of what is declared it asks: `specs/` has that relation, the types here are what it tells, and the functions are its laws.
+//! What it stands on is here as code, too: types by numbers with the rules of operators ([`ctypes`]), which type and value constants have ([`constants`]), what is
+//! computed of them ([`values`]), and which names are declared where ([`environment`]). None of these four knows a tree, and none but `values` another one.
 #![tactic(auto)]
 
 pub mod constants;

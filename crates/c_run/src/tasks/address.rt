@@ -13,8 +13,8 @@ use crate::tasks::operations::operated;
 use crate::tasks::pushes::{address_then, alone, unknown, value_alone, value_then};
 use crate::tasks::room::Room;
 use crate::tasks::state::TreeState;
-use c_machine::Task;
 use crate::text::{Standing, TypedText};
+use c_machine::Task;
 use cbase::{BinaryOp, Expr, ExprForm, Identifier, NoMemory, UnaryOp};
 
 /// What is to be done for the address of the lvalue that an expression is (C11 6.3.2.1p1).

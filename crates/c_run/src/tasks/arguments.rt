@@ -13,8 +13,8 @@ use crate::tasks::kinds::value_kind;
 use crate::tasks::pushes::value_then;
 use crate::tasks::room::Room;
 use crate::tasks::state::TreeState;
-use c_machine::Task;
 use crate::text::TypedText;
+use c_machine::Task;
 use cbase::{Expr, NoMemory};
 
 /// What is to be done for the arguments of a call, from left to right, each converted to its parameter (C11 6.5.2.2p4, p7).

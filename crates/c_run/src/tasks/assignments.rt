@@ -14,9 +14,9 @@ use crate::tasks::kinds::{struct_bytes, value_kind};
 use crate::tasks::pushes::{address_alone, address_then, do_conversion};
 use crate::tasks::room::Room;
 use crate::tasks::state::TreeState;
+use crate::text::TypedText;
 use c_machine::Task;
 use c_steps::Tree;
-use crate::text::TypedText;
 use cbase::{BinaryOp, Expr, NoMemory, Place};
 
 /// What is to be done for an assignment, where `op` is the operation of `+=` and its like (C11 6.5.16).

@@ -14,8 +14,8 @@ ghost use Rattle.c_run.specs.tasks.Room.{MakesRoom};
 use crate::tasks::pushes::{alone, do_statement, do_value};
 use crate::tasks::room::Room;
 use crate::tasks::state::TreeState;
-use c_machine::Task;
 use crate::text::TypedText;
+use c_machine::Task;
 use cbase::{Declared, NoMemory, Place, Stmt, StmtForm};
 
 /// What is to be done for a block, which ends at the `}` of that place (C11 6.8.2).

@@ -15,8 +15,8 @@ use crate::tasks::functions::built_in;
 use crate::tasks::pushes::{alone, unknown};
 use crate::tasks::room::Room;
 use crate::tasks::state::TreeState;
-use c_machine::Task;
 use crate::text::{Standing, TypedText};
+use c_machine::Task;
 use cbase::{Expr, ExprForm, NoMemory};
 
 /// What is to be done for a call: its arguments from left to right, each converted to its parameter, and then a function that is built in, or the call of

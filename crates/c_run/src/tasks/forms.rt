@@ -12,9 +12,9 @@ use crate::tasks::kinds::value_kind;
 use crate::tasks::pushes::value_then;
 use crate::tasks::room::Room;
 use crate::tasks::state::TreeState;
+use crate::text::TypedText;
 use c_machine::Task;
 use c_steps::Tree;
-use crate::text::TypedText;
 use cbase::{Expr, NoMemory};
 
 /// What is to be done for `?:` (C11 6.5.15p4).

@@ -20,9 +20,9 @@ use crate::tasks::kinds::{struct_bytes, value_kind};
 use crate::tasks::pushes::{alone, do_conversion, unknown};
 use crate::tasks::room::Room;
 use crate::tasks::state::{TreeState, TreeTask};
+use crate::text::{Store, TypedText};
 use c_machine::{Object, Task};
 use c_steps::Tree;
-use crate::text::{Store, TypedText};
 use cbase::{Declared, Expr, Init, InitPart, NoMemory, Place};
 
 /// What is to be done for a declared name: only an automatic object with an initialiser does something (C11 6.7.9).

@@ -11,8 +11,8 @@ use crate::tasks::kinds::value_kind;
 use crate::tasks::pushes::{alone, value_then};
 use crate::tasks::room::Room;
 use crate::tasks::state::TreeState;
-use c_machine::{Kind, Task};
 use crate::text::TypedText;
+use c_machine::{Kind, Task};
 use cbase::{Boxed, Expr, NoMemory, Place};
 
 /// `return`, with a value or without one (C11 6.8.6.4).

@@ -8,8 +8,8 @@ ghost use Rattle.c_run.specs.text.Kept.{kept};
 ghost use Rattle.c_run.specs.text.Stands.{StandsFor};
 ghost use Rattle.c_run.specs.tasks.Structs.{struct_bytes};
 
-use c_machine::Kind;
 use crate::text::TypedText;
+use c_machine::Kind;
 use c_steps::words::decayed;
 use cbase::Expr;
 

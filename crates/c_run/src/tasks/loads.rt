@@ -10,8 +10,8 @@ ghost use Rattle.c_run.specs.tasks.Room.{MakesRoom};
 use crate::tasks::pushes::address_then;
 use crate::tasks::room::Room;
 use crate::tasks::state::TreeState;
-use c_machine::Task;
 use crate::text::TypedText;
+use c_machine::Task;
 use cbase::{Expr, NoMemory};
 
 /// The value of an lvalue: one load, at its place (C11 6.3.2.1p2).

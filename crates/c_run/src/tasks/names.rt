@@ -13,8 +13,8 @@ use crate::tasks::loads::loaded;
 use crate::tasks::pushes::{alone, unknown};
 use crate::tasks::room::Room;
 use crate::tasks::state::TreeState;
-use c_machine::Task;
 use crate::text::{Standing, TypedText};
+use c_machine::Task;
 use cbase::{Expr, NoMemory};
 
 /// What is to be done for the value of a name: a constant of an enum is known, and an object is loaded (C11 6.4.4.3, 6.5.1).

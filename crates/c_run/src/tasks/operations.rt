@@ -14,9 +14,9 @@ use crate::tasks::loads::loaded;
 use crate::tasks::pushes::{address_alone, do_value, value_then};
 use crate::tasks::room::Room;
 use crate::tasks::state::TreeState;
+use crate::text::TypedText;
 use c_machine::Task;
 use c_steps::Tree;
-use crate::text::TypedText;
 use cbase::{BinaryOp, Expr, NoMemory, UnaryOp};
 
 /// What is to be done for the value of a unary operator with its operand (C11 6.5.3.2, 6.5.3.3).

@@ -15,8 +15,8 @@ use crate::tasks::loops::{for_loop, test_alone, turn};
 use crate::tasks::pushes::{alone, value_then};
 use crate::tasks::room::Room;
 use crate::tasks::state::TreeState;
-use c_machine::Task;
 use crate::text::TypedText;
+use c_machine::Task;
 use cbase::{NoMemory, Stmt, StmtForm};
 
 /// What is to be done for a statement, where unfinished expressions around it hold so many operands (C11 6.8).

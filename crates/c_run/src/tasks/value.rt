@@ -17,8 +17,8 @@ use crate::tasks::operations::{binary, unary};
 use crate::tasks::pushes::alone;
 use crate::tasks::room::Room;
 use crate::tasks::state::TreeState;
-use c_machine::Task;
 use crate::text::TypedText;
+use c_machine::Task;
 use cbase::{Expr, ExprForm, NoMemory};
 
 /// What is to be done for the value of an expression (C11 6.5).

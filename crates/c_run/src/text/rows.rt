@@ -4,8 +4,8 @@ ghost use Rattle.c_run.specs.text.Rows.{row_at, row_here, row_in, or_else, is_kn
 
 use crate::text::expression_row::ExpressionRow;
 use cbase::NoMemory;
-use typing::environment::Entity;
 use expressions::{Context, HandedRow};
+use typing::environment::Entity;
 
 /// The row of an expression by its number, if it has one. It takes one step.
 pub(crate) fn row_at(rows: &[Option<ExpressionRow>], number: u32) -> Option<ExpressionRow>

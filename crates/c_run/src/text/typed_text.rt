@@ -24,10 +24,10 @@ use crate::text::rows::{are_known, row_at};
 use crate::text::tables::{Tables, gather};
 use c_machine::Kind;
 use cbase::NoMemory;
-use typing::environment::Entity;
 use expressions::{Context, HandedRow};
 use std::alloc::Global;
 use std::marker::Model;
+use typing::environment::Entity;
 
 /// What typing hands on of a program, with the row of each expression by its number, and those of names by their tokens.
 ///

@@ -9,8 +9,8 @@ ghost use Rattle.expressions.specs.Pointers.{is_pointer, is_void_pointer};
 
 use crate::context::Context;
 use crate::known::Known;
-use typing::ctypes::{IntegerType, Shape};
 use typing::Idiom;
+use typing::ctypes::{IntegerType, Shape};
 use typing::values::{cast_value, offset_as};
 
 impl Context {

@@ -10,9 +10,9 @@ ghost use Rattle.expressions.specs.Language.{struct_declared, enum_declared};
 
 use crate::context::Context;
 use cbase::{List, NoMemory, Text};
+use std::alloc::Global;
 use typing::ctypes::Member;
 use typing::environment::{Binding, Entity, Signature, Tag};
-use std::alloc::Global;
 
 impl Context {
     /// Declares a name without linkage in the innermost scope (C11 6.2.1). Where there is no scope it changes nothing, and where memory is wanting

@@ -7,8 +7,8 @@ ghost use Rattle.typing.specs.environment.Scopes.{found_here, left};
 
 use crate::context::Context;
 use cbase::NoMemory;
-use typing::environment::{Binding, Definition, Linked};
 use std::alloc::Global;
+use typing::environment::{Binding, Definition, Linked};
 
 impl Context {
     /// How the innermost scope binds a name (C11 6.7p3).

@@ -10,10 +10,10 @@ ghost use Rattle.expressions.specs.Opened.{IsStructOpened, IsEnumOpened, IsStruc
 use crate::context::Context;
 use crate::found::Found;
 use cbase::{Identifier, List, NoMemory};
-use typing::ctypes::{Broken, Member};
-use typing::environment::Tag;
 use std::alloc::Global;
 use typing::Fault;
+use typing::ctypes::{Broken, Member};
+use typing::environment::Tag;
 
 impl Context {
     /// The number of the struct whose members follow in braces (C11 6.7.2.3p1, p4, p6): one that this scope declares and that has none yet, or a new one.

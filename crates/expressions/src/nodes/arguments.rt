@@ -16,9 +16,9 @@ use crate::nodes::calling::Callee;
 use crate::nodes::finishing::Node;
 use crate::nodes::first::{first_of, unless};
 use cbase::{Expr, Place};
+use typing::Fault;
 use typing::ctypes::Broken;
 use typing::environment::Signature;
-use typing::Fault;
 use typing::values::cast_value;
 
 /// How many bytes a block may have.

@@ -12,9 +12,9 @@ use crate::found::Found;
 use crate::known::Known;
 use crate::nodes::finishing::{Node, pass};
 use cbase::{Abi, NoMemory, Place};
+use typing::Fault;
 use typing::constants::{Meaning, read_constant};
 use typing::ctypes::Broken;
-use typing::Fault;
 
 /// What is found at a constant (C11 6.4.4): one that fits no type is rule 9 (6.4.4p2).
 pub(crate) fn constant_node(

@@ -17,9 +17,9 @@ use crate::members::Members;
 use crate::named_type::NamedType;
 use crate::nodes::first::{all_at, first_of, unless};
 use cbase::{FieldName, Layout, NoMemory};
-use typing::ctypes::Broken;
 use std::alloc::Global;
 use typing::Fault;
+use typing::ctypes::Broken;
 
 /// What is broken at a member of that type behind others, if anything is: what is found of its type; a field of bits is construct 21, a struct of more than
 /// 65,536 bytes construct 19, two members of one name rule 2 (C11 6.2.3, 6.7p3), a type without a size rule 3 (6.7.2.1p3).

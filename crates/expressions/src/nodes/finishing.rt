@@ -10,8 +10,8 @@ use crate::found::Found;
 use crate::handed_row::HandedRow;
 use crate::known::Known;
 use cbase::{NoMemory, Place};
-use typing::ctypes::{Broken, Outcome};
 use typing::Fault;
+use typing::ctypes::{Broken, Outcome};
 
 /// An expression by its number and its place.
 #[derive(Clone, Copy)]

@@ -4,8 +4,8 @@ ghost use Rattle.typing.specs.Faults.{unless, all_at, comes_before, least};
 ghost use Rattle.expressions.specs.Settled.{IsFirstOf};
 
 use cbase::Place;
-use typing::ctypes::Broken;
 use typing::Fault;
+use typing::ctypes::Broken;
 
 /// Whether one thing that is broken comes before another, or is the same: constructs come before rules, and lower numbers first.
 pub fn comes_before(first: Broken, second: Broken) -> bool

@@ -15,8 +15,8 @@ use crate::found::Found;
 use crate::known::Known;
 use crate::nodes::finishing::{Blame, Node, finish, finish_blaming};
 use cbase::{Identifier, NoMemory};
-use typing::ctypes::Outcome;
 use typing::Idiom;
+use typing::ctypes::Outcome;
 use typing::values::word_of;
 
 /// What is found at `base[index]` (C11 6.5.2.1).

@@ -21,8 +21,8 @@ use crate::named_type::NamedType;
 use crate::nodes::finishing::{Node, settle};
 use crate::nodes::first::{all_at, first_of};
 use cbase::{Identifier, NoMemory, Part, Place};
-use typing::ctypes::{Broken, Outcome};
 use typing::Fault;
+use typing::ctypes::{Broken, Outcome};
 
 /// What is found at `__builtin_offsetof` (C11 7.19p3), where the indices on the way have these values, as words.
 pub(crate) fn offset_node(

@@ -12,8 +12,8 @@ use crate::named_type::NamedType;
 use crate::nodes::finishing::{Node, settle};
 use crate::nodes::first::{all_at, first_of};
 use cbase::{Extent, NoMemory, Place};
-use typing::ctypes::Broken;
 use typing::Fault;
+use typing::ctypes::Broken;
 
 /// What is found at `sizeof` of an expression (C11 6.5.3.4).
 pub(crate) fn size_node(

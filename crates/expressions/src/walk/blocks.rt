@@ -21,9 +21,9 @@ use crate::known::Known;
 use crate::nodes::finishing::{Node, pass};
 use crate::part::{Part, Told};
 use cbase::{Expr, NoMemory, Place, Stmt, StmtForm};
-use typing::ctypes::Broken;
 use std::alloc::Global;
 use typing::Fault;
+use typing::ctypes::Broken;
 
 impl<F: Fn(&mut Context, Within, Part<'_>) -> Result<Found<Told>, NoMemory>> Checker<F> {
     /// A statement expression, which C11 has not: its block is a scope of its own, and it has the type of its value.

@@ -20,10 +20,10 @@ use crate::nodes::finishing::{Node, settle};
 use crate::nodes::first::unless;
 use crate::part::{Part, Told};
 use cbase::{Expr, ExprForm, NoMemory};
-use typing::ctypes::Broken;
-use typing::environment::Entity;
 use std::alloc::Global;
 use typing::Fault;
+use typing::ctypes::Broken;
+use typing::environment::Entity;
 
 /// A function that a callee names.
 #[derive(Clone, Copy)]

@@ -17,10 +17,10 @@ use crate::known::Known;
 use crate::named_type::NamedType;
 use crate::part::{Part, Told};
 use cbase::{Enumerator, Expr, Identifier, List, NoMemory, Place};
-use typing::ctypes::Broken;
-use typing::environment::Entity;
 use std::alloc::Global;
 use typing::Fault;
+use typing::ctypes::Broken;
+use typing::environment::Entity;
 use typing::values::{int_value, next_value};
 
 impl<F: Fn(&mut Context, Within, Part<'_>) -> Result<Found<Told>, NoMemory>> Checker<F> {

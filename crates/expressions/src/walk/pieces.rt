@@ -14,8 +14,8 @@ use crate::known::Known;
 use crate::part::{Part, Told};
 use cbase::{Expr, NoMemory, Place};
 use typing::ctypes::Broken;
-use typing::{Fault, Size};
 use typing::values::{count_of, word_of};
+use typing::{Fault, Size};
 
 impl<F: Fn(&mut Context, Within, Part<'_>) -> Result<Found<Told>, NoMemory>> Checker<F> {
     /// An operand whose value is taken, or that is stored to: an lvalue of an incomplete type is rule 3 at it (C11 6.3.2.1p2).

@@ -6,8 +6,8 @@ ghost use Rattle.expressions.specs.Operated.{Numbers};
 use crate::context::Context;
 use crate::nodes::first::least;
 use cbase::NoMemory;
-use typing::ctypes::Broken;
 use typing::Size;
+use typing::ctypes::Broken;
 
 /// The type of stars behind a type (C11 6.7.6.1).
 pub fn pointers_to(context: &mut Context, ctype: u32, stars: u32) -> Result<u32, NoMemory>

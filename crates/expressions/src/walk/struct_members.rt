@@ -21,8 +21,8 @@ use crate::nodes::declared_members::{add_member, member_fault};
 use crate::part::{Part, Told};
 use crate::walk::type_names::declare;
 use cbase::{Expr, FieldDecl, FieldName, Identifier, List, NoMemory, Place};
-use typing::ctypes::{Broken, Member};
 use std::alloc::Global;
+use typing::ctypes::{Broken, Member};
 use typing::{Fault, Size};
 
 impl<F: Fn(&mut Context, Within, Part<'_>) -> Result<Found<Told>, NoMemory>> Checker<F> {

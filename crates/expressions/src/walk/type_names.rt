@@ -16,9 +16,9 @@ use crate::nodes::first::least;
 use crate::part::{Part, Told};
 use crate::walk::sizes::{arrays_of, found_of_sizes, pointers_to};
 use cbase::{Expr, NoMemory, TypeName};
-use typing::ctypes::Broken;
 use std::alloc::Global;
 use typing::Size;
+use typing::ctypes::Broken;
 
 impl<F: Fn(&mut Context, Within, Part<'_>) -> Result<Found<Told>, NoMemory>> Checker<F> {
     /// What is found of a type name (C11 6.7.7): words, stars and sizes, in the order of the text.

@@ -19,10 +19,10 @@ use crate::known::Known;
 use crate::named_type::NamedType;
 use crate::part::{Part, Told};
 use cbase::{Abi, BasicType, Identifier, NoMemory, TypeSpec, bytes_of_rank};
-use typing::ctypes::Broken;
-use typing::environment::{DeclaredType, Entity, Tag};
 use std::alloc::Global;
 use typing::Fault;
+use typing::ctypes::Broken;
+use typing::environment::{DeclaredType, Entity, Tag};
 
 impl<F: Fn(&mut Context, Within, Part<'_>) -> Result<Found<Told>, NoMemory>> Checker<F> {
     /// The words of a type (C11 6.7.2).

@@ -7,8 +7,8 @@ ghost use Rattle.typing.specs.Declarations.{AreTwo, AreTwoTypes, IsAgain, given,
 ghost use Rattle.items.specs.declarations.Given.{here_at, linked_now, IsTypedefAgain, IsOtherLinked, is_own};
 
 use cbase::Storage;
-use typing::environment::{Binding, DeclaredType, Entity, Linked};
 use expressions::Context;
+use typing::environment::{Binding, DeclaredType, Entity, Linked};
 
 /// Whether a name that a declaration gives that type is declared twice: one without linkage is declared once in a scope, but for a typedef of the
 /// same type (C11 6.7p3); what has linkage is one thing wherever it is declared (6.7p4), and no name of its scope has none.

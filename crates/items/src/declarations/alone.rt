@@ -6,11 +6,11 @@ ghost use Rattle.typing.specs.Declarations.{tag_alone};
 ghost use Rattle.items.specs.declarations.Given.{IsAlone};
 
 use cbase::{Decl, Identifier, NoMemory, Storage, TypeSpec};
-use typing::ctypes::Broken;
-use typing::environment::Tag;
 use expressions::{Context, Found};
 use std::alloc::Global;
 use typing::Fault;
+use typing::ctypes::Broken;
+use typing::environment::Tag;
 
 /// The tag that a declaration as `struct s;` declares in the innermost scope, also where an outer one has it (C11 6.7.2.3p7).
 pub(crate) fn tag_alone(decl: &Decl) -> Option<&Identifier>

@@ -8,9 +8,9 @@ ghost use Rattle.typing.specs.Declarations.{given, is_complete};
 ghost use Rattle.typing.specs.Statements.{is_void};
 
 use cbase::Storage;
+use expressions::Context;
 use typing::ctypes::Shape;
 use typing::environment::DeclaredType;
-use expressions::Context;
 
 /// Whether what a declaration gives that type is complete, once its initialiser stands (C11 6.7p7, 6.7.9p22). What has linkage may have an incomplete
 /// type, but not `void`.

@@ -12,9 +12,9 @@ ghost use Rattle.typing.specs.Declarations.{given, name_declared};
 ghost use Rattle.items.specs.declarations.Given.{bound, composite_by_now};
 
 use cbase::{NoMemory, Storage};
-use typing::environment::{DeclaredType, Definition, Entity, Lifetime, Linked};
 use expressions::Context;
 use std::alloc::Global;
+use typing::environment::{DeclaredType, Definition, Entity, Lifetime, Linked};
 
 /// Declares a name in the innermost scope by the storage word of its declaration: an object, a typedef, or what has linkage (C11 6.2.1p7, 6.2.2).
 /// `token` is how many tokens stand before it.

@@ -10,10 +10,10 @@ use crate::declarations::complete::is_complete;
 use crate::declarations::declaring::declare_name;
 use crate::declarations::types::{found_of_name, given_type};
 use cbase::{Declared, NoMemory, Storage};
-use typing::ctypes::Broken;
-use typing::environment::DeclaredType;
 use expressions::{Context, Found, NamedType, all_at, first_of, unless};
 use std::alloc::Global;
+use typing::ctypes::Broken;
+use typing::environment::DeclaredType;
 use typing::{Fault, Size};
 
 /// The name of an object or of a typedef, of words, stars and sizes (C11 6.7.6): where nothing is broken at it, it is declared.

@@ -3,8 +3,8 @@ ghost use Rattle.expressions.specs.declared.handed_row.HandedRow.TheVariants.{Ob
 ghost use Rattle.items.specs.declarations.Given.{object_rows};
 
 use cbase::{NoMemory, Place, Storage};
-use typing::environment::DeclaredType;
 use expressions::{Context, HandedRow};
+use typing::environment::DeclaredType;
 
 /// Hands on an object without an initialiser that a declaration of that storage word makes at a place, where it has a type; what has linkage and a
 /// typedef are none.

@@ -14,10 +14,10 @@ use crate::declarations::giving::give;
 use crate::declarations::handing::hand_declared;
 use crate::declarations::initialising::{array_initialised, object_initialised};
 use cbase::{Declared, Expr, NoMemory, Storage};
-use typing::environment::DeclaredType;
 use expressions::{Checker, Context, Found, NamedType, Part, Subject, Told, Within};
 use std::alloc::Global;
 use typing::Size;
+use typing::environment::DeclaredType;
 
 /// The name of an object or of a typedef (C11 6.7): its sizes, then what is found at it, then its initialiser, in which it is in scope (6.2.1p7).
 ///

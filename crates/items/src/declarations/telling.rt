@@ -11,11 +11,11 @@ ghost use Rattle.items.specs.declarations.Given.{IsSizeTold};
 use crate::declarations::declaring::declare_object;
 use crate::declarations::handing::hand_object;
 use cbase::{Declared, NoMemory, Place};
-use typing::ctypes::Broken;
-use typing::environment::DeclaredType;
 use expressions::{Context, Found, first_of, unless};
 use std::alloc::Global;
 use typing::Fault;
+use typing::ctypes::Broken;
+use typing::environment::DeclaredType;
 
 /// An array whose size its initialiser tells (C11 6.7.9p22), of that type of so many items, behind its initialiser: where nothing is broken at its
 /// name, it is declared with its size, and handed on.

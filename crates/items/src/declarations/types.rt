@@ -4,10 +4,10 @@ ghost use Rattle.typing.specs.Declarations.{found_in_sizes, if_large};
 ghost use Rattle.items.specs.declarations.Given.{is_left_out, IsGivenType, IsFoundOfName};
 
 use cbase::NoMemory;
-use typing::ctypes::Broken;
-use typing::environment::DeclaredType;
 use expressions::{Context, NamedType, arrays_of, found_of_sizes, least, pointers_to};
 use typing::Size;
+use typing::ctypes::Broken;
+use typing::environment::DeclaredType;
 
 /// The type that a name has by words, stars and sizes, of which the outermost may be left out (C11 6.7.6). Only types get numbers.
 ///

@@ -9,9 +9,9 @@ ghost use Rattle.items.specs.declarations.Given.{IsNothingDeclared};
 
 use crate::declarations::alone::{declare_alone, tag_alone};
 use crate::declarations::objects::object_name;
+use crate::parameters::function_name;
 use cbase::{Decl, Declared, NoMemory, Place, Storage};
 use expressions::{Checker, Context, Found, NamedType, Part, Told, Within};
-use crate::parameters::function_name;
 use std::alloc::Global;
 use typing::Fault;
 

@@ -10,17 +10,19 @@ ghost use Rattle.expressions.specs.Numbers.{Numbering, linked_at, name_here_at};
 ghost use Rattle.expressions.specs.Settled.{IsFirstOf};
 ghost use Rattle.items.specs.Heads.{IsHeadJudged};
 
+use crate::declarations::definition_by_now;
 use crate::definitions::is_twice;
 use crate::heads::main_function::main_fault;
 use crate::heads::parts::Head;
 use crate::heads::structs::has_struct;
+use crate::parameters::{
+    Parameter, first_of_parameters, found_of_parameters, function_fault, is_other,
+};
 use cbase::{Declared, Place};
-use typing::ctypes::Broken;
-use crate::declarations::definition_by_now;
-use typing::environment::{Binding, Definition};
 use expressions::{Context, first_of, least, unless};
-use crate::parameters::{Parameter, first_of_parameters, found_of_parameters, function_fault, is_other};
 use typing::Fault;
+use typing::ctypes::Broken;
+use typing::environment::{Binding, Definition};
 
 /// The first of what is broken at the head of a function, if anything is: what is broken at the name of every function and at those of its parameters; one
 /// that is defined a second time is rule 2 (C11 6.9p5), one with a body that takes or gives a struct construct 13, a `main` whose result is no int rule 12.

@@ -1,16 +1,16 @@
 ghost use Rattle.std.specs.Prelude.{◌≡◌, ◌<◌, length, All, OnOk};
 ghost use Rattle.items.specs.Heads.{function_around, head_declared_in};
 
+use crate::declarations::definition_by_now;
 use crate::definitions::with_definition;
 use crate::heads::broken::definition_of_head;
 use crate::heads::marking::mark_parameters;
 use crate::heads::parts::Head;
-use cbase::{Declared, List, NoMemory};
-use crate::declarations::definition_by_now;
-use typing::environment::Signature;
-use expressions::Context;
 use crate::parameters::{Parameter, function_linked};
+use cbase::{Declared, List, NoMemory};
+use expressions::Context;
 use std::alloc::Global;
+use typing::environment::Signature;
 
 /// Declares a function by its head (C11 6.9.1) around the scope of its parameters, which are marked where it is `main`; the text has from here on what it
 /// had for it before and what the head adds. `types` are the numbers of the types of its parameters.

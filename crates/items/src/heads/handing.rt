@@ -5,9 +5,9 @@ ghost use Rattle.items.specs.Heads.{rows_of_head, rows_of_parameters};
 use crate::heads::pairs::pairs;
 use crate::heads::parts::Head;
 use crate::heads::walking::params_of;
+use crate::parameters::Parameter;
 use cbase::{Declared, Identifier, NoMemory, Param};
 use expressions::{Context, HandedRow};
-use crate::parameters::Parameter;
 
 /// Hands on a function that is defined, and behind it its parameters (C11 6.9.1); of a head without a body nothing.
 pub(crate) fn hand_on_head(

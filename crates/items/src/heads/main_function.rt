@@ -6,9 +6,9 @@ ghost use Rattle.expressions.specs.Numbers.{Numbering};
 ghost use Rattle.expressions.specs.Settled.{IsFirstOf};
 
 use cbase::Place;
-use typing::ctypes::{Broken, Shape};
 use expressions::{Context, unless};
 use typing::Fault;
+use typing::ctypes::{Broken, Shape};
 
 /// What is broken at the head of a function of that name and of that result: a `main` whose result is no int (C11 5.1.2.2.1p1).
 pub(crate) fn main_fault(

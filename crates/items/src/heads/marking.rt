@@ -5,11 +5,11 @@ ghost use Rattle.items.specs.Heads.{marked, marked_if_main, marked_one};
 use crate::heads::main_function::is_main;
 use crate::heads::pairs::pairs;
 use crate::heads::walking::params_of;
-use cbase::{Declared, Identifier, NoMemory, Param};
-use typing::environment::{DeclaredType, Entity, Lifetime};
-use expressions::Context;
 use crate::parameters::Parameter;
+use cbase::{Declared, Identifier, NoMemory, Param};
+use expressions::Context;
 use std::alloc::Global;
+use typing::environment::{DeclaredType, Entity, Lifetime};
 
 /// Declares the parameters of `main` anew as such, in the innermost scope; those of any other function stay as they are.
 ///

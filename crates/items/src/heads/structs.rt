@@ -4,8 +4,8 @@ ghost use Rattle.expressions.specs.Context.{Agrees};
 ghost use Rattle.expressions.specs.Numbers.{Numbering};
 ghost use Rattle.items.specs.parameters.Parameters.{parameter_at};
 
-use expressions::Context;
 use crate::parameters::Parameter;
+use expressions::Context;
 
 /// Whether a function takes or gives a struct.
 pub(crate) fn has_struct(context: &Context, result_type: u32, params: &[Parameter]) -> bool

@@ -6,9 +6,9 @@ use crate::heads::broken::head_fault;
 use crate::heads::declaring::declare_head;
 use crate::heads::handing::hand_on_head;
 use crate::heads::parts::Head;
+use crate::parameters::{Parameter, types_of};
 use cbase::{Declared, NoMemory, Storage};
 use expressions::{Context, Found, NamedType, pointers_to};
-use crate::parameters::{Parameter, types_of};
 use std::alloc::Global;
 
 /// The name of a function behind its parameters (C11 6.9.1): what is broken at it and at theirs, or it is declared around their scope, and handed on with

@@ -10,9 +10,9 @@ ghost use Rattle.expressions.specs.Walked.{Walked};
 ghost use Rattle.items.specs.InFile.{SaysInFileBy};
 
 use crate::heads::taking::take_head;
+use crate::parameters::parameters;
 use cbase::{Declared, List, NoMemory, Param, Stmt, Storage};
 use expressions::{Checker, Context, Found, NamedType, Part, Told, Within};
-use crate::parameters::parameters;
 use std::alloc::Global;
 
 /// A head with its body (C11 6.9.1), which stands in the scope of the parameters (6.2.1p4) and in no loop. That scope is not left behind it.

@@ -9,8 +9,8 @@ ghost use Rattle.expressions.specs.Numbers.{Numbering};
 ghost use Rattle.items.specs.initialisers.Filled.{filled_at, IsKept, IsFilled};
 
 use cbase::{Extent, NoMemory};
-use typing::ctypes::Shape;
 use expressions::{Context, Slot};
+use typing::ctypes::Shape;
 
 /// What braces fill (C11 6.7.9p11, p17).
 #[derive(Clone, Copy)]

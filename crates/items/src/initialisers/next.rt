@@ -7,9 +7,9 @@ ghost use Rattle.items.specs.initialisers.Filled.{filled_at, IsKept, IsSlot, IsN
 
 use crate::initialisers::filled::Filled;
 use cbase::{Identifier, NoMemory, Place};
-use typing::ctypes::Broken;
 use expressions::{Context, Found, Slot};
 use typing::Fault;
+use typing::ctypes::Broken;
 
 /// How many bytes an object may have.
 const MOST_BYTES: u32 = 65_536;

@@ -6,9 +6,9 @@ ghost use Rattle.expressions.specs.Numbers.{Numbering, handed_at};
 ghost use Rattle.items.specs.initialisers.Constants.{row_at};
 
 use cbase::NoMemory;
+use expressions::{Context, HandedRow};
 use typing::ctypes::Shape;
 use typing::environment::{Entity, Lifetime};
-use expressions::{Context, HandedRow};
 
 /// What was handed on of an expression.
 #[derive(Clone, Copy)]

@@ -6,9 +6,9 @@ ghost use Rattle.items.specs.initialisers.Storing.{IsForm, IsJudged, IsStored};
 
 use crate::initialisers::constant::{Use, is_constant};
 use cbase::{Expr, NoMemory, Place};
-use typing::ctypes::Broken;
 use expressions::{Context, Found, HandedRow, Known, Slot, Subject};
 use typing::Fault;
+use typing::ctypes::Broken;
 
 /// Stores a value of which so much is known: what is broken at it, or the store is handed on. `before` rows were handed on when the value began.
 ///

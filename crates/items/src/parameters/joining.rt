@@ -6,10 +6,10 @@ ghost use Rattle.items.specs.parameters.Parameters.{faults_at, parameter_at, num
 
 use crate::parameters::parameter::Parameter;
 use cbase::{List, NoMemory};
-use typing::ctypes::Broken;
 use expressions::{first_of, least, unless};
 use std::alloc::Global;
 use typing::Fault;
+use typing::ctypes::Broken;
 
 /// The numbers of the types of parameters, in order. Want of memory is the only error.
 pub fn types_of(alloc: Global, params: &[Parameter]) -> Result<List<u32>, NoMemory>

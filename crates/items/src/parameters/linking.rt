@@ -11,9 +11,9 @@ ghost use Rattle.expressions.specs.Numbers.{Numbering, name_here_at, linked_at};
 ghost use Rattle.items.specs.parameters.Named.{function_declared};
 
 use cbase::{List, NoMemory};
-use typing::environment::{Binding, Definition, Entity, Linked, Signature};
 use expressions::Context;
 use std::alloc::Global;
+use typing::environment::{Binding, Definition, Entity, Linked, Signature};
 
 /// Whether a name is declared another thing than a function of those types: by its scope, or by what has linkage under it (C11 6.7p3, p4).
 pub(crate) fn is_again(context: &Context, name: &[u8], result_type: u32, params: &[u32]) -> bool

@@ -13,10 +13,10 @@ use crate::parameters::joining::{first_of_parameters, found_of_parameters, types
 use crate::parameters::linking::{declare_function, is_again};
 use crate::parameters::parameter::Parameter;
 use cbase::{Declared, NoMemory, Place, Storage};
-use typing::ctypes::Broken;
 use expressions::{Context, Found, NamedType, all_at, first_of, least, pointers_to, unless};
 use std::alloc::Global;
 use typing::Fault;
+use typing::ctypes::Broken;
 
 /// The name of a function behind its parameters: what is broken at it, or it is declared (C11 6.7.6.3).
 ///

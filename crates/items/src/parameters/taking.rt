@@ -11,11 +11,11 @@ ghost use Rattle.items.specs.parameters.Taken.{behind_first, is_here, object_nam
 
 use crate::parameters::parameter::Parameter;
 use cbase::{Identifier, NoMemory, Param, Place};
-use typing::ctypes::{Broken, Shape};
-use typing::environment::{DeclaredType, Entity, Lifetime};
 use expressions::{Context, NamedType, arrays_of, found_of_sizes, least, pointers_to};
 use std::alloc::Global;
 use typing::Size;
+use typing::ctypes::{Broken, Shape};
+use typing::environment::{DeclaredType, Entity, Lifetime};
 
 /// A parameter of that type and of those sizes, which is in scope behind it where it has a name (C11 6.2.1p7).
 ///

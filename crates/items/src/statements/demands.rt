@@ -8,9 +8,9 @@ ghost use Rattle.expressions.specs.Settled.{IsFirstOf};
 ghost use Rattle.items.specs.statements.Demands.{demand_at, IsDemandBelow};
 
 use cbase::Place;
-use typing::ctypes::{Broken, Shape};
 use expressions::{Context, Known, unless};
 use typing::Fault;
+use typing::ctypes::{Broken, Shape};
 
 /// What a value in a statement is taken for.
 #[derive(Clone, Copy)]

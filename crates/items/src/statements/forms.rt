@@ -8,6 +8,7 @@ ghost use Rattle.expressions.specs.Nests.{Nests};
 ghost use Rattle.expressions.specs.Walked.{Walked, Says};
 ghost use Rattle.items.specs.statements.Parts.{SaysParts};
 
+use crate::declarations::declaration;
 use crate::statements::blocks::block;
 use crate::statements::branches::choose;
 use crate::statements::demands::Demand;
@@ -15,7 +16,6 @@ use crate::statements::jumps::{leave_loop, return_value};
 use crate::statements::loops::{do_loop, for_loop, while_loop};
 use crate::statements::taken::optional_unboxed;
 use cbase::{NoMemory, Place, Stmt, StmtForm};
-use crate::declarations::declaration;
 use expressions::{Checker, Context, Found, Part, Told, Within};
 use std::alloc::Global;
 

@@ -10,9 +10,9 @@ ghost use Rattle.items.specs.statements.Parts.{SaysPart};
 use crate::statements::demands::{Demand, fault_of_return};
 use crate::statements::taken::value;
 use cbase::{Boxed, Expr, NoMemory, Place};
-use typing::ctypes::Broken;
 use expressions::{Checker, Context, Found, Part, Told, Within};
 use typing::Fault;
+use typing::ctypes::Broken;
 
 /// `break` and `continue`, of which the word stands there: outside of the body of a loop it is rule 10 at the word (C11 6.8.6.2p1, 6.8.6.3p1).
 pub(crate) fn leave_loop(context: &Context, word: Place) -> Found<()>

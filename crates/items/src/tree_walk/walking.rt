@@ -10,11 +10,11 @@ ghost use Rattle.items.specs.InFile.{SaysInFile};
 ghost use Rattle.typing.specs.Items.{ItemIs};
 ghost use Rattle.items.specs.tree_walk.Exact.{ItemIsNothingElse, NothingElse};
 
-use cbase::{Abi, Expr, Item, NoMemory, Place, Stmt};
-use expressions::{Checker, Context, Found, Known, Part, Told, Within};
 use crate::initialisers::initialiser;
 use crate::item;
 use crate::statements::statement;
+use cbase::{Abi, Expr, Item, NoMemory, Place, Stmt};
+use expressions::{Checker, Context, Found, Known, Part, Told, Within};
 
 /// How many levels a tree that is read has at most.
 const MOST_LEVELS: u32 = 1024;

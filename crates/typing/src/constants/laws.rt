@@ -21,7 +21,7 @@ pub fn one_reading()
         Reads spelling reading → Reads spelling other → reading ≡ other }
 {}
 
-/// The rows of `specs/Rows.antt` hold: constants of each base and suffix, at the greatest values of each type, and
+/// The rows of `specs/constants/Rows.antt` hold: constants of each base and suffix, at the greatest values of each type, and
 /// characters of each kind, in both data layouts.
 #[tactic(auto, using(crate::proofs::constants::Worked::constant_rows))]
 pub fn rows_hold()

@@ -85,7 +85,7 @@ pub fn linkage_is_by_the_rules()
     ensures { (standing : Standing) (storage : Storage) (kind : Kind) → IsTrue (has_linkage standing storage kind) ↔ HasLinkage standing storage kind }
 {}
 
-/// The functions that are built in have the types of `specs/BuiltInRows.antt`, in both data layouts.
+/// The functions that are built in have the types of `specs/environment/BuiltInRows.antt`, in both data layouts.
 #[tactic(auto, using(crate::proofs::environment::Worked::built_in_rows))]
 pub fn built_in_rows_hold()
     ensures { AreBuiltIn }

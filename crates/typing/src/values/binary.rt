@@ -2,12 +2,12 @@ ghost use Rattle.std.specs.Prelude.{◌≡◌, true};
 ghost use Rattle.typing.specs.ctypes.Kinds.{Kind, integer_in};
 ghost use Rattle.typing.specs.values.Values.{is_whole, in_common, shifted, are_equal, of_binary, binary_value};
 
+use crate::ctypes::IntegerType;
 use crate::values::condition::is_true;
 use crate::values::converting::{as_type, common, promoted};
 use crate::values::whole::{size_of, whole};
 use arithmetic::{Op, compute, equal};
 use cbase::BinaryOp;
-use crate::ctypes::IntegerType;
 
 /// The value of a binary operation, where it has one (C11 6.5.5 to 6.5.14, 6.6p6).
 ///

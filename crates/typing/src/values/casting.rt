@@ -2,10 +2,10 @@ ghost use Rattle.std.specs.Prelude.{◌≡◌, None, Some, if◌then◌else◌};
 ghost use Rattle.typing.specs.ctypes.Kinds.{Kind, integer_in};
 ghost use Rattle.typing.specs.values.Values.{is_whole, cast_value, word_of, offset_as};
 
+use crate::ctypes::IntegerType;
 use crate::values::converting::as_type;
 use crate::values::whole::{is_whole, size_of, whole};
 use arithmetic::{Size, convert, convert_to_truth};
-use crate::ctypes::IntegerType;
 
 /// The value of a cast to a type of integers, where it has one (C11 6.5.4, 6.6p6).
 ///

@@ -2,10 +2,10 @@ ghost use Rattle.std.specs.Prelude.{◌≡◌, true};
 ghost use Rattle.typing.specs.ctypes.Kinds.{Kind, integer_in};
 ghost use Rattle.typing.specs.values.Values.{is_whole, of_choice, choice_value};
 
+use crate::ctypes::IntegerType;
 use crate::values::condition::is_true;
 use crate::values::converting::{as_type, common};
 use crate::values::whole::whole;
-use crate::ctypes::IntegerType;
 
 /// The value of `?:`, where it has one: that of the arm that is chosen, in the type of both (C11 6.5.15p4-5, 6.6p6).
 ///

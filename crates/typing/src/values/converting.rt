@@ -2,9 +2,9 @@ ghost use Rattle.std.specs.Prelude.{◌≡◌, true};
 ghost use Rattle.typing.specs.ctypes.Integers.{promoted, common};
 ghost use Rattle.typing.specs.values.Values.{is_whole, as_type};
 
+use crate::ctypes::IntegerType;
 use crate::values::whole::size_of;
 use arithmetic::{convert, convert_to_truth};
-use crate::ctypes::IntegerType;
 
 /// The type of an integer as an operand (C11 6.3.1.1p2).
 pub(crate) fn promoted(of: IntegerType) -> IntegerType

@@ -1,9 +1,9 @@
 ghost use Rattle.std.specs.Prelude.{◌≡◌};
 ghost use Rattle.typing.specs.values.Values.{count_of};
 
+use crate::ctypes::IntegerType;
 use crate::values::whole::{is_whole, size_of};
 use arithmetic::{Size, convert, less};
-use crate::ctypes::IntegerType;
 
 /// The value of an integer that is 1 or more, as the length of an array is (C11 6.7.6.2p1).
 ///

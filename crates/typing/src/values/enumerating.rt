@@ -3,9 +3,9 @@ ghost use Rattle.arithmetic.specs.Value.{value, is_in_range};
 ghost use Rattle.typing.specs.ctypes.Kinds.{Kind, integer_in};
 ghost use Rattle.typing.specs.values.Values.{is_whole, int_bits, int_value, next_value};
 
+use crate::ctypes::IntegerType;
 use crate::values::whole::{size_of, whole};
 use arithmetic::{Size, convert, less_equal};
-use crate::ctypes::IntegerType;
 
 /// The bits of the greatest `int` (C11 5.2.4.2.1), in four bytes or more.
 const GREATEST: u64 = 0x7fff_ffff;

@@ -2,12 +2,12 @@ ghost use Rattle.std.specs.Prelude.{◌≡◌, true};
 ghost use Rattle.typing.specs.ctypes.Kinds.{Kind, integer_in};
 ghost use Rattle.typing.specs.values.Values.{is_whole, of_unary, unary_value};
 
+use crate::ctypes::IntegerType;
 use crate::values::condition::is_true;
 use crate::values::converting::{as_type, promoted};
 use crate::values::whole::{size_of, whole};
 use arithmetic::{complement, negate};
 use cbase::UnaryOp;
-use crate::ctypes::IntegerType;
 
 /// The value of a unary operation, where it has one (C11 6.5.3.3, 6.6p6).
 ///

@@ -2,8 +2,8 @@ ghost use Rattle.std.specs.Prelude.{◌≡◌, true, IfSome};
 ghost use Rattle.arithmetic.specs.Size.{bytes};
 ghost use Rattle.typing.specs.values.Values.{is_whole, whole_in};
 
-use arithmetic::Size;
 use crate::ctypes::IntegerType;
+use arithmetic::Size;
 
 /// Whether the data layouts have a type of integers: one of 1, 2, 4 or 8 bytes (C11 6.2.5p4-8).
 pub fn is_whole(of: IntegerType) -> bool
