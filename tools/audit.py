@@ -25,23 +25,37 @@ TABLES = ("*/Examples*", "*/Sample*", "*/Edges", "*/*Rows", "*/RowWords", "*/She
 # Files that say how code finds or keeps something, or what the numbers mean that it keeps.
 MODELS = ("*/Kept*", "*/SymbolRows", "*/CodeTables", "cbuild/*", "cconstructs/*Finding", "ccheck/Steps", "cevents/*", "cgrammar/Closers",
           "cgrammar/ConstantParts", "cgrammar/FrontReadings", "cgrammar/Outcomes", "cgrammar/Read[A-Z]*", "cgrammar/Reader", "cgrammar/TokenReadings",
-          "choices/Reading", "choices/Run", "constants/Deciding", "cparser/*", "cread/ReadItem", "ctokens/Entry", "ctokens/ItemEnds",
-          "ctokens/Lengths", "ctokens/MarkerAt", "ctokens/NeedSearch", "ctokens/PieceAt", "ctypes/*", "declarations/*", "expressions/*",
+          "choices/Reading", "choices/Run", "cparser/*", "cread/ReadItem", "ctokens/Entry", "ctokens/ItemEnds",
+          "ctokens/Lengths", "ctokens/MarkerAt", "ctokens/NeedSearch", "ctokens/PieceAt", "expressions/*",
           "first_form/Found", "first_form/FrontLine", "first_form/Search", "first_form/Spelling", "flow/Counting", "flow/Deciding", "flow/Marked",
-          "flow/Owning", "graph/Slots", "initialisers/*", "items/*", "languages/AtTypes", "languages/Begins", "languages/LeadsBack", "parameters/*",
-          "planes/Runs", "statements/*")
+          "flow/Owning", "graph/Slots", "items/[A-Z]*", "items/declarations/*", "items/initialisers/*", "items/languages/AtTypes", "items/languages/Begins",
+          "items/languages/LeadsBack", "items/parameters/*", "items/statements/*", "planes/Runs", "typing/constants/Deciding", "typing/ctypes/*")
 # Files with such names that are definitions.
 DEFINITIONS = ("ctokens/ItemRows", "definitions/Rows")
+# Folders of crates that say something of their own: they are listed as crates are, in front of the crate.
+PARTS = {"typing": ("ctypes", "constants", "values", "environment"), "items": ("languages",)}
 # What the crates under the top call decide together, in the order in which docs/audit.md reads them.
 GROUPS = (
     (("verdicts", "report", "command_line", "outside"), "which answer is true of a file, what is printed of it, which words ask for one, what is known of files and sinks"),
     (("bytes_core", "first_form"), "what a run does: memory, faults, the lines of the form that is judged, and its machine"),
     (("ctokens",), "which tokens a text has, where each stands, which items they make and which of these main needs"),
     (("cgrammar", "cread", "cconstructs", "ctrees"), "which tree a row of tokens is, how deep it may be, and which forms are given up by name"),
-    (("cbase", "arithmetic", "constants", "values", "ctypes"), "what types C has and how they are laid, what constants and operators give, and what is broken at an operator"),
-    (("environment", "languages", "definitions"), "what is declared at each place of a text, and which names the whole text defines"),
+    (("cbase", "arithmetic", "typing/constants", "typing/values", "typing/ctypes"), "what types C has and how they are laid, what constants and operators give, and what is broken at an operator"),
+    (("typing/environment", "items/languages", "definitions"), "what is declared at each place of a text, and which names the whole text defines"),
     (("typing", "ccheck"), "which expressions, statements, declarations and items pass, what is refused first in one that does not, and in which order items are read and checked"),
 )
+
+
+def unit(path):
+    """The crate of a file, or the folder of it in `PARTS`."""
+    _, crate, _, *inner = path.split("/")
+    folder = inner[0].partition(".")[0]
+    return f"{crate}/{folder}" if folder in PARTS.get(crate, ()) else crate
+
+
+def units(sources):
+    """The crates, lowest first, each behind the folders of it in `PARTS`."""
+    return [one for crate in sources.crates for one in (*(f"{crate}/{part}" for part in PARTS.get(crate, ())), crate)]
 
 
 class Claim:
@@ -69,7 +83,7 @@ class Claim:
 
     def ordered(self, crate):
         """The files of a crate's definitions, each behind those on which it rests, and else by name."""
-        paths = sorted(path for path in self.paths if path.startswith(f"crates/{crate}/"))
+        paths = sorted(path for path in self.paths if unit(path) == crate)
         order = []
 
         def add(path):
@@ -104,8 +118,9 @@ def mark(path):
 
 
 def library(crate):
-    """The text of a crate's root, where it is a library."""
-    file = HOME / "crates" / crate / "src" / "lib.rt"
+    """The text of a crate's root, or of that of a folder in it, where it is a library."""
+    crate, _, part = crate.partition("/")
+    file = HOME / "crates" / crate / "src" / f"{part or 'lib'}.rt"
     return file.read_text() if file.is_file() else ""
 
 
@@ -114,7 +129,9 @@ def functions_of(sources, crate):
     root = library(crate)
     exported = set(re.findall(r"\w+", " ".join(re.findall(r"^pub use ([^;]*);", root, re.MULTILINE))))
     calls, laws, rows = [], [], []
-    for source in sources.code(crate):
+    for source in sources.code(crate.partition("/")[0]):
+        if unit(source.path) != crate:
+            continue
         is_open = f"pub mod {source.path.rpartition('/')[2][:-3]};" in root
         for name, head, is_law in source.functions():
             if is_law:
@@ -133,7 +150,7 @@ def top_claim(sources):
 
 def claims_of(sources, crate):
     """What a crate's calls, its laws and its rows promise."""
-    if any(fnmatch(crate, pattern) for pattern in NO_CLAIMS) or not library(crate):
+    if any(fnmatch(crate.partition("/")[0], pattern) for pattern in NO_CLAIMS) or not library(crate):
         return []
     return [Claim(crate, words, functions) for words, functions in zip(("calls", "laws", "rows"), functions_of(sources, crate)) if functions]
 
@@ -152,7 +169,7 @@ def sizes(sources, claim):
 def types_of(claim, crate):
     """The types of a crate on which a claim rests, file by file."""
     found = []
-    for path in sorted({one.source.path for one in claim.types if one.source.crate == crate}):
+    for path in sorted({one.source.path for one in claim.types if unit(one.source.path) == crate}):
         names = ", ".join(f"`{one.name}`" for one in claim.of_file(path))
         found.append(f"`{path.split('/', 2)[2]}` {claim.lines(path)} ({names})")
     return found
@@ -173,7 +190,7 @@ def crate_list(sources, claim, crate):
         for path in paths:
             source, kind = sources.file(path), mark(path)
             words = f"*{kind}*: {source.head}" if kind else source.head
-            text += f"| `{short(path).partition('/')[2]}.antt` | {claim.lines(path)} | {source.length} | {cell(words)} |\n"
+            text += f"| `{short(path).removeprefix(crate + '/')}.antt` | {claim.lines(path)} | {source.length} | {cell(words)} |\n"
         text += "\n"
     return text + (f"Types: {', '.join(types)}.\n\n" if types else "")
 
@@ -182,9 +199,9 @@ def group_list(claim):
     """How much there is to read in each group of crates, and what it decides."""
     text = "| crates | lines of definitions | lines of types | what they decide |\n|---|---|---|---|\n"
     for crates, decided in GROUPS:
-        lines = [sum(one.lines for one in found if one.source.crate in crates) for found in (claim.definitions, claim.types)]
+        lines = [sum(one.lines for one in found if unit(one.source.path) in crates) for found in (claim.definitions, claim.types)]
         text += f"| {', '.join(f'`{crate}`' for crate in crates)} | {lines[0]:,} | {lines[1]:,} | {decided} |\n"
-    left = {one.source.crate for one in claim.definitions | claim.types} - {crate for crates, _ in GROUPS for crate in crates}
+    left = {unit(one.source.path) for one in claim.definitions | claim.types} - {crate for crates, _ in GROUPS for crate in crates}
     return text + (f"| {', '.join(f'`{crate}`' for crate in sorted(left))} | | | in no group yet |\n" if left else "")
 
 
@@ -193,7 +210,7 @@ def claim_list(sources, claim, top):
     shared = claim.paths & top.paths
     text = f"- **`{claim.crate}`, {claim.words}** ({', '.join(f'`{name}`' for name in claim.names)}): {sizes(sources, claim)}."
     beyond = []
-    for crate in sources.crates:
+    for crate in units(sources):
         for path in claim.ordered(crate):
             if path not in top.paths:
                 kind = mark(path)
@@ -207,9 +224,9 @@ def rest_list(sources, claims):
     """The files of definitions on which no claim rests."""
     reached = {path for claim in claims for path in claim.paths}
     text = "\n## Files of `specs/` on which no claim rests\n\nContracts of private functions and proofs use them, or tests.\n\n"
-    for crate in sources.crates:
-        files = sorted(str(path.relative_to(HOME)) for path in (HOME / "crates" / crate / "specs").glob("**/*.antt"))
-        left = [short(path).partition("/")[2] for path in files if path not in reached and sources.file(path).definitions]
+    for crate in units(sources):
+        files = sorted(str(path.relative_to(HOME)) for path in (HOME / "crates" / crate.partition("/")[0] / "specs").glob("**/*.antt"))
+        left = [short(path).removeprefix(crate + "/") for path in files if unit(path) == crate and path not in reached and sources.file(path).definitions]
         if left:
             text += f"- `{crate}`: {', '.join(f'`{name}`' for name in left)}\n"
     return text + "\n"
@@ -219,9 +236,9 @@ def page(sources):
     """The lists of docs/audit.md."""
     top = top_claim(sources)
     text = f"{sizes(sources, top)}.\n\n{group_list(top)}\n"
-    text += "".join(crate_list(sources, top, crate) for crate in sources.crates)
+    text += "".join(crate_list(sources, top, crate) for crate in units(sources))
     text += "## What each further claim rests on\n\n"
-    claims = [claim for crate in reversed(sources.crates) for claim in claims_of(sources, crate)]
+    claims = [claim for crate in reversed(units(sources)) for claim in claims_of(sources, crate)]
     text += "".join(claim_list(sources, claim, top) for claim in claims if claim.names != top.names)
     return text + rest_list(sources, claims)
 
@@ -231,7 +248,7 @@ def printed(sources, names):
     claims = [claim for name in names for claim in claims_of(sources, name)] if names else [top_claim(sources)]
     for claim in claims:
         print(f"# `{claim.crate}`, {claim.words}: {', '.join(claim.names)}\n\n{sizes(sources, claim)}\n")
-        print("".join(crate_list(sources, claim, crate) for crate in sources.crates), end="")
+        print("".join(crate_list(sources, claim, crate) for crate in units(sources)), end="")
 
 
 def main():

@@ -360,7 +360,8 @@ class Sources:
             return []
         found = self.index(crate).get(name, [])
         exact = [one for one in found if modules and one.source.path.endswith(f"src/{'/'.join(modules)}.rt")]
-        return (exact or found)[:1]
+        inside = [one for one in found if modules and f"/src/{'/'.join(modules)}/" in one.source.path]
+        return (exact or inside or found)[:1]
 
     def definition(self, module, name):
         """What a module of definitions calls by this name: a definition, a type, or a pair of the kit."""

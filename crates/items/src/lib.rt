@@ -29,4 +29,3 @@ mod walk;
 
 pub use beginning::begin;
 pub use tree_walk::{expression_found, item_found, statement_found};
-pub use walk::item;

@@ -11,8 +11,8 @@ ghost use Rattle.typing.specs.Items.{ItemIs};
 ghost use Rattle.items.specs.tree_walk.Exact.{ItemIsNothingElse, NothingElse};
 
 use crate::initialisers::initialiser;
-use crate::item;
 use crate::statements::statement;
+use crate::walk::item;
 use cbase::{Abi, Expr, Item, NoMemory, Place, Stmt};
 use expressions::{Checker, Context, Found, Known, Part, Told, Within};
 
