@@ -1,5 +1,5 @@
 #!/usr/bin/env python3
-"""Compares types and values of constants with gcc, and the rows of crates/constants/specs/Rows.antt with the same table.
+"""Compares types and values of constants with gcc, and the rows of crates/typing/specs/constants/Rows.antt with the same table.
 
 Usage, at the project's root: tests/constants.py [COUNT [SEED]]
 Three hundred random constants are read here by the table of C11 6.4.4.1 and the rules of 6.4.4.4, and gcc is asked, by

@@ -215,9 +215,10 @@ class RustSource(Source):
 
     def rust_use(self, path, names):
         """Takes a `use` line of Rust: the crate and the modules from which each name comes."""
+        modules = path[1:] if names else path[1:-1]
         for name in re.findall(r"\w+(?: as \w+)?", names or path[-1]):
             outer, _, inner = name.partition(" as ")
-            self.outer[inner or outer] = (self.crate if path[0] in ("crate", "super", "self") else path[0], path[1:], outer)
+            self.outer[inner or outer] = (self.crate if path[0] in ("crate", "super", "self") else path[0], modules, outer)
 
     def extent(self, start):
         """Where the item ends that begins here: at its `;`, or behind its braces."""
