@@ -26,14 +26,12 @@ MARKS, END_OF_MARKS = "<!-- gate.py: marks -->\n", "<!-- gate.py: end of marks -
 # for names of what they take from crates below: by what they take in a run it is estimated what its minutes would be there. A crate that changes is to be
 # taken out of the list.
 YARDSTICK = {
-    "arithmetic_rows": 1.0, "bytes_core": 2.0, "declarations": 1.8, "flow": 3.7, "flow_rows": 1.3, "graph": 2.2, "graph_rows": 1.5, "graph_tests": 0.6,
-    "initialisers": 1.8, "items": 2.9, "languages": 0.5, "memory_tests": 0.7, "parameters": 1.2, "planes": 2.0, "tree_walk": 1.5, "type_tests": 1.8,
+    "arithmetic_rows": 1.0, "bytes_core": 2.0, "flow": 3.7, "flow_rows": 1.3, "graph": 2.2, "graph_rows": 1.5, "graph_tests": 0.6, "memory_tests": 0.7, "planes": 2.0,
 }
 # What groups of crates are meant to take at most.
 GROUPS = (
-    ("what types expressions", 15, "ctypes constants environment values typing expressions expression_rows"),
-    ("what checks items", 20, "languages items tree_walk definitions definition_rows ccheck"),
-    ("the source machine and `replay`", 25, "choices c_machine c_words c_steps c_text c_tasks c_statics c_run replay"),
+    ("what types expressions", 15, "typing expressions expression_rows"),
+    ("the source machine and `replay`", 25, "choices c_machine c_steps c_run replay"),
     ("all crates", 220, ""),
 )
 KINDS = ("proof", "tests", "seed", "edits")
