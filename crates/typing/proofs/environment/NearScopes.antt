@@ -32,10 +32,9 @@ second {X} items at any count =
     ap reverse (all ∙ last) ∙ (pushed (take (suc at) items) (get_or items (suc at) any)
     ∙ ap (λ (rest : List X). get_or items (suc at) any ∷ rest) (ap reverse other ∙ pushed (take at items) (get_or items at any)))
 
-pub kept_second : {A : Type 0} (name : List ℕ) (levels : List (Entries (Kept A))) (at : ℕ) (level : Entries (Kept A)) → suc (suc at) ≡ length levels → level ≡ get_or levels at level
-    → value_in name level ≡ kept_around name (reverse levels)
-kept_second {A} name levels at level count here =
-    ap (value_in name) here ∙ ap (λ (ls : List (Entries (Kept A))). kept_around name ls) (sym (second levels at level count))
+pub kept-left : {A : Type 0} (name : List ℕ) (levels : List (Entries (Kept A))) → kept_around name levels ≡ kept_here name (left levels)
+kept-left name [] = refl
+kept-left name (innermost ∷ outer) = refl
 
 pub put_second : {A : Type 0} (name : List ℕ) (kept : Kept A) (levels : List (Entries (Kept A))) (at : ℕ) (level : Entries (Kept A)) → suc (suc at) ≡ length levels → level ≡ get_or levels at level
     → reverse (set levels at (with_value name kept level)) ≡ kept_in_around name kept (reverse levels)

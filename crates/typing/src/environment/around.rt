@@ -1,8 +1,8 @@
 ghost use Rattle.std.specs.Prelude.{◌≡◌, ◌<◌, reverse, length, Some, OnOk, OnErr};
 ghost use Rattle.typing.specs.environment.Scopes.{declared_around};
-ghost use Rattle.typing.specs.environment.Kept.{scopes_of, kept_around, kept_in_around, changed_in, AreVisible};
+ghost use Rattle.typing.specs.environment.Kept.{scopes_of, kept_in_around, changed_in, AreVisible};
 
-use crate::environment::keeping::{around, kept_here, seen};
+use crate::environment::keeping::{around, kept_around, kept_here, shown};
 use crate::environment::kept::Kept;
 use crate::environment::names::Names;
 use cbase::NoMemory;
@@ -26,7 +26,7 @@ pub(crate) fn declare_around_in<A: Copy>(
     if levels.len() < 2 {
         return Ok(());
     }
-    let before = seen(visible.get(name));
+    let before = shown(visible, name);
     let inside = kept_here(levels, name);
     let hidden = around(kept_around(levels, name), around(inside, before));
     visible.put(alloc, name, before)?;
@@ -36,14 +36,6 @@ pub(crate) fn declare_around_in<A: Copy>(
         Some(kept) => hide(levels, name, kept.meaning, meaning),
     }
     Ok(())
-}
-
-/// What the scope around the innermost one keeps of a name.
-fn kept_around<A: Copy>(levels: &[Names<Kept<A>>], name: &[u8]) -> Option<Kept<A>>
-    requires { 1 < length levels.now }
-    ensures { result ≡ kept_around name.now (reverse levels.now) }
-{
-    levels[levels.len() - 2].get(name)
 }
 
 /// Keeps a name in the scope around the innermost one.

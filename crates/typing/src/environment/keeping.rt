@@ -1,4 +1,5 @@
-ghost use Rattle.std.specs.Prelude.{◌≡◌, ◌<◌, reverse, length, OnOk, OnErr};
+ghost use Rattle.std.specs.Prelude.{◌≡◌, ◌<◌, reverse, length, option_map, OnOk, OnErr};
+ghost use Rattle.typing.specs.environment.Names.{value_in};
 ghost use Rattle.typing.specs.environment.Scopes.{declared, left};
 ghost use Rattle.typing.specs.environment.Kept.{scopes_of, seen, around, kept_here, kept_in, AreVisible};
 
@@ -7,13 +8,23 @@ use crate::environment::names::{Names, uncover};
 use cbase::NoMemory;
 use std::alloc::Global;
 
-/// What a name is visible as, by what a table says of it.
-pub(crate) fn seen<A: Copy>(answer: Option<Option<A>>) -> Option<A>
-    ensures { result ≡ seen answer }
+/// What a name is visible as, by what the table says of it.
+pub(crate) fn shown<A: Copy>(visible: &Names<Option<A>>, name: &[u8]) -> Option<A>
+    ensures { result ≡ seen (value_in name.now visible.now) }
 {
-    match answer {
+    match visible.get(name) {
         None => None,
-        Some(visible) => visible,
+        Some(meaning) => meaning,
+    }
+}
+
+/// What a name stands for in a scope, by what that keeps of it.
+pub(crate) fn meaning_of<A: Copy>(kept: Option<Kept<A>>) -> Option<A>
+    ensures { result ≡ option_map (λ here. here.meaning) kept }
+{
+    match kept {
+        None => None,
+        Some(here) => Some(here.meaning),
     }
 }
 
@@ -55,7 +66,7 @@ pub(crate) fn declare_in<A: Copy>(
     if levels.len() == 0 {
         return Ok(());
     }
-    let before = seen(visible.get(name));
+    let before = shown(visible, name);
     let hidden = around(kept_here(levels, name), before);
     visible.put(alloc, name, before)?;
     keep(alloc, levels, name, Kept { meaning, hidden })?;

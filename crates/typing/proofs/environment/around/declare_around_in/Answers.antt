@@ -1,26 +1,27 @@
 use Rattle.std.proofs.Common.{◌∙◌, ap, sym, refl, arith, reverse, Some}
+use Rattle.typing.specs.environment.Scopes.{left}
 use Rattle.typing.specs.environment.Names.{with_value, changed}
-use Rattle.typing.specs.environment.Kept.{seen, around, kept_here, kept_around, changed_in}
+use Rattle.typing.specs.environment.Kept.{around, kept_here, kept_around, changed_in}
 use Rattle.typing.proofs.environment.KeptRight.{visible_equal, visible_again}
-use Rattle.typing.proofs.environment.NearScopes.{none-around, some-around, scopes_none_around, scopes_some_around, two-scopes}
+use Rattle.typing.proofs.environment.NearScopes.{kept-left, none-around, some-around, scopes_none_around, scopes_some_around, two-scopes}
 use Rattle.typing.proofs.environment.around.declare_around_in.Goals as goal
 
 pub returns-in_err-keep_around-clause-kept : goal.returns-in_err-keep_around-clause-kept
 returns-in_err-keep_around-clause-kept g c =
-    visible_equal (with_value c.args.name.now c.seen-before.result c.args.visible.now) c.put.new.self (reverse c.args.levels.now.items) (reverse c.keep_around.new.levels.items)
+    visible_equal (with_value c.args.name.now c.shown-before.result c.args.visible.now) c.put.new.self (reverse c.args.levels.now.items) (reverse c.keep_around.new.levels.items)
     c.in_ok-put.ensures.ok (ap reverse c.in_err-keep_around.ensures.err)
-    (visible_again c.args.name.now c.seen-before.result c.args.visible.now (reverse c.args.levels.now.items) c.requires (c.seen-before.ensures ∙ ap seen c.get.ensures))
+    (visible_again c.args.name.now c.shown-before.result c.args.visible.now (reverse c.args.levels.now.items) c.requires c.shown-before.ensures)
 
 pub returns-in-None-clause-kept : goal.returns-in-None-clause-kept
 returns-in-None-clause-kept g c =
     let inside = c.kept_here-inside.ensures ∙ ap (λ levels. kept_here c.args.name.now (reverse levels)) c.deref.ensures.value in
-    let near = c.kept_around.ensures ∙ ap (λ levels. kept_around c.args.name.now (reverse levels)) c.deref-2.ensures.value in
+    let near = c.kept_around.ensures ∙ (ap (λ levels. kept_here c.args.name.now (left (reverse levels))) c.deref-2.ensures.value ∙ sym (kept-left c.args.name.now (reverse c.args.levels.now.items))) in
     let hides =
     c.around-hidden.ensures ∙ (ap (λ kept. around kept c.around.result) near
-    ∙ ap (around (kept_around c.args.name.now (reverse c.args.levels.now.items))) (c.around.ensures ∙ ap (λ kept. around kept c.seen-before.result) inside))
+    ∙ ap (around (kept_around c.args.name.now (reverse c.args.levels.now.items))) (c.around.ensures ∙ ap (λ kept. around kept c.shown-before.result) inside))
     in
-    none-around c.args.name.now c.args.meaning c.around-hidden.result c.seen-before.result c.args.visible.now (reverse c.args.levels.now.items) (reverse c.keep_around.new.levels.items)
-    c.change.new.self c.requires (c.seen-before.ensures ∙ ap seen c.get.ensures) hides (two-scopes c.args.levels.now.items (omega (arith, c.len.ensures, c.if-len-lt2.false)))
+    none-around c.args.name.now c.args.meaning c.around-hidden.result c.shown-before.result c.args.visible.now (reverse c.args.levels.now.items) (reverse c.keep_around.new.levels.items)
+    c.change.new.self c.requires c.shown-before.ensures hides (two-scopes c.args.levels.now.items (omega (arith, c.len.ensures, c.if-len-lt2.false)))
     (sym c.in-None.is ∙ inside) (c.change.ensures ∙ ap (changed c.args.name.now (Some c.args.meaning)) c.in_ok-put.ensures.ok) c.in_ok-keep_around.ensures.ok
 
 pub returns-in-None-clause-ok : goal.returns-in-None-clause-ok
@@ -31,13 +32,13 @@ returns-in-None-clause-ok g c =
 pub returns-in-Some-clause-kept : goal.returns-in-Some-clause-kept
 returns-in-Some-clause-kept g c =
     let inside = c.kept_here-inside.ensures ∙ ap (λ levels. kept_here c.args.name.now (reverse levels)) c.deref.ensures.value in
-    let near = c.kept_around.ensures ∙ ap (λ levels. kept_around c.args.name.now (reverse levels)) c.deref-2.ensures.value in
+    let near = c.kept_around.ensures ∙ (ap (λ levels. kept_here c.args.name.now (left (reverse levels))) c.deref-2.ensures.value ∙ sym (kept-left c.args.name.now (reverse c.args.levels.now.items))) in
     let hides =
     c.around-hidden.ensures ∙ (ap (λ kept. around kept c.around.result) near
-    ∙ ap (around (kept_around c.args.name.now (reverse c.args.levels.now.items))) (c.around.ensures ∙ ap (λ kept. around kept c.seen-before.result) inside))
+    ∙ ap (around (kept_around c.args.name.now (reverse c.args.levels.now.items))) (c.around.ensures ∙ ap (λ kept. around kept c.shown-before.result) inside))
     in
-    some-around c.args.name.now c.args.meaning c.around-hidden.result c.seen-before.result c.args.visible.now (reverse c.args.levels.now.items) (reverse c.hide.new.levels.items)
-    c.put.new.self c.in-Some.kept (record { meaning = c.in-Some.kept.meaning; hidden = Some c.args.meaning }) c.requires (c.seen-before.ensures ∙ ap seen c.get.ensures) hides
+    some-around c.args.name.now c.args.meaning c.around-hidden.result c.shown-before.result c.args.visible.now (reverse c.args.levels.now.items) (reverse c.hide.new.levels.items)
+    c.put.new.self c.in-Some.kept (record { meaning = c.in-Some.kept.meaning; hidden = Some c.args.meaning }) c.requires c.shown-before.ensures hides
     (two-scopes c.args.levels.now.items (omega (arith, c.len.ensures, c.if-len-lt2.false))) (sym c.in-Some.is ∙ inside) refl refl c.in_ok-put.ensures.ok
     (c.hide.ensures ∙ ap (changed_in c.args.name.now (record { meaning = c.in-Some.kept.meaning; hidden = Some c.args.meaning })) c.in_ok-keep_around.ensures.ok)
 
