@@ -1,6 +1,6 @@
 ghost use Rattle.std.specs.Prelude.{◌≡◌, ◌<◌, reverse, length, Some, OnOk, OnErr};
 ghost use Rattle.typing.specs.environment.Scopes.{declared_around};
-ghost use Rattle.typing.specs.environment.Kept.{scopes_of, kept_in_around, changed_in, AreVisible};
+ghost use Rattle.typing.specs.environment.Kept.{scopes_of, changed_in, AreVisible};
 
 use crate::environment::keeping::{around, kept_around, kept_here, shown};
 use crate::environment::kept::Kept;
@@ -30,27 +30,13 @@ pub(crate) fn declare_around_in<A: Copy>(
     let inside = kept_here(levels, name);
     let hidden = around(kept_around(levels, name), around(inside, before));
     visible.put(alloc, name, before)?;
-    keep_around(alloc, levels, name, Kept { meaning, hidden })?;
+    let at = levels.len() - 2;
+    levels[at].put(alloc, name, Kept { meaning, hidden })?;
     match inside {
         None => visible.change(name, Some(meaning)),
         Some(kept) => hide(levels, name, kept.meaning, meaning),
     }
     Ok(())
-}
-
-/// Keeps a name in the scope around the innermost one.
-fn keep_around<A: Copy>(
-    alloc: Global,
-    levels: &mut Vec<Names<Kept<A>>>,
-    name: &[u8],
-    kept: Kept<A>,
-) -> Result<(), NoMemory>
-    requires { 1 < length levels.old.items }
-    ensures ok { OnOk result (reverse levels.new.items ≡ kept_in_around name.now kept (reverse levels.old.items)) }
-    ensures err { OnErr result (levels.new.items ≡ levels.old.items) }
-{
-    let at = levels.len() - 2;
-    levels[at].put(alloc, name, kept)
 }
 
 /// The innermost scope, which declares a name, hides something else of it from here on.

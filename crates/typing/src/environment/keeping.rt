@@ -1,7 +1,7 @@
 ghost use Rattle.std.specs.Prelude.{◌≡◌, ◌<◌, reverse, length, option_map, OnOk, OnErr};
 ghost use Rattle.typing.specs.environment.Names.{value_in};
 ghost use Rattle.typing.specs.environment.Scopes.{declared, left};
-ghost use Rattle.typing.specs.environment.Kept.{scopes_of, seen, around, kept_here, kept_in, AreVisible};
+ghost use Rattle.typing.specs.environment.Kept.{scopes_of, seen, around, kept_here, AreVisible};
 
 use crate::environment::kept::Kept;
 use crate::environment::names::{Names, uncover};
@@ -69,7 +69,8 @@ pub(crate) fn declare_in<A: Copy>(
     let before = shown(visible, name);
     let hidden = around(kept_here(levels, name), before);
     visible.put(alloc, name, before)?;
-    keep(alloc, levels, name, Kept { meaning, hidden })?;
+    let last = levels.len() - 1;
+    levels[last].put(alloc, name, Kept { meaning, hidden })?;
     visible.change(name, Some(meaning));
     Ok(())
 }
@@ -84,29 +85,14 @@ pub(crate) fn around<A: Copy>(kept: Option<Kept<A>>, before: Option<A>) -> Optio
     }
 }
 
-/// Keeps a name in the innermost scope.
-fn keep<A: Copy>(
-    alloc: Global,
-    levels: &mut Vec<Names<Kept<A>>>,
-    name: &[u8],
-    kept: Kept<A>,
-) -> Result<(), NoMemory>
-    requires { 0 < length levels.old.items }
-    ensures ok { OnOk result (reverse levels.new.items ≡ kept_in name.now kept (reverse levels.old.items)) }
-    ensures err { OnErr result (levels.new.items ≡ levels.old.items) }
-{
-    let last = levels.len() - 1;
-    levels[last].put(alloc, name, kept)
-}
-
 /// Leaves the innermost scope, where there is one.
 pub(crate) fn leave_in<A: Copy>(visible: &mut Names<Option<A>>, levels: &mut Vec<Names<Kept<A>>>)
     requires { AreVisible visible.old (reverse levels.old.items) }
     ensures kept { AreVisible visible.new (reverse levels.new.items) }
     ensures left { scopes_of (reverse levels.new.items) ≡ left (scopes_of (reverse levels.old.items)) }
 {
-    let last = levels.pop();
-    if let Some(level) = last {
+    if let Some(level) = levels.pop() {
         uncover(visible, &level);
+        drop(level);
     }
 }

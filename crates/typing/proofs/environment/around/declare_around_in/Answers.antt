@@ -1,15 +1,19 @@
-use Rattle.std.proofs.Common.{◌∙◌, ap, sym, refl, arith, reverse, Some}
+use Rattle.std.proofs.Common.{◌∙◌, ◌-◌, ap, sym, refl, arith, reverse, Some}
+use Rattle.std.specs.Prelude.{slice_set}
+use Rattle.std.proofs.lemmas.List.{set-get_or}
 use Rattle.typing.specs.environment.Scopes.{left}
 use Rattle.typing.specs.environment.Names.{with_value, changed}
 use Rattle.typing.specs.environment.Kept.{around, kept_here, kept_around, changed_in}
 use Rattle.typing.proofs.environment.KeptRight.{visible_equal, visible_again}
-use Rattle.typing.proofs.environment.NearScopes.{kept-left, none-around, some-around, scopes_none_around, scopes_some_around, two-scopes}
+use Rattle.typing.proofs.environment.NearScopes.{kept-left, none-around, some-around, scopes_none_around, scopes_some_around, two-scopes, put_second}
 use Rattle.typing.proofs.environment.around.declare_around_in.Goals as goal
 
-pub returns-in_err-keep_around-clause-kept : goal.returns-in_err-keep_around-clause-kept
-returns-in_err-keep_around-clause-kept g c =
-    visible_equal (with_value c.args.name.now c.shown-before.result c.args.visible.now) c.put.new.self (reverse c.args.levels.now.items) (reverse c.keep_around.new.levels.items)
-    c.in_ok-put.ensures.ok (ap reverse c.in_err-keep_around.ensures.err)
+pub returns-in_err-put-2-clause-kept : goal.returns-in_err-put-2-clause-kept
+returns-in_err-put-2-clause-kept g c =
+    visible_equal (with_value c.args.name.now c.shown-before.result c.args.visible.now) c.put.new.self (reverse c.args.levels.now.items) (reverse (slice_set c.args.levels.now.items (c.len-at.result - 2) c.put-2.new.self))
+    c.in_ok-put.ensures.ok
+    (ap (λ level. reverse (slice_set c.args.levels.now.items (c.len-at.result - 2) level)) c.in_err-put-2.ensures.err
+    ∙ (ap (λ level. reverse (slice_set c.args.levels.now.items (c.len-at.result - 2) level)) c.index_mut.ensures.value ∙ ap reverse (set-get_or c.args.levels.now.items (c.len-at.result - 2) c.index_mut.result.now)))
     (visible_again c.args.name.now c.shown-before.result c.args.visible.now (reverse c.args.levels.now.items) c.requires c.shown-before.ensures)
 
 pub returns-in-None-clause-kept : goal.returns-in-None-clause-kept
@@ -20,14 +24,18 @@ returns-in-None-clause-kept g c =
     c.around-hidden.ensures ∙ (ap (λ kept. around kept c.around.result) near
     ∙ ap (around (kept_around c.args.name.now (reverse c.args.levels.now.items))) (c.around.ensures ∙ ap (λ kept. around kept c.shown-before.result) inside))
     in
-    none-around c.args.name.now c.args.meaning c.around-hidden.result c.shown-before.result c.args.visible.now (reverse c.args.levels.now.items) (reverse c.keep_around.new.levels.items)
+    none-around c.args.name.now c.args.meaning c.around-hidden.result c.shown-before.result c.args.visible.now (reverse c.args.levels.now.items) (reverse (slice_set c.args.levels.now.items (c.len-at.result - 2) c.put-2.new.self))
     c.change.new.self c.requires c.shown-before.ensures hides (two-scopes c.args.levels.now.items (omega (arith, c.len.ensures, c.if-len-lt2.false)))
-    (sym c.in-None.is ∙ inside) (c.change.ensures ∙ ap (changed c.args.name.now (Some c.args.meaning)) c.in_ok-put.ensures.ok) c.in_ok-keep_around.ensures.ok
+    (sym c.in-None.is ∙ inside) (c.change.ensures ∙ ap (changed c.args.name.now (Some c.args.meaning)) c.in_ok-put.ensures.ok) (ap (λ level. reverse (slice_set c.args.levels.now.items (c.len-at.result - 2) level)) c.in_ok-put-2.ensures.ok
+    ∙ put_second c.args.name.now (record { meaning = c.args.meaning; hidden = c.around-hidden.result }) c.args.levels.now.items (c.len-at.result - 2) c.index_mut.result.now
+    (omega (arith, c.len-at.ensures, c.len.ensures, c.if-len-lt2.false)) c.index_mut.ensures.value)
 
 pub returns-in-None-clause-ok : goal.returns-in-None-clause-ok
 returns-in-None-clause-ok g c =
-    scopes_none_around c.args.name.now (record { meaning = c.args.meaning; hidden = c.around-hidden.result }) (reverse c.args.levels.now.items) (reverse c.keep_around.new.levels.items)
-    c.in_ok-keep_around.ensures.ok
+    scopes_none_around c.args.name.now (record { meaning = c.args.meaning; hidden = c.around-hidden.result }) (reverse c.args.levels.now.items) (reverse (slice_set c.args.levels.now.items (c.len-at.result - 2) c.put-2.new.self))
+    (ap (λ level. reverse (slice_set c.args.levels.now.items (c.len-at.result - 2) level)) c.in_ok-put-2.ensures.ok
+    ∙ put_second c.args.name.now (record { meaning = c.args.meaning; hidden = c.around-hidden.result }) c.args.levels.now.items (c.len-at.result - 2) c.index_mut.result.now
+    (omega (arith, c.len-at.ensures, c.len.ensures, c.if-len-lt2.false)) c.index_mut.ensures.value)
 
 pub returns-in-Some-clause-kept : goal.returns-in-Some-clause-kept
 returns-in-Some-clause-kept g c =
@@ -40,10 +48,14 @@ returns-in-Some-clause-kept g c =
     some-around c.args.name.now c.args.meaning c.around-hidden.result c.shown-before.result c.args.visible.now (reverse c.args.levels.now.items) (reverse c.hide.new.levels.items)
     c.put.new.self c.in-Some.kept (record { meaning = c.in-Some.kept.meaning; hidden = Some c.args.meaning }) c.requires c.shown-before.ensures hides
     (two-scopes c.args.levels.now.items (omega (arith, c.len.ensures, c.if-len-lt2.false))) (sym c.in-Some.is ∙ inside) refl refl c.in_ok-put.ensures.ok
-    (c.hide.ensures ∙ ap (changed_in c.args.name.now (record { meaning = c.in-Some.kept.meaning; hidden = Some c.args.meaning })) c.in_ok-keep_around.ensures.ok)
+    (c.hide.ensures ∙ ap (changed_in c.args.name.now (record { meaning = c.in-Some.kept.meaning; hidden = Some c.args.meaning })) (ap (λ level. reverse (slice_set c.args.levels.now.items (c.len-at.result - 2) level)) c.in_ok-put-2.ensures.ok
+    ∙ put_second c.args.name.now (record { meaning = c.args.meaning; hidden = c.around-hidden.result }) c.args.levels.now.items (c.len-at.result - 2) c.index_mut.result.now
+    (omega (arith, c.len-at.ensures, c.len.ensures, c.if-len-lt2.false)) c.index_mut.ensures.value))
 
 pub returns-in-Some-clause-ok : goal.returns-in-Some-clause-ok
 returns-in-Some-clause-ok g c =
     scopes_some_around c.args.name.now (record { meaning = c.args.meaning; hidden = c.around-hidden.result }) (record { meaning = c.in-Some.kept.meaning; hidden = Some c.args.meaning }) c.in-Some.kept
-    (reverse c.args.levels.now.items) (reverse c.keep_around.new.levels.items) (reverse c.hide.new.levels.items)
-    (sym c.in-Some.is ∙ (c.kept_here-inside.ensures ∙ ap (λ levels. kept_here c.args.name.now (reverse levels)) c.deref.ensures.value)) refl c.in_ok-keep_around.ensures.ok c.hide.ensures
+    (reverse c.args.levels.now.items) (reverse (slice_set c.args.levels.now.items (c.len-at.result - 2) c.put-2.new.self)) (reverse c.hide.new.levels.items)
+    (sym c.in-Some.is ∙ (c.kept_here-inside.ensures ∙ ap (λ levels. kept_here c.args.name.now (reverse levels)) c.deref.ensures.value)) refl (ap (λ level. reverse (slice_set c.args.levels.now.items (c.len-at.result - 2) level)) c.in_ok-put-2.ensures.ok
+    ∙ put_second c.args.name.now (record { meaning = c.args.meaning; hidden = c.around-hidden.result }) c.args.levels.now.items (c.len-at.result - 2) c.index_mut.result.now
+    (omega (arith, c.len-at.ensures, c.len.ensures, c.if-len-lt2.false)) c.index_mut.ensures.value) c.hide.ensures
