@@ -36,19 +36,20 @@ pub kept-left : {A : Type 0} (name : List ℕ) (levels : List (Entries (Kept A))
 kept-left name [] = refl
 kept-left name (innermost ∷ outer) = refl
 
-pub put_second : {A : Type 0} (name : List ℕ) (kept : Kept A) (levels : List (Entries (Kept A))) (at : ℕ) (level : Entries (Kept A)) → suc (suc at) ≡ length levels → level ≡ get_or levels at level
-    → reverse (set levels at (with_value name kept level)) ≡ kept_in_around name kept (reverse levels)
-put_second {A} name kept levels at level count here =
+pub put_second : {A : Type 0} (name : List ℕ) (kept : Kept A) (levels : List (Entries (Kept A))) (at : ℕ) (level new : Entries (Kept A)) → suc (suc at) ≡ length levels → level ≡ get_or levels at level
+    → new ≡ with_value name kept level → reverse (set levels at new) ≡ kept_in_around name kept (reverse levels)
+put_second {A} name kept levels at level new count here is =
     let put : Entries (Kept A) = with_value name kept level in
     let after : List (Entries (Kept A)) = set levels at put in
     let top : get_or after (suc at) level ≡ get_or levels (suc at) level = get_or-set_other levels at (suc at) put level (λ e. absurd (omega (arith, e))) in
     let near : get_or after at level ≡ put = get_or-set_same levels at put level (omega (arith, count)) in
-    second after at level (count ∙ sym (length-set levels at put))
+    ap (λ (l : Entries (Kept A)). reverse (set levels at l)) is
+    ∙ (second after at level (count ∙ sym (length-set levels at put))
     ∙ (ap (λ (l : Entries (Kept A)). l ∷ (get_or after at level ∷ reverse (take at after))) top
     ∙ (ap (λ (l : Entries (Kept A)). get_or levels (suc at) level ∷ (l ∷ reverse (take at after))) near
     ∙ (ap (λ (ls : List (Entries (Kept A))). get_or levels (suc at) level ∷ (put ∷ reverse ls)) (take-set levels at put)
     ∙ (ap (λ (l : Entries (Kept A)). get_or levels (suc at) level ∷ (with_value name kept l ∷ reverse (take at levels))) here
-    ∙ ap (λ (ls : List (Entries (Kept A))). kept_in_around name kept ls) (sym (second levels at level count))))))
+    ∙ ap (λ (ls : List (Entries (Kept A))). kept_in_around name kept ls) (sym (second levels at level count)))))))
 
 pub change_last : {A : Type 0} (name : List ℕ) (kept : Kept A) (levels : List (Entries (Kept A))) (last : ℕ) (level : Entries (Kept A)) → suc last ≡ length levels → level ≡ get_or levels last level
     → reverse (set levels last (changed name kept level)) ≡ changed_in name kept (reverse levels)

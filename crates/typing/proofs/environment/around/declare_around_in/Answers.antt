@@ -1,10 +1,9 @@
 use Rattle.std.proofs.Common.{◌∙◌, ◌-◌, ap, sym, refl, arith, reverse, Some}
 use Rattle.std.specs.Prelude.{slice_set}
-use Rattle.std.proofs.lemmas.List.{set-get_or}
 use Rattle.typing.specs.environment.Scopes.{left}
 use Rattle.typing.specs.environment.Names.{with_value, changed}
 use Rattle.typing.specs.environment.Kept.{around, kept_here, kept_around, changed_in}
-use Rattle.typing.proofs.environment.KeptRight.{visible_equal, visible_again}
+use Rattle.typing.proofs.environment.KeptRight.{visible_equal, visible_again, same_level}
 use Rattle.typing.proofs.environment.NearScopes.{kept-left, none-around, some-around, scopes_none_around, scopes_some_around, two-scopes, put_second}
 use Rattle.typing.proofs.environment.around.declare_around_in.Goals as goal
 
@@ -12,8 +11,7 @@ pub returns-in_err-put-2-clause-kept : goal.returns-in_err-put-2-clause-kept
 returns-in_err-put-2-clause-kept g c =
     visible_equal (with_value c.args.name.now c.shown-before.result c.args.visible.now) c.put.new.self (reverse c.args.levels.now.items) (reverse (slice_set c.args.levels.now.items (c.len-at.result - 2) c.put-2.new.self))
     c.in_ok-put.ensures.ok
-    (ap (λ level. reverse (slice_set c.args.levels.now.items (c.len-at.result - 2) level)) c.in_err-put-2.ensures.err
-    ∙ (ap (λ level. reverse (slice_set c.args.levels.now.items (c.len-at.result - 2) level)) c.index_mut.ensures.value ∙ ap reverse (set-get_or c.args.levels.now.items (c.len-at.result - 2) c.index_mut.result.now)))
+    (same_level c.args.levels.now.items (c.len-at.result - 2) c.index_mut.result.now c.put-2.new.self c.index_mut.ensures.value c.in_err-put-2.ensures.err)
     (visible_again c.args.name.now c.shown-before.result c.args.visible.now (reverse c.args.levels.now.items) c.requires c.shown-before.ensures)
 
 pub returns-in-None-clause-kept : goal.returns-in-None-clause-kept
@@ -26,16 +24,14 @@ returns-in-None-clause-kept g c =
     in
     none-around c.args.name.now c.args.meaning c.around-hidden.result c.shown-before.result c.args.visible.now (reverse c.args.levels.now.items) (reverse (slice_set c.args.levels.now.items (c.len-at.result - 2) c.put-2.new.self))
     c.change.new.self c.requires c.shown-before.ensures hides (two-scopes c.args.levels.now.items (omega (arith, c.len.ensures, c.if-len-lt2.false)))
-    (sym c.in-None.is ∙ inside) (c.change.ensures ∙ ap (changed c.args.name.now (Some c.args.meaning)) c.in_ok-put.ensures.ok) (ap (λ level. reverse (slice_set c.args.levels.now.items (c.len-at.result - 2) level)) c.in_ok-put-2.ensures.ok
-    ∙ put_second c.args.name.now (record { meaning = c.args.meaning; hidden = c.around-hidden.result }) c.args.levels.now.items (c.len-at.result - 2) c.index_mut.result.now
-    (omega (arith, c.len-at.ensures, c.len.ensures, c.if-len-lt2.false)) c.index_mut.ensures.value)
+    (sym c.in-None.is ∙ inside) (c.change.ensures ∙ ap (changed c.args.name.now (Some c.args.meaning)) c.in_ok-put.ensures.ok) (put_second c.args.name.now (record { meaning = c.args.meaning; hidden = c.around-hidden.result }) c.args.levels.now.items (c.len-at.result - 2) c.index_mut.result.now c.put-2.new.self
+    (omega (arith, c.len-at.ensures, c.len.ensures, c.if-len-lt2.false)) c.index_mut.ensures.value c.in_ok-put-2.ensures.ok)
 
 pub returns-in-None-clause-ok : goal.returns-in-None-clause-ok
 returns-in-None-clause-ok g c =
     scopes_none_around c.args.name.now (record { meaning = c.args.meaning; hidden = c.around-hidden.result }) (reverse c.args.levels.now.items) (reverse (slice_set c.args.levels.now.items (c.len-at.result - 2) c.put-2.new.self))
-    (ap (λ level. reverse (slice_set c.args.levels.now.items (c.len-at.result - 2) level)) c.in_ok-put-2.ensures.ok
-    ∙ put_second c.args.name.now (record { meaning = c.args.meaning; hidden = c.around-hidden.result }) c.args.levels.now.items (c.len-at.result - 2) c.index_mut.result.now
-    (omega (arith, c.len-at.ensures, c.len.ensures, c.if-len-lt2.false)) c.index_mut.ensures.value)
+    (put_second c.args.name.now (record { meaning = c.args.meaning; hidden = c.around-hidden.result }) c.args.levels.now.items (c.len-at.result - 2) c.index_mut.result.now c.put-2.new.self
+    (omega (arith, c.len-at.ensures, c.len.ensures, c.if-len-lt2.false)) c.index_mut.ensures.value c.in_ok-put-2.ensures.ok)
 
 pub returns-in-Some-clause-kept : goal.returns-in-Some-clause-kept
 returns-in-Some-clause-kept g c =
@@ -48,14 +44,12 @@ returns-in-Some-clause-kept g c =
     some-around c.args.name.now c.args.meaning c.around-hidden.result c.shown-before.result c.args.visible.now (reverse c.args.levels.now.items) (reverse c.hide.new.levels.items)
     c.put.new.self c.in-Some.kept (record { meaning = c.in-Some.kept.meaning; hidden = Some c.args.meaning }) c.requires c.shown-before.ensures hides
     (two-scopes c.args.levels.now.items (omega (arith, c.len.ensures, c.if-len-lt2.false))) (sym c.in-Some.is ∙ inside) refl refl c.in_ok-put.ensures.ok
-    (c.hide.ensures ∙ ap (changed_in c.args.name.now (record { meaning = c.in-Some.kept.meaning; hidden = Some c.args.meaning })) (ap (λ level. reverse (slice_set c.args.levels.now.items (c.len-at.result - 2) level)) c.in_ok-put-2.ensures.ok
-    ∙ put_second c.args.name.now (record { meaning = c.args.meaning; hidden = c.around-hidden.result }) c.args.levels.now.items (c.len-at.result - 2) c.index_mut.result.now
-    (omega (arith, c.len-at.ensures, c.len.ensures, c.if-len-lt2.false)) c.index_mut.ensures.value))
+    (c.hide.ensures ∙ ap (changed_in c.args.name.now (record { meaning = c.in-Some.kept.meaning; hidden = Some c.args.meaning })) (put_second c.args.name.now (record { meaning = c.args.meaning; hidden = c.around-hidden.result }) c.args.levels.now.items (c.len-at.result - 2) c.index_mut.result.now c.put-2.new.self
+    (omega (arith, c.len-at.ensures, c.len.ensures, c.if-len-lt2.false)) c.index_mut.ensures.value c.in_ok-put-2.ensures.ok))
 
 pub returns-in-Some-clause-ok : goal.returns-in-Some-clause-ok
 returns-in-Some-clause-ok g c =
     scopes_some_around c.args.name.now (record { meaning = c.args.meaning; hidden = c.around-hidden.result }) (record { meaning = c.in-Some.kept.meaning; hidden = Some c.args.meaning }) c.in-Some.kept
     (reverse c.args.levels.now.items) (reverse (slice_set c.args.levels.now.items (c.len-at.result - 2) c.put-2.new.self)) (reverse c.hide.new.levels.items)
-    (sym c.in-Some.is ∙ (c.kept_here-inside.ensures ∙ ap (λ levels. kept_here c.args.name.now (reverse levels)) c.deref.ensures.value)) refl (ap (λ level. reverse (slice_set c.args.levels.now.items (c.len-at.result - 2) level)) c.in_ok-put-2.ensures.ok
-    ∙ put_second c.args.name.now (record { meaning = c.args.meaning; hidden = c.around-hidden.result }) c.args.levels.now.items (c.len-at.result - 2) c.index_mut.result.now
-    (omega (arith, c.len-at.ensures, c.len.ensures, c.if-len-lt2.false)) c.index_mut.ensures.value) c.hide.ensures
+    (sym c.in-Some.is ∙ (c.kept_here-inside.ensures ∙ ap (λ levels. kept_here c.args.name.now (reverse levels)) c.deref.ensures.value)) refl (put_second c.args.name.now (record { meaning = c.args.meaning; hidden = c.around-hidden.result }) c.args.levels.now.items (c.len-at.result - 2) c.index_mut.result.now c.put-2.new.self
+    (omega (arith, c.len-at.ensures, c.len.ensures, c.if-len-lt2.false)) c.index_mut.ensures.value c.in_ok-put-2.ensures.ok) c.hide.ensures
