@@ -51,10 +51,11 @@ put_second {A} name kept levels at level new count here is =
     ∙ (ap (λ (l : Entries (Kept A)). get_or levels (suc at) level ∷ (with_value name kept l ∷ reverse (take at levels))) here
     ∙ ap (λ (ls : List (Entries (Kept A))). kept_in_around name kept ls) (sym (second levels at level count)))))))
 
-pub change_last : {A : Type 0} (name : List ℕ) (kept : Kept A) (levels : List (Entries (Kept A))) (last : ℕ) (level : Entries (Kept A)) → suc last ≡ length levels → level ≡ get_or levels last level
-    → reverse (set levels last (changed name kept level)) ≡ changed_in name kept (reverse levels)
-change_last {A} name kept levels last level count here =
-    set_last levels last (changed name kept level) count ∙ ap (λ (ls : List (Entries (Kept A))). changed_in name kept ls) (sym (read_last levels last level count here))
+pub change_last : {A : Type 0} (name : List ℕ) (kept : Kept A) (levels : List (Entries (Kept A))) (last : ℕ) (level new : Entries (Kept A)) → suc last ≡ length levels → level ≡ get_or levels last level
+    → new ≡ changed name kept level → reverse (set levels last new) ≡ changed_in name kept (reverse levels)
+change_last {A} name kept levels last level new count here is =
+    ap (λ (l : Entries (Kept A)). reverse (set levels last l)) is
+    ∙ (set_last levels last (changed name kept level) count ∙ ap (λ (ls : List (Entries (Kept A))). changed_in name kept ls) (sym (read_last levels last level count here)))
 
 -- what is changed to another that means the same
 scope-changed : {A : Type 0} (name : List ℕ) (kept : Kept A) (meaning : A) (hidden : Option A) (level : Entries (Kept A)) → value_in name level ≡ Some kept → meaning ≡ kept.meaning

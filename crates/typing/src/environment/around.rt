@@ -1,6 +1,6 @@
 ghost use Rattle.std.specs.Prelude.{◌≡◌, ◌<◌, reverse, length, Some, OnOk, OnErr};
 ghost use Rattle.typing.specs.environment.Scopes.{declared_around};
-ghost use Rattle.typing.specs.environment.Kept.{scopes_of, changed_in, AreVisible};
+ghost use Rattle.typing.specs.environment.Kept.{scopes_of, AreVisible};
 
 use crate::environment::keeping::{around, kept_around, kept_here, shown};
 use crate::environment::kept::Kept;
@@ -34,22 +34,13 @@ pub(crate) fn declare_around_in<A: Copy>(
     levels[at].put(alloc, name, Kept { meaning, hidden })?;
     match inside {
         None => visible.change(name, Some(meaning)),
-        Some(kept) => hide(levels, name, kept.meaning, meaning),
+        Some(kept) => levels[at + 1].change(
+            name,
+            Kept {
+                meaning: kept.meaning,
+                hidden: Some(meaning),
+            },
+        ),
     }
     Ok(())
-}
-
-/// The innermost scope, which declares a name, hides something else of it from here on.
-fn hide<A: Copy>(levels: &mut Vec<Names<Kept<A>>>, name: &[u8], meaning: A, hidden: A)
-    requires { 0 < length levels.old.items }
-    ensures { reverse levels.new.items ≡ changed_in name.now (record { meaning = meaning; hidden = Some hidden }) (reverse levels.old.items) }
-{
-    let last = levels.len() - 1;
-    levels[last].change(
-        name,
-        Kept {
-            meaning,
-            hidden: Some(hidden),
-        },
-    );
 }
