@@ -1,4 +1,4 @@
-use Rattle.std.proofs.Common.{◌≡◌, None, Some, length, ap, ◌∙◌, rules}
+use Rattle.std.proofs.Common.{Some, length, ap, ◌∙◌}
 use Rattle.cbase.specs.declared.abi.Abi.TheVariants.{Lp64}
 use Rattle.cbase.specs.Layout.{struct_at}
 use Rattle.typing.proofs.ctypes.Laid.{row_laid, row_missing}
