@@ -1,4 +1,4 @@
-use Rattle.std.proofs.Common.{◌≡◌, None, Some, ◌∙◌, rules}
+use Rattle.std.proofs.Common.{None, Some}
 use Rattle.typing.specs.ctypes.Table.{type_at}
 use Rattle.typing.proofs.ctypes.Laid.{alignment_alike}
 use Rattle.typing.proofs.ctypes.types.Types.align.Goals as goal
