@@ -1,7 +1,7 @@
 -- What is kept beside names in scopes is right after each step.
 use Rattle.std.proofs.Common.{◌≡◌, ◌≢◌, ℕ, suc, ◌<◌, Bool, true, false, refl, ap, sym, subst, ◌∙◌, arith, List, [], ◌∷◌, ◌++◌, length, set, take, get_or, Option, None, Some}
 use Rattle.std.specs.Prelude.{if◌then◌else◌, option_map, reverse}
-use Rattle.std.proofs.lemmas.List.{get_or_default, length-reverse}
+use Rattle.std.proofs.lemmas.List.{get_or_default, length-reverse, set-get_or}
 use Rattle.std.specs.Str.{bytes_eq}
 use Rattle.std.proofs.lemmas.Slice.Eq.{bytes_eq-Decides}
 use Rattle.typing.specs.declared.environment.kept.Kept.{Kept}
@@ -144,10 +144,15 @@ kept_front {A} name (first ∷ levels) last count =
 pub nothing_around : {A : Type 0} (name : List ℕ) (levels : List (Entries (Kept A))) → length levels ≡ 0 → None ≡ kept_here name (left (reverse levels))
 nothing_around {A} name levels empty = ap (λ (ls : List (Entries (Kept A))). kept_here name (left ls)) (sym (none levels empty))
 
-pub put_last : {A : Type 0} (name : List ℕ) (kept : Kept A) (levels : List (Entries (Kept A))) (last : ℕ) (level : Entries (Kept A)) → suc last ≡ length levels → level ≡ get_or levels last level
-    → reverse (set levels last (with_value name kept level)) ≡ kept_in name kept (reverse levels)
-put_last {A} name kept levels last level count here =
-    set_last levels last (with_value name kept level) count ∙ ap (λ (ls : List (Entries (Kept A))). kept_in name kept ls) (sym (read_last levels last level count here))
+pub put_last : {A : Type 0} (name : List ℕ) (kept : Kept A) (levels : List (Entries (Kept A))) (last : ℕ) (level new : Entries (Kept A)) → suc last ≡ length levels → level ≡ get_or levels last level
+    → new ≡ with_value name kept level → reverse (set levels last new) ≡ kept_in name kept (reverse levels)
+put_last {A} name kept levels last level new count here is =
+    ap (λ (l : Entries (Kept A)). reverse (set levels last l)) is
+    ∙ (set_last levels last (with_value name kept level) count ∙ ap (λ (ls : List (Entries (Kept A))). kept_in name kept ls) (sym (read_last levels last level count here)))
+
+-- a level that stays as it was
+pub same_level : {X : Type 0} (levels : List X) (at : ℕ) (level new : X) → level ≡ get_or levels at level → new ≡ level → reverse (set levels at new) ≡ reverse levels
+same_level {X} levels at level new here is = ap (λ (l : X). reverse (set levels at l)) (is ∙ here) ∙ ap reverse (set-get_or levels at level)
 
 pub visible_equal : {A : Type 0} (visible now : Entries (Option A)) (levels after : List (Entries (Kept A))) → now ≡ visible → after ≡ levels → AreVisible visible levels → AreVisible now after
 visible_equal {A} visible now levels after same alike is =

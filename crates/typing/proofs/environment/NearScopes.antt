@@ -32,29 +32,30 @@ second {X} items at any count =
     ap reverse (all ∙ last) ∙ (pushed (take (suc at) items) (get_or items (suc at) any)
     ∙ ap (λ (rest : List X). get_or items (suc at) any ∷ rest) (ap reverse other ∙ pushed (take at items) (get_or items at any)))
 
-pub kept_second : {A : Type 0} (name : List ℕ) (levels : List (Entries (Kept A))) (at : ℕ) (level : Entries (Kept A)) → suc (suc at) ≡ length levels → level ≡ get_or levels at level
-    → value_in name level ≡ kept_around name (reverse levels)
-kept_second {A} name levels at level count here =
-    ap (value_in name) here ∙ ap (λ (ls : List (Entries (Kept A))). kept_around name ls) (sym (second levels at level count))
+pub kept-left : {A : Type 0} (name : List ℕ) (levels : List (Entries (Kept A))) → kept_around name levels ≡ kept_here name (left levels)
+kept-left name [] = refl
+kept-left name (innermost ∷ outer) = refl
 
-pub put_second : {A : Type 0} (name : List ℕ) (kept : Kept A) (levels : List (Entries (Kept A))) (at : ℕ) (level : Entries (Kept A)) → suc (suc at) ≡ length levels → level ≡ get_or levels at level
-    → reverse (set levels at (with_value name kept level)) ≡ kept_in_around name kept (reverse levels)
-put_second {A} name kept levels at level count here =
+pub put_second : {A : Type 0} (name : List ℕ) (kept : Kept A) (levels : List (Entries (Kept A))) (at : ℕ) (level new : Entries (Kept A)) → suc (suc at) ≡ length levels → level ≡ get_or levels at level
+    → new ≡ with_value name kept level → reverse (set levels at new) ≡ kept_in_around name kept (reverse levels)
+put_second {A} name kept levels at level new count here is =
     let put : Entries (Kept A) = with_value name kept level in
     let after : List (Entries (Kept A)) = set levels at put in
     let top : get_or after (suc at) level ≡ get_or levels (suc at) level = get_or-set_other levels at (suc at) put level (λ e. absurd (omega (arith, e))) in
     let near : get_or after at level ≡ put = get_or-set_same levels at put level (omega (arith, count)) in
-    second after at level (count ∙ sym (length-set levels at put))
+    ap (λ (l : Entries (Kept A)). reverse (set levels at l)) is
+    ∙ (second after at level (count ∙ sym (length-set levels at put))
     ∙ (ap (λ (l : Entries (Kept A)). l ∷ (get_or after at level ∷ reverse (take at after))) top
     ∙ (ap (λ (l : Entries (Kept A)). get_or levels (suc at) level ∷ (l ∷ reverse (take at after))) near
     ∙ (ap (λ (ls : List (Entries (Kept A))). get_or levels (suc at) level ∷ (put ∷ reverse ls)) (take-set levels at put)
     ∙ (ap (λ (l : Entries (Kept A)). get_or levels (suc at) level ∷ (with_value name kept l ∷ reverse (take at levels))) here
-    ∙ ap (λ (ls : List (Entries (Kept A))). kept_in_around name kept ls) (sym (second levels at level count))))))
+    ∙ ap (λ (ls : List (Entries (Kept A))). kept_in_around name kept ls) (sym (second levels at level count)))))))
 
-pub change_last : {A : Type 0} (name : List ℕ) (kept : Kept A) (levels : List (Entries (Kept A))) (last : ℕ) (level : Entries (Kept A)) → suc last ≡ length levels → level ≡ get_or levels last level
-    → reverse (set levels last (changed name kept level)) ≡ changed_in name kept (reverse levels)
-change_last {A} name kept levels last level count here =
-    set_last levels last (changed name kept level) count ∙ ap (λ (ls : List (Entries (Kept A))). changed_in name kept ls) (sym (read_last levels last level count here))
+pub change_last : {A : Type 0} (name : List ℕ) (kept : Kept A) (levels : List (Entries (Kept A))) (last : ℕ) (level new : Entries (Kept A)) → suc last ≡ length levels → level ≡ get_or levels last level
+    → new ≡ changed name kept level → reverse (set levels last new) ≡ changed_in name kept (reverse levels)
+change_last {A} name kept levels last level new count here is =
+    ap (λ (l : Entries (Kept A)). reverse (set levels last l)) is
+    ∙ (set_last levels last (changed name kept level) count ∙ ap (λ (ls : List (Entries (Kept A))). changed_in name kept ls) (sym (read_last levels last level count here)))
 
 -- what is changed to another that means the same
 scope-changed : {A : Type 0} (name : List ℕ) (kept : Kept A) (meaning : A) (hidden : Option A) (level : Entries (Kept A)) → value_in name level ≡ Some kept → meaning ≡ kept.meaning

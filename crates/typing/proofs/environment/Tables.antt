@@ -156,16 +156,15 @@ value-uncovered {A} name (entry ∷ others) visible =
     step false rest = rest
 
 -- one turn of a way from the last name of a scope to the first
-pub uncovered_turn : {X A : Type 0} (bytes : X → List ℕ) (level : List (X × Kept A)) (entry : X × Kept A) (count : ℕ) (name : List ℕ) (old now new : Entries (Option A))
-    → slice_get level (count - 1) ≡ Some entry → 0 < count → name ≡ bytes entry.0
-    → now ≡ uncovered (map (shown bytes) (drop count level)) old → new ≡ changed name entry.1.hidden now
-    → new ≡ uncovered (map (shown bytes) (drop (count - 1) level)) old
-uncovered_turn {X} {A} bytes level entry count name old now new here some is before after =
+pub uncovered_turn : {A : Type 0} (level : Entries (Kept A)) (entry : List ℕ × Kept A) (count : ℕ) (name : List ℕ) (old now new : Entries (Option A))
+    → slice_get level (count - 1) ≡ Some entry → 0 < count → name ≡ entry.0
+    → now ≡ uncovered (drop count level) old → new ≡ changed name entry.1.hidden now
+    → new ≡ uncovered (drop (count - 1) level) old
+uncovered_turn {A} level entry count name old now new here some is before after =
     let at : suc (count - 1) ≡ count = omega (arith, some) in
     let row : drop (count - 1) level ≡ entry ∷ drop count level = drop_here level (count - 1) entry here ∙ ap (λ (n : ℕ). entry ∷ drop n level) at in
-    let rest : List (X × Kept A) = drop count level in
     after ∙ (ap (λ (n : List ℕ). changed n entry.1.hidden now) is
-    ∙ (ap (changed (bytes entry.0) entry.1.hidden) before ∙ ap (λ (l : List (X × Kept A)). uncovered (map (shown bytes) l) old) (sym row)))
+    ∙ (ap (changed entry.0 entry.1.hidden) before ∙ ap (λ (l : Entries (Kept A)). uncovered l old) (sym row)))
   where
     same_some : {Y : Type 0} (one other : Y) → Some one ≡ Some other → one ≡ other
     same_some one other equal = cc equal

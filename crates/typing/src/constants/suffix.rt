@@ -26,11 +26,12 @@ pub(crate) fn suffix_of(bytes: &[u8]) -> Option<Suffix>
 {
     match bytes {
         [] => Some(Suffix::Empty),
-        b"u" | b"U" => Some(Suffix::U),
-        b"l" | b"L" => Some(Suffix::L),
-        b"ul" | b"uL" | b"Ul" | b"UL" | b"lu" | b"lU" | b"Lu" | b"LU" => Some(Suffix::Ul),
+        [b'u' | b'U'] => Some(Suffix::U),
+        [b'l' | b'L'] => Some(Suffix::L),
+        [b'u' | b'U', b'l' | b'L'] | [b'l' | b'L', b'u' | b'U'] => Some(Suffix::Ul),
         b"ll" | b"LL" => Some(Suffix::Ll),
-        b"ull" | b"uLL" | b"Ull" | b"ULL" | b"llu" | b"llU" | b"LLu" | b"LLU" => Some(Suffix::Ull),
+        [b'u' | b'U', b'l', b'l'] | [b'u' | b'U', b'L', b'L'] => Some(Suffix::Ull),
+        [b'l', b'l', b'u' | b'U'] | [b'L', b'L', b'u' | b'U'] => Some(Suffix::Ull),
         _ => None,
     }
 }

@@ -80,18 +80,15 @@ pub(crate) fn operated(group: Group, left: Seen, right: Seen) -> Found
     ensures is { (types : List CType) → found_at types result ≡ operated group (seen_at types left) (seen_at types right) }
     ensures below { (count : ℕ) → SeenBelow count left → SeenBelow count right → FoundBelow count result }
 {
+    let first = left.kind.decayed();
+    let second = right.kind.decayed();
     match group {
-        Group::Arithmetic => arithmetic(left.kind.decayed(), right.kind.decayed()),
-        Group::Shift => shifted(left.kind.decayed(), right.kind.decayed()),
-        Group::Sum => added(left.kind.decayed(), right.kind.decayed()),
-        Group::Difference => subtracted(left.kind.decayed(), right.kind.decayed()),
-        Group::Order => ordered(left.kind.decayed(), right.kind.decayed()),
-        Group::Equality => equated(
-            left.kind.decayed(),
-            left.null,
-            right.kind.decayed(),
-            right.null,
-        ),
+        Group::Arithmetic => arithmetic(first, second),
+        Group::Shift => shifted(first, second),
+        Group::Sum => added(first, second),
+        Group::Difference => subtracted(first, second),
+        Group::Order => ordered(first, second),
+        Group::Equality => equated(first, left.null, second, right.null),
         Group::Logic => tested(left.kind, right.kind),
         Group::Sequence => sequenced(left.kind, right.kind, right.ctype),
     }

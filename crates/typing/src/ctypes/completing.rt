@@ -61,11 +61,12 @@ impl Types {
         if !is_open(&self.structs, number as usize) {
             return Ok(false);
         }
-        let found = lay(alloc, members.as_slice(), self)?;
-        let Some(laid) = found else {
-            return Ok(false);
-        };
-        close(&mut self.structs, number as usize, members, laid);
-        Ok(true)
+        match lay(alloc, members.as_slice(), self)? {
+            None => Ok(false),
+            Some(laid) => {
+                close(&mut self.structs, number as usize, members, laid);
+                Ok(true)
+            }
+        }
     }
 }

@@ -6,6 +6,7 @@ ghost use Rattle.typing.specs.ctypes.Integers.{type_of_integer};
 ghost use Rattle.typing.specs.ctypes.Operands.{found_at, FoundBelow, Answers};
 
 use crate::ctypes::kind::IntegerType;
+use crate::ctypes::shape::Shape;
 use crate::ctypes::types::Types;
 use cbase::NoMemory;
 
@@ -84,12 +85,13 @@ pub(crate) fn settle(types: &mut Types, found: Found) -> Result<Outcome, NoMemor
     ensures structs { types.new.structs ≡ types.old.structs }
     ensures err { OnErr result (types.new ≡ types.old) }
 {
-    let number = match found {
-        Found::Same(number) => number,
-        Found::Integer { bytes, signed } => types.integer(bytes, signed)?,
-        Found::Pointer(item) => types.pointer_to(item)?,
-        Found::Void => types.void()?,
+    let shape = match found {
+        Found::Same(number) => return Ok(Outcome::Typed(number)),
         Found::Broken(broken) => return Ok(Outcome::Broken(broken)),
+        Found::Integer { bytes, signed } => Shape::Int { bytes, signed },
+        Found::Pointer(item) => Shape::Pointer(item),
+        Found::Void => Shape::Void,
     };
+    let number = types.number_of(shape)?;
     Ok(Outcome::Typed(number))
 }

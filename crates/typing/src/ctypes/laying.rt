@@ -1,4 +1,4 @@
-ghost use Rattle.std.specs.Prelude.{◌≡◌, ◌<◌, ℕ, List, None, Some, map, min, All, length, option_map, IfSome, IfOk, OnOk, if◌then◌else◌};
+ghost use Rattle.std.specs.Prelude.{◌≡◌, ◌<◌, ℕ, [], ◌∷◌, ◌++◌, List, None, Some, map, min, All, length, option_map, IfSome, IfOk, OnOk, if◌then◌else◌};
 ghost use Rattle.std.specs.Int.{next_multiple_of};
 ghost use Rattle.std.specs.Str.{bytes_eq};
 ghost use Rattle.cbase.specs.declared.abi.Abi.TheVariants.{Lp64};
@@ -28,6 +28,9 @@ pub(crate) fn lay(
     ensures in_order { IfOk result (λ laid. IfSome laid (λ l. AreInOrder (length members.now) types.now.structs (fields_of types.now.types members.now) members.now l.in_order.items)) }
     ensures places { IfOk result (λ laid. IfSome laid (λ l. ArePlaces types.now.structs (fields_of types.now.types members.now) members.now (find_in l.places.entries))) }
 {
+    if members.len() > u32::MAX as usize {
+        return Err(NoMemory);
+    }
     let mut before = Layout::empty();
     let mut places = IndexMap::new(alloc);
     let mut in_order = Vec::new(alloc);
@@ -35,9 +38,14 @@ pub(crate) fn lay(
         let Some(next) = types.layout(member.ctype) else {
             return Ok(None);
         };
-        let at = place_behind(before, next, index, member.ctype)?;
-        put_first(alloc, &mut places, member.name.as_slice(), at)?;
-        in_order.push(at)?;
+        let at = place_behind(before, next, index as u32, member.ctype);
+        put_member(
+            alloc,
+            &mut places,
+            &mut in_order,
+            member.name.as_slice(),
+            at,
+        )?;
         before = before.with_field(next);
     }
     Ok(Some(Laid {
@@ -48,38 +56,33 @@ pub(crate) fn lay(
 }
 
 /// Where a member of that layout and type lies, in a struct of which `before` is laid.
-fn place_behind(
-    before: Layout,
-    member: Layout,
-    index: usize,
-    ctype: u32,
-) -> Result<MemberAt, NoMemory>
+fn place_behind(before: Layout, member: Layout, index: u32, ctype: u32) -> MemberAt
     requires before { IsSmall before }
     requires member { IsSmall member }
-    ensures offset { IfOk result (λ at. at.offset ≡ min (next_multiple_of before.size member.alignment) 65537) }
-    ensures index { IfOk result (λ at. at.index ≡ index) }
-    ensures ctype { IfOk result (λ at. at.ctype ≡ ctype) }
+    ensures offset { result.offset ≡ min (next_multiple_of before.size member.alignment) 65537 }
+    ensures index { result.index ≡ index }
+    ensures ctype { result.ctype ≡ ctype }
 {
-    let Ok(index) = u32::try_from(index) else {
-        return Err(NoMemory);
-    };
     let offset = before.size.next_multiple_of(member.alignment);
-    Ok(MemberAt {
+    MemberAt {
         offset: offset.min(TOO_LARGE),
         index,
         ctype,
-    })
+    }
 }
 
-/// Puts a member by its name, where no member before it has that name.
-fn put_first(
+/// Puts a member behind the others, and by its name, where no member before it has that name.
+fn put_member(
     alloc: Global,
     places: &mut IndexMap<Vec<u8>, MemberAt>,
+    in_order: &mut Vec<MemberAt>,
     name: &[u8],
     at: MemberAt,
 ) -> Result<(), NoMemory>
-    ensures { OnOk result ((other : List ℕ) → find_in places.new.entries other ≡ first_of (find_in places.old.entries other) (if bytes_eq other name.now then Some at else None)) }
+    ensures places { OnOk result ((other : List ℕ) → find_in places.new.entries other ≡ first_of (find_in places.old.entries other) (if bytes_eq other name.now then Some at else None)) }
+    ensures in_order { OnOk result (in_order.new.items ≡ in_order.old.items ++ at ∷ []) }
 {
+    in_order.push(at)?;
     if places.contains_key(name) {
         return Ok(());
     }

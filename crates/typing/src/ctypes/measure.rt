@@ -32,8 +32,10 @@ impl Types {
         requires { number < length self.now.types }
         ensures { (abi : Abi) → result ≡ alignment_of (layout_of abi self.now.structs (type_at self.now.types number)) }
     {
-        let layout = self.layout(number)?;
-        Some(layout.alignment)
+        match self.layout(number) {
+            None => None,
+            Some(layout) => Some(layout.alignment),
+        }
     }
 
     /// Where the first member of that name lies in the struct of that number (C11 6.5.2.3 and 7.19).
@@ -46,8 +48,10 @@ impl Types {
         ensures ctype { IfSome result (λ at. option_map (λ field. field.ctype) (slice_get (fields_of self.now.structs of) at.index) ≡ Some (type_at self.now.types at.ctype)) }
         ensures inside { IfSome result (λ at. at.ctype < length self.now.types) }
     {
-        let kept = entry_at(&self.structs, of as usize)?;
-        kept.places.get(name).copied()
+        match entry_at(&self.structs, of as usize) {
+            None => None,
+            Some(kept) => kept.places.get(name).copied(),
+        }
     }
 
     /// The member of that index in the struct of that number, with where it lies (C11 6.7.2.1p15, 6.7.9p17).
@@ -61,8 +65,10 @@ impl Types {
         ensures ctype { IfSome result (λ at. option_map (λ field. field.ctype) (slice_get (fields_of self.now.structs of) index) ≡ Some (type_at self.now.types at.ctype)) }
         ensures inside { IfSome result (λ at. at.ctype < length self.now.types) }
     {
-        let kept = entry_at(&self.structs, of as usize)?;
-        place_at(&kept.in_order, index as usize)
+        match entry_at(&self.structs, of as usize) {
+            None => None,
+            Some(kept) => place_at(&kept.in_order, index as usize),
+        }
     }
 
     /// The layout of the type of that number, whatever the data layout, where it has one (C11 6.5.3.4, 6.2.8).
@@ -74,8 +80,10 @@ impl Types {
         ensures small { IfSome result IsSmall }
     {
         let row = self.row(number);
-        let part = self.part_layout(row.part)?;
-        Some(part.repeated(row.count))
+        match self.part_layout(row.part) {
+            None => None,
+            Some(part) => Some(part.repeated(row.count)),
+        }
     }
 
     /// The row of the type of that number.
@@ -105,7 +113,9 @@ impl Types {
         ensures value { result ≡ option_map capped (struct_at Lp64 (length self.now.structs) self.now.structs of) }
         ensures small { IfSome result IsSmall }
     {
-        let kept = entry_at(&self.structs, of as usize)?;
-        kept.layout
+        match entry_at(&self.structs, of as usize) {
+            None => None,
+            Some(kept) => kept.layout,
+        }
     }
 }

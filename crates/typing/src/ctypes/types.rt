@@ -57,7 +57,7 @@ impl Types {
         ensures structs { self.new.structs ≡ self.old.structs }
         ensures err { OnErr result (self.new ≡ self.old) }
     {
-        intern(&mut self.shapes, &mut self.rows, &self.structs, Shape::Void)
+        self.number_of(Shape::Void)
     }
 
     /// The number of `_Bool`.
@@ -66,7 +66,7 @@ impl Types {
         ensures structs { self.new.structs ≡ self.old.structs }
         ensures err { OnErr result (self.new ≡ self.old) }
     {
-        intern(&mut self.shapes, &mut self.rows, &self.structs, Shape::Bool)
+        self.number_of(Shape::Bool)
     }
 
     /// The number of the integer type of so many bytes.
@@ -75,12 +75,7 @@ impl Types {
         ensures structs { self.new.structs ≡ self.old.structs }
         ensures err { OnErr result (self.new ≡ self.old) }
     {
-        intern(
-            &mut self.shapes,
-            &mut self.rows,
-            &self.structs,
-            Shape::Int { bytes, signed },
-        )
+        self.number_of(Shape::Int { bytes, signed })
     }
 
     /// The number of the pointers to the type of number `item` (C11 6.7.6.1).
@@ -90,12 +85,7 @@ impl Types {
         ensures structs { self.new.structs ≡ self.old.structs }
         ensures err { OnErr result (self.new ≡ self.old) }
     {
-        intern(
-            &mut self.shapes,
-            &mut self.rows,
-            &self.structs,
-            Shape::Pointer(item),
-        )
+        self.number_of(Shape::Pointer(item))
     }
 
     /// The number of the struct of number `of` in the list of structs.
@@ -104,12 +94,7 @@ impl Types {
         ensures structs { self.new.structs ≡ self.old.structs }
         ensures err { OnErr result (self.new ≡ self.old) }
     {
-        intern(
-            &mut self.shapes,
-            &mut self.rows,
-            &self.structs,
-            Shape::Struct(of),
-        )
+        self.number_of(Shape::Struct(of))
     }
 
     /// The number of the arrays of `count` items of the type of number `item` (C11 6.7.6.2).
@@ -119,12 +104,17 @@ impl Types {
         ensures structs { self.new.structs ≡ self.old.structs }
         ensures err { OnErr result (self.new ≡ self.old) }
     {
-        intern(
-            &mut self.shapes,
-            &mut self.rows,
-            &self.structs,
-            Shape::Array(item, count),
-        )
+        self.number_of(Shape::Array(item, count))
+    }
+
+    /// The number of the type of a shape, which names types of the table.
+    pub(crate) fn number_of(&mut self, shape: Shape) -> Result<u32, NoMemory>
+        requires { NamesBelow (length self.old.types) shape }
+        ensures ok { IfOk result (λ number. Interns self.old.types (type_of self.old.types shape) self.new.types number) }
+        ensures structs { self.new.structs ≡ self.old.structs }
+        ensures err { OnErr result (self.new ≡ self.old) }
+    {
+        intern(&mut self.shapes, &mut self.rows, &self.structs, shape)
     }
 
     /// The type of a number, taken apart: what it names has lower numbers. It takes no memory and one step.

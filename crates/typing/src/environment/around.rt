@@ -1,8 +1,8 @@
 ghost use Rattle.std.specs.Prelude.{◌≡◌, ◌<◌, reverse, length, Some, OnOk, OnErr};
 ghost use Rattle.typing.specs.environment.Scopes.{declared_around};
-ghost use Rattle.typing.specs.environment.Kept.{scopes_of, kept_around, kept_in_around, changed_in, AreVisible};
+ghost use Rattle.typing.specs.environment.Kept.{scopes_of, AreVisible};
 
-use crate::environment::keeping::{around, kept_here, seen};
+use crate::environment::keeping::{around, kept_around, kept_here, shown};
 use crate::environment::kept::Kept;
 use crate::environment::names::Names;
 use cbase::NoMemory;
@@ -26,52 +26,21 @@ pub(crate) fn declare_around_in<A: Copy>(
     if levels.len() < 2 {
         return Ok(());
     }
-    let before = seen(visible.get(name));
+    let before = shown(visible, name);
     let inside = kept_here(levels, name);
     let hidden = around(kept_around(levels, name), around(inside, before));
     visible.put(alloc, name, before)?;
-    keep_around(alloc, levels, name, Kept { meaning, hidden })?;
+    let at = levels.len() - 2;
+    levels[at].put(alloc, name, Kept { meaning, hidden })?;
     match inside {
         None => visible.change(name, Some(meaning)),
-        Some(kept) => hide(levels, name, kept.meaning, meaning),
+        Some(kept) => levels[at + 1].change(
+            name,
+            Kept {
+                meaning: kept.meaning,
+                hidden: Some(meaning),
+            },
+        ),
     }
     Ok(())
-}
-
-/// What the scope around the innermost one keeps of a name.
-fn kept_around<A: Copy>(levels: &[Names<Kept<A>>], name: &[u8]) -> Option<Kept<A>>
-    requires { 1 < length levels.now }
-    ensures { result ≡ kept_around name.now (reverse levels.now) }
-{
-    levels[levels.len() - 2].get(name)
-}
-
-/// Keeps a name in the scope around the innermost one.
-fn keep_around<A: Copy>(
-    alloc: Global,
-    levels: &mut Vec<Names<Kept<A>>>,
-    name: &[u8],
-    kept: Kept<A>,
-) -> Result<(), NoMemory>
-    requires { 1 < length levels.old.items }
-    ensures ok { OnOk result (reverse levels.new.items ≡ kept_in_around name.now kept (reverse levels.old.items)) }
-    ensures err { OnErr result (levels.new.items ≡ levels.old.items) }
-{
-    let at = levels.len() - 2;
-    levels[at].put(alloc, name, kept)
-}
-
-/// The innermost scope, which declares a name, hides something else of it from here on.
-fn hide<A: Copy>(levels: &mut Vec<Names<Kept<A>>>, name: &[u8], meaning: A, hidden: A)
-    requires { 0 < length levels.old.items }
-    ensures { reverse levels.new.items ≡ changed_in name.now (record { meaning = meaning; hidden = Some hidden }) (reverse levels.old.items) }
-{
-    let last = levels.len() - 1;
-    levels[last].change(
-        name,
-        Kept {
-            meaning,
-            hidden: Some(hidden),
-        },
-    );
 }

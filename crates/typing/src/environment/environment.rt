@@ -267,10 +267,10 @@ impl Environment {
         match binding {
             None => None,
             Some(Binding::Own(entity)) => Some(entity),
-            Some(Binding::WithLinkage) => {
-                let linked = self.linked.get(name)?;
-                Some(linked.entity)
-            }
+            Some(Binding::WithLinkage) => match self.linked.get(name) {
+                None => None,
+                Some(linked) => Some(linked.entity),
+            },
         }
     }
 }

@@ -1,19 +1,30 @@
-ghost use Rattle.std.specs.Prelude.{◌≡◌, ◌<◌, reverse, length, OnOk, OnErr};
+ghost use Rattle.std.specs.Prelude.{◌≡◌, ◌<◌, reverse, length, option_map, OnOk, OnErr};
+ghost use Rattle.typing.specs.environment.Names.{value_in};
 ghost use Rattle.typing.specs.environment.Scopes.{declared, left};
-ghost use Rattle.typing.specs.environment.Kept.{scopes_of, seen, around, kept_here, kept_in, AreVisible};
+ghost use Rattle.typing.specs.environment.Kept.{scopes_of, seen, around, kept_here, AreVisible};
 
 use crate::environment::kept::Kept;
 use crate::environment::names::{Names, uncover};
 use cbase::NoMemory;
 use std::alloc::Global;
 
-/// What a name is visible as, by what a table says of it.
-pub(crate) fn seen<A: Copy>(answer: Option<Option<A>>) -> Option<A>
-    ensures { result ≡ seen answer }
+/// What a name is visible as, by what the table says of it.
+pub(crate) fn shown<A: Copy>(visible: &Names<Option<A>>, name: &[u8]) -> Option<A>
+    ensures { result ≡ seen (value_in name.now visible.now) }
 {
-    match answer {
+    match visible.get(name) {
         None => None,
-        Some(visible) => visible,
+        Some(meaning) => meaning,
+    }
+}
+
+/// What a name stands for in a scope, by what that keeps of it.
+pub(crate) fn meaning_of<A: Copy>(kept: Option<Kept<A>>) -> Option<A>
+    ensures { result ≡ option_map (λ here. here.meaning) kept }
+{
+    match kept {
+        None => None,
+        Some(here) => Some(here.meaning),
     }
 }
 
@@ -55,10 +66,11 @@ pub(crate) fn declare_in<A: Copy>(
     if levels.len() == 0 {
         return Ok(());
     }
-    let before = seen(visible.get(name));
+    let before = shown(visible, name);
     let hidden = around(kept_here(levels, name), before);
     visible.put(alloc, name, before)?;
-    keep(alloc, levels, name, Kept { meaning, hidden })?;
+    let last = levels.len() - 1;
+    levels[last].put(alloc, name, Kept { meaning, hidden })?;
     visible.change(name, Some(meaning));
     Ok(())
 }
@@ -73,29 +85,14 @@ pub(crate) fn around<A: Copy>(kept: Option<Kept<A>>, before: Option<A>) -> Optio
     }
 }
 
-/// Keeps a name in the innermost scope.
-fn keep<A: Copy>(
-    alloc: Global,
-    levels: &mut Vec<Names<Kept<A>>>,
-    name: &[u8],
-    kept: Kept<A>,
-) -> Result<(), NoMemory>
-    requires { 0 < length levels.old.items }
-    ensures ok { OnOk result (reverse levels.new.items ≡ kept_in name.now kept (reverse levels.old.items)) }
-    ensures err { OnErr result (levels.new.items ≡ levels.old.items) }
-{
-    let last = levels.len() - 1;
-    levels[last].put(alloc, name, kept)
-}
-
 /// Leaves the innermost scope, where there is one.
 pub(crate) fn leave_in<A: Copy>(visible: &mut Names<Option<A>>, levels: &mut Vec<Names<Kept<A>>>)
     requires { AreVisible visible.old (reverse levels.old.items) }
     ensures kept { AreVisible visible.new (reverse levels.new.items) }
     ensures left { scopes_of (reverse levels.new.items) ≡ left (scopes_of (reverse levels.old.items)) }
 {
-    let last = levels.pop();
-    if let Some(level) = last {
+    if let Some(level) = levels.pop() {
         uncover(visible, &level);
+        drop(level);
     }
 }

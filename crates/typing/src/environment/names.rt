@@ -43,7 +43,7 @@ impl<A: Copy> Names<A> {
     pub fn get(&self, name: &[u8]) -> Option<A>
         ensures { result ≡ value_in name.now self.now }
     {
-        value_of(&self.table, name)
+        self.table.get(name).copied()
     }
 
     /// Gives a name a value. Where memory is wanting all stays as it was.
@@ -51,64 +51,30 @@ impl<A: Copy> Names<A> {
         ensures ok { OnOk result (self.new ≡ with_value name.now value self.old) }
         ensures err { OnErr result (self.new ≡ self.old) }
     {
-        put_in(alloc, &mut self.table, name, value)
+        let copy = Vec::from_slice(alloc, name)?;
+        self.table.insert(copy, value)?;
+        Ok(())
     }
 
     /// Gives a name that has a value another one. It takes no memory.
     pub(crate) fn change(&mut self, name: &[u8], value: A)
         ensures { self.new ≡ changed name.now value self.old }
     {
-        change_in(&mut self.table, name, value);
+        if let Some(place) = self.table.get_mut(name) {
+            *place = value;
+        }
     }
 }
 
-/// Gives each name of a scope what it was visible as around that scope. It takes no memory, and a step for each name.
+/// Gives each name of a scope what it was visible as around that scope, from the last one on. It takes no memory, and a step for each name.
 pub(crate) fn uncover<A: Copy>(visible: &mut Names<Option<A>>, level: &Names<Kept<A>>)
     ensures { visible.new ≡ uncovered level.now visible.old }
 {
-    uncover_in(&mut visible.table, &level.table);
-}
-
-/// The value that a map has for a name.
-fn value_of<A: Copy>(table: &IndexMap<Vec<u8>, A>, name: &[u8]) -> Option<A>
-    ensures { result ≡ value_in name.now (map (λ entry. (entry.0.items, entry.1)) table.now.entries) }
-{
-    table.get(name).copied()
-}
-
-/// Puts a value into a map.
-fn put_in<A: Copy>(
-    alloc: Global,
-    table: &mut IndexMap<Vec<u8>, A>,
-    name: &[u8],
-    value: A,
-) -> Result<(), NoMemory>
-    ensures ok { OnOk result (map (λ entry. (entry.0.items, entry.1)) table.new.entries ≡ with_value name.now value (map (λ entry. (entry.0.items, entry.1)) table.old.entries)) }
-    ensures err { OnErr result (table.new.entries ≡ table.old.entries) }
-{
-    let copy = Vec::from_slice(alloc, name)?;
-    table.insert(copy, value)?;
-    Ok(())
-}
-
-/// Changes the value of a name in a map, where it has one.
-fn change_in<A: Copy>(table: &mut IndexMap<Vec<u8>, A>, name: &[u8], value: A)
-    ensures { map (λ entry. (entry.0.items, entry.1)) table.new.entries ≡ changed name.now value (map (λ entry. (entry.0.items, entry.1)) table.old.entries) }
-{
-    if let Some(place) = table.get_mut(name) {
-        *place = value;
-    }
-}
-
-/// Gives each name of a scope in a map what it was visible as around that scope, from the last one on.
-fn uncover_in<A: Copy>(table: &mut IndexMap<Vec<u8>, Option<A>>, level: &IndexMap<Vec<u8>, Kept<A>>)
-    ensures { map (λ entry. (entry.0.items, entry.1)) table.new.entries ≡ uncovered (map (λ entry. (entry.0.items, entry.1)) level.now.entries) (map (λ entry. (entry.0.items, entry.1)) table.old.entries) }
-{
-    let mut left = level.len();
+    let mut left = level.table.len();
     while left > 0 {
         left -= 1;
-        if let Some((name, kept)) = level.get_index(left) {
-            change_in(table, name.as_slice(), kept.hidden);
+        if let Some((name, kept)) = level.table.get_index(left) {
+            visible.change(name.as_slice(), kept.hidden);
         }
     }
 }

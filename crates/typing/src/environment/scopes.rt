@@ -2,7 +2,9 @@ ghost use Rattle.std.specs.Prelude.{◌≡◌, [], OnOk, OnErr};
 ghost use Rattle.typing.specs.environment.Scopes.{found, found_here, declared, declared_around, entered, left};
 
 use crate::environment::around::declare_around_in;
-use crate::environment::keeping::{declare_in, kept_around, kept_here, leave_in, seen};
+use crate::environment::keeping::{
+    declare_in, kept_around, kept_here, leave_in, meaning_of, shown,
+};
 use crate::environment::kept::Kept;
 use crate::environment::names::Names;
 use cbase::NoMemory;
@@ -72,23 +74,21 @@ impl<A: Copy> Scopes<A> {
     pub fn look_up(&self, name: &[u8]) -> Option<A>
         ensures { result ≡ found name.now self.now }
     {
-        seen(self.visible.get(name))
+        shown(&self.visible, name)
     }
 
     /// What the innermost scope alone says of a name. It takes no memory, and one look-up by hash.
     pub fn look_up_here(&self, name: &[u8]) -> Option<A>
         ensures { result ≡ found_here name.now self.now }
     {
-        let kept = kept_here(&self.levels, name)?;
-        Some(kept.meaning)
+        meaning_of(kept_here(&self.levels, name))
     }
 
     /// What the scope around the innermost one alone says of a name. It takes no memory, and one look-up by hash.
     pub fn look_up_around(&self, name: &[u8]) -> Option<A>
         ensures { result ≡ found_here name.now (left self.now) }
     {
-        let kept = kept_around(&self.levels, name)?;
-        Some(kept.meaning)
+        meaning_of(kept_around(&self.levels, name))
     }
 
     /// Declares a name in the innermost scope; where it declares the name already, the name stands for this from here on.

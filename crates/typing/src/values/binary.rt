@@ -22,11 +22,10 @@ pub fn binary_value(
 ) -> Option<u64>
     ensures { (first second : Kind) → integer_in first ≡ left → integer_in second ≡ right → result ≡ binary_value op first x second y }
 {
-    let left = whole(left)?;
-    let x = x?;
-    let right = whole(right)?;
-    let y = y?;
-    of_binary(op, left, x, right, y)
+    match (whole(left), x, whole(right), y) {
+        (Some(left), Some(x), Some(right), Some(y)) => of_binary(op, left, x, right, y),
+        _ => None,
+    }
 }
 
 /// The value of a binary operation on two integers.
@@ -35,27 +34,28 @@ fn of_binary(op: BinaryOp, left: IntegerType, x: u64, right: IntegerType, y: u64
     requires right { is_whole right ≡ true }
     ensures { result ≡ of_binary op left x right y }
 {
-    match op {
-        BinaryOp::Mul => in_common(Op::Mul, left, x, right, y),
-        BinaryOp::Div => in_common(Op::Div, left, x, right, y),
-        BinaryOp::Rem => in_common(Op::Rem, left, x, right, y),
-        BinaryOp::Add => in_common(Op::Add, left, x, right, y),
-        BinaryOp::Sub => in_common(Op::Sub, left, x, right, y),
-        BinaryOp::Left => shifted(Op::Left, left, x, right, y),
-        BinaryOp::Right => shifted(Op::Right, left, x, right, y),
-        BinaryOp::Less => in_common(Op::Less, left, x, right, y),
-        BinaryOp::Greater => in_common(Op::Less, right, y, left, x),
-        BinaryOp::LessEqual => in_common(Op::LessEqual, left, x, right, y),
-        BinaryOp::GreaterEqual => in_common(Op::LessEqual, right, y, left, x),
-        BinaryOp::Equal => Some(u64::from(are_equal(left, x, right, y))),
-        BinaryOp::NotEqual => Some(u64::from(!are_equal(left, x, right, y))),
-        BinaryOp::And => in_common(Op::And, left, x, right, y),
-        BinaryOp::Xor => in_common(Op::Xor, left, x, right, y),
-        BinaryOp::Or => in_common(Op::Or, left, x, right, y),
-        BinaryOp::Both => Some(u64::from(is_true(x) && is_true(y))),
-        BinaryOp::Either => Some(u64::from(is_true(x) || is_true(y))),
-        BinaryOp::Comma => None,
-    }
+    let what = match op {
+        BinaryOp::Mul => Op::Mul,
+        BinaryOp::Div => Op::Div,
+        BinaryOp::Rem => Op::Rem,
+        BinaryOp::Add => Op::Add,
+        BinaryOp::Sub => Op::Sub,
+        BinaryOp::Less => Op::Less,
+        BinaryOp::LessEqual => Op::LessEqual,
+        BinaryOp::And => Op::And,
+        BinaryOp::Xor => Op::Xor,
+        BinaryOp::Or => Op::Or,
+        BinaryOp::Greater => return in_common(Op::Less, right, y, left, x),
+        BinaryOp::GreaterEqual => return in_common(Op::LessEqual, right, y, left, x),
+        BinaryOp::Left => return shifted(Op::Left, left, x, right, y),
+        BinaryOp::Right => return shifted(Op::Right, left, x, right, y),
+        BinaryOp::Equal => return Some(u64::from(are_equal(left, x, right, y))),
+        BinaryOp::NotEqual => return Some(u64::from(!are_equal(left, x, right, y))),
+        BinaryOp::Both => return Some(u64::from(is_true(x) && is_true(y))),
+        BinaryOp::Either => return Some(u64::from(is_true(x) || is_true(y))),
+        BinaryOp::Comma => return None,
+    };
+    in_common(what, left, x, right, y)
 }
 
 /// An operation in the type of the usual arithmetic conversions (C11 6.3.1.8).

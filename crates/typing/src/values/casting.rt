@@ -17,19 +17,20 @@ pub fn cast_value(
 ) -> Option<u64>
     ensures { (target source : Kind) → integer_in target ≡ to → integer_in source ≡ from → result ≡ cast_value target source bits }
 {
-    let to = whole(to)?;
-    let from = whole(from)?;
-    let bits = bits?;
-    Some(as_type(from, to, bits))
+    match (whole(to), whole(from), bits) {
+        (Some(to), Some(from), Some(bits)) => Some(as_type(from, to, bits)),
+        _ => None,
+    }
 }
 
 /// A value as a word of 64 bits, which wraps: a negative number is its complement modulo 2^64.
 pub fn word_of(of: Option<IntegerType>, bits: Option<u64>) -> Option<u64>
     ensures { (kind : Kind) → integer_in kind ≡ of → result ≡ word_of kind bits }
 {
-    let of = whole(of)?;
-    let bits = bits?;
-    Some(convert(size_of(of), of.signed, Size::Eight, bits))
+    match (whole(of), bits) {
+        (Some(of), Some(bits)) => Some(convert(size_of(of), of.signed, Size::Eight, bits)),
+        _ => None,
+    }
 }
 
 /// A word of 64 bits, without sign, as an integer of a type that the data layouts have (C11 6.3.1.2, 6.3.1.3).

@@ -21,13 +21,12 @@ pub fn choice_value(
 ) -> Option<u64>
     ensures { (condition first second : Kind) → integer_in condition ≡ test → integer_in first ≡ left → integer_in second ≡ right → result ≡ choice_value condition chooses first x second y }
 {
-    test?;
-    let chooses = chooses?;
-    let left = whole(left)?;
-    let x = x?;
-    let right = whole(right)?;
-    let y = y?;
-    Some(of_choice(is_true(chooses), left, x, right, y))
+    match (test, chooses, whole(left), x, whole(right), y) {
+        (Some(_), Some(chooses), Some(left), Some(x), Some(right), Some(y)) => {
+            Some(of_choice(is_true(chooses), left, x, right, y))
+        }
+        _ => None,
+    }
 }
 
 /// The value of the arm that is chosen.

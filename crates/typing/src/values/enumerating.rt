@@ -19,9 +19,10 @@ const LEAST: u64 = 0xffff_ffff_8000_0000;
 pub fn int_value(of: Option<IntegerType>, bits: Option<u64>) -> Option<u32>
     ensures { (kind : Kind) → integer_in kind ≡ of → result ≡ int_value kind bits }
 {
-    let of = whole(of)?;
-    let bits = bits?;
-    int_of(of, bits)
+    match (whole(of), bits) {
+        (Some(of), Some(bits)) => int_of(of, bits),
+        _ => None,
+    }
 }
 
 /// The value of a constant of an enum that is not given: one more than that of the constant before it, which has these bits of an `int`, where an

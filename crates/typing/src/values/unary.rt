@@ -16,9 +16,10 @@ use cbase::UnaryOp;
 pub fn unary_value(op: UnaryOp, of: Option<IntegerType>, bits: Option<u64>) -> Option<u64>
     ensures { (kind : Kind) → integer_in kind ≡ of → result ≡ unary_value op kind bits }
 {
-    let of = whole(of)?;
-    let bits = bits?;
-    of_unary(op, of, bits)
+    match (whole(of), bits) {
+        (Some(of), Some(bits)) => of_unary(op, of, bits),
+        _ => None,
+    }
 }
 
 /// The value of a unary operation on an integer.

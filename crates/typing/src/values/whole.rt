@@ -17,8 +17,10 @@ pub(crate) fn whole(of: Option<IntegerType>) -> Option<IntegerType>
     ensures is { result ≡ whole_in of }
     ensures whole { IfSome result (λ t. is_whole t ≡ true) }
 {
-    let of = of?;
-    if is_whole(of) { Some(of) } else { None }
+    match of {
+        Some(of) if is_whole(of) => Some(of),
+        _ => None,
+    }
 }
 
 /// The size of the integers of a type that the data layouts have.

@@ -17,10 +17,10 @@ pub returns-in-Logic-clause-below : goal.returns-in-Logic-clause-below
 returns-in-Logic-clause-below c = λ count l r. c.tested.ensures.below count
 
 pub returns-in-Sum-clause-below : goal.returns-in-Sum-clause-below
-returns-in-Sum-clause-below c = λ count l r. c.added.ensures.below count (c.decayed-in-Sum.ensures.below count l.1) (c.decayed-in-Sum-2.ensures.below count r.1)
+returns-in-Sum-clause-below c = λ count l r. c.added.ensures.below count (c.decayed-first.ensures.below count l.1) (c.decayed-second.ensures.below count r.1)
 
 pub returns-in-Difference-clause-below : goal.returns-in-Difference-clause-below
-returns-in-Difference-clause-below c = λ count l r. c.subtracted.ensures.below count (c.decayed-in-Difference.ensures.below count l.1) (c.decayed-in-Difference-2.ensures.below count r.1)
+returns-in-Difference-clause-below c = λ count l r. c.subtracted.ensures.below count (c.decayed-first.ensures.below count l.1) (c.decayed-second.ensures.below count r.1)
 
 pub returns-in-Sequence-clause-below : goal.returns-in-Sequence-clause-below
 returns-in-Sequence-clause-below c = λ count l r. c.sequenced.ensures.below count r.1 r.0

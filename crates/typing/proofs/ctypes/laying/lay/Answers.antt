@@ -43,21 +43,21 @@ loop-index-preserved c =
     let is : field_of types member ≡ get_or fields c.loop-index.index (field_of types member) = ap (field_of types) c.index-members-index.is ∙ sym (get_or-map (field_of types) members c.loop-index.index member) in
     let behind : Behind (λ t. layout_of Lp64 structs t) c.loop-index.before c.in-Some.next fields c.loop-index.index =
     field_placed (λ t. layout_of Lp64 structs t) c.loop-index.before c.in-Some.next fields c.loop-index.index (field_of types member) within is known in
-    let offset : option_map (λ offset. min offset 65537) (offset_of Lp64 structs fields c.loop-index.index) ≡ Some c.in_ok-at.at.offset =
-    rw add-zero at (c.loop-index.invariant.offset 0) ∙ (behind.here ∙ ap Some (sym c.in_ok-at.ensures.offset)) in
-    let ctype : option_map (λ (m : Member). m.ctype) (slice_get members c.loop-index.index) ≡ Some c.in_ok-at.at.ctype =
-    ap (option_map (λ (m : Member). m.ctype)) (slice_get-get_or members c.loop-index.index member c.loop-index-test.true ∙ ap Some (sym c.index-members-index.is)) ∙ ap Some (sym c.in_ok-at.ensures.ctype) in
+    let offset : option_map (λ offset. min offset 65537) (offset_of Lp64 structs fields c.loop-index.index) ≡ Some c.place_behind-at.result.offset =
+    rw add-zero at (c.loop-index.invariant.offset 0) ∙ (behind.here ∙ ap Some (sym c.place_behind-at.ensures.offset)) in
+    let ctype : option_map (λ (m : Member). m.ctype) (slice_get members c.loop-index.index) ≡ Some c.place_behind-at.result.ctype =
+    ap (option_map (λ (m : Member). m.ctype)) (slice_get-get_or members c.loop-index.index member c.loop-index-test.true ∙ ap Some (sym c.index-members-index.is)) ∙ ap Some (sym c.place_behind-at.ensures.ctype) in
     record {
       value = rw c.with_field-before.ensures
           (member_laid types structs c.loop-index.before c.in-Some.next members c.loop-index.index member c.loop-index-test.true c.index-members-index.is known ∙ c.loop-index.invariant.value);
       offset = λ k. rw c.with_field-before.ensures (ap (λ (n : ℕ). option_map (λ offset. min offset 65537) (offset_of Lp64 structs fields n)) (shift c.loop-index.index k) ∙ (c.loop-index.invariant.offset (suc k) ∙ behind.later k));
-      place = λ name. place_step structs fields members c.loop-index.index (field_of types member) c.in_ok-at.at within is c.in_ok-at.ensures.index offset ctype name _ _
-          (c.in_ok-put_first.ensures name ∙ ap (λ (n : List ℕ). first_of (find_in c.loop-index.places.entries name) (if bytes_eq name n then Some c.in_ok-at.at else None)) c.as_slice.ensures)
+      place = λ name. place_step structs fields members c.loop-index.index (field_of types member) c.place_behind-at.result within is c.place_behind-at.ensures.index offset ctype name _ _
+          (c.in_ok-put_member.ensures.places name ∙ ap (λ (n : List ℕ). first_of (find_in c.loop-index.places.entries name) (if bytes_eq name n then Some c.place_behind-at.result else None)) c.as_slice.ensures)
           (c.loop-index.invariant.place name);
       small = search rules;
       inside = omega arith;
-      in_order = rw c.in_ok-push.ensures.items (in_order_step structs fields members c.loop-index.index c.loop-index.in_order.items c.in_ok-at.at c.loop-index.invariant.in_order (record {
-        same = c.in_ok-at.ensures.index;
+      in_order = rw c.in_ok-put_member.ensures.in_order (in_order_step structs fields members c.loop-index.index c.loop-index.in_order.items c.place_behind-at.result c.loop-index.invariant.in_order (record {
+        same = c.place_behind-at.ensures.index;
         offset = offset;
         ctype = ctype;
       }));

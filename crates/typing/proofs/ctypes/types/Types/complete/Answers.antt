@@ -12,9 +12,9 @@ use Rattle.typing.specs.ctypes.Structs.{read_off, fields_of}
 use Rattle.typing.proofs.ctypes.Closing.{open_found, open_within, completed_laid, completed_structs}
 use Rattle.typing.proofs.ctypes.types.Types.complete.Goals as goal
 
-pub returns-in_default-clause-answer : goal.returns-in_default-clause-answer
-returns-in_default-clause-answer c =
-    fields_refused c.args.self.now.structs c.args.number (fields_of c.args.self.now.types c.args.members) (option_map (λ (l : Laid). l.layout) c.in_ok-found.found) (rw (sym c.as_slice.ensures) c.in_ok-found.ensures.layout) (ap (option_map (λ (l : Laid). l.layout)) c.in_default.is)
+pub returns-in-None-clause-answer : goal.returns-in-None-clause-answer
+returns-in-None-clause-answer c =
+    fields_refused c.args.self.now.structs c.args.number (fields_of c.args.self.now.types c.args.members) (option_map (λ (l : Laid). l.layout) c.in_ok-lay.field-0) (rw (sym c.as_slice.ensures) c.in_ok-lay.ensures.layout) (ap (option_map (λ (l : Laid). l.layout)) c.in-None.is)
 
 pub close-requires : goal.close-requires
 close-requires c =
@@ -29,25 +29,25 @@ invariant_of-self c =
     let is : is_open (slice_get (read_off types entries) c.args.number) ≡ true = rw (sym c.deref.ensures.value) (sym (c.is_open.ensures types) ∙ search rules) in
     let from = open_found types entries c.args.number is in
     let laid : IsLaid (read_off types entries) (fields_of types c.args.members) c.in-Some.laid.layout =
-    (sym (rw (sym c.self.view_is, c.as_slice.ensures) at c.in_ok-found.ensures.layout) ∙ ap (option_map (λ (l : Laid). l.layout)) c.in-Some.is, rw c.in-Some.is at c.in_ok-found.ensures.small) in
+    (sym (rw (sym c.self.view_is, c.as_slice.ensures) at c.in_ok-lay.ensures.layout) ∙ ap (option_map (λ (l : Laid). l.layout)) c.in-Some.is, rw c.in-Some.is at c.in_ok-lay.ensures.small) in
     let placed : ArePlaces (read_off types entries) (fields_of types c.args.members) c.args.members (find_in c.in-Some.laid.places.entries) =
-    rw (sym c.self.view_is, c.as_slice.ensures, c.in-Some.is) at c.in_ok-found.ensures.places in
+    rw (sym c.self.view_is, c.as_slice.ensures, c.in-Some.is) at c.in_ok-lay.ensures.places in
     let in_order : AreInOrder (length c.args.members) (read_off types entries) (fields_of types c.args.members) c.args.members c.in-Some.laid.in_order.items =
-    rw (sym c.self.view_is, c.as_slice.ensures, c.in-Some.is) at c.in_ok-found.ensures.in_order in
+    rw (sym c.self.view_is, c.as_slice.ensures, c.in-Some.is) at c.in_ok-lay.ensures.in_order in
     rw (c.close.ensures from.0 from.1) record {
       apart = c.self.invariant.apart;
       beside = c.self.invariant.beside;
       laid = completed_laid types entries c.args.number from.0 c.args.members c.in-Some.laid c.self.invariant.laid from.1 from.2 (rw (sym c.self.view_is) at c.requires) laid placed in_order;
     }
 
-pub returns-clause-answer : goal.returns-clause-answer
-returns-clause-answer c =
+pub returns-in-Some-clause-answer : goal.returns-in-Some-clause-answer
+returns-in-Some-clause-answer c =
     let types : List CType = types_of c.self.inside.shapes.keys in
     let is : is_open (slice_get c.args.self.now.structs c.args.number) ≡ true = rw (sym c.self.view_is, sym c.deref.ensures.value) (sym (c.is_open.ensures types) ∙ search rules) in
-    fields_taken c.args.self.now.structs c.args.number (fields_of c.args.self.now.types c.args.members) c.in-Some.laid.layout (option_map (λ (l : Laid). l.layout) c.in_ok-found.found) is (rw (sym c.as_slice.ensures) c.in_ok-found.ensures.layout) (ap (option_map (λ (l : Laid). l.layout)) c.in-Some.is)
+    fields_taken c.args.self.now.structs c.args.number (fields_of c.args.self.now.types c.args.members) c.in-Some.laid.layout (option_map (λ (l : Laid). l.layout) c.in_ok-lay.field-0) is (rw (sym c.as_slice.ensures) c.in_ok-lay.ensures.layout) (ap (option_map (λ (l : Laid). l.layout)) c.in-Some.is)
 
-pub returns-clause-after : goal.returns-clause-after
-returns-clause-after c =
+pub returns-in-Some-clause-after : goal.returns-in-Some-clause-after
+returns-in-Some-clause-after c =
     let types : List CType = types_of c.self.inside.shapes.keys in
     let entries : List Entry = c.self.inside.structs.items in
     let is : is_open (slice_get (read_off types entries) c.args.number) ≡ true = rw (sym c.deref.ensures.value) (sym (c.is_open.ensures types) ∙ search rules) in

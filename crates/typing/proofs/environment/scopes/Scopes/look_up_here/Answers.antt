@@ -5,17 +5,10 @@ use Rattle.typing.specs.environment.Kept.{scopes_of}
 use Rattle.typing.proofs.environment.KeptRight.{here-kept}
 use Rattle.typing.proofs.environment.scopes.Scopes.look_up_here.Goals as goal
 
-pub returns-in_err-kept : goal.returns-in_err-kept
-returns-in_err-kept g c =
-    rw c.from_residual.ensures
-    (ap (option_map (λ kept. kept.meaning)) c.in_err-kept.ensures
+pub returns : goal.returns
+returns g c =
+    c.meaning_of.ensures
+    ∙ (ap (option_map (λ kept. kept.meaning)) c.kept_here.ensures
     ∙ (here-kept c.args.name.now (reverse c.deref.result.now)
     ∙ (ap (λ levels. found_here c.args.name.now (scopes_of (reverse levels))) c.deref.ensures.value
     ∙ ap (found_here c.args.name.now) c.self.view_is)))
-
-pub returns : goal.returns
-returns g c =
-    ap (option_map (λ kept. kept.meaning)) c.in_ok-kept.ensures
-    ∙ (here-kept c.args.name.now (reverse c.deref.result.now)
-    ∙ (ap (λ levels. found_here c.args.name.now (scopes_of (reverse levels))) c.deref.ensures.value
-    ∙ ap (found_here c.args.name.now) c.self.view_is))

@@ -4,14 +4,14 @@ use Rattle.std.specs.Str.{bytes_eq}
 use Rattle.typing.specs.declared.ctypes.structs.MemberAt.{MemberAt}
 use Rattle.typing.specs.ctypes.Places.{find_in, first_of}
 use Rattle.typing.proofs.ctypes.Placing.{put_new}
-use Rattle.typing.proofs.ctypes.laying.put_first.Goals as goal
+use Rattle.typing.proofs.ctypes.laying.put_member.Goals as goal
 
 none_of : (found : Option MemberAt) → is_some found ≡ false → found ≡ None
 none_of None e = refl
 none_of (Some at) e = cc
 
-pub returns : goal.returns
-returns c = λ other.
+pub returns-clause-places : goal.returns-clause-places
+returns-clause-places c = λ other.
     let no : c.contains_key.result ≡ false = search rules in
     let absent : find_in c.args.places.now.entries c.args.name.now ≡ None = none_of (find_in c.args.places.now.entries c.args.name.now) (sym c.contains_key.ensures ∙ no) in
     ap (λ es. find_in es other) c.in_ok-insert.ensures.entries
