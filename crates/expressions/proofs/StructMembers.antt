@@ -50,11 +50,11 @@ pub where_passes : {A : Type 0} (Holds : Type 0) (told : A) (found : Found A) �
 where_passes {A} Holds told found is holds = subst (λ (f : Found A). WherePasses f Holds) is holds
 
 -- the numbers in the members are those of types, whatever the members are called
-pub members_below : (context : Context) (members items : List Member) (names : Entries (Unit {0})) (layout : Layout) (told : Unit {0}) (found : Found (Unit {0})) → found ≡ FoundToPass told → items ≡ members
-    → WherePasses found (AreMembers context members names layout) → All (λ member. member.ctype < length context.types) items
-members_below context members items names layout told found is same holds =
-    let are : AreMembers context members names layout = where_passes (AreMembers context members names layout) told found is holds in
-    subst (λ (these : List Member). All (λ member. member.ctype < length context.types) these) (sym same) are.below
+pub members_below : (context : Context) (members items : List Member) (names : Entries (Unit {0})) (layout : Layout) (r : Result (Found (Unit {0})) NoMemory) → items ≡ members
+    → IfOk r (λ found. WherePasses found (AreMembers context members names layout)) → IfOk r (λ found. WherePasses found (All (λ member. member.ctype < length context.types) items))
+members_below context members items names layout (Ok (FoundToPass told)) same are = subst (λ (these : List Member). All (λ member. member.ctype < length context.types) these) (sym same) are.below
+members_below context members items names layout (Ok (FoundRefused first)) same are = tt
+members_below context members items names layout (Err error) same are = tt
 
 -- how parts of a struct that stand one behind the other are found: each of them behind the members before it
 pub record InOrder {X : Type 0} (abi : Abi) (say : Numbering → List Field → List X → Outcome (List Field) → Saying)

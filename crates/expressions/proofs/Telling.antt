@@ -1,6 +1,6 @@
 -- What the walk over a part tells of it, as what is found of the part.
 use denote.Ref.{MutBor}
-use Rattle.std.proofs.Common.{◌≡◌, ◌≤◌, ℕ, length, sym, subst, Result, Ok, Err, IfOk}
+use Rattle.std.proofs.Common.{◌≡◌, ◌≤◌, ℕ, length, subst, Result, Ok, Err, IfOk}
 use Rattle.cbase.specs.declared.abi.Abi.{Abi}
 use Rattle.cbase.specs.declared.no_memory.NoMemory.{NoMemory}
 use Rattle.typing.specs.Known.{Known}
@@ -20,14 +20,14 @@ use Rattle.expressions.specs.Telling.{IsOfExpression, IsOfType, IsOfNothing, exp
 use Rattle.expressions.specs.Walked.{Tells, Walked}
 
 module _ {pre : MutBor Context → Within → Part → Type 0} {post : MutBor Context → Within → Part → Result (Found Told) NoMemory → MutBor Context → Type 0}
-    (abi : Abi) (depth : ℕ) (within : Within) (nests : Nests abi depth pre post) (is : within ≡ record { abi = abi; depth = depth }) (part : Part) (deep : part_levels part ≤ depth) where
+    (abi : Abi) (depth : ℕ) (nests : Nests abi depth pre post) (part : Part) (deep : part_levels part ≤ depth) where
   -- a part of at most so many levels may be asked
-  pub may_ask : (old : MutBor Context) → IsPartBelow (length old.now.types) part → pre old within part
-  may_ask old below = subst (λ (w : Within). pre old w part) (sym is) (nests.callable old part deep below)
+  pub may_ask : (old : MutBor Context) → IsPartBelow (length old.now.types) part → pre old (record { abi = abi; depth = depth }) part
+  may_ask old below = nests.callable old part deep below
 
   -- what is told of it
-  pub asked : (old new : MutBor Context) (r : Result (Found Told) NoMemory) → post old within part r new → IfOk r (λ found. IsTold abi part old.now new.now found)
-  asked old new r told = nests.told old new part r deep (subst (λ (w : Within). post old w part r new) is told)
+  pub asked : (old new : MutBor Context) (r : Result (Found Told) NoMemory) → post old (record { abi = abi; depth = depth }) part r new → IfOk r (λ found. IsTold abi part old.now new.now found)
+  asked old new r told = nests.told old new part r deep told
 
 module _ (tells : Tells Known) (old new : Context) where
   pub of_expression : (r : Result (Found Told) NoMemory) → IfOk r (λ found. IsToldExpression tells old new found) → IfOk r IsOfExpression

@@ -1,5 +1,5 @@
 -- What is told of a part that names a type, and what is found of `typeof` by what is found of its expression.
-use Rattle.std.proofs.Common.{◌≡◌, ℕ, List, refl, Result, Ok, Err, IfOk, Some}
+use Rattle.std.proofs.Common.{◌≡◌, ℕ, refl, Result, Ok, Err, IfOk, Some}
 use Rattle.cbase.specs.declared.abi.Abi.{Abi}
 use Rattle.cbase.specs.declared.no_memory.NoMemory.{NoMemory}
 use Rattle.cbase.specs.declared.tree.expr.Expr.{Expr}

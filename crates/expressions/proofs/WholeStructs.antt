@@ -110,7 +110,7 @@ module _ (abi : Abi) (name : Option Identifier) (fields : List FieldDecl) where
         (subst (λ (so_far : List Member). Finds (language abi n) (declared inside) (MembersAre (fields_at n so_far) items outcome) (declared late)) none found)
 
     -- a member is refused
-    pub members_refused : (first : Fault) → walk ≡ FoundRefused first → Stopped SaysStruct old late first
+    members_refused : (first : Fault) → walk ≡ FoundRefused first → Stopped SaysStruct old late first
     members_refused first is =
         let stopped = stopped_of (SaysBy abi (λ n o. MembersAre (fields_at n before) items o)) (some_members after) inside late first walk is walked in
         record {
@@ -153,7 +153,24 @@ module _ (abi : Abi) (name : Option Identifier) (fields : List FieldDecl) where
           found = λ n agrees. StructCompletedInside (opens_to n) (in_braces n (Passes (fields_at n after) (map (handed_at n) passed.rows)) (passed.found n agrees)) closed.0;
         })
 
-    pub struct_closes : (told : Unit {0}) (new : Context) (members : List Member) (r : Result (Found NamedByNumber) NoMemory) → walk ≡ FoundToPass told → members ≡ after
+    struct_closes : (told : Unit {0}) (new : Context) (members : List Member) (r : Result (Found NamedByNumber) NoMemory) → walk ≡ FoundToPass told → members ≡ after
         → IfOk r (λ found. IsClosed name number members late new found) → IfOk r (λ found. Walked SaysStruct a_type old new found)
     struct_closes told new members (Ok found) is all closed = closes told new found is (subst (λ (these : List Member). IsClosed name number these late new found) all closed)
     struct_closes told new members (Err error) is all closed = tt
+
+  -- what is found of the members, where memory is there, is found of the struct
+  pub struct_ends : (old inside late new : Context) (number : ℕ) (tag : Found ℕ) → tag ≡ FoundToPass number → IsStructOpened abi name old inside tag
+      → (before after members : List Member) (items : List FieldDecl) → before ≡ [] → items ≡ fields → members ≡ after → (walk : Result (Found (Unit {0})) NoMemory)
+      → IfOk walk (λ found. Walked (SaysBy abi (λ n o. MembersAre (fields_at n before) items o)) (some_members after) inside late found) → (r : Result (Found NamedByNumber) NoMemory)
+      → (walk ≡ Ok (FoundToPass tt) → IfOk r (λ found. IsClosed name number members late new found))
+      → ((first : Fault) → walk ≡ Ok (FoundRefused first) → IfOk r (λ found. (found ≡ FoundRefused first) × (new ≡ late)))
+      → ((error : NoMemory) → walk ≡ Err error → IfOk r (λ found. ⊥))
+      → IfOk r (λ found. Walked SaysStruct a_type old new found)
+  struct_ends old inside late new number tag opening opened before after members items none same all (Ok (FoundToPass told)) walked r passes refused err =
+      struct_closes old inside late number tag opening opened before after items none same (FoundToPass told) walked told new members r refl all (passes refl)
+  struct_ends old inside late new number tag opening opened before after members items none same all (Ok (FoundRefused first)) walked (Ok found) passes refused err =
+      subst (λ (answer : Found NamedByNumber). Walked SaysStruct a_type old new answer) (sym (refused first refl).0)
+      (subst (λ (context : Context). Stopped SaysStruct old context first) (sym (refused first refl).1) (members_refused old inside late number tag opening opened before after items none same (FoundRefused first) walked first refl))
+  struct_ends old inside late new number tag opening opened before after members items none same all (Ok (FoundRefused first)) walked (Err error) passes refused err = tt
+  struct_ends old inside late new number tag opening opened before after members items none same all (Err error) walked (Ok found) passes refused err = absurd (err error refl)
+  struct_ends old inside late new number tag opening opened before after members items none same all (Err error) walked (Err other) passes refused err = tt

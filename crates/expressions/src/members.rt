@@ -76,13 +76,12 @@ impl Members {
         ensures are { OnOk result ((context : AtPlace) → AreMembers context self.old.list self.old.names self.old.layout → ctype < length context.types
             → Some layout ≡ option_map capped (layout_of Lp64 context.structs (type_at context.types ctype)) → AreMembers context self.new.list self.new.names self.new.layout) }
     {
+        self.layout = self.layout.with_field(layout);
         self.list.push(Member {
             name: Text::from_slice(alloc, name)?,
             ctype,
         })?;
-        self.names.put(alloc, name, ())?;
-        self.layout = self.layout.with_field(layout);
-        Ok(())
+        self.names.put(alloc, name, ())
     }
 
     /// The members alone.

@@ -28,10 +28,16 @@ impl Context {
         ensures { (abi : Abi) → IfOk result (λ found. IsStructOpened abi name.now self.old self.new found) }
     {
         let Some(tag) = name else {
-            return Ok(Found::Passes(self.add_struct(alloc)?));
+            return match self.add_struct(alloc) {
+                Ok(number) => Ok(Found::Passes(number)),
+                Err(error) => Err(error),
+            };
         };
         match self.tag_here(tag.name.as_slice()) {
-            None => Ok(Found::Passes(self.declare_struct(alloc, tag.name.as_slice())?)),
+            None => match self.declare_struct(alloc, tag.name.as_slice()) {
+                Ok(number) => Ok(Found::Passes(number)),
+                Err(error) => Err(error),
+            },
             Some(Tag::Struct(number)) => Ok(self.reopen(tag, number)),
             Some(Tag::Enum { .. }) => Ok(Found::Refused(twice(tag))),
         }
@@ -64,8 +70,10 @@ impl Context {
         };
         match self.tag_here(tag.name.as_slice()) {
             None | Some(Tag::Enum { listed: false }) => {
-                self.list_enum(alloc, tag.name.as_slice())?;
-                Ok(None)
+                match self.list_enum(alloc, tag.name.as_slice()) {
+                    Ok(()) => Ok(None),
+                    Err(error) => Err(error),
+                }
             }
             Some(Tag::Enum { listed: true }) | Some(Tag::Struct(_)) => Ok(Some(twice(tag))),
         }
@@ -86,10 +94,10 @@ impl Context {
     {
         match self.twice_inside(name, number) {
             Some(fault) => Ok(Some(fault)),
-            None => {
-                self.complete(alloc, number, members)?;
-                Ok(None)
-            }
+            None => match self.complete(alloc, number, members) {
+                Ok(_) => Ok(None),
+                Err(error) => Err(error),
+            },
         }
     }
 

@@ -3,7 +3,7 @@ ghost use Rattle.std.specs.List.{list_any};
 ghost use Rattle.cbase.specs.declared.structs.StructDef.{StructDef};
 ghost use Rattle.cbase.specs.declared.tree.expr.Expr.{Expr as ExprTree};
 ghost use Rattle.typing.specs.ctypes.Kinds.{kind_of};
-ghost use Rattle.typing.specs.Calls.{call_faults, calls_main, is_struct, is_length, lengths_of, length_faults, inconstant_lengths, large_lengths, large_product, product, unconverted, is_small, is_constant, times};
+ghost use Rattle.typing.specs.Calls.{call_faults, calls_main, is_struct, is_length, lengths_of, length_faults, inconstant_lengths, large_lengths, large_product, unconverted, is_small, is_constant, times};
 ghost use Rattle.typing.specs.values.Values.{cast_value};
 ghost use Rattle.expressions.specs.Arguments.{arguments_at};
 ghost use Rattle.expressions.specs.Context.{Agrees};
@@ -205,26 +205,14 @@ fn large_product(
     if name != b"calloc".as_slice() {
         return None;
     }
-    unless(
-        has_small_product(context, params, known),
-        place,
-        Broken::Construct(19),
-    )
-}
-
-/// Whether the product of the first two of some sizes is at most 65,536 bytes, where there are two.
-fn has_small_product(context: &Context, params: &[u32], known: &[Known]) -> bool
-    requires params { All (λ param. param < length context.now.types) params.now }
-    requires known { All (λ one. one.ctype < length context.now.types) known.now }
-    ensures { (n : Numbering) (args : List ExprTree) → Agrees n context.now → length known.now ≡ length args → result ≡ is_small (product (map (kind_of context.now.structs) (map n.ctype params.now)) (arguments_at n context.now.structs args known.now)) }
-{
     if params.len() < 2 || known.len() < 2 {
-        return true;
+        return None;
     }
-    is_small_product(
+    let fits = is_small_product(
         length_in(context, params[0], known[0]),
         length_in(context, params[1], known[1]),
-    )
+    );
+    unless(fits, place, Broken::Construct(19))
 }
 
 /// The value of a size, converted to the type of its parameter.

@@ -29,9 +29,13 @@ pub(crate) fn cast_node(
     ensures { IfOk result (λ found. Settled (λ n. all_at node.place to.found ++ faults_of node.place (cast (kind_of context.old.structs (n.ctype to.ctype)) (n.ctype to.ctype) (decayed (kind_of context.old.structs (n.ctype arg.ctype))) arg.null (is_idiom arg.idiom))) (λ n. cast_known (n.ctype to.ctype) (kind_of context.old.structs (n.ctype to.ctype)) (kind_of context.old.structs (n.ctype arg.ctype)) (known_at n arg)) node.number context.old context.new found) }
 {
     let known = context.cast_known(to.ctype, arg);
-    let outcome = context.cast(to.ctype, arg.operand(), is_idiom(arg.idiom))?;
-    let broken = first_of(all_at(node.place, to.found), fault_of(node.place, outcome));
-    settle(context, node.number, broken, known)
+    match context.cast(to.ctype, arg.operand(), is_idiom(arg.idiom)) {
+        Ok(outcome) => {
+            let broken = first_of(all_at(node.place, to.found), fault_of(node.place, outcome));
+            settle(context, node.number, broken, known)
+        }
+        Err(error) => Err(error),
+    }
 }
 
 /// What is broken at an operator, if anything is.

@@ -1,9 +1,6 @@
-ghost use Rattle.std.specs.Prelude.{◌≡◌, ℕ, [], IfOk};
+ghost use Rattle.std.specs.Prelude.{ℕ, IfOk};
 ghost use Rattle.typing.specs.declared.constants.meaning.Meaning.{Meaning};
-ghost use Rattle.typing.specs.declared.constants.meaning.Meaning.TheVariants.{NoConstant, FitsNoType, Known as KnownConstant};
 ghost use Rattle.typing.specs.constants.Meanings.{Means};
-ghost use Rattle.typing.specs.declared.ctypes.found.Broken.TheVariants.{Rule};
-ghost use Rattle.typing.specs.Faults.{fault};
 ghost use Rattle.expressions.specs.Constants.{constant_faults, constant_told};
 ghost use Rattle.expressions.specs.Settled.{Settled};
 
@@ -11,7 +8,7 @@ use crate::context::Context;
 use crate::found::Found;
 use crate::known::Known;
 use crate::nodes::finishing::{Node, pass};
-use cbase::{Abi, NoMemory, Place};
+use cbase::{Abi, NoMemory};
 use typing::Fault;
 use typing::constants::{Meaning, read_constant};
 use typing::ctypes::Broken;
@@ -26,22 +23,16 @@ pub(crate) fn constant_node(
     ensures { IfOk result (λ found. (meaning : Meaning) × Means abi spelling.now meaning × Settled (λ n. constant_faults node.place meaning) (λ n. constant_told meaning) node.number context.old context.new found) }
 {
     match read_constant(spelling, abi) {
-        Meaning::Known(constant) => {
-            let ctype = context.integer(constant.bytes, constant.signed)?;
-            let known = Known::valued(Some(constant.bits), ctype);
-            pass(context, node.number, known)
-        }
-        Meaning::NoConstant => Ok(Found::Refused(no_type(node.place))),
-        Meaning::FitsNoType => Ok(Found::Refused(no_type(node.place))),
-    }
-}
-
-/// What fits no type.
-fn no_type(place: Place) -> Fault
-    ensures { result ≡ fault place (Rule 9) }
-{
-    Fault {
-        place,
-        broken: Broken::Rule(9),
+        Meaning::Known(constant) => match context.integer(constant.bytes, constant.signed) {
+            Ok(ctype) => {
+                let known = Known::valued(Some(constant.bits), ctype);
+                pass(context, node.number, known)
+            }
+            Err(error) => Err(error),
+        },
+        Meaning::NoConstant | Meaning::FitsNoType => Ok(Found::Refused(Fault {
+            place: node.place,
+            broken: Broken::Rule(9),
+        })),
     }
 }

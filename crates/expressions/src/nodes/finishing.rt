@@ -60,13 +60,16 @@ pub(crate) fn pass(
     requires { known.ctype < length context.old.types }
     ensures { IfOk result (λ found. IsSettledBy None known number context.old context.new found) }
 {
-    context.hand_on(HandedRow::Expression {
+    let row = HandedRow::Expression {
         number,
         ctype: known.ctype,
         stands: known.stands,
         value: known.value,
-    })?;
-    Ok(Found::Passes(known))
+    };
+    match context.hand_on(row) {
+        Ok(()) => Ok(Found::Passes(known)),
+        Err(error) => Err(error),
+    }
 }
 
 /// Finishes at an operator: what is broken is refused at the expression's place, and else the expression passes with its type.

@@ -6,8 +6,7 @@ ghost use Rattle.typing.specs.Idiom.{through, within, at_index, item_bytes, memb
 ghost use Rattle.typing.specs.Known.{located};
 ghost use Rattle.typing.specs.Nodes.{place_of_member, pointed_offset};
 ghost use Rattle.typing.specs.values.Values.{word_of};
-ghost use Rattle.expressions.specs.Numbers.{Numbering, operand_at, operand_in, IsTypedBelow};
-ghost use Rattle.expressions.specs.Finished.{FinishedBy};
+ghost use Rattle.expressions.specs.Numbers.{Numbering, operand_at, operand_in};
 ghost use Rattle.expressions.specs.Settled.{Judged};
 
 use crate::context::Context;
@@ -16,7 +15,6 @@ use crate::known::Known;
 use crate::nodes::finishing::{Blame, Node, finish, finish_blaming};
 use cbase::{Identifier, NoMemory};
 use typing::Idiom;
-use typing::ctypes::Outcome;
 use typing::values::word_of;
 
 /// What is found at `base[index]` (C11 6.5.2.1).
@@ -55,11 +53,15 @@ pub(crate) fn member_node(
         lvalue: base.lvalue,
         ..Known::located(within(base.idiom, offset), 0)
     };
-    finish_member(
+    finish_blaming(
         context.member(base.operand(), name.name.as_slice()),
         context,
-        node,
-        name,
+        node.number,
+        Blame {
+            mark: node.place,
+            rule: 6,
+            part: name.place,
+        },
         rest,
     )
 }
@@ -76,32 +78,18 @@ pub(crate) fn pointed_member_node(
 {
     let offset = context.pointed_offset(base.ctype, name.name.as_slice());
     let rest = Known::located(through(base.idiom, offset), 0);
-    finish_member(
-        context.pointed_member(base.operand(), name.name.as_slice()),
-        context,
-        node,
-        name,
-        rest,
-    )
-}
-
-/// Finishes at a member: a name that is none is rule 6 at it.
-fn finish_member(
-    outcome: Result<Outcome, NoMemory>,
-    context: &mut Context,
-    node: Node,
-    name: &Identifier,
-    rest: Known,
-) -> Result<Found<Known>, NoMemory>
-    requires { IfOk outcome (λ answer. IsTypedBelow (length context.old.types) answer) }
-    ensures { IfOk result (λ found. FinishedBy (place_of_member node.place name.now.place) rest node.number context.old outcome context.new found) }
-{
     let blame = Blame {
         mark: node.place,
         rule: 6,
         part: name.place,
     };
-    finish_blaming(outcome, context, node.number, blame, rest)
+    finish_blaming(
+        context.pointed_member(base.operand(), name.name.as_slice()),
+        context,
+        node.number,
+        blame,
+        rest,
+    )
 }
 
 /// How much of the offsetof idiom an item of an array is, of so many bytes.

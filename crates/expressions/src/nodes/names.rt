@@ -154,14 +154,18 @@ fn unsized_fault(place: Place, defined: bool) -> Fault
 fn enumerator_node(context: &mut Context, node: Node, bits: u32) -> Result<Found<Known>, NoMemory>
     ensures { IfOk result (λ found. Settled (λ n. name_faults context.old.structs node.place (Some (entity_at n (Enumerator bits)))) (λ n. name_told (Some (entity_at n (Enumerator bits)))) node.number context.old context.new found) }
 {
-    let ctype = context.integer(4, true)?;
-    let known = Known {
-        ctype,
-        lvalue: false,
-        null: bits == 0,
-        value: Some(u64::from(bits)),
-        idiom: Idiom::Outside,
-        stands: Some(Entity::Enumerator { bits }),
-    };
-    pass(context, node.number, known)
+    match context.integer(4, true) {
+        Ok(ctype) => {
+            let known = Known {
+                ctype,
+                lvalue: false,
+                null: bits == 0,
+                value: Some(u64::from(bits)),
+                idiom: Idiom::Outside,
+                stands: Some(Entity::Enumerator { bits }),
+            };
+            pass(context, node.number, known)
+        }
+        Err(error) => Err(error),
+    }
 }

@@ -37,14 +37,14 @@ pub(crate) fn offset_node(
     ensures { (abi : Abi) → IfOk result (λ found. (way : Numbering → Way) × ((n : Numbering) → Agrees n context.new → LeadsFrom abi context.old.structs node.place (n.ctype named.ctype) (map out-Part path.now) indices.now (way n)) × Settled (λ n. all_at node.place named.found ++ way_faults (way n)) (λ n. offset_known (way_offset (way n))) node.number context.old context.new found) }
 {
     let way = way_to(context, node.place, named.ctype, path, indices);
-    let ctype = context.integer(8, false)?;
     let broken = first_of(all_at(node.place, named.found), fault_on(way));
-    settle(
-        context,
-        node.number,
-        broken,
-        Known::valued(Some(offset_of(way)), ctype),
-    )
+    match context.integer(8, false) {
+        Ok(ctype) => {
+            let known = Known::valued(Some(offset_of(way)), ctype);
+            settle(context, node.number, broken, known)
+        }
+        Err(error) => Err(error),
+    }
 }
 
 /// What is broken on a way.

@@ -1,13 +1,13 @@
 ghost use Rattle.std.specs.Prelude.{◌≡◌, ◌<◌, ℕ, length, IfOk};
 ghost use Rattle.cbase.specs.declared.abi.Abi.{Abi};
 ghost use Rattle.cbase.specs.declared.tree.expr.Expr.{Expr};
-ghost use Rattle.cbase.specs.declared.tree.expr.ExprForm.TheOpen.{Unary, Assign, ExprForm::Member};
 ghost use Rattle.expressions.specs.Found.{one_operand, two_operands};
 ghost use Rattle.expressions.specs.Shapes.{FoundBehind, single_form, pair_form, is_loaded, takes_value};
 
 use crate::context::Context;
 use crate::found::Found;
 use crate::known::Known;
+use crate::named_type::NamedType;
 use crate::nodes::assigning::{assignment_node, update_node};
 use crate::nodes::finishing::Node;
 use crate::nodes::members::{index_node, member_node, pointed_member_node};
@@ -79,45 +79,26 @@ pub(crate) fn single_node(
     ensures { (abi : Abi) (tree : Expr) → IfOk result (λ found. FoundBehind abi node.number node.place (single_form single.entry tree) one_operand arg context.old context.new found) }
 {
     match single {
-        Single::Unary(op) => operator_node(context, node, op, arg),
+        Single::Unary(op) => match op {
+            UnaryOp::Address => address_node(context, node, arg),
+            UnaryOp::Follow => indirection_node(context, node, arg),
+            _ => unary_node(context, node, op, arg),
+        },
         Single::Count { .. } => counting_node(context, node, arg),
-        Single::Size => size_node(context, node, arg),
-        Single::Member(name, through) => name_in_node(context, node, arg, name, through),
-    }
-}
-
-/// What is found at a unary operator.
-fn operator_node(
-    context: &mut Context,
-    node: Node,
-    op: UnaryOp,
-    arg: Known,
-) -> Result<Found<Known>, NoMemory>
-    requires { arg.ctype < length context.old.types }
-    ensures { (abi : Abi) (tree : Expr) → IfOk result (λ found. FoundBehind abi node.number node.place (Unary op tree) one_operand arg context.old context.new found) }
-{
-    match op {
-        UnaryOp::Address => address_node(context, node, arg),
-        UnaryOp::Follow => indirection_node(context, node, arg),
-        _ => unary_node(context, node, op, arg),
-    }
-}
-
-/// What is found at a member, of a struct or of what a pointer leads to.
-fn name_in_node(
-    context: &mut Context,
-    node: Node,
-    base: Known,
-    name: &Identifier,
-    through: bool,
-) -> Result<Found<Known>, NoMemory>
-    requires { base.ctype < length context.old.types }
-    ensures { (abi : Abi) (tree : Expr) → IfOk result (λ found. FoundBehind abi node.number node.place (ExprForm::Member tree name.now through) one_operand base context.old context.new found) }
-{
-    if through {
-        pointed_member_node(context, node, base, name)
-    } else {
-        member_node(context, node, base, name)
+        Single::Size => {
+            let named = NamedType {
+                ctype: arg.ctype,
+                found: None,
+            };
+            size_node(context, node, named)
+        }
+        Single::Member(name, through) => {
+            if through {
+                pointed_member_node(context, node, arg, name)
+            } else {
+                member_node(context, node, arg, name)
+            }
+        }
     }
 }
 
@@ -136,26 +117,10 @@ pub(crate) fn pair_node(
 {
     match pair {
         Pair::Binary(op) => binary_node(context, node, op, left, right),
-        Pair::Assign(op) => assign_node(context, node, op, left, right, place),
+        Pair::Assign(op) => match op {
+            None => assignment_node(context, node, left, right, place),
+            Some(op) => update_node(context, node, op, left, right),
+        },
         Pair::Index => index_node(context, node, left, right),
-    }
-}
-
-/// What is found at an assignment, of a value that stands at a place.
-fn assign_node(
-    context: &mut Context,
-    node: Node,
-    op: Option<BinaryOp>,
-    left: Known,
-    right: Known,
-    place: Place,
-) -> Result<Found<Known>, NoMemory>
-    requires left { left.ctype < length context.old.types }
-    requires right { right.ctype < length context.old.types }
-    ensures { (abi : Abi) (one other : Expr) → other.place ≡ place → IfOk result (λ found. FoundBehind abi node.number node.place (Assign op one other) two_operands (left, right) context.old context.new found) }
-{
-    match op {
-        None => assignment_node(context, node, left, right, place),
-        Some(op) => update_node(context, node, op, left, right),
     }
 }

@@ -15,23 +15,8 @@ use cbase::{Extent, NoMemory, Place};
 use typing::Fault;
 use typing::ctypes::Broken;
 
-/// What is found at `sizeof` of an expression (C11 6.5.3.4).
+/// What is found at `sizeof` of a type name, or of an expression of a type of which nothing is found (C11 6.5.3.4).
 pub(crate) fn size_node(
-    context: &mut Context,
-    node: Node,
-    arg: Known,
-) -> Result<Found<Known>, NoMemory>
-    requires { arg.ctype < length context.old.types }
-    ensures { (abi : Abi) → IfOk result (λ found. Settled (λ n. size_faults node.place (size_in abi context.old.structs (n.ctype arg.ctype))) (λ n. sized_known (size_in abi context.old.structs (n.ctype arg.ctype))) node.number context.old context.new found) }
-{
-    let size = context.size(arg.ctype);
-    let ctype = context.integer(8, false)?;
-    let known = Known::valued(size_told(size), ctype);
-    settle(context, node.number, size_fault(node.place, size), known)
-}
-
-/// What is found at `sizeof` of a type name.
-pub(crate) fn type_size_node(
     context: &mut Context,
     node: Node,
     named: NamedType,
@@ -40,13 +25,17 @@ pub(crate) fn type_size_node(
     ensures { (abi : Abi) → IfOk result (λ found. Settled (λ n. all_at node.place named.found ++ size_faults node.place (size_in abi context.old.structs (n.ctype named.ctype))) (λ n. sized_known (size_in abi context.old.structs (n.ctype named.ctype))) node.number context.old context.new found) }
 {
     let size = context.size(named.ctype);
-    let ctype = context.integer(8, false)?;
-    let known = Known::valued(size_told(size), ctype);
     let broken = first_of(
         all_at(node.place, named.found),
         size_fault(node.place, size),
     );
-    settle(context, node.number, broken, known)
+    match context.integer(8, false) {
+        Ok(ctype) => {
+            let known = Known::valued(size_told(size), ctype);
+            settle(context, node.number, broken, known)
+        }
+        Err(error) => Err(error),
+    }
 }
 
 /// What is broken at `sizeof`: an incomplete type has no size, and no object has more than 65,536 bytes.

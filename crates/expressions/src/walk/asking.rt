@@ -16,16 +16,6 @@ use crate::part::{Part, Slot, Subject, Told};
 use cbase::{Expr, Init, NoMemory, Stmt};
 
 impl<F: Fn(&mut Context, Within, Part<'_>) -> Result<Found<Told>, NoMemory>> Checker<F> {
-    /// The data layout, and how many levels a part that lies in a tree may have.
-    fn within(&self) -> Within
-        ensures { result ≡ record { abi = self.now.abi; depth = self.now.depth } }
-    {
-        Within {
-            abi: self.abi,
-            depth: self.depth,
-        }
-    }
-
     /// What is found of an expression that lies in a tree.
     pub fn ask_expression(
         &self,
@@ -36,7 +26,11 @@ impl<F: Fn(&mut Context, Within, Part<'_>) -> Result<Found<Told>, NoMemory>> Che
         requires deep { expr_levels expr.now ≤ self.now.depth }
         ensures { IfOk result (λ found. Walked (Says self.now.abi (λ o. ExpressionIs expr.now o)) an_expression context.old context.new found) }
     {
-        expression_in((self.inner)(context, self.within(), Part::Expression(expr)))
+        let within = Within {
+            abi: self.abi,
+            depth: self.depth,
+        };
+        expression_in((self.inner)(context, within, Part::Expression(expr)))
     }
 
     /// What is found of a type name that lies in a tree, and of a struct or an enum with braces.
@@ -50,7 +44,11 @@ impl<F: Fn(&mut Context, Within, Part<'_>) -> Result<Found<Told>, NoMemory>> Che
         requires of_type { IsTypePart part }
         ensures { IfOk result (λ found. IsTypeTold self.now.abi part.entry context.old context.new found) }
     {
-        type_in((self.inner)(context, self.within(), part))
+        let within = Within {
+            abi: self.abi,
+            depth: self.depth,
+        };
+        type_in((self.inner)(context, within, part))
     }
 
     /// What is found of a statement or a declaration in a block.
@@ -59,7 +57,11 @@ impl<F: Fn(&mut Context, Within, Part<'_>) -> Result<Found<Told>, NoMemory>> Che
         requires deep { stmt_levels stmt.now ≤ self.now.depth }
         ensures { IfOk result (λ found. Walked (Says self.now.abi (λ o. StatementIs stmt.now o)) nothing context.old context.new found) }
     {
-        nothing_in((self.inner)(context, self.within(), Part::Statement(stmt)))
+        let within = Within {
+            abi: self.abi,
+            depth: self.depth,
+        };
+        nothing_in((self.inner)(context, within, Part::Statement(stmt)))
     }
 
     /// What is found of an initialiser of what is set in an object.
@@ -75,10 +77,14 @@ impl<F: Fn(&mut Context, Within, Part<'_>) -> Result<Found<Told>, NoMemory>> Che
         requires slot { slot.ctype < length context.old.types }
         ensures { IfOk result (λ found. Walked (SaysBy self.now.abi (λ n o. InitialiserIs (subject_of subject) (slot_at n slot) init.now o)) nothing context.old context.new found) }
     {
+        let within = Within {
+            abi: self.abi,
+            depth: self.depth,
+        };
         nothing_in(
             (self.inner)(
                 context,
-                self.within(),
+                within,
                 Part::Initialiser(subject, Some(slot), init),
             ),
         )
@@ -95,13 +101,11 @@ impl<F: Fn(&mut Context, Within, Part<'_>) -> Result<Found<Told>, NoMemory>> Che
         requires deep { init_levels init.now ≤ self.now.depth }
         ensures { IfOk result (λ found. Walked (Says self.now.abi (λ o. SurplusIs subject.place init.now o)) nothing context.old context.new found) }
     {
-        nothing_in(
-            (self.inner)(
-                context,
-                self.within(),
-                Part::Initialiser(subject, None, init),
-            ),
-        )
+        let within = Within {
+            abi: self.abi,
+            depth: self.depth,
+        };
+        nothing_in((self.inner)(context, within, Part::Initialiser(subject, None, init)))
     }
 }
 

@@ -72,7 +72,10 @@ impl<F: Fn(&mut Context, Within, Part<'_>) -> Result<Found<Told>, NoMemory>> Che
                 Err(error) => return Err(error),
             }
         }
-        Ok(Found::Passes(context.void()?))
+        match context.void() {
+            Ok(ctype) => Ok(Found::Passes(ctype)),
+            Err(error) => Err(error),
+        }
     }
 }
 
@@ -87,7 +90,10 @@ fn value_type(context: &mut Context, place: Place, known: Known) -> Result<Found
             broken: Broken::Rule(4),
         }));
     }
-    Ok(Found::Passes(context.value_type(known.ctype)?))
+    match context.value_type(known.ctype) {
+        Ok(ctype) => Ok(Found::Passes(ctype)),
+        Err(error) => Err(error),
+    }
 }
 
 /// The expression that is a statement, where it is the last of its block and an expression.

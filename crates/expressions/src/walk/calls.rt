@@ -21,22 +21,8 @@ use crate::nodes::first::unless;
 use crate::part::{Part, Told};
 use cbase::{Expr, ExprForm, NoMemory};
 use std::alloc::Global;
-use typing::Fault;
 use typing::ctypes::Broken;
 use typing::environment::Entity;
-
-/// A function that a callee names.
-#[derive(Clone, Copy)]
-struct NamedFunction<'a> {
-    /// Its name.
-    name: &'a [u8],
-    /// The number of its signature.
-    signature: u32,
-    /// Whether the text has a body for it.
-    defined: bool,
-    /// Whether it is one of the functions that are built in.
-    built_in: bool,
-}
 
 impl<F: Fn(&mut Context, Within, Part<'_>) -> Result<Found<Told>, NoMemory>> Checker<F> {
     /// A call (C11 6.5.2.2).
@@ -53,59 +39,19 @@ impl<F: Fn(&mut Context, Within, Part<'_>) -> Result<Found<Told>, NoMemory>> Che
         requires args { All (λ arg. expr_levels arg ≤ self.now.depth) args.now }
         ensures { IfOk result (λ found. Walked (SaysForm self.now.abi node.number node.place (Call callee.now args.now)) an_expression context.old context.new found) }
     {
-        let Some(function) = named_function(context, callee) else {
-            return self.call_of_other(alloc, context, node, callee, args);
+        let function = named_function(context, callee);
+        let told = match function {
+            Some(function) => called_function(context, callee, function),
+            None => self.loaded(context, callee),
         };
-        match called_function(context, callee, function) {
+        match told {
             Ok(Found::Passes(_)) => {}
             Ok(Found::Refused(fault)) => return Ok(Found::Refused(fault)),
             Err(error) => return Err(error),
         }
         let mut known = Vec::new(alloc);
         match self.arguments(context, args, &mut known) {
-            Ok(Found::Passes(())) => call_node(
-                context,
-                node,
-                Callee {
-                    name: function.name,
-                    place: callee.place,
-                    signature: function.signature,
-                    built_in: function.built_in,
-                },
-                args,
-                &known,
-            ),
-            Ok(Found::Refused(fault)) => Ok(Found::Refused(fault)),
-            Err(error) => Err(error),
-        }
-    }
-
-    /// A call of what names no function: construct 11, behind its arguments.
-    fn call_of_other(
-        &self,
-        alloc: Global,
-        context: &mut Context,
-        node: Node,
-        callee: &Expr,
-        args: &[Expr],
-    ) -> Result<Found<Known>, NoMemory>
-        requires nests { Nests self.now.abi self.now.depth (F.pre self.now.inner) (F.post self.now.inner) }
-        requires callee { expr_levels callee.now ≤ self.now.depth }
-        requires args { All (λ arg. expr_levels arg ≤ self.now.depth) args.now }
-        requires other { (name : List ℕ) (signature : ℕ) (defined built_in : Bool) → named callee.now ≡ Some name → name_found name context.old.environment ≡ Some (Function signature defined built_in) → ⊥ }
-        ensures { IfOk result (λ found. Walked (SaysForm self.now.abi node.number node.place (Call callee.now args.now)) an_expression context.old context.new found) }
-    {
-        match self.loaded(context, callee) {
-            Ok(Found::Passes(_)) => {}
-            Ok(Found::Refused(fault)) => return Ok(Found::Refused(fault)),
-            Err(error) => return Err(error),
-        }
-        let mut known = Vec::new(alloc);
-        match self.arguments(context, args, &mut known) {
-            Ok(Found::Passes(())) => Ok(Found::Refused(Fault {
-                place: node.place,
-                broken: Broken::Construct(11),
-            })),
+            Ok(Found::Passes(())) => call_node(context, node, function, args, &known),
             Ok(Found::Refused(fault)) => Ok(Found::Refused(fault)),
             Err(error) => Err(error),
         }
@@ -116,7 +62,7 @@ impl<F: Fn(&mut Context, Within, Part<'_>) -> Result<Found<Told>, NoMemory>> Che
 fn called_function(
     context: &mut Context,
     callee: &Expr,
-    function: NamedFunction<'_>,
+    function: Callee<'_>,
 ) -> Result<Found<Known>, NoMemory>
     requires { function.signature < length context.old.environment.signatures }
     ensures { IfOk result (λ found. Settled (λ n. function_faults callee.now.place (function_at n (n.signature function.entry.signature) function.entry.defined function.entry.built_in)) (λ n. called_of (function_at n (n.signature function.entry.signature) function.entry.defined function.entry.built_in)) callee.now.number context.old context.new found) }
@@ -143,8 +89,9 @@ fn is_there(defined: bool, built_in: bool) -> bool
 }
 
 /// The function that a callee names, if it names one.
-fn named_function<'a>(context: &Context, callee: &'a Expr) -> Option<NamedFunction<'a>>
+fn named_function<'a>(context: &Context, callee: &'a Expr) -> Option<Callee<'a>>
     ensures some { IfSome result (λ function. (named callee.now ≡ Some function.name.now) × (name_found function.name.now context.now.environment ≡ Some (Function function.signature function.defined function.built_in))) }
+    ensures place { IfSome result (λ function. function.place ≡ callee.now.place) }
     ensures signature { IfSome result (λ function. function.signature < length context.now.environment.signatures) }
     ensures none { IfNone result ((name : List ℕ) (signature : ℕ) (defined built_in : Bool) → named callee.now ≡ Some name → name_found name context.now.environment ≡ Some (Function signature defined built_in) → ⊥) }
 {
@@ -158,8 +105,9 @@ fn named_function<'a>(context: &Context, callee: &'a Expr) -> Option<NamedFuncti
                 defined,
                 built_in,
             },
-        ) => Some(NamedFunction {
+        ) => Some(Callee {
             name: name.as_slice(),
+            place: callee.place,
             signature,
             defined,
             built_in,

@@ -1,12 +1,12 @@
 ghost use Rattle.std.specs.Prelude.{◌≡◌, ◌≤◌, ◌<◌, ◌+◌, ℕ, Some, length, IfOk, IfSome};
 ghost use Rattle.cbase.specs.declared.tree.expr.ExprForm.TheOpen.{Enum};
 ghost use Rattle.cbase.specs.declared.tree.spec.TypeSpec.TheVariants.{Enum as EnumSpec};
-ghost use Rattle.ctrees.specs.Levels.{spec_levels, enumerator_levels, maybe_levels};
-ghost use Rattle.typing.specs.Typing.{WordsAre, ValueOfEnumerator};
+ghost use Rattle.ctrees.specs.Levels.{spec_levels, enumerator_levels};
+ghost use Rattle.typing.specs.Typing.{WordsAre};
 ghost use Rattle.typing.specs.declared.ctypes.found.Broken.TheVariants.{Rule};
 ghost use Rattle.typing.specs.Faults.{fault};
 ghost use Rattle.expressions.specs.Enumerated.{IsEnumerated, IsIntValue, int_found};
-ghost use Rattle.expressions.specs.Found.{a_type, some_bits};
+ghost use Rattle.expressions.specs.Found.{a_type};
 ghost use Rattle.expressions.specs.Nests.{Nests};
 ghost use Rattle.expressions.specs.Walked.{Walked, Says};
 
@@ -16,7 +16,7 @@ use crate::found::Found;
 use crate::known::Known;
 use crate::named_type::NamedType;
 use crate::part::{Part, Told};
-use cbase::{Enumerator, Expr, Identifier, List, NoMemory, Place};
+use cbase::{Enumerator, Identifier, List, NoMemory, Place};
 use std::alloc::Global;
 use typing::Fault;
 use typing::ctypes::Broken;
@@ -53,14 +53,14 @@ impl<F: Fn(&mut Context, Within, Part<'_>) -> Result<Found<Told>, NoMemory>> Che
                 Err(error) => return Err(error),
             }
         }
-        Ok(Found::Passes(NamedType {
-            ctype: context.integer(4, true)?,
-            found: None,
-        }))
+        match context.integer(4, true) {
+            Ok(ctype) => Ok(Found::Passes(NamedType { ctype, found: None })),
+            Err(error) => Err(error),
+        }
     }
 
-    /// A constant of an enum, which has the value `next` where none is given. A name that its scope declares is rule 2 at it, also where it stands in its
-    /// own value (C11 6.7p3).
+    /// A constant of an enum, which has the value `next` where none is given, as the bits of an `int`: one that no `int` has is rule 9, at the expression
+    /// where one is given (C11 6.7.2.2p2, p3). A name that its scope declares is rule 2 at it, also where it stands in its own value (6.7p3).
     fn enumerator(
         &self,
         alloc: Global,
@@ -76,10 +76,17 @@ impl<F: Fn(&mut Context, Within, Part<'_>) -> Result<Found<Told>, NoMemory>> Che
         if context.is_declared_here(name) {
             return Ok(Found::Refused(twice(constant.place)));
         }
-        let bits = match self.enumerator_value(context, constant.place, next, &constant.value) {
-            Ok(Found::Passes(bits)) => bits,
-            Ok(Found::Refused(fault)) => return Ok(Found::Refused(fault)),
-            Err(error) => return Err(error),
+        let value = match &constant.value {
+            None => int_or_refused(constant.place, next),
+            Some(expr) => match self.loaded(context, expr) {
+                Ok(Found::Passes(known)) => int_in(context, expr.place, known),
+                Ok(Found::Refused(fault)) => return Ok(Found::Refused(fault)),
+                Err(error) => return Err(error),
+            },
+        };
+        let bits = match value {
+            Found::Passes(bits) => bits,
+            Found::Refused(fault) => return Ok(Found::Refused(fault)),
         };
         if context.is_declared_here(name) {
             return Ok(Found::Refused(twice(constant.place)));
@@ -87,29 +94,6 @@ impl<F: Fn(&mut Context, Within, Part<'_>) -> Result<Found<Told>, NoMemory>> Che
         match context.declare(alloc, name, Entity::Enumerator { bits }) {
             Ok(()) => Ok(Found::Passes(bits)),
             Err(error) => Err(error),
-        }
-    }
-
-    /// The value of a constant of an enum at a place, as the bits of an `int`: `next` where none is given. One that no `int` has is rule 9, at the expression
-    /// where one is given (C11 6.7.2.2p2, p3).
-    fn enumerator_value(
-        &self,
-        context: &mut Context,
-        place: Place,
-        next: Option<u32>,
-        value: &Option<Expr>,
-    ) -> Result<Found<u32>, NoMemory>
-        requires nests { Nests self.now.abi self.now.depth (F.pre self.now.inner) (F.post self.now.inner) }
-        requires deep { maybe_levels value.now ≤ self.now.depth }
-        ensures { IfOk result (λ found. Walked (Says self.now.abi (λ o. ValueOfEnumerator place next value.now o)) some_bits context.old context.new found) }
-    {
-        match value {
-            None => Ok(int_or_refused(place, next)),
-            Some(expr) => match self.loaded(context, expr) {
-                Ok(Found::Passes(known)) => Ok(int_in(context, expr.place, known)),
-                Ok(Found::Refused(fault)) => Ok(Found::Refused(fault)),
-                Err(error) => Err(error),
-            },
         }
     }
 }

@@ -1,11 +1,10 @@
-ghost use Rattle.std.specs.Prelude.{◌≡◌, ◌≤◌, ◌+◌, ℕ, IfOk};
-ghost use Rattle.cbase.specs.declared.tree.expr.ExprForm.TheViews.{out-ExprForm};
-ghost use Rattle.ctrees.specs.Levels.{expr_levels, form_levels};
+ghost use Rattle.std.specs.Prelude.{◌≤◌, ◌+◌, ℕ, IfOk};
+ghost use Rattle.ctrees.specs.Levels.{expr_levels};
 ghost use Rattle.typing.specs.Typing.{ExpressionIs};
 ghost use Rattle.expressions.specs.Exact.{NothingElse};
 ghost use Rattle.expressions.specs.Found.{an_expression};
 ghost use Rattle.expressions.specs.Nests.{Nests};
-ghost use Rattle.expressions.specs.Walked.{Walked, Says, SaysForm};
+ghost use Rattle.expressions.specs.Walked.{Walked, Says};
 
 use crate::checker::{Checker, Within};
 use crate::context::Context;
@@ -15,7 +14,7 @@ use crate::nodes::constant::constant_node;
 use crate::nodes::finishing::Node;
 use crate::nodes::names::name_node;
 use crate::nodes::shapes::{Pair, Single};
-use crate::nodes::sizes::type_size_node;
+use crate::nodes::sizes::size_node;
 use crate::part::{Part, Told};
 use crate::walk::forms::failed_assertion;
 use cbase::{Expr, ExprForm, NoMemory};
@@ -41,22 +40,7 @@ impl<F: Fn(&mut Context, Within, Part<'_>) -> Result<Found<Told>, NoMemory>> Che
             number: expr.number,
             place: expr.place,
         };
-        self.form(alloc, context, node, &expr.form)
-    }
-
-    /// What is found of an expression, by its form.
-    fn form(
-        &self,
-        alloc: Global,
-        context: &mut Context,
-        node: Node,
-        form: &ExprForm,
-    ) -> Result<Found<Known>, NoMemory>
-        requires nests { Nests self.now.abi self.now.depth (F.pre self.now.inner) (F.post self.now.inner) }
-        requires deep { form_levels form.now ≤ self.now.depth }
-        ensures { IfOk result (λ found. Walked (SaysForm self.now.abi node.number node.place (out-ExprForm form.now)) an_expression context.old context.new found) }
-    {
-        match form {
+        match &expr.form {
             ExprForm::Name(name) => name_node(context, node, name.as_slice()),
             ExprForm::Constant(spelling) => {
                 constant_node(context, node, self.abi, spelling.as_slice())
@@ -83,7 +67,7 @@ impl<F: Fn(&mut Context, Within, Part<'_>) -> Result<Found<Told>, NoMemory>> Che
             ExprForm::Cast { to, arg } => self.cast(alloc, context, node, to.get(), arg.get()),
             ExprForm::SizeOf(arg) => self.single(context, node, Single::Size, arg),
             ExprForm::SizeOfType(to) => match self.type_name(alloc, context, to.get()) {
-                Ok(Found::Passes(named)) => type_size_node(context, node, named),
+                Ok(Found::Passes(named)) => size_node(context, node, named),
                 Ok(Found::Refused(fault)) => Ok(Found::Refused(fault)),
                 Err(error) => Err(error),
             },

@@ -154,6 +154,8 @@ impl<F: Fn(&mut Context, Within, Part<'_>) -> Result<Found<Told>, NoMemory>> Che
 pub(crate) fn failed_assertion(context: &mut Context, node: Node) -> Result<Found<Known>, NoMemory>
     ensures { (abi : Abi) → IfOk result (λ found. Walked (SaysForm abi node.number node.place AssertFail) an_expression context.old context.new found) }
 {
-    let ctype = context.void()?;
-    pass(context, node.number, Known::plain(ctype))
+    match context.void() {
+        Ok(ctype) => pass(context, node.number, Known::plain(ctype)),
+        Err(error) => Err(error),
+    }
 }

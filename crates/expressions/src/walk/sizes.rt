@@ -18,7 +18,10 @@ pub fn pointers_to(context: &mut Context, ctype: u32, stars: u32) -> Result<u32,
     let mut left = stars;
     while left > 0 {
         left -= 1;
-        number = context.pointer_to(number)?;
+        match context.pointer_to(number) {
+            Ok(pointer) => number = pointer,
+            Err(error) => return Err(error),
+        }
     }
     Ok(number)
 }
@@ -32,7 +35,10 @@ pub fn arrays_of(context: &mut Context, ctype: u32, sizes: &[Size]) -> Result<u3
     let mut left = sizes.len();
     while left > 0 {
         left -= 1;
-        number = context.array_of(number, items(sizes[left]))?;
+        match context.array_of(number, items(sizes[left])) {
+            Ok(array) => number = array,
+            Err(error) => return Err(error),
+        }
     }
     Ok(number)
 }

@@ -1,9 +1,12 @@
-ghost use Rattle.std.specs.Prelude.{◌≡◌, ◌≤◌, ◌<◌, ◌+◌, ℕ, [], Some, length, IfOk, All};
+ghost use Rattle.std.specs.Prelude.{◌≡◌, ◌≤◌, ◌<◌, ◌+◌, ℕ, [], Some, Ok, Err, length, IfOk, All};
 ghost use Rattle.cbase.specs.declared.tree.expr.ExprForm.TheOpen.{Struct};
 ghost use Rattle.cbase.specs.declared.tree.spec.TypeSpec.TheVariants.{Struct as StructSpec};
 ghost use Rattle.ctrees.specs.Levels.{spec_levels, field_decl_levels, field_name_levels, maybe_levels};
 ghost use Rattle.typing.specs.Typing.{WordsAre, MembersAre, NamesAre, MemberIs, MemberSizesAre};
 ghost use Rattle.cbase.specs.declared.abi.Abi.{Abi};
+ghost use Rattle.cbase.specs.declared.no_memory.NoMemory.{NoMemory};
+ghost use Rattle.typing.specs.declared.fault.Fault.{Fault};
+ghost use Rattle.expressions.specs.declared.found.Found.TheVariants.{Passes, Refused};
 ghost use Rattle.expressions.specs.Counted.{WherePasses};
 ghost use Rattle.expressions.specs.Declaring.{IsFixed, IsMemberTaken, IsClosed};
 ghost use Rattle.expressions.specs.Found.{a_type, some_sizes, some_members};
@@ -47,11 +50,8 @@ impl<F: Fn(&mut Context, Within, Part<'_>) -> Result<Found<Told>, NoMemory>> Che
             Err(error) => return Err(error),
         };
         let mut members = Members::new(alloc);
-        match self.declarations(alloc, context, fields.as_slice(), &mut members) {
-            Ok(Found::Passes(())) => close(alloc, context, name, number, members.into_list()),
-            Ok(Found::Refused(fault)) => Ok(Found::Refused(fault)),
-            Err(error) => Err(error),
-        }
+        let declared = self.declarations(alloc, context, fields.as_slice(), &mut members);
+        close(alloc, context, name, number, members.into_list(), declared)
     }
 
     /// The declarations of members (C11 6.7.2.1), the words of each and its names, which are put behind those that the struct has.
@@ -217,23 +217,30 @@ fn take_member(
     }
 }
 
-/// The struct of that number behind its members.
+/// The struct of that number behind its members, where these pass.
 fn close(
     alloc: Global,
     context: &mut Context,
     name: &Option<Identifier>,
     number: u32,
     members: List<Member>,
+    declared: Result<Found<()>, NoMemory>,
 ) -> Result<Found<NamedType>, NoMemory>
-    requires { All (λ member. member.ctype < length context.old.types) members }
-    ensures { IfOk result (λ found. IsClosed name.now number members context.old context.new found) }
+    requires { IfOk declared (λ found. WherePasses found (All (λ member. member.ctype < length context.old.types) members)) }
+    ensures passes { declared ≡ Ok (Passes tt) → IfOk result (λ found. IsClosed name.now number members context.old context.new found) }
+    ensures refused { (first : Fault) → declared ≡ Ok (Refused first) → IfOk result (λ found. (found ≡ Refused first) × (context.new ≡ context.old)) }
+    ensures err { (error : NoMemory) → declared ≡ Err error → IfOk result (λ found. ⊥) }
 {
-    match context.close_struct(alloc, name, number, members) {
-        Ok(Some(fault)) => Ok(Found::Refused(fault)),
-        Ok(None) => Ok(Found::Passes(NamedType {
-            ctype: context.structure(number)?,
-            found: None,
-        })),
+    match declared {
+        Ok(Found::Passes(())) => match context.close_struct(alloc, name, number, members) {
+            Ok(Some(fault)) => Ok(Found::Refused(fault)),
+            Ok(None) => match context.structure(number) {
+                Ok(ctype) => Ok(Found::Passes(NamedType { ctype, found: None })),
+                Err(error) => Err(error),
+            },
+            Err(error) => Err(error),
+        },
+        Ok(Found::Refused(fault)) => Ok(Found::Refused(fault)),
         Err(error) => Err(error),
     }
 }

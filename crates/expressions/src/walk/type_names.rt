@@ -88,13 +88,20 @@ pub fn declare(
     requires { base.ctype < length context.old.types }
     ensures { (abi : Abi) → IfOk result (λ named. IsDeclared abi base stars sizes.now context.old context.new named) }
 {
-    let pointer = pointers_to(context, base.ctype, stars)?;
-    let ctype = arrays_of(context, pointer, sizes)?;
-    let large = found_of_large(context.is_large(ctype));
-    Ok(NamedType {
-        ctype,
-        found: least(base.found, least(found_of_sizes(sizes), large)),
-    })
+    let pointer = match pointers_to(context, base.ctype, stars) {
+        Ok(pointer) => pointer,
+        Err(error) => return Err(error),
+    };
+    match arrays_of(context, pointer, sizes) {
+        Ok(ctype) => {
+            let large = found_of_large(context.is_large(ctype));
+            Ok(NamedType {
+                ctype,
+                found: least(base.found, least(found_of_sizes(sizes), large)),
+            })
+        }
+        Err(error) => Err(error),
+    }
 }
 
 /// What is found of a type that may have more than 65,536 bytes: one that has is construct 19.

@@ -75,24 +75,28 @@ fn nothing(context: &mut Context) -> Result<Found<NamedType>, NoMemory>
     ensures of_struct { (abi : Abi) → IfOk result (λ found. Walked (Says abi (λ o. WordsAre (Struct None None) o)) a_type context.old context.new found) }
     ensures of_enum { (abi : Abi) → IfOk result (λ found. Walked (Says abi (λ o. WordsAre (Enum None None) o)) a_type context.old context.new found) }
 {
-    Ok(Found::Passes(NamedType {
-        ctype: context.void()?,
-        found: Some(Broken::Rule(1)),
-    }))
+    match context.void() {
+        Ok(ctype) => Ok(Found::Passes(NamedType {
+            ctype,
+            found: Some(Broken::Rule(1)),
+        })),
+        Err(error) => Err(error),
+    }
 }
 
 /// A type of keywords alone (C11 6.7.2p5).
 fn basic(context: &mut Context, abi: Abi, basic: BasicType) -> Result<Found<NamedType>, NoMemory>
     ensures { IfOk result (λ found. Walked (Says abi (λ o. WordsAre (Basic basic) o)) a_type context.old context.new found) }
 {
-    let ctype = match basic {
-        BasicType::Void => context.void()?,
-        BasicType::Bool => context.boolean()?,
-        BasicType::Integer { rank, signed } => {
-            context.integer(bytes_of_rank(rank, abi), signed)?
-        }
+    let told = match basic {
+        BasicType::Void => context.void(),
+        BasicType::Bool => context.boolean(),
+        BasicType::Integer { rank, signed } => context.integer(bytes_of_rank(rank, abi), signed),
     };
-    Ok(whole(ctype))
+    match told {
+        Ok(ctype) => Ok(whole(ctype)),
+        Err(error) => Err(error),
+    }
 }
 
 /// The name of a type (C11 6.7.8). A typedef of an array whose size is not known is rule 3 where it is held, and a name of no type rule 1.
@@ -115,10 +119,13 @@ fn typedef(context: &mut Context, name: &[u8]) -> Result<Found<NamedType>, NoMem
         Some(Entity::Function { .. }) => Broken::Rule(1),
         None => Broken::Rule(1),
     };
-    Ok(Found::Passes(NamedType {
-        ctype: context.void()?,
-        found: Some(rule),
-    }))
+    match context.void() {
+        Ok(ctype) => Ok(Found::Passes(NamedType {
+            ctype,
+            found: Some(rule),
+        })),
+        Err(error) => Err(error),
+    }
 }
 
 /// The tag of a struct (C11 6.7.2.3p8): one that is not visible is declared here, and that of an enum is rule 2.
@@ -134,7 +141,10 @@ fn structure(
         Some(Tag::Enum { .. }) => return Ok(other_kind(tag)),
         None => context.declare_struct(alloc, tag.name.as_slice())?,
     };
-    Ok(whole(context.structure(number)?))
+    match context.structure(number) {
+        Ok(ctype) => Ok(whole(ctype)),
+        Err(error) => Err(error),
+    }
 }
 
 /// The tag of an enum (C11 6.7.2.3).
@@ -150,7 +160,10 @@ fn enumeration(
         Some(Tag::Struct(_)) => return Ok(other_kind(tag)),
         None => context.declare_enum(alloc, tag.name.as_slice())?,
     }
-    Ok(whole(context.integer(4, true)?))
+    match context.integer(4, true) {
+        Ok(ctype) => Ok(whole(ctype)),
+        Err(error) => Err(error),
+    }
 }
 
 /// A type of which nothing is found.

@@ -24,11 +24,11 @@ returns-in-Ok-Refused g c = enum_walked c.args.self.now.abi c.args.name.now c.ar
     (enumerators_refused c.args.self.now.abi c.as_slice-constants.result.now c.loop-constant.next c.open_enum.new.self c.loop-constant.context c.enumerator.new.context c.loop-constant.constant-index c.constant-item.result c.in-Ok-Refused.fault c.in-Ok-Refused.field-0
     c.loop-constant-test.true c.constant-item.is c.in-Ok-Refused.field-0-is c.in-Ok-Refused.ensures c.loop-constant.invariant)
 
-pub returns : goal.returns
-returns g c = enum_walked c.args.self.now.abi c.args.name.now c.args.values.now c.args.context.now c.open_enum.new.self c.as_slice-constants.result.now c.integer.new.self c.open_enum.result c.in-Ok-None.field-0 (Ok (Passes (record { ctype = c.in_ok-integer.field-0; found = None })))
+pub returns-in-Ok : goal.returns-in-Ok
+returns-in-Ok g c = enum_walked c.args.self.now.abi c.args.name.now c.args.values.now c.args.context.now c.open_enum.new.self c.as_slice-constants.result.now c.integer.new.self c.open_enum.result c.in-Ok-None.field-0 (Ok (Passes (record { ctype = c.in-Ok.ctype; found = None })))
     c.as_slice-constants.ensures c.in-Ok-None.is c.in-Ok-None.field-0-is (c.open_enum.ensures c.args.self.now.abi)
-    (enumerators_end c.args.self.now.abi c.as_slice-constants.result.now c.loop-constant.next c.open_enum.new.self c.loop-constant.context c.integer.new.self c.loop-constant.constant-index c.in_ok-integer.field-0
-    (omega arith) c.loop-constant.invariant c.in_ok-integer.ensures)
+    (enumerators_end c.args.self.now.abi c.as_slice-constants.result.now c.loop-constant.next c.open_enum.new.self c.loop-constant.context c.integer.new.self c.loop-constant.constant-index c.in-Ok.ctype
+    (omega arith) c.loop-constant.invariant c.in-Ok.ensures)
 
 pub enumerator-requires-clause-nests : goal.enumerator-requires-clause-nests
 enumerator-requires-clause-nests g c = c.requires.nests

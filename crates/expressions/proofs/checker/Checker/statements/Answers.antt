@@ -30,8 +30,8 @@ returns-in-Ok-Refused g c = statements_value c.args.self.now.abi c.args.body.now
     c.loop-at-test.true c.index-body-at.is (eqb-true _ _ c.in-Some.ensures.some.0) c.loop-at.invariant
     (last_refused c.args.self.now.abi c.index-body-at.result c.in-Some.expr.now c.loop-at.context c.loaded.new.context c.in-Ok-Refused.fault c.in-Ok-Refused.field-0 c.in-Some.ensures.some.1 c.in-Ok-Refused.field-0-is c.in-Ok-Refused.ensures)
 
-pub returns : goal.returns
-returns g c = statements_end c.args.self.now.abi c.args.body.now c.args.context.now c.loop-at.context c.void.new.self c.loop-at.at c.in_ok-void.field-0 (omega arith) c.loop-at.invariant c.in_ok-void.ensures
+pub returns-in-Ok : goal.returns-in-Ok
+returns-in-Ok g c = statements_end c.args.self.now.abi c.args.body.now c.args.context.now c.loop-at.context c.void.new.self c.loop-at.at c.in-Ok.ctype (omega arith) c.loop-at.invariant c.in-Ok.ensures
 
 pub ask_statement-requires-clause-nests : goal.ask_statement-requires-clause-nests
 ask_statement-requires-clause-nests g c = c.requires.nests

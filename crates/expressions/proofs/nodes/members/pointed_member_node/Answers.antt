@@ -12,14 +12,14 @@ use Rattle.expressions.proofs.nodes.members.pointed_member_node.Goals as goal
 
 pub returns : goal.returns
 returns c = λ abi.
-    each_finished c.finish_member.result _ _ _ _ c.located-rest.result _ _ _ _ c.pointed_member.result c.pointed_member.ensures
+    each_finished c.finish_blaming.result _ _ _ _ c.located-rest.result _ _ _ _ c.pointed_member.result c.pointed_member.ensures
     (λ n i. member_through c.args.context.now.structs (operand_at n c.args.context.now.structs (c.operand.ensures i)).kind (c.as_slice-2.ensures i))
     (λ n agrees t.
     let kind = kind_of c.args.context.now.structs (n.ctype c.args.base.ctype) in
     let offset = c.pointed_offset-offset.ensures n abi agrees ∙ (λ i. pointed_offset abi c.args.context.now.structs kind (c.as_slice.ensures i)) in
     ap (λ (k : Known). record k { ctype = t }) (c.located-rest.ensures.is n)
     ∙ ap (λ (idiom : Idiom). located idiom t) (c.through.ensures ∙ ap (through c.args.base.idiom) offset))
-    c.finish_member.ensures
+    c.finish_blaming.ensures
 
-pub finish_member-requires : goal.finish_member-requires
-finish_member-requires c = answer_below _ _ _ c.pointed_member.result c.pointed_member.ensures
+pub finish_blaming-requires : goal.finish_blaming-requires
+finish_blaming-requires c = answer_below _ _ _ c.pointed_member.result c.pointed_member.ensures

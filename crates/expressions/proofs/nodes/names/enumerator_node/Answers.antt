@@ -7,16 +7,16 @@ use Rattle.expressions.specs.declared.known.Known.{Known}
 use Rattle.expressions.proofs.Judging.{each_settled}
 use Rattle.expressions.proofs.nodes.names.enumerator_node.Goals as goal
 
-pub returns : goal.returns
-returns c =
+pub returns-in-Ok : goal.returns-in-Ok
+returns-in-Ok c =
     let known : Known = record {
-      ctype = c.in_ok-ctype.ctype;
+      ctype = c.in-Ok.ctype;
       lvalue = false;
       null = nat_eq c.args.bits 0;
       value = Some c.from.result;
       idiom = Outside;
       stands = Some (Enumerator c.args.bits);
     } in
-    each_settled c.pass.result _ _ None known _ _ _ _ c.in_ok-ctype.ensures.only_types (λ n agrees. refl)
-    (λ n agrees i. record (enumerator_known c.args.bits) { ctype = c.in_ok-ctype.ensures.meant n agrees i; value = Some (c.from.ensures i) })
+    each_settled c.pass.result _ _ None known _ _ _ _ c.in-Ok.ensures.only_types (λ n agrees. refl)
+    (λ n agrees i. record (enumerator_known c.args.bits) { ctype = c.in-Ok.ensures.meant n agrees i; value = Some (c.from.ensures i) })
     c.pass.ensures

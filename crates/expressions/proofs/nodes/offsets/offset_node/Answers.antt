@@ -8,12 +8,12 @@ use Rattle.expressions.specs.Ways.{way_of}
 use Rattle.expressions.proofs.SettledBehind.{settled_behind, agrees_before_types, agrees_before_settled}
 use Rattle.expressions.proofs.nodes.offsets.offset_node.Goals as goal
 
-pub returns : goal.returns
-returns c abi =
+pub returns-in-Ok : goal.returns-in-Ok
+returns-in-Ok c abi =
     let old = c.args.context.now in
     let between = c.integer.new.self in
     let new = c.settle.new.context in
-    let numbered = c.in_ok-ctype.ensures in
+    let numbered = c.in-Ok.ensures in
     let way : Way = way_of c.way_to-way.result in
     IfOk-weaker c.settle.result _ _
     (λ found settled. (
@@ -21,11 +21,11 @@ returns c abi =
       (λ n agrees.
           c.way_to-way.ensures abi n
           (agrees_before_types n old between numbered.only_types
-          (agrees_before_settled n c.first_of-broken.result c.valued.result c.args.node.number between new found settled agrees))),
+          (agrees_before_settled n c.first_of-broken.result c.valued-known.result c.args.node.number between new found settled agrees))),
       settled_behind (λ n. all_at c.args.node.place c.args.named.found ++ way_faults way) (λ n. offset_known (way_offset way)) c.args.node.number old between new numbered.only_types
-          c.first_of-broken.result c.valued.result
+          c.first_of-broken.result c.valued-known.result
           (λ n agrees. c.first_of-broken.ensures _ _ c.all_at.ensures c.fault_on.ensures)
-          (λ n agrees. c.valued.ensures.is n ∙ (λ i. valued (Some (c.offset_of.ensures i)) (numbered.meant n agrees i)))
+          (λ n agrees. c.valued-known.ensures.is n ∙ (λ i. valued (Some (c.offset_of.ensures i)) (numbered.meant n agrees i)))
           found settled,
     ))
     c.settle.ensures

@@ -14,10 +14,10 @@ returns-then-is_struct c = λ abi stmt expr before at value passed.
     subst (λ (place : Place). Stopped (Says abi (λ o. StatementsAre (stmt ∷ []) o)) before c.args.context.now (fault place (Rule 4))) at
     (last_struct abi stmt expr before c.args.context.now c.args.known (Passes c.args.known) value refl passed (λ n agrees. sym (c.is_struct.ensures n agrees) ∙ c.if-is_struct.true))
 
-pub returns : goal.returns
-returns c = λ abi stmt expr before at value passed.
-    last_passes abi stmt expr before c.args.context.now c.value_type.new.self c.args.known (Passes c.args.known) c.in_ok-value_type.field-0 value refl passed
-    (λ n agrees. sym (c.is_struct.ensures n agrees) ∙ c.if-is_struct.false) c.in_ok-value_type.ensures
+pub returns-in-Ok : goal.returns-in-Ok
+returns-in-Ok c = λ abi stmt expr before at value passed.
+    last_passes abi stmt expr before c.args.context.now c.value_type.new.self c.args.known (Passes c.args.known) c.in-Ok.ctype value refl passed
+    (λ n agrees. sym (c.is_struct.ensures n agrees) ∙ c.if-is_struct.false) c.in-Ok.ensures
 
 pub is_struct-requires : goal.is_struct-requires
 is_struct-requires c = c.requires

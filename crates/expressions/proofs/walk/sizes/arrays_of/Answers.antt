@@ -9,7 +9,7 @@ use Rattle.expressions.proofs.walk.sizes.arrays_of.Goals as goal
 pub loop-left-preserved : goal.loop-left-preserved
 loop-left-preserved c =
     let before = c.loop-left.invariant in
-    let numbered = c.in_ok-number.ensures in
+    let numbered = c.in-Ok.ensures in
     let counted = c.items.ensures in
     record {
       inside = omega arith;

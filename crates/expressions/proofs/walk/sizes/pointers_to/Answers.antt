@@ -8,7 +8,7 @@ use Rattle.expressions.proofs.walk.sizes.pointers_to.Goals as goal
 pub loop-left-preserved : goal.loop-left-preserved
 loop-left-preserved c =
     let before = c.loop-left.invariant in
-    let numbered = c.in_ok-number.ensures in
+    let numbered = c.in-Ok.ensures in
     record {
       only_types = only_types_twice c.args.context.now c.loop-left.context c.pointer_to.new.self before.only_types numbered.only_types;
       below = numbered.below;

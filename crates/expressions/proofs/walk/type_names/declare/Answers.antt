@@ -32,8 +32,8 @@ declared_by abi base stars sizes old mid new pointer ctype large found first sec
       λ i. record { ctype = typed i; found = least_found i };
 }
 
-pub returns : goal.returns
-returns c abi =
-    declared_by abi c.args.base c.args.stars c.args.sizes.now c.args.context.now c.pointers_to.new.context c.arrays_of.new.context c.in_ok-pointer.pointer c.in_ok-ctype.ctype c.is_large.result c.least-2.result
-    c.in_ok-pointer.ensures c.in_ok-ctype.ensures (λ n agrees. c.is_large.ensures n abi agrees)
-    (c.least-2.ensures ∙ ap (least c.args.base.found) (c.least.ensures ∙ (λ i. least (c.found_of_sizes.ensures i) (c.found_of_large-large.ensures i))))
+pub returns-in-Ok-arrays_of : goal.returns-in-Ok-arrays_of
+returns-in-Ok-arrays_of c abi =
+    declared_by abi c.args.base c.args.stars c.args.sizes.now c.args.context.now c.pointers_to.new.context c.arrays_of.new.context c.in-Ok.pointer c.in-Ok-arrays_of.ctype c.is_large.result c.least-in-Ok-arrays_of.result
+    c.in-Ok.ensures c.in-Ok-arrays_of.ensures (λ n agrees. c.is_large.ensures n abi agrees)
+    (c.least-in-Ok-arrays_of.ensures ∙ ap (least c.args.base.found) (c.least.ensures ∙ (λ i. least (c.found_of_sizes.ensures i) (c.found_of_large-large.ensures i))))

@@ -24,13 +24,13 @@ returns-in-Some-Struct c = λ abi.
     (enum_of_struct abi old old tag arm.field-0-0
     (tag_known old.environment tag.name _ c.tag.result _ c.as_slice.ensures c.tag.ensures (arm.is ∙ ap Some arm.field-0-is)))
 
-pub returns : goal.returns
-returns c = λ abi.
+pub returns-in-Ok : goal.returns-in-Ok
+returns-in-Ok c = λ abi.
     let tag = c.args.tag.now in
     let old = c.args.context.now in
     let new = c.integer.new.self in
-    let number = c.in_ok-integer.field-0 in
-    let numbers : Numbers (λ n. int_type) c.match-tag.context new number = c.in_ok-integer.ensures in
+    let number = c.in-Ok.ctype in
+    let numbers : Numbers (λ n. int_type) c.match-tag.context new number = c.in-Ok.ensures in
     walked_as (Says abi (λ o. WordsAre (EnumWords (Some tag) None) o)) a_type old new c.whole.result (Passes (whole_at number)) c.whole.ensures
     (elim c.match-tag.branch [
       | in-Some-Enum w ↦

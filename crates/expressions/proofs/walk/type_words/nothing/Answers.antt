@@ -5,8 +5,8 @@ use Rattle.typing.specs.Typing.{StructOfNothing, EnumOfNothing}
 use Rattle.expressions.proofs.walk.type_words.nothing.Goals as goal
 use Rattle.expressions.proofs.TypeWords.{nothing_named}
 
-pub returns-clause-of_struct : goal.returns-clause-of_struct
-returns-clause-of_struct c = λ abi. nothing_named abi c.args.context.now c.void.new.self (Struct None None) c.in_ok-void.field-0 c.in_ok-void.ensures (λ n. StructOfNothing)
+pub returns-in-Ok-clause-of_struct : goal.returns-in-Ok-clause-of_struct
+returns-in-Ok-clause-of_struct c = λ abi. nothing_named abi c.args.context.now c.void.new.self (Struct None None) c.in-Ok.ctype c.in-Ok.ensures (λ n. StructOfNothing)
 
-pub returns-clause-of_enum : goal.returns-clause-of_enum
-returns-clause-of_enum c = λ abi. nothing_named abi c.args.context.now c.void.new.self (Enum None None) c.in_ok-void.field-0 c.in_ok-void.ensures (λ n. EnumOfNothing)
+pub returns-in-Ok-clause-of_enum : goal.returns-in-Ok-clause-of_enum
+returns-in-Ok-clause-of_enum c = λ abi. nothing_named abi c.args.context.now c.void.new.self (Enum None None) c.in-Ok.ctype c.in-Ok.ensures (λ n. EnumOfNothing)

@@ -25,13 +25,13 @@ returns-in-Some-Enum c = λ abi.
     (struct_of_enum abi old old tag arm.field-0-0
     (tag_known old.environment tag.name _ c.tag.result _ c.as_slice.ensures c.tag.ensures (arm.is ∙ ap Some arm.field-0-is)))
 
-pub returns : goal.returns
-returns c = λ abi.
+pub returns-in-Ok : goal.returns-in-Ok
+returns-in-Ok c = λ abi.
     let tag = c.args.tag.now in
     let old = c.args.context.now in
     let new = c.structure.new.self in
-    let number = c.in_ok-structure.field-0 in
-    let numbers : Numbers (λ n. StructType c.match-tag.number) c.match-tag.context new number = c.in_ok-structure.ensures in
+    let number = c.in-Ok.ctype in
+    let numbers : Numbers (λ n. StructType c.match-tag.number) c.match-tag.context new number = c.in-Ok.ensures in
     walked_as (Says abi (λ o. WordsAre (StructWords (Some tag) None) o)) a_type old new c.whole.result (Passes (whole_at number)) c.whole.ensures
     (elim c.match-tag.branch [
       | in-Some-Struct w ↦

@@ -18,16 +18,16 @@ returns-in-Some-Typedef-Whole c = λ abi.
     let below : arm.number < length c.args.context.now.types = rw (arm.field-0-is, arm.field-0-0-is) at c.in-Some-Typedef-Whole.ensures.below in
     rw c.whole.ensures (whole_name abi c.args.context.now c.args.context.now c.args.name.now arm.number found (only_types_same c.args.context.now) below)
 
-pub returns : goal.returns
-returns c = λ abi. elim c.match-look_up.branch [
+pub returns-in-Ok : goal.returns-in-Ok
+returns-in-Ok c = λ abi. elim c.match-look_up.branch [
   | in-Some-Typedef-UnsizedArray w ↦ rw w.rule-is (untyped_name abi c.args.context.now c.void.new.self c.args.name.now (Some w.in-Some-Typedef-UnsizedArray.field-0) (Rule 3)
-      c.in_ok-void.field-0 (sym c.look_up.ensures.is ∙ w.in-Some-Typedef-UnsizedArray.is) c.in_ok-void.ensures (λ n. rw (w.in-Some-Typedef-UnsizedArray.field-0-is, w.in-Some-Typedef-UnsizedArray.field-0-0-is) refl))
+      c.in-Ok.ctype (sym c.look_up.ensures.is ∙ w.in-Some-Typedef-UnsizedArray.is) c.in-Ok.ensures (λ n. rw (w.in-Some-Typedef-UnsizedArray.field-0-is, w.in-Some-Typedef-UnsizedArray.field-0-0-is) refl))
   | in-Some-Object w ↦ rw w.rule-is (untyped_name abi c.args.context.now c.void.new.self c.args.name.now (Some w.in-Some-Object.field-0) (Rule 1)
-      c.in_ok-void.field-0 (sym c.look_up.ensures.is ∙ w.in-Some-Object.is) c.in_ok-void.ensures (λ n. rw w.in-Some-Object.field-0-is refl))
+      c.in-Ok.ctype (sym c.look_up.ensures.is ∙ w.in-Some-Object.is) c.in-Ok.ensures (λ n. rw w.in-Some-Object.field-0-is refl))
   | in-Some-Enumerator w ↦ rw w.rule-is (untyped_name abi c.args.context.now c.void.new.self c.args.name.now (Some w.in-Some-Enumerator.field-0) (Rule 1)
-      c.in_ok-void.field-0 (sym c.look_up.ensures.is ∙ w.in-Some-Enumerator.is) c.in_ok-void.ensures (λ n. rw w.in-Some-Enumerator.field-0-is refl))
+      c.in-Ok.ctype (sym c.look_up.ensures.is ∙ w.in-Some-Enumerator.is) c.in-Ok.ensures (λ n. rw w.in-Some-Enumerator.field-0-is refl))
   | in-Some-Function w ↦ rw w.rule-is (untyped_name abi c.args.context.now c.void.new.self c.args.name.now (Some w.in-Some-Function.field-0) (Rule 1)
-      c.in_ok-void.field-0 (sym c.look_up.ensures.is ∙ w.in-Some-Function.is) c.in_ok-void.ensures (λ n. rw w.in-Some-Function.field-0-is refl))
+      c.in-Ok.ctype (sym c.look_up.ensures.is ∙ w.in-Some-Function.is) c.in-Ok.ensures (λ n. rw w.in-Some-Function.field-0-is refl))
   | in-None w ↦ rw w.rule-is (untyped_name abi c.args.context.now c.void.new.self c.args.name.now None (Rule 1)
-      c.in_ok-void.field-0 (sym c.look_up.ensures.is ∙ w.in-None.is) c.in_ok-void.ensures (λ n. refl))
+      c.in-Ok.ctype (sym c.look_up.ensures.is ∙ w.in-None.is) c.in-Ok.ensures (λ n. refl))
 ]
