@@ -1,5 +1,5 @@
 -- What a name has after a write, and the names that a map of the code shows.
-use Rattle.std.proofs.Common.{◌≡◌, ℕ, zero, suc, ◌-◌, ◌<◌, Bool, true, false, refl, ap, sym, ◌∙◌, arith, List, [], ◌∷◌, map, cond, drop, slice_get, Option, None, Some, Result, Ok, Err, OnErr}
+use Rattle.std.proofs.Common.{◌≡◌, ℕ, zero, suc, ◌-◌, ◌<◌, Bool, true, false, refl, ap, sym, ◌∙◌, arith, List, [], ◌∷◌, map, cond, drop, slice_get, Option, None, Some}
 use Rattle.std.specs.Prelude.{if◌then◌else◌, option_map}
 use Rattle.std.specs.Str.{bytes_eq}
 use Rattle.std.proofs.lemmas.Slice.Eq.{bytes_eq-Decides}
@@ -193,7 +193,3 @@ scope-put {A} name kept (entry ∷ level) = step (bytes_eq name entry.0) (scope-
         ≡ (if test then (entry.0, kept.meaning) ∷ scope_of level else (entry.0, entry.1.meaning) ∷ with_value name kept.meaning (scope_of level))
     step true rest = refl
     step false rest = ap (λ (scope : Entries A). (entry.0, entry.1.meaning) ∷ scope) rest
-
-pub err-holds : {T E P : Type 0} (r : Result T E) → P → OnErr r P
-err-holds (Ok value) p = tt
-err-holds (Err error) p = p
