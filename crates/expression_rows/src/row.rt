@@ -29,9 +29,10 @@ pub fn answer_line(alloc: Global, line: &str, answer: &mut String) -> Result<(),
         "file" => (Abi::Lp64, Around::File),
         _ => return push_text("no layout", answer),
     };
-    match cut(alloc, text.as_bytes())? {
-        None => push_text("no tokens", answer),
-        Some(t) => answer_tokens(alloc, abi, around, &t, answer),
+    match cut(alloc, text.as_bytes()) {
+        Ok(Some(t)) => answer_tokens(alloc, abi, around, &t, answer),
+        Ok(None) => push_text("no tokens", answer),
+        Err(error) => Err(error),
     }
 }
 
@@ -92,8 +93,9 @@ fn answer_read(
         return push_text("no expression", answer);
     }
     declare(context, abi, around)?;
-    match expression_found(context, abi, &read.expr)? {
-        Found::Passes(known) => push_known(context, known, answer),
-        Found::Refused(fault) => push_fault(fault, answer),
+    match expression_found(context, abi, &read.expr) {
+        Ok(Found::Passes(known)) => push_known(context, known, answer),
+        Ok(Found::Refused(fault)) => push_fault(fault, answer),
+        Err(error) => Err(error),
     }
 }
