@@ -1,4 +1,4 @@
--- The table of types is no shorter than before.
+-- Each number that the context gives is below the length of the table of types, which is no shorter than before.
 use Rattle.expression_rows.proofs.Growing.{is_below, is_longer}
 use Rattle.expression_rows.proofs.types.number_of_base.Goals as goal
 
