@@ -17,6 +17,14 @@ module _ {E : Type 0} (t : Numbering → CType) (old new : Context) where
   is_longer (Ok number) numbers = grows_longer old new (only_types_grows old new numbers.only_types)
   is_longer (Err error) numbers = tt
 
+module _ (t : Numbering → CType) (fewer : ℕ) (old new : Context) where
+  pub longer_by : (number : ℕ) → fewer ≤ length old.types → Numbers t old new number → fewer ≤ length new.types
+  longer_by number behind numbers = omega (arith, behind, grows_longer old new (only_types_grows old new numbers.only_types))
+
+  pub is_longer_still : {E : Type 0} (r : Result ℕ E) → fewer ≤ length old.types → IfOk r (λ number. Numbers t old new number) → OnOk r (fewer ≤ length new.types)
+  is_longer_still (Ok number) behind numbers = longer_by number behind numbers
+  is_longer_still (Err error) behind numbers = tt
+
 -- items whose numbers are below, with one more
 module _ {A : Type 0} (number : A → ℕ) (fewer more : ℕ) where
   pub one_more_below : (items all : List A) (item : A) → All (λ one. number one < fewer) items → fewer ≤ more → number item < more → all ≡ items ++ item ∷ []

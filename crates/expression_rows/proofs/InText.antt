@@ -1,6 +1,6 @@
 -- The tokens of a text lie in it.
-use Rattle.std.proofs.Common.{◌≡◌, ℕ, ◌<◌, ◌≤◌, List, length, slice_index_or, arith, subst, sym}
-use Rattle.std.specs.Prelude.{All, Result, Ok, IfOk}
+use Rattle.std.proofs.Common.{◌≡◌, ℕ, ◌≤◌, List, length, slice_index_or, arith, subst, sym}
+use Rattle.std.specs.Prelude.{Result, Ok, IfOk}
 use Rattle.ctokens.specs.InText.{LieInText, most_bytes}
 use Rattle.ctokens.specs.TokenList.{AreNumbered, AreOfText, AreTokens}
 use Rattle.ctokens.specs.declared.token.Token.{Token}

@@ -24,10 +24,13 @@ fn main(rt: HostRuntime) -> io::Result<()> {
     for line in BufReader::new(alloc, rt.reader())?.lines(alloc) {
         let line = line?;
         let mut answer = String::new(alloc);
-        match answer_line(alloc, line.as_str(), &mut answer) {
-            Ok(()) => println!(rt; "{answer}")?,
-            Err(NoMemory) => return Err(io::Error::from(ErrorKind::OutOfMemory)),
-        }
+        let printed = match answer_line(alloc, line.as_str(), &mut answer) {
+            Ok(()) => println!(rt; "{answer}"),
+            Err(NoMemory) => Err(io::Error::from(ErrorKind::OutOfMemory)),
+        };
+        drop(answer);
+        drop(line);
+        printed?;
     }
     Ok(())
 }

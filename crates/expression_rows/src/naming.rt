@@ -1,8 +1,5 @@
 //! How names are declared, functions and structs.
-ghost use Rattle.std.specs.Prelude.{◌≡◌, ◌<◌, ℕ, [], List as Items, length, All, OnOk};
-ghost use Rattle.typing.specs.environment.Bounds.{EntityBelow};
-ghost use Rattle.typing.specs.declared.environment.entity.Entity.TheVariants.{Object};
-ghost use Rattle.typing.specs.declared.environment.entity.Signature.{Signature as Signatures};
+ghost use Rattle.std.specs.Prelude.{◌≡◌, ◌<◌, [], length, All, OnOk};
 
 use crate::types::{Written, number_of, numbers_of};
 use cbase::{Abi, List, NoMemory, Text};
@@ -12,129 +9,110 @@ use typing::environment::{DeclaredType, Entity, Lifetime, Signature};
 
 /// What a name with a type is declared as.
 pub enum Kind {
-    /// An object that the text defines.
+    /// An object.
     Object,
-    /// One that it does not define.
-    Undefined,
-    /// An array of items of the type, whose size is not known.
-    Unsized,
     /// A parameter of `main`.
     OfMain,
     /// A parameter of another function.
     Parameter,
+    /// An array of items of the type, whose size is not known.
+    Unsized,
     /// A typedef.
     Typedef,
-}
-
-/// Where the body of a function stands.
-pub enum Body {
-    /// In the text.
-    Here,
-    /// Nowhere.
-    Missing,
-    /// The function is built in.
+    /// A constant of an enum, with its bits.
+    Constant(u32),
+    /// A function whose result has the type, with the types of its parameters.
+    Function,
+    /// One that is built in.
     BuiltIn,
+    /// The tag of a struct without members, which is the type.
+    Incomplete,
 }
 
-/// Declares each of these names with its type.
-pub fn names(
+/// Declares each of these names, all of which the text defines, or none.
+pub fn declare_rows(
     context: &mut Context,
     abi: Abi,
-    rows: &[(&[u8], Kind, Written)],
+    rows: &[(&[u8], Kind, Written, &[Written])],
+    defined: bool,
 ) -> Result<(), NoMemory> {
-    for (name, kind, written) in rows {
-        typed(context, abi, name, kind, written)?;
+    let alloc = context.alloc;
+    for (name, kind, written, parameters) in rows {
+        if defined {
+            context.define(alloc, name)?;
+        }
+        let number = number_of(context, abi, written)?;
+        declare_row(context, abi, name, kind, number, parameters, defined)?;
     }
     Ok(())
 }
 
-/// Declares a name with its type.
-fn typed(
+/// Declares a name whose type has that number.
+fn declare_row(
     context: &mut Context,
     abi: Abi,
     name: &[u8],
     kind: &Kind,
-    written: &Written,
-) -> Result<(), NoMemory> {
-    let alloc = context.alloc;
-    let number = number_of(context, abi, written)?;
-    context.declare(alloc, name, entity_of(kind, number))
-}
-
-/// What a name of a type stands for.
-fn entity_of(kind: &Kind, number: u32) -> Entity
-    ensures { (count : ℕ) (signatures : Items Signatures) → number < count → EntityBelow count signatures result }
+    number: u32,
+    parameters: &[Written],
+    defined: bool,
+) -> Result<(), NoMemory>
+    requires { number < length context.old.types }
 {
+    let alloc = context.alloc;
     let ctype = DeclaredType::Whole(number);
     match kind {
-        Kind::Object => object(ctype, Lifetime::Static, true),
-        Kind::Undefined => object(ctype, Lifetime::Static, false),
-        Kind::Unsized => object(DeclaredType::UnsizedArray(number), Lifetime::Static, true),
-        Kind::OfMain => object(ctype, Lifetime::MainParameter, true),
-        Kind::Parameter => object(ctype, Lifetime::Automatic, true),
-        Kind::Typedef => Entity::Typedef { ctype },
+        Kind::Object | Kind::OfMain | Kind::Parameter => {
+            let lifetime = match kind {
+                Kind::OfMain => Lifetime::MainParameter,
+                Kind::Parameter => Lifetime::Automatic,
+                _ => Lifetime::Static,
+            };
+            context.declare(
+                alloc,
+                name,
+                Entity::Object {
+                    ctype,
+                    token: 0,
+                    lifetime,
+                    defined,
+                },
+            )
+        }
+        Kind::Unsized => context.declare(
+            alloc,
+            name,
+            Entity::Object {
+                ctype: DeclaredType::UnsizedArray(number),
+                token: 0,
+                lifetime: Lifetime::Static,
+                defined,
+            },
+        ),
+        Kind::Typedef => context.declare(alloc, name, Entity::Typedef { ctype }),
+        Kind::Constant(bits) => context.declare(alloc, name, Entity::Enumerator { bits: *bits }),
+        Kind::Function | Kind::BuiltIn => {
+            let mut numbers = List::new(alloc);
+            numbers_of(context, abi, parameters, &mut numbers)?;
+            let signature = context.add_signature(Signature {
+                result: number,
+                parameters: numbers,
+            })?;
+            context.declare(
+                alloc,
+                name,
+                Entity::Function {
+                    signature,
+                    defined,
+                    built_in: matches!(kind, Kind::BuiltIn),
+                },
+            )
+        }
+        Kind::Incomplete => {
+            context.declare_struct(alloc, name)?;
+            Ok(())
+        }
     }
-}
-
-/// An object that is declared by the first token.
-fn object(ctype: DeclaredType, lifetime: Lifetime, defined: bool) -> Entity
-    ensures { result ≡ Object ctype 0 lifetime defined }
-{
-    Entity::Object {
-        ctype,
-        token: 0,
-        lifetime,
-        defined,
-    }
-}
-
-/// Declares constants of an enum, each with its bits.
-pub fn enumerators(context: &mut Context, rows: &[(&[u8], u32)]) -> Result<(), NoMemory> {
-    let alloc = context.alloc;
-    for (name, bits) in rows {
-        context.declare(alloc, name, Entity::Enumerator { bits: *bits })?;
-    }
-    Ok(())
-}
-
-/// Declares each of these functions with the type of its result and those of its parameters.
-pub fn functions(
-    context: &mut Context,
-    abi: Abi,
-    rows: &[(&[u8], Written, &[Written], Body)],
-) -> Result<(), NoMemory> {
-    for (name, returned, parameters, body) in rows {
-        function(context, abi, name, returned, parameters, body)?;
-    }
-    Ok(())
-}
-
-/// Declares a function.
-fn function(
-    context: &mut Context,
-    abi: Abi,
-    name: &[u8],
-    returned: &Written,
-    parameters: &[Written],
-    body: &Body,
-) -> Result<(), NoMemory> {
-    let alloc = context.alloc;
-    let result = number_of(context, abi, returned)?;
-    let mut numbers = List::new(alloc);
-    numbers_of(context, abi, parameters, &mut numbers)?;
-    let signature = context.add_signature(Signature {
-        result,
-        parameters: numbers,
-    })?;
-    context.declare(
-        alloc,
-        name,
-        Entity::Function {
-            signature,
-            defined: matches!(body, Body::Here),
-            built_in: matches!(body, Body::BuiltIn),
-        },
-    )
 }
 
 /// Declares a struct with its members.

@@ -1,5 +1,5 @@
 //! What is printed of what is found. Each function puts its part behind what is shown so far.
-ghost use Rattle.std.specs.Prelude.{◌<◌, length, IfOk, IfSome};
+ghost use Rattle.std.specs.Prelude.{◌<◌, length};
 
 use arithmetic::{Size, convert};
 use cbase::NoMemory;
@@ -23,60 +23,45 @@ pub fn push_known(context: &Context, known: Known, shown: &mut String) -> Result
 {
     push_type(context, known.ctype, shown)?;
     push_value(context.shape(known.ctype), known.value, shown)?;
-    push_word(known.lvalue, " lvalue", shown)?;
-    push_word(known.null, " null", shown)
+    let words = match (known.lvalue, known.null) {
+        (true, true) => " lvalue null",
+        (true, false) => " lvalue",
+        (false, true) => " null",
+        (false, false) => "",
+    };
+    push_text(words, shown)
 }
 
-/// A word, where what it says holds.
-fn push_word(holds: bool, word: &str, shown: &mut String) -> Result<(), NoMemory> {
-    if holds {
-        shown.push_str(word)?;
-    }
-    Ok(())
+/// A text as it stands.
+pub fn push_text(text: &str, shown: &mut String) -> Result<(), NoMemory> {
+    Ok(shown.push_str(text)?)
+}
+
+/// A word and a number.
+fn push_numbered(word: &str, number: u64, shown: &mut String) -> Result<(), NoMemory> {
+    Ok(write!(shown, "{word}{number}")?)
 }
 
 /// A type, outermost part first.
 fn push_type(context: &Context, number: u32, shown: &mut String) -> Result<(), NoMemory>
     requires { number < length context.now.types }
 {
-    let mut inner = number;
-    while let Some(item) = push_part(context, inner, shown)? {
-        inner = item;
-    }
-    Ok(())
-}
-
-/// The outermost part of a type; the number of the type below it, if there is one.
-fn push_part(context: &Context, number: u32, shown: &mut String) -> Result<Option<u32>, NoMemory>
-    requires { number < length context.now.types }
-    ensures { IfOk result (λ below. IfSome below (λ item. item < number)) }
-{
     match context.shape(number) {
         Shape::Pointer(item) => {
             shown.push('*')?;
-            Ok(Some(item))
+            push_type(context, item, shown)
         }
         Shape::Array(item, count) => {
             write!(shown, "[{count}]")?;
-            Ok(Some(item))
+            push_type(context, item, shown)
         }
-        base => {
-            push_base(base, shown)?;
-            Ok(None)
-        }
-    }
-}
-
-/// A type that is no pointer and no array.
-fn push_base(base: Shape, shown: &mut String) -> Result<(), NoMemory> {
-    match base {
-        Shape::Bool => Ok(shown.push_str("bool")?),
         Shape::Int { bytes, signed } => {
-            let letter = if signed { 'i' } else { 'u' };
-            Ok(write!(shown, "{letter}{}", u32::from(bytes) * 8)?)
+            let letter = if signed { "i" } else { "u" };
+            push_numbered(letter, u64::from(bytes) * 8, shown)
         }
-        Shape::Struct(of) => Ok(write!(shown, "struct{of}")?),
-        Shape::Void | Shape::Pointer(_) | Shape::Array(_, _) => Ok(shown.push_str("void")?),
+        Shape::Struct(of) => push_numbered("struct", u64::from(of), shown),
+        Shape::Bool => push_text("bool", shown),
+        Shape::Void => push_text("void", shown),
     }
 }
 
@@ -91,7 +76,7 @@ fn push_value(shape: Shape, value: Option<u64>, shown: &mut String) -> Result<()
                 signed: true,
             },
         ) => Ok(write!(shown, " = {}", extended(bytes, bits).cast_signed())?),
-        (Some(bits), _) => Ok(write!(shown, " = {bits}")?),
+        (Some(bits), _) => push_numbered(" = ", bits, shown),
     }
 }
 

@@ -4,9 +4,9 @@ ghost use Rattle.ctokens.specs.TokenList.{AreNumbered};
 ghost use Rattle.ctrees.specs.Levels.{expr_levels};
 
 use crate::declared::{Around, declare};
-use crate::printing::{push_fault, push_known};
+use crate::printing::{push_fault, push_known, push_text};
 use crate::reading::cut;
-use cbase::{Abi, Expr, NoMemory};
+use cbase::{Abi, NoMemory};
 use cbuild::let_go_of_expression;
 use cread_expr::{ReadExpr, Scope, read_expr};
 use ctokens::Tokens;
@@ -17,31 +17,22 @@ use std::alloc::Global;
 /// Puts what is printed for a line into an empty text.
 pub fn answer_line(alloc: Global, line: &str, answer: &mut String) -> Result<(), NoMemory> {
     if line.starts_with("#") {
-        return Ok(answer.push_str(line)?);
+        return push_text(line, answer);
     }
     let Some((layout, text)) = line.split_once(' ') else {
-        return Ok(answer.push_str("no row")?);
+        return push_text("no row", answer);
     };
-    match layout {
-        "lp64" => answer_text(alloc, Abi::Lp64, &Around::IntFunction, text, answer),
-        "llp64" => answer_text(alloc, Abi::Llp64, &Around::IntFunction, text, answer),
-        "void" => answer_text(alloc, Abi::Lp64, &Around::VoidFunction, text, answer),
-        "file" => answer_text(alloc, Abi::Lp64, &Around::File, text, answer),
-        _ => Ok(answer.push_str("no layout")?),
-    }
-}
-
-/// The same for an expression.
-fn answer_text(
-    alloc: Global,
-    abi: Abi,
-    around: &Around,
-    text: &str,
-    answer: &mut String,
-) -> Result<(), NoMemory> {
-    match cut(alloc, text.as_bytes())? {
-        None => Ok(answer.push_str("no tokens")?),
-        Some(t) => answer_tokens(alloc, abi, around, &t, answer),
+    let (abi, around) = match layout {
+        "lp64" => (Abi::Lp64, Around::IntFunction),
+        "llp64" => (Abi::Llp64, Around::IntFunction),
+        "void" => (Abi::Lp64, Around::VoidFunction),
+        "file" => (Abi::Lp64, Around::File),
+        _ => return push_text("no layout", answer),
+    };
+    match cut(alloc, text.as_bytes()) {
+        Ok(Some(t)) => answer_tokens(alloc, abi, around, &t, answer),
+        Ok(None) => push_text("no tokens", answer),
+        Err(error) => Err(error),
     }
 }
 
@@ -49,7 +40,7 @@ fn answer_text(
 fn answer_tokens(
     alloc: Global,
     abi: Abi,
-    around: &Around,
+    around: Around,
     t: &Tokens,
     answer: &mut String,
 ) -> Result<(), NoMemory>
@@ -61,11 +52,13 @@ fn answer_tokens(
     drop(scope);
     match read {
         Ok(Some(read)) => {
-            let answered = answer_read(alloc, abi, around, &read, t.list.len(), answer);
+            let mut context = Context::new(alloc);
+            let answered = answer_read(&mut context, abi, around, &read, t.list.len(), answer);
+            drop(context);
             let_go_of_expression(read.expr);
             answered
         }
-        Ok(None) => Ok(answer.push_str("no expression")?),
+        Ok(None) => push_text("no expression", answer),
         Err(error) => Err(error),
     }
 }
@@ -85,11 +78,11 @@ fn read_among_types(
     read_expr(alloc, t, scope, 0)
 }
 
-/// What is printed for an expression that is read from a text of so many tokens.
+/// What is printed for an expression that is read from a text of so many tokens, of a context in which nothing is declared yet.
 fn answer_read(
-    alloc: Global,
+    context: &mut Context,
     abi: Abi,
-    around: &Around,
+    around: Around,
     read: &ReadExpr,
     count: usize,
     answer: &mut String,
@@ -97,27 +90,12 @@ fn answer_read(
     requires { expr_levels read.now.expr ≤ 1024 }
 {
     if read.after as usize != count {
-        return Ok(answer.push_str("no expression")?);
+        return push_text("no expression", answer);
     }
-    let mut context = Context::new(alloc);
-    let answered = answer_expression(&mut context, abi, around, &read.expr, answer);
-    drop(context);
-    answered
-}
-
-/// What is printed for an expression, of a context in which nothing is declared yet.
-fn answer_expression(
-    context: &mut Context,
-    abi: Abi,
-    around: &Around,
-    expr: &Expr,
-    answer: &mut String,
-) -> Result<(), NoMemory>
-    requires { expr_levels expr.now ≤ 1024 }
-{
     declare(context, abi, around)?;
-    match expression_found(context, abi, expr)? {
-        Found::Passes(known) => push_known(context, known, answer),
-        Found::Refused(fault) => push_fault(fault, answer),
+    match expression_found(context, abi, &read.expr) {
+        Ok(Found::Passes(known)) => push_known(context, known, answer),
+        Ok(Found::Refused(fault)) => push_fault(fault, answer),
+        Err(error) => Err(error),
     }
 }

@@ -10,10 +10,13 @@ pub enum Base {
     Void,
     /// `_Bool`.
     Bool,
-    /// Integers of so many bytes, with a sign.
-    Signed(u8),
-    /// Integers of so many bytes, without one.
-    Unsigned(u8),
+    /// Integers of so many bytes, with a sign or without one.
+    Integer {
+        /// How many bytes they have.
+        bytes: u8,
+        /// Whether they have a sign.
+        signed: bool,
+    },
     /// Integers of as many bytes as a `long` has, with a sign or without one.
     Long {
         /// Whether they have a sign.
@@ -43,31 +46,10 @@ fn number_of_base(context: &mut Context, abi: Abi, base: &Base) -> Result<u32, N
     match base {
         Base::Void => context.void(),
         Base::Bool => context.boolean(),
-        Base::Signed(bytes) => context.integer(*bytes, true),
-        Base::Unsigned(bytes) => context.integer(*bytes, false),
+        Base::Integer { bytes, signed } => context.integer(*bytes, *signed),
         Base::Long { signed } => context.integer(bytes_of_rank(Rank::Long, abi), *signed),
         Base::Struct(of) => context.structure(*of),
     }
-}
-
-/// The number of the pointers to the type of that number.
-#[tactic(auto, using(crate::proofs::Growing::is_below, crate::proofs::Growing::is_longer))]
-fn pointer_to(context: &mut Context, item: u32) -> Result<u32, NoMemory>
-    requires { item < length context.old.types }
-    ensures below { IfOk result (λ number. number < length context.new.types) }
-    ensures longer { OnOk result (length context.old.types ≤ length context.new.types) }
-{
-    context.pointer_to(item)
-}
-
-/// The number of the arrays of so many of the type of that number.
-#[tactic(auto, using(crate::proofs::Growing::is_below, crate::proofs::Growing::is_longer))]
-fn array_of(context: &mut Context, item: u32, count: u64) -> Result<u32, NoMemory>
-    requires { item < length context.old.types }
-    ensures below { IfOk result (λ number. number < length context.new.types) }
-    ensures longer { OnOk result (length context.old.types ≤ length context.new.types) }
-{
-    context.array_of(item, count)
 }
 
 /// The number of a type in a data layout.
@@ -75,20 +57,18 @@ pub fn number_of(context: &mut Context, abi: Abi, written: &Written) -> Result<u
     ensures below { IfOk result (λ number. number < length context.new.types) }
     ensures longer { OnOk result (length context.old.types ≤ length context.new.types) }
 {
+    let (Written::Of(base)
+    | Written::PointerTo(base)
+    | Written::ArrayOf(base, _)
+    | Written::GridOf(base, _, _)) = written;
+    let item = number_of_base(context, abi, base)?;
     match written {
-        Written::Of(base) => number_of_base(context, abi, base),
-        Written::PointerTo(base) => {
-            let item = number_of_base(context, abi, base)?;
-            pointer_to(context, item)
-        }
-        Written::ArrayOf(base, count) => {
-            let item = number_of_base(context, abi, base)?;
-            array_of(context, item, *count)
-        }
-        Written::GridOf(base, rows, columns) => {
-            let item = number_of_base(context, abi, base)?;
-            let row = array_of(context, item, *columns)?;
-            array_of(context, row, *rows)
+        Written::Of(_) => Ok(item),
+        Written::PointerTo(_) => context.pointer_to(item),
+        Written::ArrayOf(_, count) => context.array_of(item, *count),
+        Written::GridOf(_, rows, columns) => {
+            let row = context.array_of(item, *columns)?;
+            context.array_of(row, *rows)
         }
     }
 }

@@ -1,4 +1,4 @@
--- Each number that the context gives is below the length of the table of types.
+-- Each number that the context gives is below the length of the table of types, which is no shorter than before.
 use Rattle.expression_rows.proofs.Growing.{is_below, is_longer}
 use Rattle.expression_rows.proofs.types.number_of_base.Goals as goal
 
@@ -14,17 +14,11 @@ returns-in-Bool-clause-below c = is_below _ _ _ c.boolean.result c.boolean.ensur
 pub returns-in-Bool-clause-longer : goal.returns-in-Bool-clause-longer
 returns-in-Bool-clause-longer c = is_longer _ _ _ c.boolean.result c.boolean.ensures
 
-pub returns-in-Signed-clause-below : goal.returns-in-Signed-clause-below
-returns-in-Signed-clause-below c = is_below _ _ _ c.integer.result c.integer.ensures
+pub returns-in-Integer-clause-below : goal.returns-in-Integer-clause-below
+returns-in-Integer-clause-below c = is_below _ _ _ c.integer.result c.integer.ensures
 
-pub returns-in-Signed-clause-longer : goal.returns-in-Signed-clause-longer
-returns-in-Signed-clause-longer c = is_longer _ _ _ c.integer.result c.integer.ensures
-
-pub returns-in-Unsigned-clause-below : goal.returns-in-Unsigned-clause-below
-returns-in-Unsigned-clause-below c = is_below _ _ _ c.integer-in-Unsigned.result c.integer-in-Unsigned.ensures
-
-pub returns-in-Unsigned-clause-longer : goal.returns-in-Unsigned-clause-longer
-returns-in-Unsigned-clause-longer c = is_longer _ _ _ c.integer-in-Unsigned.result c.integer-in-Unsigned.ensures
+pub returns-in-Integer-clause-longer : goal.returns-in-Integer-clause-longer
+returns-in-Integer-clause-longer c = is_longer _ _ _ c.integer.result c.integer.ensures
 
 pub returns-in-Long-clause-below : goal.returns-in-Long-clause-below
 returns-in-Long-clause-below c = is_below _ _ _ c.integer-in-Long.result c.integer-in-Long.ensures
