@@ -3,7 +3,6 @@ use Rattle.std.proofs.Common.{◌≡◌, ℕ, ◌≤◌, List, length, slice_ind
 use Rattle.std.specs.Prelude.{Result, Ok, IfOk}
 use Rattle.ctokens.specs.InText.{LieInText, most_bytes}
 use Rattle.ctokens.specs.TokenList.{AreNumbered, AreOfText, AreTokens}
-use Rattle.ctokens.specs.declared.token.Token.{Token}
 use Rattle.ctokens.specs.declared.token.Tokens.{Tokens}
 
 module _ {E : Type 0} (text : List ℕ) (answer : Result Tokens E) (t : Tokens) (is : answer ≡ Ok t) where
