@@ -14,7 +14,7 @@ import sys
 import tempfile
 from pathlib import Path
 
-ROWS = Path(__file__).resolve().parent.parent / "crates" / "constants" / "specs" / "Rows.antt"
+ROWS = Path(__file__).resolve().parent.parent / "crates" / "typing" / "specs" / "constants" / "Rows.antt"
 SUFFIXES = {"": "", "u": "u", "l": "l", "ll": "ll", "ul": "ul", "lu": "ul", "ull": "ull", "llu": "ull"}
 # C11 6.4.4.1p5, for decimal constants and for the others
 DECIMAL = {"": ["int", "long", "long long"], "l": ["long", "long long"], "ll": ["long long"]}
