@@ -22,17 +22,14 @@ HOME = Path(__file__).resolve().parent.parent
 PAGE = HOME / "docs" / "gate.md"
 BEGIN, END = "<!-- gate.py: begin -->\n", "<!-- gate.py: end -->\n"
 MARKS, END_OF_MARKS = "<!-- gate.py: marks -->\n", "<!-- gate.py: end of marks -->\n"
-# What a minute is depends on the machine and on what else it does. These crates took so many minutes in the table of 2026-11-29, and have not changed since but
-# for names of what they take from crates below: by what they take in a run it is estimated what its minutes would be there. A crate that changes is to be
-# taken out of the list.
+# What a minute is depends on the machine and on what else it does. These crates took so many minutes in the table of 2026-11-29, and have not changed since: by what
+# they take in a run it is estimated what its minutes would be there (yardstick minutes). A crate that changes is to be taken out of the list.
 YARDSTICK = {
-    "arithmetic_rows": 1.0, "bytes_core": 2.0, "flow": 3.7, "flow_rows": 1.3, "graph": 2.2, "graph_rows": 1.5, "graph_tests": 0.6, "memory_tests": 0.7, "planes": 2.0,
+    "arithmetic_rows": 1.0, "bytes_core": 2.0, "choices": 0.8, "choices_tests": 0.6, "first_form": 2.1, "memory_tests": 0.7,
 }
 # What groups of crates are meant to take at most.
 GROUPS = (
-    ("what types expressions", 15, "typing expressions expression_rows"),
-    ("the source machine and `replay`", 25, "choices c_machine c_steps c_run replay"),
-    ("all crates", 220, ""),
+    ("all crates", 108, ""),
 )
 KINDS = ("proof", "tests", "seed", "edits")
 HEAD = "| crate | its proof | its tests | once more for its edits | its edits | all |\n|---|---|---|---|---|---|\n"
@@ -116,7 +113,7 @@ def marks(rows):
     """The table of what groups of crates are meant to take and what they took, by the rows of crates."""
     took = {line.split("`")[1]: number(line.split("|")[-2].strip()) for line in rows.splitlines() if re.match(r"\| `\w+` \|", line)}
     scale = sum(took[crate] for crate in YARDSTICK) / sum(YARDSTICK.values())
-    lines = [f"| | in the table | estimated, at {scale:.2f} for a minute of 2026-11-29 | meant |\n|---|---|---|---|\n"]
+    lines = [f"| | in the table | in yardstick minutes, at {scale:.2f} for one | meant |\n|---|---|---|---|\n"]
     for what, meant, names in GROUPS:
         sum_of = sum(took[crate] for crate in names.split() or took)
         shown = f": {', '.join(f'`{crate}`' for crate in names.split())}" if names else ""
