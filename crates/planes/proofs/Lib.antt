@@ -1,4 +1,5 @@
-pub mod Above
+pub mod Fronts
+pub mod Lanes
+pub mod Made
 pub mod Pairs
-pub mod Parts
-pub mod Runs
+pub mod Ranges

@@ -1,4 +1,3 @@
 pub mod Classes
 pub mod Kept
-pub mod Runs
-pub mod Walk
+pub mod Lanes

@@ -1,62 +1,67 @@
-ghost use Rattle.std.specs.Prelude.{◌≡◌, ◌+◌, ◌≤◌, length, vec_capacity};
-ghost use Rattle.planes.specs.Classes.{IsClass, filled, highest};
-ghost use Rattle.planes.specs.Runs.{expanded, AreRuns};
+//! Changes of classes in place: vectors over equal chunks, and a plain loop for the rest.
+ghost use Rattle.std.specs.Prelude.{◌≡◌, ◌+◌, ◌≤◌, ◌++◌, length, take, drop, replicate};
+ghost use Rattle.planes.specs.Classes.{highest};
 
-use crate::class::MOST_BYTES;
-use crate::run::{Run, push_range, push_run};
-use crate::walk::push_highest;
-use std::mem;
+use crate::class::LANES;
+use std::simd::prelude::*;
 
-/// Gives `count` of `size` bytes, from `from` on, a class. The runs are made anew in `spare`.
-pub(crate) fn fill_runs(
-    runs: &mut Vec<Run>,
-    spare: &mut Vec<Run>,
-    size: u32,
-    from: u32,
-    count: u32,
-    class: u8,
-)
-    requires kept { AreRuns runs.old.items }
-    requires size { length (expanded runs.old.items) ≡ size }
-    requires most { size ≤ MOST_BYTES }
-    requires spare { size ≤ vec_capacity spare.old }
-    requires range { from + count ≤ size }
-    requires class { IsClass class }
-    ensures classes { expanded runs.new.items ≡ filled (expanded runs.old.items) from count class }
-    ensures kept { AreRuns runs.new.items }
-    ensures size { length (expanded runs.new.items) ≡ size }
-    ensures room { vec_capacity spare.old ≤ vec_capacity runs.new }
-    ensures spare { vec_capacity spare.new ≡ vec_capacity runs.old }
+/// Gives each byte a class.
+pub(crate) fn fill_bytes(bytes: &mut [u8], class: u8)
+    ensures { bytes.new ≡ replicate (length bytes.old) class }
 {
-    let end = from + count;
-    spare.clear();
-    push_range(spare, runs.as_slice(), 0, from);
-    push_run(
-        spare,
-        Run {
-            length: count,
-            class,
-        },
-    );
-    push_range(spare, runs.as_slice(), end, size - end);
-    mem::swap(runs, spare);
+    let lanes = u8x32::splat(class);
+    let mut at = 0;
+    while bytes.len() - at >= LANES {
+        lanes.copy_to_slice(&mut bytes[at..]);
+        at += LANES;
+    }
+    while at < bytes.len() {
+        bytes[at] = class;
+        at += 1;
+    }
 }
 
-/// Gives each byte the greater of its class and that in `others`. The runs are made anew in `spare`.
-#[tactic(auto, using(crate::proofs::Pairs::length_highest))]
-pub(crate) fn raise_runs(runs: &mut Vec<Run>, spare: &mut Vec<Run>, others: &[Run])
-    requires kept { AreRuns runs.old.items }
-    requires others { AreRuns others.now }
-    requires same { length (expanded runs.old.items) ≡ length (expanded others.now) }
-    requires most { length (expanded runs.old.items) ≤ MOST_BYTES }
-    requires spare { length (expanded runs.old.items) ≤ vec_capacity spare.old }
-    ensures classes { expanded runs.new.items ≡ highest (expanded runs.old.items) (expanded others.now) }
-    ensures kept { AreRuns runs.new.items }
-    ensures size { length (expanded runs.new.items) ≡ length (expanded runs.old.items) }
-    ensures room { vec_capacity spare.old ≤ vec_capacity runs.new }
-    ensures spare { vec_capacity spare.new ≡ vec_capacity runs.old }
+/// Gives each byte the class of that in `others`.
+pub(crate) fn copy_bytes(bytes: &mut [u8], others: &[u8])
+    requires { length bytes.old ≡ length others.now }
+    ensures { bytes.new ≡ others.now }
 {
-    spare.clear();
-    push_highest(spare, runs.as_slice(), others);
-    mem::swap(runs, spare);
+    let mut at = 0;
+    while bytes.len() - at >= LANES {
+        u8x32::from_slice(&others[at..]).copy_to_slice(&mut bytes[at..]);
+        at += LANES;
+    }
+    while at < bytes.len() {
+        bytes[at] = others[at];
+        at += 1;
+    }
+}
+
+/// The greater class of each byte of two vectors.
+#[inline(always)]
+fn higher(bytes: &[u8], others: &[u8], at: usize) -> u8x32
+    requires bytes { at + 32 ≤ length bytes.now }
+    requires others { at + 32 ≤ length others.now }
+    ensures { result ≡ highest (take 32 (drop at bytes.now)) (take 32 (drop at others.now)) }
+{
+    let left = u8x32::from_slice(&bytes[at..]);
+    let right = u8x32::from_slice(&others[at..]);
+    left.simd_lt(right).select(right, left)
+}
+
+/// Gives each byte the greater of its class and that in `others`.
+pub(crate) fn raise_bytes(bytes: &mut [u8], others: &[u8])
+    requires { length bytes.old ≡ length others.now }
+    ensures { bytes.new ≡ highest bytes.old others.now }
+{
+    let mut at = 0;
+    while bytes.len() - at >= LANES {
+        let lanes = higher(bytes, others, at);
+        lanes.copy_to_slice(&mut bytes[at..]);
+        at += LANES;
+    }
+    while at < bytes.len() {
+        bytes[at] = bytes[at].max(others[at]);
+        at += 1;
+    }
 }

@@ -9,3 +9,6 @@ pub const ANYTHING: u8 = 2;
 
 /// How many bytes the longest plane has.
 pub const MOST_BYTES: u32 = 65_536;
+
+/// How many bytes a vector has.
+pub(crate) const LANES: usize = 32;

@@ -1,24 +1,20 @@
-ghost use Rattle.std.specs.Prelude.{◌≡◌, ◌↔◌, ◌+◌, ◌≤◌, ◌<◌, length, take, drop, replicate, slice_get, IsTrue, IfOk, IfSome, None, Some, All};
+ghost use Rattle.std.specs.Prelude.{◌≡◌, ◌↔◌, ◌+◌, ◌≤◌, ◌<◌, ◌++◌, length, take, drop, replicate, slice_get, IsTrue, IfOk, IfSome, None, Some, All};
 ghost use Rattle.std.specs.List.{AllZip};
 ghost use Rattle.planes.specs.Classes.{IsClass, filled, highest, IsFirstAbove};
 
-use crate::change::{fill_runs, raise_runs};
+use crate::change::{copy_bytes, fill_bytes, raise_bytes};
 use crate::class::MOST_BYTES;
-use crate::run::{Run, class_at, first_above, push_range, push_run};
-use crate::walk::is_at_most;
+use crate::search::{is_at_most, low_front, same_front};
 use cbase::NoMemory;
 use std::alloc::Global;
 use std::marker::Model;
 
 /// A class for each byte of an object, at most [`MOST_BYTES`](crate::MOST_BYTES).
 ///
-/// Contracts see it as the list of the bytes' classes. It makes room for every change when it is made, so that
-/// only [`Plane::new`] and [`Plane::copied`] take memory.
+/// Contracts see it as the list of the bytes' classes. Only [`Plane::new`] and [`Plane::copied`] take memory.
 #[derive(Drop)]
 pub struct Plane {
-    runs: Vec<Run>,
-    spare: Vec<Run>,
-    size: u32,
+    bytes: Vec<u8>,
 }
 
 impl Model for Plane {
@@ -26,10 +22,9 @@ impl Model for Plane {
 
     ghost Value = { List ℕ };
 
-    ghost use Rattle.planes.specs.Runs.{expanded};
     ghost use Rattle.planes.specs.Kept.{IsPlane};
 
-    ghost view = { λ plane. expanded plane.runs.items };
+    ghost view = { λ plane. plane.bytes.items };
 
     ghost invariant = { IsPlane };
 }
@@ -41,42 +36,32 @@ impl Plane {
         requires class { IsClass class }
         ensures { IfOk result (λ plane. plane ≡ replicate length class) }
     {
-        let mut runs = Vec::with_capacity(alloc, length as usize)?;
-        let spare = Vec::with_capacity(alloc, length as usize)?;
-        push_run(&mut runs, Run { length, class });
-        Ok(Plane {
-            runs,
-            spare,
-            size: length,
-        })
+        let bytes = Vec::from_elem(alloc, class, length as usize)?;
+        Ok(Plane { bytes })
     }
 
     /// A plane with the same classes.
     pub fn copied(&self, alloc: Global) -> Result<Plane, NoMemory>
         ensures { IfOk result (λ plane. plane ≡ self.now) }
     {
-        let size = self.size;
-        let mut runs = Vec::with_capacity(alloc, size as usize)?;
-        let spare = Vec::with_capacity(alloc, size as usize)?;
-        push_range(&mut runs, self.runs.as_slice(), 0, size);
-        Ok(Plane { runs, spare, size })
+        let bytes = Vec::from_slice(alloc, self.bytes.as_slice())?;
+        Ok(Plane { bytes })
     }
 
     /// How many bytes it has a class for.
-    #[tactic(auto, using(crate::proofs::Runs::classes_of_runs))]
     pub fn len(&self) -> u32
         ensures bytes { result ≡ length self.now }
         ensures most { result ≤ MOST_BYTES }
         ensures classes { All IsClass self.now }
     {
-        self.size
+        self.bytes.len() as u32
     }
 
     /// Whether it has no byte.
     pub fn is_empty(&self) -> bool
         ensures { IsTrue result ↔ (length self.now ≡ 0) }
     {
-        self.size == 0
+        self.bytes.is_empty()
     }
 
     /// The class of the byte `at`. It takes no memory.
@@ -85,7 +70,7 @@ impl Plane {
         ensures value { slice_get self.now at ≡ Some result }
         ensures class { IsClass result }
     {
-        class_at(self.runs.as_slice(), at)
+        self.bytes[at as usize]
     }
 
     /// Gives `count` bytes from `from` on a class; the others keep theirs. It takes no memory.
@@ -94,8 +79,36 @@ impl Plane {
         requires class { IsClass class }
         ensures { self.new ≡ filled self.old from count class }
     {
-        let size = self.size;
-        fill_runs(&mut self.runs, &mut self.spare, size, from, count, class);
+        let from = from as usize;
+        let end = from + count as usize;
+        fill_bytes(&mut self.bytes[from..end], class);
+    }
+
+    /// Gives `count` bytes from `from` on the classes that `other` has from its byte `other_from` on; the others keep
+    /// theirs. It takes no memory.
+    pub fn copy_range(&mut self, from: u32, other: &Plane, other_from: u32, count: u32)
+        requires range { from + count ≤ length self.old }
+        requires other_range { other_from + count ≤ length other.now }
+        ensures { self.new ≡ take from self.old ++ take count (drop other_from other.now) ++ drop (from + count) self.old }
+    {
+        let from = from as usize;
+        let other_from = other_from as usize;
+        let count = count as usize;
+        copy_bytes(
+            &mut self.bytes[from..from + count],
+            &other.bytes[other_from..other_from + count],
+        );
+    }
+
+    /// Whether each of `count` bytes from `from` on has this class. It takes no memory.
+    pub fn all_are(&self, from: u32, count: u32, class: u8) -> bool
+        requires range { from + count ≤ length self.now }
+        requires class { IsClass class }
+        ensures { IsTrue result ↔ All (λ other. other ≡ class) (take count (drop from self.now)) }
+    {
+        let from = from as usize;
+        let count = count as usize;
+        same_front(&self.bytes[from..from + count], class) == count
     }
 
     /// Whether none of `count` bytes from `from` on has a class above `class`. It takes no memory.
@@ -104,11 +117,9 @@ impl Plane {
         requires class { IsClass class }
         ensures { IsTrue result ↔ All (λ other. other ≤ class) (take count (drop from self.now)) }
     {
-        let _size = self.size;
-        match self.first_above(from, class) {
-            None => true,
-            Some(at) => from + count <= at,
-        }
+        let from = from as usize;
+        let count = count as usize;
+        low_front(&self.bytes[from..from + count], class) == count
     }
 
     /// The first byte from `from` on that has a class above `class`. It takes no memory.
@@ -118,7 +129,12 @@ impl Plane {
         ensures none { (result ≡ None) ↔ All (λ other. other ≤ class) (drop from self.now) }
         ensures found { IfSome result (λ at. IsFirstAbove self.now from class at) }
     {
-        first_above(self.runs.as_slice(), from, class)
+        let at = from as usize + low_front(&self.bytes[from as usize..], class);
+        if at < self.bytes.len() {
+            Some(at as u32)
+        } else {
+            None
+        }
     }
 
     /// Gives each byte the greater of its class and that in `other`. It takes no memory.
@@ -126,7 +142,7 @@ impl Plane {
         requires { length self.old ≡ length other.now }
         ensures { self.new ≡ highest self.old other.now }
     {
-        raise_runs(&mut self.runs, &mut self.spare, other.runs.as_slice());
+        raise_bytes(&mut self.bytes, other.bytes.as_slice());
     }
 
     /// Whether no byte has a class above that in `other`. It takes no memory.
@@ -135,6 +151,6 @@ impl Plane {
         requires { length self.now ≡ length other.now }
         ensures { IsTrue result ↔ AllZip (λ class greater. class ≤ greater) self.now other.now }
     {
-        is_at_most(self.runs.as_slice(), other.runs.as_slice())
+        is_at_most(self.bytes.as_slice(), other.bytes.as_slice())
     }
 }
