@@ -1,15 +1,12 @@
 -- A layout stays what it is where more structs may lie one inside the other.
-use Rattle.std.proofs.Common.{◌≡◌, ℕ, suc, zero, map, length, List, [], ◌∷◌, Option, Some, None, refl}
-use Rattle.std.specs.Option.{option_map_or}
+use Rattle.std.proofs.Common.{◌≡◌, ℕ, suc, zero, map, List, [], ◌∷◌, Option, Some, None, refl}
 use Rattle.std.specs.Prelude.{Bool as BoolValue, true, false, option_map, slice_get, if◌then◌else◌}
 use Rattle.cbase.specs.declared.abi.Abi.{Abi}
 use Rattle.cbase.specs.declared.ctype.CType.{CType}
-use Rattle.cbase.specs.declared.ctype.CType.TheVariants.{Struct}
 use Rattle.cbase.specs.declared.structs.Field.{Field}
 use Rattle.cbase.specs.declared.structs.StructDef.{StructDef}
 use Rattle.cbase.specs.declared.layout.Layout.{Layout}
-use Rattle.cbase.specs.Offset.{IsBytes, fields_of}
-use Rattle.cbase.specs.Layout.{layout_of, extent_of, type_layout, repeated, struct_at, struct_layout, fields_layout, no_fields, with_field}
+use Rattle.cbase.specs.Layout.{type_layout, repeated, struct_at, struct_layout, fields_layout, no_fields, with_field}
 use Rattle.cbase.proofs.Types.{type_induction, type_layout-Void, type_layout-Bool, type_layout-Int, type_layout-Pointer, type_layout-Struct, type_layout-Array}
 
 -- what one gives, the other gives
@@ -56,31 +53,3 @@ struct_more abi zero structs number l e = cc
 struct_more abi (suc depth) structs number l e =
     definition_more (type_layout abi (struct_at abi depth structs)) (type_layout abi (struct_at abi (suc depth) structs))
     (type_more abi _ _ (struct_more abi depth structs)) (slice_get structs number) l e
-
-if_laid : (passes : BoolValue) (some more : Option Layout) (l : Layout) → (some ≡ Some l → more ≡ Some l) → (if passes then some else None) ≡ Some l → more ≡ Some l
-if_laid true some more l h e = h e
-if_laid false some more l h e = cc
-
-definition_laid : (some more : CType → Option Layout) → GivesMore some more → (definition : Option StructDef) (l : Layout) → struct_layout some definition ≡ Some l
-    → fields_layout no_fields (map (λ field. more field.ctype) (option_map_or (λ d. d.fields) definition [])) ≡ Some l
-definition_laid some more h None l e = cc
-definition_laid some more h (Some definition) l e = if_laid definition.complete _ _ l (λ d. fields_more some more h no_fields definition.fields l d) e
-
--- the layout of a struct is that of its fields
-pub struct_laid : (abi : Abi) (depth : ℕ) (structs : List StructDef) (number : ℕ) (l : Layout) → struct_at abi depth structs number ≡ Some l
-    → fields_layout no_fields (map (λ field. type_layout abi (struct_at abi depth structs) field.ctype) (fields_of structs number)) ≡ Some l
-struct_laid abi zero structs number l e = cc
-struct_laid abi (suc depth) structs number l e =
-    definition_laid (type_layout abi (struct_at abi depth structs)) (type_layout abi (struct_at abi (suc depth) structs))
-    (type_more abi _ _ (struct_more abi depth structs)) (slice_get structs number) l e
-
-bytes_more : (first second : Option Layout) → ((l : Layout) → first ≡ Some l → second ≡ Some l) → IsBytes (extent_of first) → IsBytes (extent_of second)
-bytes_more None second h b = absurd b
-bytes_more (Some l) second h b = rw (h l refl) b
-
--- a struct whose size is told has fields whose size is told
-pub fields_are_bytes : (abi : Abi) (structs : List StructDef) (number : ℕ) → IsBytes (extent_of (layout_of abi structs (Struct number)))
-    → IsBytes (extent_of (fields_layout no_fields (map (λ field. layout_of abi structs field.ctype) (fields_of structs number))))
-fields_are_bytes abi structs number b =
-    bytes_more (layout_of abi structs (Struct number)) _
-    (λ l e. struct_laid abi (length structs) structs number l (rw (type_layout-Struct abi (struct_at abi (length structs) structs) number) at e)) b

@@ -1,18 +1,17 @@
 -- What is kept beside structs is their layout, and stays so while structs are declared and completed.
 use Rattle.std.proofs.Common.{◌≡◌, ◌⊎◌, inl, inr, ℕ, zero, suc, ◌≤◌, map, length, List, [], ◌∷◌, ◌++◌, Option, Some, None, refl, sym, ap, subst, ◌∙◌, arith}
-use Rattle.std.specs.Prelude.{Bool as BoolValue, true, false, not, ◌&&◌, is_some, IfSome, option_map, slice_get, slice_set, slice_index_or}
+use Rattle.std.specs.Prelude.{Bool as BoolValue, true, false, ◌&&◌, is_some, IfSome, option_map, slice_get, slice_set}
 use Rattle.std.proofs.lemmas.List.{length-map, map_push, map-set}
-use Rattle.std.proofs.lemmas.Option.{slice_get-map, get_or_from_slice_get}
+use Rattle.std.proofs.lemmas.Option.{slice_get-map}
 use Rattle.cbase.specs.declared.abi.Abi.{Abi}
 use Rattle.cbase.specs.declared.abi.Abi.TheVariants.{Lp64}
 use Rattle.cbase.specs.declared.structs.Field.{Field}
 use Rattle.cbase.specs.declared.structs.StructDef.{StructDef}
-use Rattle.cbase.specs.declared.structs.Entry.{Entry}
 use Rattle.cbase.specs.declared.layout.Layout.{Layout}
 use Rattle.cbase.specs.Layout.{type_layout, layout_of, struct_at, fields_layout, no_fields, with_field}
 use Rattle.cbase.specs.Kept.{capped, IsSmall}
-use Rattle.cbase.specs.KeptStructs.{structs_of, one_more, laid_count, IsKept, AreKept, IsLaid}
-use Rattle.cbase.specs.Completing.{is_open, are_complete, may_complete, with_fields, completed}
+use Rattle.cbase.specs.KeptStructs.{Entry, structs_of, one_more, laid_count, IsKept, AreKept, IsLaid}
+use Rattle.cbase.specs.Completing.{is_open, are_complete, may_complete, with_fields}
 use Rattle.cbase.proofs.Alike.{struct_alike}
 use Rattle.cbase.proofs.Deeper.{GivesMore, type_more, fields_more}
 use Rattle.cbase.proofs.Growing.{GrowsTo, grown, kept_more, incomplete_none, missing_none}
@@ -201,35 +200,6 @@ laid_field (Some field) before rest others h = h (with_field before field)
 pub are_laid : (structs : List StructDef) (before : Layout) (fields : List Field) → is_some (fields_layout before (map (λ field. layout_of Lp64 structs field.ctype) fields)) ≡ are_complete structs fields
 are_laid structs before [] = refl
 are_laid structs before (field ∷ fields) = laid_field (layout_of Lp64 structs field.ctype) before (map (λ f. layout_of Lp64 structs f.ctype) fields) (are_complete structs fields) (λ after. are_laid structs after fields)
-
-not_true : (complete : BoolValue) → not complete ≡ true → complete ≡ false
-not_true true e = cc
-not_true false e = refl
-
-entry_found : (entries : List Entry) (number : ℕ) (found : Option Entry) → slice_get entries number ≡ found → is_open (option_map (λ (e : Entry). e.definition) found) ≡ true
-    → (entry : Entry) × (slice_get entries number ≡ Some entry) × (entry.definition.complete ≡ false)
-entry_found entries number None found is = cc
-entry_found entries number (Some entry) found is = (entry, found, not_true entry.definition.complete is)
-
--- a struct whose fields are to be given yet stands among the others
-pub open_entry : (entries : List Entry) (number : ℕ) → is_open (slice_get (structs_of entries) number) ≡ true
-    → (entry : Entry) × (slice_get entries number ≡ Some entry) × (entry.definition.complete ≡ false)
-open_entry entries number is = entry_found entries number (slice_get entries number) refl (ap is_open (sym (slice_get-map (λ (e : Entry). e.definition) entries number)) ∙ is)
-
-abbrev pub entry_with : StructDef → List Field → Layout → Entry
-entry_with definition fields layout = record { definition = record { name = definition.name; complete = true; fields = fields }; layout = Some layout }
-
-pub closed_kept : (entries : List Entry) (number : ℕ) (entry : Entry) (fields : List Field) (layout : Layout) → AreKept entries → is_open (slice_get (structs_of entries) number) ≡ true → IsLaid (structs_of entries) fields layout
-    → AreKept (slice_set entries number (entry_with (slice_index_or entries number entry).definition fields layout))
-closed_kept entries number entry fields layout kept is laid =
-    let from : (e : Entry) × (slice_get entries number ≡ Some e) × (e.definition.complete ≡ false) = open_entry entries number is in
-    rw (get_or_from_slice_get entries number from.0 entry from.1) (completed_kept entries number from.0 (entry_with from.0.definition fields layout) fields layout kept from.1 from.2 laid refl refl)
-
-pub closed_after : (entries : List Entry) (number : ℕ) (entry : Entry) (fields : List Field) (layout : Layout) → is_open (slice_get (structs_of entries) number) ≡ true
-    → structs_of (slice_set entries number (entry_with (slice_index_or entries number entry).definition fields layout)) ≡ completed (structs_of entries) number fields
-closed_after entries number entry fields layout is =
-    let from : (e : Entry) × (slice_get entries number ≡ Some e) × (e.definition.complete ≡ false) = open_entry entries number is in
-    rw (get_or_from_slice_get entries number from.0 entry from.1, struct_found entries number from.0 from.1) (map-set (λ (e : Entry). e.definition) entries number (entry_with from.0.definition fields layout))
 
 -- fields are refused where the struct that they make has no layout
 kept_some : (laid : Option Layout) → is_some (option_map capped laid) ≡ is_some laid

@@ -4,7 +4,7 @@ use Rattle.std.proofs.Math.Nat.{one-mul}
 use Rattle.std.specs.Prelude.{Bool as BoolValue, true, false, option_map, if◌then◌else◌}
 use Rattle.cbase.specs.declared.abi.Abi.{Abi}
 use Rattle.cbase.specs.declared.ctype.CType.{CType}
-use Rattle.cbase.specs.declared.ctype.CType.TheVariants.{Void, Bool, Int, Pointer, Struct, Array}
+use Rattle.cbase.specs.declared.ctype.CType.TheVariants.{Void, Bool, Int, Pointer, Struct}
 use Rattle.cbase.specs.declared.layout.Layout.{Layout}
 use Rattle.cbase.specs.declared.row.RowPart.{RowPart}
 use Rattle.cbase.specs.declared.row.RowPart.TheVariants.{Unsized, Scalar, Struct as StructPart}
@@ -12,16 +12,12 @@ use Rattle.cbase.specs.Layout.{type_layout, repeated, scalar, is_integer_size, p
 use Rattle.cbase.specs.Kept.{capped}
 use Rattle.cbase.specs.KeptRows.{part_layout, row_layout, integer_part, IsRowOf}
 use Rattle.cbase.proofs.Capped.{capped-repeated_count}
-use Rattle.cbase.proofs.Types.{type_layout-Void, type_layout-Bool, type_layout-Int, type_layout-Pointer, type_layout-Struct, type_layout-Array}
+use Rattle.cbase.proofs.Types.{type_layout-Void, type_layout-Bool, type_layout-Int, type_layout-Pointer, type_layout-Struct}
 
 pub capped-rows : (count items : ℕ) (item : Layout) → capped (repeated count (repeated items item)) ≡ capped (repeated (min (count * items) 65537) item)
 capped-rows count items item =
     ap (λ (n : ℕ). capped (record { size = n; alignment = item.alignment })) (sym (mul_assoc count items item.size))
     ∙ sym (capped-repeated_count (count * items) item)
-
-option_rows : (count items : ℕ) (item : Option Layout) → option_map (λ l. capped (repeated count l)) (option_map (repeated items) item) ≡ option_map (λ l. capped (repeated (min (count * items) 65537) l)) item
-option_rows count items None = refl
-option_rows count items (Some item) = ap Some (capped-rows count items item)
 
 option_one : (item : Option Layout) → option_map capped item ≡ option_map (λ l. capped (repeated 1 l)) item
 option_one None = refl
@@ -30,11 +26,6 @@ option_one (Some item) = ap Some (ap (λ (n : ℕ). capped (record { size = n; a
 -- a type is one item of itself
 pub row_one : (abi : Abi) (t : CType) → IsRowOf abi t 1 t
 row_one abi t = λ of_struct. option_one (type_layout abi of_struct t)
-
--- an array's items in place of the array
-pub row_more : (abi : Abi) (t item : CType) (count items : ℕ) → IsRowOf abi t count (Array item items) → IsRowOf abi t (min (count * items) 65537) item
-row_more abi t item count items row = λ of_struct.
-    row of_struct ∙ (ap (option_map (λ l. capped (repeated count l))) (type_layout-Array abi of_struct item items) ∙ option_rows count items (type_layout abi of_struct item))
 
 -- where the layout of an item is that of a part, the type is laid as the row of these parts
 row_end : (abi : Abi) (t item : CType) (count : ℕ) (part : RowPart) → IsRowOf abi t count item → ((of_struct : ℕ → Option Layout) → type_layout abi of_struct item ≡ part_layout of_struct part)

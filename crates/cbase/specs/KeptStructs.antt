@@ -3,10 +3,14 @@ use Rattle.std.specs.Prelude.{◌≡◌, ℕ, zero, suc, List, [], ◌∷◌, ma
 use Rattle.cbase.specs.declared.abi.Abi.TheVariants.{Lp64}
 use Rattle.cbase.specs.declared.structs.Field.{Field}
 use Rattle.cbase.specs.declared.structs.StructDef.{StructDef}
-use Rattle.cbase.specs.declared.structs.Entry.{Entry}
 use Rattle.cbase.specs.declared.layout.Layout.{Layout}
 use Rattle.cbase.specs.Layout.{struct_at, layout_of, fields_layout, no_fields}
 use Rattle.cbase.specs.Kept.{capped, IsSmall}
+
+-- a struct with its layout, once it is complete: one for both data layouts, for these give a type one size
+pub record Entry : Type 0 where
+  pub definition : StructDef
+  pub layout : Option Layout
 
 -- the structs alone
 abbrev pub structs_of : List Entry → List StructDef

@@ -12,7 +12,6 @@ mod layout;
 mod list;
 mod measure;
 mod no_memory;
-mod offset;
 mod place;
 mod row;
 mod rules;
@@ -27,17 +26,16 @@ pub use ctype::CType;
 pub use integer::bytes_of_rank;
 pub use layout::Layout;
 pub use list::List;
-pub use measure::{Extent, align, size, told};
+pub use measure::{Extent, told};
 pub use no_memory::NoMemory;
-pub use offset::{FieldAt, field_at};
 pub use place::Place;
 pub use row::{Row, RowPart, integer_part, parts_of, pointer_bytes};
 pub use rules::layout_rules;
 pub use stop::Stop;
-pub use structs::{Field, StructDef, Structs};
+pub use structs::{Field, StructDef};
 pub use text::Text;
 pub use tree::{
     BasicType, BinaryOp, Decl, Declared, Enumerator, Expr, ExprForm, FieldDecl, FieldName,
-    Identifier, Init, InitPart, Item, Param, Part, Program, Rank, StaticObject, Stmt, StmtForm,
-    Storage, TypeName, TypeSpec, TypedProgram, UnaryOp,
+    Identifier, Init, InitPart, Item, Param, Part, Program, Rank, Stmt, StmtForm, Storage,
+    TypeName, TypeSpec, UnaryOp,
 };

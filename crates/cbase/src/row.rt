@@ -1,11 +1,8 @@
-ghost use Rattle.std.specs.Prelude.{◌≡◌, ◌*◌, ℕ, min, Option, option_map};
-ghost use Rattle.cbase.specs.Layout.{type_layout, pointer_bytes};
-ghost use Rattle.cbase.specs.declared.layout.Layout.{Layout};
-ghost use Rattle.cbase.specs.Kept.{capped};
-ghost use Rattle.cbase.specs.KeptRows.{row_layout, integer_part, IsSmallRow};
+ghost use Rattle.std.specs.Prelude.{◌≡◌, ◌*◌, min};
+ghost use Rattle.cbase.specs.Layout.{pointer_bytes};
+ghost use Rattle.cbase.specs.KeptRows.{integer_part};
 
 use crate::abi::Abi;
-use crate::ctype::CType;
 
 /// What a type is made of once its arrays are taken off.
 #[derive(Clone, Copy, Debug, PartialEq, Eq)]
@@ -54,29 +51,4 @@ pub fn parts_of(parts: u32, items: u64) -> u32
     ensures { result ≡ min (parts * items) 65537 }
 {
     items.saturating_mul(parts as u64).min(TOO_MANY) as u32
-}
-
-/// The parts of a type, by a loop over its arrays.
-#[tactic(auto, using(crate::proofs::Rows::row_one, crate::proofs::Rows::row_more, crate::proofs::Rows::row_bool, crate::proofs::Rows::row_struct))]
-pub(crate) fn row_of(ctype: &CType, abi: Abi) -> Row
-    ensures layout { (of_struct : ℕ → Option Layout) → option_map capped (type_layout abi of_struct ctype.now) ≡ row_layout of_struct result }
-    ensures small { IsSmallRow result }
-{
-    let mut count = 1;
-    let mut item = ctype;
-    loop {
-        let part = match item {
-            CType::Array(inner, items) => {
-                count = parts_of(count, *items);
-                item = inner.get();
-                continue;
-            }
-            CType::Void => RowPart::Unsized,
-            CType::Bool => RowPart::Scalar(1),
-            CType::Int { bytes, .. } => integer_part(*bytes),
-            CType::Pointer(_) => RowPart::Scalar(pointer_bytes(abi)),
-            CType::Struct(number) => RowPart::Struct(*number),
-        };
-        return Row { count, part };
-    }
 }

@@ -6,7 +6,6 @@ mod item;
 mod operators;
 mod spec;
 mod stmt;
-mod typed;
 
 pub use decl::{Decl, Declared, Param, Storage, TypeName};
 pub use expr::{Expr, ExprForm, Part};
@@ -16,4 +15,3 @@ pub use item::{Item, Program};
 pub use operators::{BinaryOp, UnaryOp};
 pub use spec::{BasicType, Enumerator, FieldDecl, FieldName, Rank, TypeSpec};
 pub use stmt::{Stmt, StmtForm};
-pub use typed::{StaticObject, TypedProgram};

@@ -8,7 +8,7 @@ use Rattle.cbase.specs.declared.abi.Abi.TheVariants.{Lp64}
 use Rattle.cbase.specs.declared.ctype.CType.{CType}
 use Rattle.cbase.specs.declared.structs.Field.{Field}
 use Rattle.cbase.specs.declared.structs.StructDef.{StructDef}
-use Rattle.cbase.specs.declared.structs.Entry.{Entry as KeptEntry}
+use Rattle.cbase.specs.KeptStructs.{Entry as KeptEntry}
 use Rattle.cbase.specs.declared.layout.Layout.{Layout}
 use Rattle.cbase.specs.Layout.{layout_of, fields_layout, with_field}
 use Rattle.cbase.specs.Kept.{capped}

@@ -9,7 +9,7 @@ use Rattle.cbase.specs.declared.ctype.CType.TheVariants.{Void as VoidType}
 use Rattle.cbase.specs.declared.row.Row.{Row}
 use Rattle.cbase.specs.declared.structs.Field.{Field}
 use Rattle.cbase.specs.declared.structs.StructDef.{StructDef}
-use Rattle.cbase.specs.declared.structs.Entry.{Entry as KeptEntry}
+use Rattle.cbase.specs.KeptStructs.{Entry as KeptEntry}
 use Rattle.cbase.specs.KeptStructs.{AreKept}
 use Rattle.typing.specs.declared.ctypes.structs.Member.{Member}
 use Rattle.typing.specs.declared.ctypes.structs.Entry.{Entry}

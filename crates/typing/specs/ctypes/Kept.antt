@@ -5,7 +5,7 @@ use Rattle.cbase.specs.declared.abi.Abi.TheVariants.{Lp64}
 use Rattle.cbase.specs.declared.ctype.CType.{CType}
 use Rattle.cbase.specs.declared.layout.Layout.{Layout}
 use Rattle.cbase.specs.declared.row.Row.{Row}
-use Rattle.cbase.specs.declared.structs.Entry.{Entry as KeptEntry}
+use Rattle.cbase.specs.KeptStructs.{Entry as KeptEntry}
 use Rattle.cbase.specs.Layout.{type_layout}
 use Rattle.cbase.specs.Kept.{capped}
 use Rattle.cbase.specs.KeptRows.{row_layout, IsSmallRow}
