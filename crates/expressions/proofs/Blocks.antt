@@ -21,7 +21,7 @@ use Rattle.typing.specs.Calls.{is_struct}
 use Rattle.typing.specs.Faults.{fault}
 use Rattle.typing.specs.Forms.{value_in}
 use Rattle.typing.specs.Known.{value_type, plain}
-use Rattle.typing.specs.Nodes.{is_last_value}
+use Rattle.typing.specs.Nodes.{are_empty, is_last_value}
 use Rattle.typing.specs.Outcomes.{Outcome, Handed, Passes, Refused}
 use Rattle.typing.specs.Pieces.{Loaded, BlockOf}
 use Rattle.typing.specs.Rules.{StatementExpression}
@@ -43,23 +43,23 @@ use Rattle.expressions.proofs.Loops.{next_item}
 use Rattle.expressions.proofs.TypeWords.{declared_by_types, grows_to}
 use Rattle.expressions.proofs.Walking.{handed_behind, passed_of, stopped_of, judged_result}
 
-module _ (abi : Abi) (stmt : Stmt) (expr : Expr) (old mid : Context) where
-  -- the last statement is an expression: a struct is no value of a block
-  pub last_struct : (known : KnownByNumber) (found : Found KnownByNumber) → value_in (out-StmtForm stmt.form) ≡ Some expr → found ≡ FoundToPass known
+module _ (abi : Abi) (stmt : Stmt) (rest : List Stmt) (expr : Expr) (old mid : Context) where
+  -- the last statement that is not empty is an expression: a struct is no value of a block
+  pub last_struct : (known : KnownByNumber) (found : Found KnownByNumber) → value_in (out-StmtForm stmt.form) ≡ Some expr → are_empty rest ≡ true → found ≡ FoundToPass known
       → Walked (Says abi (λ o. PieceIs (Loaded expr) o)) an_operand old mid found
       → ((n : Numbering) → Agrees n mid → is_struct (kind_of mid.structs (n.ctype known.ctype)) ≡ true)
-      → Stopped (Says abi (λ o. StatementsAre (stmt ∷ []) o)) old mid (fault expr.place (Rule 4))
-  last_struct known found value passes walked struct =
+      → Stopped (Says abi (λ o. StatementsAre (stmt ∷ rest) o)) old mid (fault expr.place (Rule 4))
+  last_struct known found value empty passes walked struct =
       let passed = passed_of (Says abi (λ o. PieceIs (Loaded expr) o)) an_operand old mid known found passes walked in
-      record { grows = passed.grows; found = λ n agrees. LastStruct value (passed.found n agrees) refl (struct n agrees) }
+      record { grows = passed.grows; found = λ n agrees. LastStruct value empty (passed.found n agrees) refl (struct n agrees) }
 
   -- any other value, in which an array is a pointer
-  pub last_passes : (new : Context) (known : KnownByNumber) (found : Found KnownByNumber) (number : ℕ) → value_in (out-StmtForm stmt.form) ≡ Some expr → found ≡ FoundToPass known
+  pub last_passes : (new : Context) (known : KnownByNumber) (found : Found KnownByNumber) (number : ℕ) → value_in (out-StmtForm stmt.form) ≡ Some expr → are_empty rest ≡ true → found ≡ FoundToPass known
       → Walked (Says abi (λ o. PieceIs (Loaded expr) o)) an_operand old mid found
       → ((n : Numbering) → Agrees n mid → is_struct (kind_of mid.structs (n.ctype known.ctype)) ≡ false)
       → Numbers (λ n. value_type (kind_of mid.structs (n.ctype known.ctype)) (n.ctype known.ctype)) mid new number
-      → Passed (Says abi (λ o. StatementsAre (stmt ∷ []) o)) a_value_type old new number
-  last_passes new known found number value passes walked other numbers =
+      → Passed (Says abi (λ o. StatementsAre (stmt ∷ rest) o)) a_value_type old new number
+  last_passes new known found number value empty passes walked other numbers =
       let passed = passed_of (Says abi (λ o. PieceIs (Loaded expr) o)) an_operand old mid known found passes walked in
       record {
         rows = passed.rows;
@@ -68,16 +68,16 @@ module _ (abi : Abi) (stmt : Stmt) (expr : Expr) (old mid : Context) where
         below = numbers.below;
         found = λ n agrees.
             let before : Agrees n mid = agrees_before_types mid new n numbers.only_types agrees in
-            subst (λ (after : Declared). Finds (language abi n) (declared old) (StatementsAre (stmt ∷ []) (Passes (n.ctype number) (map (handed_at n) passed.rows))) after) (declared_by_types mid new numbers.only_types)
-            (subst (λ (t : CType). Finds (language abi n) (declared old) (StatementsAre (stmt ∷ []) (Passes t (map (handed_at n) passed.rows))) (declared mid)) (sym (numbers.meant n agrees))
-            (LastExpression value (passed.found n before) refl (other n before)));
+            subst (λ (after : Declared). Finds (language abi n) (declared old) (StatementsAre (stmt ∷ rest) (Passes (n.ctype number) (map (handed_at n) passed.rows))) after) (declared_by_types mid new numbers.only_types)
+            (subst (λ (t : CType). Finds (language abi n) (declared old) (StatementsAre (stmt ∷ rest) (Passes t (map (handed_at n) passed.rows))) (declared mid)) (sym (numbers.meant n agrees))
+            (LastExpression value empty (passed.found n before) refl (other n before)));
       }
 
-  pub last_refused : (first : Fault) (found : Found KnownByNumber) → value_in (out-StmtForm stmt.form) ≡ Some expr → found ≡ FoundRefused first
-      → Walked (Says abi (λ o. PieceIs (Loaded expr) o)) an_operand old mid found → Stopped (Says abi (λ o. StatementsAre (stmt ∷ []) o)) old mid first
-  last_refused first found value refused walked =
+  pub last_refused : (first : Fault) (found : Found KnownByNumber) → value_in (out-StmtForm stmt.form) ≡ Some expr → are_empty rest ≡ true → found ≡ FoundRefused first
+      → Walked (Says abi (λ o. PieceIs (Loaded expr) o)) an_operand old mid found → Stopped (Says abi (λ o. StatementsAre (stmt ∷ rest) o)) old mid first
+  last_refused first found value empty refused walked =
       let stopped = stopped_of (Says abi (λ o. PieceIs (Loaded expr) o)) an_operand old mid first found refused walked in
-      record { grows = stopped.grows; found = λ n agrees. LastRefused value (stopped.found n agrees) }
+      record { grows = stopped.grows; found = λ n agrees. LastRefused value empty (stopped.found n agrees) }
 
 -- a context inside one more scope, and outside the innermost one
 abbrev pub inside : Context → Context
@@ -157,42 +157,38 @@ module _ (abi : Abi) (body : List Stmt) where
   one_more n stmt rest before middle after handed (Passes t further) other first found = MoreStatements handed other first found
   one_more n stmt rest before middle after handed (Refused broken) other first found = StatementsRefused handed other first found
 
-  -- a statement is no value where others stand behind it, or where it is no expression
-  no_value_in : (stmt : Stmt) (rest : List Stmt) → (length rest ≡ 0 → value_in (out-StmtForm stmt.form) ≡ None) → is_last_value (stmt ∷ rest) ≡ false
-  no_value_in stmt [] none = ap is_some (none refl)
-  no_value_in stmt (next ∷ rest) none = refl
-
-  pub no_value : (index : ℕ) (stmt : Stmt) → index < length body → (index + 1 ≡ length body → value_in (out-StmtForm stmt.form) ≡ None) → is_last_value (stmt ∷ drop (index + 1) body) ≡ false
-  no_value index stmt within none = no_value_in stmt (drop (index + 1) body) (λ empty. none (omega (arith, sym (length-drop (index + 1) body), empty, within)))
+  -- a statement is no value where those behind it say so
+  no_value : (index : ℕ) (stmt : Stmt) (rest : List Stmt) → rest ≡ drop (index + 1) body → is_last_value (stmt ∷ rest) ≡ false → is_last_value (stmt ∷ drop (index + 1) body) ≡ false
+  no_value index stmt rest behind none = subst (λ (stmts : List Stmt). is_last_value (stmt ∷ stmts) ≡ false) behind none
 
   pub statements_next : (old mid new : Context) (index : ℕ) (stmt : Stmt) (told : Unit {0}) (found : Found (Unit {0})) → index < length body → stmt ≡ get_or body index stmt
-      → (index + 1 ≡ length body → value_in (out-StmtForm stmt.form) ≡ None) → found ≡ FoundToPass told → Walked (Says abi (StatementIs stmt)) nothing mid new found
+      → (rest : List Stmt) → rest ≡ drop (index + 1) body → is_last_value (stmt ∷ rest) ≡ false → found ≡ FoundToPass told → Walked (Says abi (StatementIs stmt)) nothing mid new found
       → Statements old mid index → Statements old new (index + 1)
-  statements_next old mid new index stmt told found within is none passes walked walk =
+  statements_next old mid new index stmt told found within is rest behind none passes walked walk =
       let passed = passed_of (Says abi (StatementIs stmt)) nothing mid new told found passes walked in
       record {
         rows = walk.rows ++ passed.rows;
         handed = handed_behind old.handed mid.handed new.handed walk.rows passed.rows walk.handed passed.handed;
         grows = grows_trans old mid new walk.grows passed.grows;
-        goes = λ n agrees outcome after rest.
+        goes = λ n agrees outcome after others.
             let whole = walk.goes n (agrees_before mid new n passed.grows agrees) (value_behind (map (handed_at n) passed.rows) outcome) after
             (subst (λ (stmts : List Stmt). Finds (language abi n) (declared mid) (StatementsAre stmts (value_behind (map (handed_at n) passed.rows) outcome)) after) (sym (next_item body index stmt within is))
-            (one_more n stmt (drop (index + 1) body) (declared mid) (declared new) after (map (handed_at n) passed.rows) outcome (no_value index stmt within none) (passed.found n agrees) rest)) in
+            (one_more n stmt (drop (index + 1) body) (declared mid) (declared new) after (map (handed_at n) passed.rows) outcome (no_value index stmt rest behind none) (passed.found n agrees) others)) in
             let twice = behind_twice (map (handed_at n) walk.rows) (map (handed_at n) passed.rows) outcome in
             let rows = ap (λ (handed : List Handed). value_behind handed outcome) (sym (map-append (handed_at n) walk.rows passed.rows)) in
             subst (λ (o : Outcome CType). Finds (language abi n) (declared old) (StatementsAre body o) after) (twice ∙ rows) whole;
       }
 
   pub statements_refused : (old mid new : Context) (index : ℕ) (stmt : Stmt) (first : Fault) (found : Found (Unit {0})) → index < length body → stmt ≡ get_or body index stmt
-      → (index + 1 ≡ length body → value_in (out-StmtForm stmt.form) ≡ None) → found ≡ FoundRefused first → Walked (Says abi (StatementIs stmt)) nothing mid new found
+      → (rest : List Stmt) → rest ≡ drop (index + 1) body → is_last_value (stmt ∷ rest) ≡ false → found ≡ FoundRefused first → Walked (Says abi (StatementIs stmt)) nothing mid new found
       → Statements old mid index → Stopped (Says abi (λ o. StatementsAre body o)) old new first
-  statements_refused old mid new index stmt first found within is none refused walked walk =
+  statements_refused old mid new index stmt first found within is rest behind none refused walked walk =
       let stopped = stopped_of (Says abi (StatementIs stmt)) nothing mid new first found refused walked in
       record {
         grows = grows_trans old mid new walk.grows stopped.grows;
         found = λ n agrees. walk.goes n (agrees_before mid new n stopped.grows agrees) (Refused first) (declared new)
             (subst (λ (stmts : List Stmt). Finds (language abi n) (declared mid) (StatementsAre stmts (Refused first)) (declared new)) (sym (next_item body index stmt within is))
-            (StatementRefused (no_value index stmt within none) (stopped.found n agrees)));
+            (StatementRefused (no_value index stmt rest behind none) (stopped.found n agrees)));
       }
 
   -- what is found of the statements that are left is found of all
@@ -214,13 +210,13 @@ module _ (abi : Abi) (body : List Stmt) where
         (subst (λ (stmts : List Stmt). Finds (language abi n) (declared mid) (StatementsAre stmts (Refused first)) (declared new)) (sym left) (stopped.found n agrees));
   }
 
-  -- the last one is a value
-  pub statements_value : (r : Result (Found ℕ) NoMemory) (old mid new : Context) (index : ℕ) (stmt : Stmt) → index < length body → stmt ≡ get_or body index stmt → index + 1 ≡ length body
-      → Statements old mid index → IfOk r (λ found. Walked (Says abi (λ o. StatementsAre (stmt ∷ []) o)) a_value_type mid new found)
+  -- the last one that is not empty is a value
+  pub statements_value : (r : Result (Found ℕ) NoMemory) (old mid new : Context) (index : ℕ) (stmt : Stmt) (rest : List Stmt) → index < length body → stmt ≡ get_or body index stmt
+      → rest ≡ drop (index + 1) body → Statements old mid index → IfOk r (λ found. Walked (Says abi (λ o. StatementsAre (stmt ∷ rest) o)) a_value_type mid new found)
       → IfOk r (λ found. Walked (Says abi (λ o. StatementsAre body o)) a_value_type old new found)
-  statements_value (Ok found) old mid new index stmt within is last walk walked = statements_whole old mid new index found (stmt ∷ [])
-      (next_item body index stmt within is ∙ ap (λ (rest : List Stmt). stmt ∷ rest) (drop_all (index + 1) body (omega (arith, last)))) walk walked
-  statements_value (Err error) old mid new index stmt within is last walk walked = tt
+  statements_value (Ok found) old mid new index stmt rest within is behind walk walked = statements_whole old mid new index found (stmt ∷ rest)
+      (next_item body index stmt within is ∙ ap (λ (stmts : List Stmt). stmt ∷ stmts) (sym behind)) walk walked
+  statements_value (Err error) old mid new index stmt rest within is behind walk walked = tt
 
   -- no value is left
   pub statements_end : (old mid new : Context) (index number : ℕ) → length body ≤ index → Statements old mid index → Numbers (λ n. VoidType) mid new number

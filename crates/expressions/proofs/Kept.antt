@@ -8,10 +8,10 @@ use Rattle.typing.specs.declared.environment.entity.Entity.{Entity}
 use Rattle.typing.specs.declared.environment.environment.Environment.{Environment}
 use Rattle.typing.specs.declared.environment.entity.Signature.{Signature}
 use Rattle.typing.specs.environment.Bounds.{AreBelow, EntityBelow, BindingBelow, LinkedBelow, SignatureBelow}
-use Rattle.typing.specs.environment.Environment.{name_found, name_bound, name_bound_around, name_defined, resolved, signature_added}
+use Rattle.typing.specs.environment.Environment.{name_found, visible_type, name_bound, name_bound_around, name_defined, resolved, signature_added}
 use Rattle.typing.specs.environment.Names.{value_in}
 use Rattle.typing.specs.environment.Scopes.{found_here}
-use Rattle.typing.proofs.environment.Bounds.{bound_below, bound_around_below, defined_below, found_is_below, found_here_is_below, linked_is_below, result_is_below, added_below}
+use Rattle.typing.proofs.environment.Bounds.{meaning_here_of_each, visible_is_below, bound_below, bound_around_below, defined_below, found_is_below, found_here_is_below, linked_is_below, result_is_below, added_below}
 use Rattle.expressions.specs.Context.{Context}
 
 pub found_below : (count : ℕ) (name : List ℕ) (env : Environment) → AreBelow count env → (found : Option Entity) → found ≡ name_found name env
@@ -88,7 +88,7 @@ result_below_now {view} same below found is =
 binding_below : (count : ℕ) (name : List ℕ) (env : Environment) → AreBelow count env → (found : Option Binding) → found ≡ found_here name env.names
     → IfSome found (BindingBelow count env.signatures)
 binding_below count name env below None is = tt
-binding_below count name env below (Some WithLinkage) is = tt
+binding_below count name env below (Some (WithLinkage items)) is = meaning_here_of_each (BindingBelow count env.signatures) name (WithLinkage items) env.names below.names (sym is)
 binding_below count name env below (Some (Own entity)) is = found_here_is_below count name env entity below (ap (resolved name env.linked) (sym is))
 
 pub binding_below_now : {view now : Context} → view ≡ now → (name : List ℕ) → AreBelow (length view.types) view.environment → (found : Option Binding)
@@ -107,3 +107,12 @@ pub linked_below_now : {view now : Context} → view ≡ now → (name : List �
 linked_below_now {view} same name below found is =
     subst (λ (context : Context). IfSome found (LinkedBelow (length context.types) context.environment.signatures)) same
     (linked_below (length view.types) name view.environment below found is)
+
+-- the type that visible declarations give
+visible_below : (count : ℕ) (name : List ℕ) (env : Environment) → AreBelow count env → (found : Option ℕ) → found ≡ visible_type name env → IfSome found (λ number. number < count)
+visible_below count name env below found is = subst (λ (o : Option ℕ). IfSome o (λ number. number < count)) (sym is) (visible_is_below count name env below)
+
+pub visible_below_now : {view now : Context} → view ≡ now → (name : List ℕ) → AreBelow (length view.types) view.environment → (found : Option ℕ)
+    → found ≡ visible_type name view.environment → IfSome found (λ number. number < length now.types)
+visible_below_now {view} same name below found is =
+    subst (λ (context : Context). IfSome found (λ number. number < length context.types)) same (visible_below (length view.types) name view.environment below found is)

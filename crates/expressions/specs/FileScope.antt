@@ -1,5 +1,5 @@
 -- The file scope of a context: what it declares outside of functions, by numbers that are read by a numbering.
-use Rattle.std.specs.Prelude.{ℕ, true, List, Option, option_map}
+use Rattle.std.specs.Prelude.{ℕ, true, List, Option, None, option_map}
 use Rattle.cbase.specs.declared.abi.Abi.{Abi}
 use Rattle.cbase.specs.declared.ctype.CType.{CType}
 use Rattle.typing.specs.declared.environment.entity.DeclaredType.TheVariants.{Whole}
@@ -29,7 +29,7 @@ definition_in_text Defined = DefinedByNow
 
 -- what has linkage is declared in the scope around the innermost one
 abbrev pub name_linked_around : Numbering → List ℕ → ℕ → Linked → Declared → Declared
-name_linked_around n name token linked before = name_linked_by linked_declared_around n name token linked before
+name_linked_around n name token linked before = name_linked_by linked_declared_around n name token None linked before
 
 -- a parameter of `main`
 abbrev pub main_parameter : Numbering → List ℕ → ℕ → CType → Declared → Declared

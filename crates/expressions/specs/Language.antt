@@ -1,6 +1,7 @@
 -- The language of a context: what it declares, by numbers that are read by a numbering.
 use Rattle.std.specs.Prelude.{ℕ, ◌++◌, Bool, true, false, List, [], ◌∷◌, map, Option, None, Some, is_some, length, option_map, option_and_then, if◌then◌else◌}
 use Rattle.cbase.specs.declared.abi.Abi.{Abi}
+use Rattle.cbase.specs.declared.ctype.CType.{CType}
 use Rattle.cbase.specs.declared.structs.Field.{Field}
 use Rattle.cbase.specs.Completing.{fieldless, may_complete, completed}
 use Rattle.typing.specs.declared.environment.entity.Binding.TheVariants.{Own}
@@ -16,7 +17,7 @@ use Rattle.typing.specs.declared.environment.entity.Linked.{Linked as LinkedByNu
 use Rattle.typing.specs.declared.environment.environment.Environment.{Environment}
 use Rattle.typing.specs.declared.environment.entity.Tag.TheVariants.{Struct, Enum}
 use Rattle.typing.specs.declared.environment.entity.TagForm.TheVariants.{Declared as DeclaredHere, Mentioned}
-use Rattle.typing.specs.environment.Environment.{name_found, tag_found, scope_entered, scope_left, name_bound, tag_declared, signature_added, loop_set}
+use Rattle.typing.specs.environment.Environment.{name_found, visible_type, tag_found, scope_entered, scope_left, name_bound, tag_declared, signature_added, loop_set}
 use Rattle.typing.specs.environment.Linkage.{linked_declared, own_declared}
 use Rattle.typing.specs.environment.Names.{value_in}
 use Rattle.typing.specs.environment.Scopes.{found_here}
@@ -116,22 +117,23 @@ linked_object t token defined by_now = record { entity = Object t token Static d
 abbrev pub linked_function : ℕ → Bool → Bool → DefinitionByNow → LinkedByNumber
 linked_function signature defined built_in by_now = record { entity = Function signature defined built_in; definition = by_now }
 
--- what has linkage under a name is declared with it, in the innermost scope or in the one around that
-abbrev pub name_linked_by : (List ℕ → LinkedByNumber → Environment → Environment) → Numbering → List ℕ → ℕ → Linked → Declared → Declared
-name_linked_by declares n name token (ObjectLinked t) before = record before {
-  environment = declares name
+-- what has linkage under a name is declared with it, in the innermost scope or in the one around that; where no visible declaration gives the size of an
+-- array, with the number of the type of its items
+abbrev pub name_linked_by : (List ℕ → Option ℕ → LinkedByNumber → Environment → Environment) → Numbering → List ℕ → ℕ → Option CType → Linked → Declared → Declared
+name_linked_by declares n name token items (ObjectLinked t) before = record before {
+  environment = declares name (option_map n.number items)
       (linked_object (declared_number n t) (token_by_now (value_in name before.environment.linked) token) (is_some (value_in name before.environment.definitions)) (definition_by_now (value_in name before.environment.linked)))
       before.environment;
 }
-name_linked_by declares n name token (FunctionLinked result params) before = record before {
-  environment = declares name
+name_linked_by declares n name token items (FunctionLinked result params) before = record before {
+  environment = declares name (option_map n.number items)
       (linked_function (length before.environment.signatures) (is_some (value_in name before.environment.definitions))
       (built_in_by_now (value_in name before.environment.linked)) (definition_by_now (value_in name before.environment.linked)))
       (signature_added (record { result = n.number result; parameters = map n.number params }) before.environment);
 }
 
-abbrev pub name_linked_as : Numbering → List ℕ → ℕ → Linked → Declared → Declared
-name_linked_as n name token linked before = name_linked_by linked_declared n name token linked before
+abbrev pub name_linked_as : Numbering → List ℕ → ℕ → Option CType → Linked → Declared → Declared
+name_linked_as n name token items linked before = name_linked_by linked_declared n name token items linked before
 
 abbrev pub language : Abi → Numbering → Language
 language abi n = record {
@@ -155,6 +157,7 @@ language abi n = record {
   result = λ before. option_map n.ctype before.environment.result;
   name_here = λ name before. option_map (name_here_at n) (found_here name before.environment.names);
   linked = λ name before. option_and_then (linked_at n) (value_in name before.environment.linked);
+  visible_type = λ name before. option_map n.ctype (visible_type name before.environment);
   object_declared = object_declared n;
   typedef_declared = typedef_declared n;
   linked_declared = name_linked_as n;

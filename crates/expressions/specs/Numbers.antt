@@ -96,7 +96,7 @@ own_at n (Function signature defined built_in) = OwnHere
 
 abbrev pub name_here_at : Numbering → Binding → NameHere
 name_here_at n (Own entity) = own_at n entity
-name_here_at n WithLinkage = LinkedHere
+name_here_at n (WithLinkage items) = LinkedHere
 
 -- what has linkage under a name: an object or a function
 abbrev pub linked_entity_at : Numbering → EntityByNumber → Option Linked

@@ -1,3 +1,5 @@
+ghost use Rattle.std.specs.Prelude.{⊤, ◌≡◌};
+
 use cbase::Abi;
 use std::alloc::AllocError;
 
@@ -21,6 +23,10 @@ pub struct Checker<F> {
 }
 
 impl<F: Copy> Clone for Checker<F> {
+    ghost is_clone = { λ checker copy. copy ≡ checker };
+
+    ghost is_infallible = { λ _. ⊤ };
+
     /// The same, which takes no memory.
     fn clone(&self) -> Result<Checker<F>, AllocError> {
         Ok(*self)

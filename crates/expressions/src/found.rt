@@ -1,3 +1,5 @@
+ghost use Rattle.std.specs.Prelude.{⊤, ◌≡◌};
+
 use std::alloc::AllocError;
 use typing::Fault;
 
@@ -10,6 +12,10 @@ pub enum Found<A> {
 }
 
 impl<A: Copy> Clone for Found<A> {
+    ghost is_clone = { λ found copy. copy ≡ found };
+
+    ghost is_infallible = { λ _. ⊤ };
+
     /// The same, which takes no memory.
     fn clone(&self) -> Result<Found<A>, AllocError> {
         Ok(*self)

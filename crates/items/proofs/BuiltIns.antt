@@ -75,13 +75,13 @@ module _ (name : List ℕ) (t : FunctionType) (old mid late more new : Context) 
   abbrev the_function : Bool → Linked
   the_function defined = record { entity = Function signature defined true; definition = NotDefined }
 
-  module _ (defined : Bool) (said : defined ≡ is_defined name more.environment) (is : new ≡ record more { environment = linked_declared name (the_function defined) more.environment }) where
+  module _ (defined : Bool) (said : defined ≡ is_defined name more.environment) (is : new ≡ record more { environment = linked_declared name None (the_function defined) more.environment }) where
     whole : new ≡ record late {
-      environment = linked_declared name (the_function (is_defined name late.environment)) (signature_added (record { result = number; parameters = numbers }) late.environment);
+      environment = linked_declared name None (the_function (is_defined name late.environment)) (signature_added (record { result = number; parameters = numbers }) late.environment);
     }
     whole = is
-        ∙ (ap (λ (there : Bool). record more { environment = linked_declared name (the_function there) more.environment }) said
-        ∙ ap (λ (c : Context). record c { environment = linked_declared name (the_function (is_defined name c.environment)) c.environment }) added)
+        ∙ (ap (λ (there : Bool). record more { environment = linked_declared name None (the_function there) more.environment }) said
+        ∙ ap (λ (c : Context). record c { environment = linked_declared name None (the_function (is_defined name c.environment)) c.environment }) added)
 
     further : Grows late new
     further = record {
@@ -103,12 +103,12 @@ module _ (name : List ℕ) (t : FunctionType) (old mid late more new : Context) 
           ∙ ap n.number (of.meant n (agrees_before_types mid late n params.only_types then)) in
           let parameters : numbers ≡ map n.number t.parameters = sym (numbers_back n late then numbers params.below) ∙ ap (map n.number) (params.meant n then) in
           ap (λ (c : Context). c.environment) whole
-          ∙ λ i. linked_declared name (linked_function ((last ∙ ap (λ (env : Environment). length env.signatures) only.environment) i) (is_defined name (only.environment i)) true NotDefined)
+          ∙ λ i. linked_declared name None (linked_function ((last ∙ ap (λ (env : Environment). length env.signatures) only.environment) i) (is_defined name (only.environment i)) true NotDefined)
           (signature_added (record { result = result i; parameters = parameters i }) (only.environment i));
     }
 
   pub function_result : (defined : Bool) (r : Result (Unit {0}) NoMemory) → defined ≡ is_defined name more.environment
-      → OnOk r (new ≡ record more { environment = linked_declared name (the_function defined) more.environment }) → OnOk r (IsBuiltIn name t old new)
+      → OnOk r (new ≡ record more { environment = linked_declared name None (the_function defined) more.environment }) → OnOk r (IsBuiltIn name t old new)
   function_result defined (Ok told) said is = function_declared defined said is
   function_result defined (Err error) said is = tt
 

@@ -1,6 +1,6 @@
 -- An object is declared by its name where nothing is broken at it, and is refused where something is.
 use Rattle.std.proofs.Common.{◌≡◌, ◌∙◌, ◌++◌, ◌||◌, ℕ, List, length, refl, sym, ap, subst, Option, None, Some}
-use Rattle.std.specs.Prelude.{option_and_then}
+use Rattle.std.specs.Prelude.{option_map}
 use Rattle.cbase.specs.declared.abi.Abi.{Abi}
 use Rattle.cbase.specs.declared.tree.decl.Declared.{Declared as DeclaredTree}
 use Rattle.cbase.specs.declared.tree.decl.Storage.{Storage}
@@ -8,44 +8,29 @@ use Rattle.cbase.specs.declared.tree.expr.ExprForm.TheViews.{out-Declared}
 use Rattle.typing.specs.declared.environment.entity.Definition.{Definition as DefinitionByNow}
 use Rattle.typing.specs.declared.environment.entity.Definition.TheVariants as by_now
 use Rattle.typing.specs.declared.environment.entity.DeclaredType.{DeclaredType}
-use Rattle.typing.specs.declared.environment.entity.DeclaredType.TheVariants.{Whole, UnsizedArray}
-use Rattle.typing.specs.declared.environment.entity.Entity.{Entity}
-use Rattle.typing.specs.declared.environment.entity.Entity.TheVariants as entity
-use Rattle.typing.specs.declared.environment.entity.Linked.{Linked as LinkedByNumber}
 use Rattle.typing.specs.declared.environment.environment.Environment.{Environment}
 use Rattle.typing.specs.environment.Bounds.{DeclaredBelow}
+use Rattle.typing.specs.environment.Environment.{visible_type}
 use Rattle.typing.specs.environment.Names.{value_in}
 use Rattle.typing.specs.declared.ctypes.found.Broken.{Broken}
 use Rattle.typing.specs.declared.fault.Fault.{Fault}
 use Rattle.typing.specs.declared.size.Size.{Size}
-use Rattle.typing.specs.Declarations.{Given, IsAgain, LinkedGiven, found_of_name, given_type, name_declared, name_faults}
+use Rattle.typing.specs.Declarations.{Given, IsAgain, LinkedGiven, found_of_name, given_type, name_declared, name_faults, seen_type}
 use Rattle.typing.specs.Entities.{ObjectLinked}
-use Rattle.typing.specs.FileNames.{is_complete_by, is_listed, is_twice, object_type, type_so_far, with_definition}
+use Rattle.typing.specs.FileNames.{is_complete_by, is_listed, is_twice, object_type, with_definition}
 use Rattle.typing.specs.NamedTypes.{declared_type, is_large}
 use Rattle.expressions.specs.declared.named_type.NamedType.{NamedType as NamedByNumber}
 use Rattle.expressions.specs.Context.{Context, declared, Agrees, OnlyTypes}
 use Rattle.expressions.specs.FileScope.{definition_at, definition_in_text, file_scope}
 use Rattle.expressions.specs.Language.{definition_by_now, language}
-use Rattle.expressions.specs.Numbers.{Numbering, declared_type_at, linked_at, named_at}
+use Rattle.expressions.specs.Numbers.{Numbering, declared_type_at, named_at}
 use Rattle.expressions.specs.Settled.{IsFirstOf}
 use Rattle.expressions.proofs.Growth.{agrees_as, agrees_before_types, grows_trans, only_types_grows, only_types_trans}
 use Rattle.expressions.proofs.TypeWords.{declared_by_types, grows_to}
-use Rattle.items.specs.declarations.Given.{IsFoundOfName, IsGivenType, composite_by_now, here_at, linked_now}
+use Rattle.items.specs.declarations.Given.{IsFoundOfName, IsGivenType, here_at, linked_now}
 use Rattle.items.specs.declared.object.Object.{Object}
+use Rattle.items.proofs.declarations.Bound.{seen_is}
 use Rattle.items.specs.Objects.{IsObjectAsked, IsObjectJudged, IsObjectOf, ObjectBreaks, ObjectGives, OnlyNames, link_rows}
-
--- the type so far, by numbers
-so_far_in : (n : Numbering) (before : Entity) (by_now : DefinitionByNow) (t : DeclaredType)
-    → declared_type_at n (composite_by_now (Some (record { entity = before; definition = by_now })) t) ≡ type_so_far (linked_at n (record { entity = before; definition = by_now })) (declared_type_at n t)
-so_far_in n (entity.Object (Whole number) token lifetime defined) by_now t = refl
-so_far_in n (entity.Object (UnsizedArray item) token lifetime defined) by_now t = refl
-so_far_in n (entity.Typedef before) by_now t = refl
-so_far_in n (entity.Enumerator bits) by_now t = refl
-so_far_in n (entity.Function signature defined built_in) by_now t = refl
-
-so_far : (n : Numbering) (before : Option LinkedByNumber) (t : DeclaredType) → declared_type_at n (composite_by_now before t) ≡ type_so_far (option_and_then (linked_at n) before) (declared_type_at n t)
-so_far n None t = refl
-so_far n (Some meaning) t = so_far_in n meaning.entity meaning.definition t
 
 -- what the text has for a name, in both languages
 pub definition_back : (definition : DefinitionByNow) → definition_in_text (definition_at definition) ≡ definition
@@ -69,8 +54,8 @@ module _ (abi : Abi) (storage : Storage) (base : NamedByNumber) (name : Declared
   type_is : (n : Numbering) → Agrees n late → declared_type_at n object.ctype ≡ object_type (language abi n) (named_at n base) (out-Declared name) sizes (declared old)
   type_is n agrees =
       ap (declared_type_at n) is.ctype
-      ∙ (so_far n (value_in (out-Declared name).name late.environment.linked) t
-      ∙ λ i. type_so_far (option_and_then (linked_at n) (value_in (out-Declared name).name (only.environment i).linked)) (second.meant n agrees i))
+      ∙ (seen_is n (visible_type (out-Declared name).name late.environment) t
+      ∙ λ i. seen_type (option_map n.ctype (visible_type (out-Declared name).name (only.environment i))) (second.meant n agrees i))
 
   found_is : (n : Numbering) → Agrees n late → found ≡ found_of_name (named_at n base) sizes (is_large abi old.structs (declared_type (named_at n base) (out-Declared name).stars sizes))
   found_is n agrees = first.meant n (agrees_before_types mid late n second.only_types agrees)

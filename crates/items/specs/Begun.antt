@@ -33,7 +33,7 @@ is_among name (one ∷ others) = bytes_eq one name || is_among name others
 -- a function that is built in, whose signature has the number behind the others
 abbrev pub built_in_declared : Numbering → List ℕ → FunctionType → Environment → Environment
 built_in_declared n name t env =
-    linked_declared name (linked_function (length env.signatures) (is_defined name env) true NotDefined)
+    linked_declared name None (linked_function (length env.signatures) (is_defined name env) true NotDefined)
     (signature_added (record { result = n.number t.result; parameters = map n.number t.parameters }) env)
 
 -- where the text gives it no body

@@ -55,7 +55,7 @@ marked_if_main name params before = marked_if (is_main (out-Declared name).name)
 -- built in where it was before
 abbrev pub function_around : List ℕ → ℕ → List ℕ → Context → Context
 function_around name result params before = record before {
-  environment = linked_declared_around name
+  environment = linked_declared_around name None
       (linked_function (length before.environment.signatures) (is_defined name before.environment) (built_in_by_now (value_in name before.environment.linked))
       (definition_by_now (value_in name before.environment.linked)))
       (signature_added (record { result = result; parameters = params }) before.environment);

@@ -11,6 +11,7 @@ use Rattle.cbase.specs.declared.tree.expr.ExprForm.TheViews.{out-Declared}
 use Rattle.typing.specs.declared.environment.entity.DeclaredType.{DeclaredType}
 use Rattle.typing.specs.declared.environment.entity.DeclaredType.TheVariants.{Whole, UnsizedArray}
 use Rattle.typing.specs.environment.Bounds.{DeclaredBelow}
+use Rattle.typing.specs.environment.Environment.{visible_type}
 use Rattle.typing.specs.environment.Names.{value_in}
 use Rattle.typing.specs.declared.ctypes.found.Broken.{Broken}
 use Rattle.typing.specs.declared.fault.Fault.{Fault}
@@ -28,13 +29,13 @@ use Rattle.expressions.specs.FileScope.{definition_at, file_scope}
 use Rattle.expressions.specs.Language.{definition_by_now, language, token_by_now}
 use Rattle.expressions.specs.Numbers.{Numbering, declared_type_at, named_at}
 use Rattle.expressions.specs.Settled.{IsFirstOf}
-use Rattle.items.specs.declarations.Given.{composite_by_now, here_at, linked_now}
+use Rattle.items.specs.declarations.Given.{here_at, linked_now, seen_in}
 use Rattle.items.specs.declared.object.Object.{Object}
 
 -- an object of that name which a declaration gives that type, behind those before it
 pub record IsObjectOf (context : Context) (storage : Storage) (name : Declared) (t : DeclaredType) (object : Object) : Type 0 where
   pub given : object.given ≡ t
-  pub ctype : object.ctype ≡ composite_by_now (value_in (out-Declared name).name context.environment.linked) t
+  pub ctype : object.ctype ≡ seen_in (visible_type (out-Declared name).name context.environment) t
   pub before : object.before ≡ definition_by_now (value_in (out-Declared name).name context.environment.linked)
   pub adds : definition_at object.adds ≡ definition_in storage (out-Declared name)
 

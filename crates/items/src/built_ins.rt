@@ -227,5 +227,5 @@ fn declare_built_in(
         },
         definition: Definition::NotDefined,
     };
-    context.declare_linked(alloc, name, meaning)
+    context.declare_linked(alloc, name, None, meaning)
 }

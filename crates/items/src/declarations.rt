@@ -17,7 +17,7 @@ mod walk;
 
 pub use again::{is_again, is_other};
 pub use complete::is_complete;
-pub use declaring::{composite_by_now, declare_name, definition_by_now, token_by_now};
+pub use declaring::{declare_name, definition_by_now, seen_type, token_by_now};
 pub use handing::hand_object;
 pub use initialising::in_braces;
 pub use objects::object_name;

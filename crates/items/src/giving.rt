@@ -6,9 +6,7 @@ ghost use Rattle.expressions.specs.Numbers.{Numbering};
 ghost use Rattle.items.specs.Objects.{IsObjectGiven, IsObjectJudged, IsObjectOf};
 
 use crate::complete::is_complete_by;
-use crate::declarations::{
-    composite_by_now, definition_by_now, found_of_name, given_type, is_again,
-};
+use crate::declarations::{definition_by_now, found_of_name, given_type, is_again, seen_type};
 use crate::declaring::declare;
 use crate::definitions::{definition_by, is_twice};
 use crate::handing::hand_link;
@@ -20,8 +18,8 @@ use typing::ctypes::Broken;
 use typing::environment::DeclaredType;
 use typing::{Fault, Size};
 
-/// The name of an object outside of functions, of words, stars and sizes (C11 6.9.2): where nothing is broken at it, it is declared with the type that all
-/// its declarations so far give, and the declaration is handed on.
+/// The name of an object outside of functions, of words, stars and sizes (C11 6.9.2): where nothing is broken at it, it is declared with the type that its
+/// visible declarations give, and the declaration is handed on.
 ///
 /// Want of memory is the only error, and nothing is said of the context then.
 pub(crate) fn give(
@@ -53,9 +51,10 @@ fn object_of(context: &Context, storage: Storage, name: &Declared, given: Declar
     ensures below { DeclaredBelow (length context.now.types) result.ctype }
 {
     let linked = context.linked(name.name.as_slice());
+    let visible = context.visible_type(name.name.as_slice());
     Object {
         given,
-        ctype: composite_by_now(linked, given),
+        ctype: seen_type(visible, given),
         before: definition_by_now(linked),
         adds: definition_by(storage, name.init.is_some()),
     }

@@ -9,6 +9,7 @@ mod next;
 mod rows;
 mod storing;
 mod surplus;
+mod testing;
 mod walk;
 
 pub use walk::initialiser;

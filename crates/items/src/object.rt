@@ -5,7 +5,7 @@ use typing::environment::{DeclaredType, Definition};
 pub(crate) struct Object {
     /// The type that this declaration gives it.
     pub(crate) given: DeclaredType,
-    /// The type that it has by all of them (C11 6.2.7p4).
+    /// The type that it has by it and those that are visible (C11 6.2.7p4).
     pub(crate) ctype: DeclaredType,
     /// What the text had for it before.
     pub(crate) before: Definition,

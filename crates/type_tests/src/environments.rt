@@ -43,7 +43,7 @@ fn linkage_is_of_the_text(alloc: Global, env: &mut Environment) -> Result<bool, 
         built_in: false,
     };
     env.open(alloc)?;
-    env.declare(alloc, b"f", Binding::WithLinkage)?;
+    env.declare(alloc, b"f", Binding::WithLinkage(None))?;
     env.link(
         alloc,
         b"f",

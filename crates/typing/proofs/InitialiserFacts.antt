@@ -1,6 +1,6 @@
 -- Initialisers of the examples.
 use Rattle.std.proofs.Common.{◌≡◌, ℕ, suc, Bool, true, false, List, [], ◌∷◌, ◌++◌, length, Option, Some, None, refl, ap, ◌∙◌}
-use Rattle.std.specs.Prelude.{◌+◌, ◌&&◌, if◌then◌else◌}
+use Rattle.std.specs.Prelude.{◌+◌, ◌&&◌, not, if◌then◌else◌}
 use Rattle.std.specs.Option.{option_map_or}
 use Rattle.cbase.specs.declared.abi.Abi.TheVariants.{Lp64}
 use Rattle.cbase.specs.declared.ctype.CType.{CType}
@@ -30,9 +30,9 @@ use Rattle.typing.specs.Known.{Known}
 use Rattle.typing.specs.Outcomes.{Outcome, Handed, StoreHanded, Passes, Refused}
 use Rattle.typing.specs.Pieces.{Loaded}
 use Rattle.typing.specs.Sample.{sample, Declarations, token, node, name, char_type, value_of, part, part_named}
-use Rattle.typing.specs.Statements.{Stored, Surplus, stored_faults}
+use Rattle.typing.specs.Statements.{Stored, Surplus, stored_faults, is_test_of_pointer}
 use Rattle.typing.specs.Told.{OperandIs}
-use Rattle.typing.specs.Typing.{Finds, PieceIs, ValueUsed, InitialiserIs, PartsFill, ValueStored, BracesFill, PartSets, NothingToSet, SurplusPart, ValueTaken}
+use Rattle.typing.specs.Typing.{Finds, PieceIs, ValueUsed, InitialiserIs, PartsFill, ValueStored, BracesFill, PartSets, NothingToSet, SurplusPart, SurplusValue, ValueTaken}
 use Rattle.typing.proofs.SampleFacts.{structs, both, alone, laid_4, laid_pointer}
 
 -- values that are stored: one that converts, and one that does not
@@ -51,9 +51,22 @@ stored_badly {expr = expr} {known = known} found k f e =
 -- of a static object: one that is a constant, one that is none, and one that does not convert either
 pub fixed_well : {env after : Declarations} {expr : Expr} {known : Known} {handed : List Handed} {t : CType} {to from : Kind}
     → Finds sample env (PieceIs (Loaded expr) (Passes (OperandIs known) handed)) after → kind_of after.structs t ≡ to → kind_of after.structs known.ctype ≡ from
-    → converts to (decayed from) known.null ≡ true → IsConstant handed AsValue expr true → Finds sample env (ValueUsed (Stored true t) expr (Passes tt handed)) after
-fixed_well {expr = expr} {known = known} found k f e constant =
-    ValueTaken true found constant ((λ i. stored_faults true true expr.place (converts (k i) (decayed (f i)) known.null)) ∙ ap (stored_faults true true expr.place) e) (refl, refl, refl)
+    → converts to (decayed from) known.null ≡ true → is_test_of_pointer to (decayed from) ≡ false → IsConstant handed AsValue expr true
+    → Finds sample env (ValueUsed (Stored true t) expr (Passes tt handed)) after
+fixed_well {expr = expr} {known = known} found k f e is constant =
+    ValueTaken true found constant
+    ((λ i. stored_faults true (not (is_test_of_pointer (k i) (decayed (f i)))) expr.place (converts (k i) (decayed (f i)) known.null)) ∙ (λ i. stored_faults true (not (is i)) expr.place (e i)))
+    (refl, refl, refl)
+
+-- a pointer that becomes a `_Bool`
+pub fixed_test : {env after : Declarations} {expr : Expr} {known : Known} {handed : List Handed} {t : CType} {to from : Kind}
+    → Finds sample env (PieceIs (Loaded expr) (Passes (OperandIs known) handed)) after → kind_of after.structs t ≡ to → kind_of after.structs known.ctype ≡ from
+    → converts to (decayed from) known.null ≡ true → is_test_of_pointer to (decayed from) ≡ true → IsConstant handed AsValue expr true
+    → Finds sample env (ValueUsed (Stored true t) expr (Refused (fault expr.place (Rule 9)))) after
+fixed_test {expr = expr} {known = known} found k f e is constant =
+    ValueTaken true found constant
+    ((λ i. stored_faults true (not (is_test_of_pointer (k i) (decayed (f i)))) expr.place (converts (k i) (decayed (f i)) known.null)) ∙ (λ i. stored_faults true (not (is i)) expr.place (e i)))
+    (alone _)
 
 pub fixed_not : {env after : Declarations} {expr : Expr} {known : Known} {handed : List Handed} {t : CType} {to from : Kind}
     → Finds sample env (PieceIs (Loaded expr) (Passes (OperandIs known) handed)) after → kind_of after.structs t ≡ to → kind_of after.structs known.ctype ≡ from
@@ -146,7 +159,7 @@ broken_behind_named slot bytes place {first = first} e found rest = PartSets {ou
 pub too_many : {env after : Declarations} {subject : Subject} {filled : Filled} {index : ℕ} {parts : List InitPart} (expr : Expr) {known : Known} {handed : List Handed}
     → next_in Lp64 env.structs filled index None ≡ Full → Finds sample env (PieceIs (Loaded expr) (Passes (OperandIs known) handed)) after
     → Finds sample env (PartsFill subject filled index (part (value_of expr) ∷ parts) (Refused (fault expr.place (Rule 5)))) after
-too_many expr e found = NothingToSet (out-roll-InitPart _) e (SurplusPart (out-roll-InitPart _) refl (outs-Value expr _) (for_nothing found))
+too_many expr e found = NothingToSet (out-roll-InitPart _) e (SurplusPart (out-roll-InitPart _) (SurplusValue (outs-Value expr _) (for_nothing found)))
 
 -- an array whose size is left out, of ints
 pub of_ints : {env after : Declarations} {subject : Subject} (parts : List InitPart) {outcome : Outcome (Unit {0})} → env.structs ≡ structs

@@ -18,7 +18,7 @@ use Rattle.typing.specs.Initialisers.{Slot, Subject, Filled, Next, Sets, NoMembe
 use Rattle.typing.specs.Language.{Language}
 use Rattle.typing.specs.Outcomes.{Outcome, Handed, Passes, Refused, with_front}
 use Rattle.typing.specs.Statements.{Stored, Surplus}
-use Rattle.typing.specs.Typing.{Finds, InitialisedIs, InitialiserIs, PartsFill, SurplusIs, SurplusAre, NotInitialised, ObjectInitialised, ArrayInitialised, ArrayOfWrongSize, ArrayPartsRefused, ArrayByValue, LinkedInitialised, TypeInitialised, ValueStored, BracesFill, BracesTooMany, NoMoreParts, PartSets, PartRefused, NoMemberToSet, NothingToSet, SurplusValue, SurplusBraces, NoSurplusValue, SurplusDesignator, SurplusPart, SurplusInside}
+use Rattle.typing.specs.Typing.{Finds, InitialisedIs, InitialiserIs, PartsFill, SurplusIs, SurplusAre, NotInitialised, ObjectInitialised, ArrayInitialised, ArrayOfWrongSize, ArrayPartsRefused, ArrayByValue, LinkedInitialised, TypeInitialised, ValueStored, BracesFill, BracesTooMany, NoMoreParts, PartSets, PartRefused, NoMemberToSet, NothingToSet, SurplusValue, SurplusBraces, NoSurplusValue, SurplusPart}
 use Rattle.typing.proofs.Sequences.{OneOf, Given, Made, Both, Judged, Sound, Broken, one_given, one_sound, one_broken, named_so, so_named}
 use Rattle.typing.proofs.StatementRows.{ValueFound}
 
@@ -160,39 +160,14 @@ pub surplus_by : {l : Language} {before after : l.Environment} {place : Place} {
 surplus_by {l} {before} {after} {place} {init} {outcome} form e (SurplusValue f found) = subst (IsSurplus l before place outcome after) (sym f ∙ e) found
 surplus_by {l} {before} {after} {place} {init} {outcome} form e (SurplusBraces f found) = subst (IsSurplus l before place outcome after) (sym f ∙ e) found
 
-abbrev pub IsSurplusPart : (l : Language) → l.Environment → Place → List InitPart → Outcome (Unit {0}) → l.Environment → Initialiser → Type 0
-IsSurplusPart l before place parts outcome after (Value value behind_it) = ValueFound l before Surplus value outcome after
-IsSurplusPart l before place parts outcome after (Braces inner) = SurplusPartsFound l before place (inner ++ parts) outcome after
-
-abbrev pub ByMember : (l : Language) → l.Environment → Place → List InitPart → Outcome (Unit {0}) → l.Environment → PartOfInitialiser → Option Identifier → Type 0
-ByMember l before place parts outcome after this (Some name) = Given (Refused (fault name.place (Rule 6))) before outcome after
-ByMember l before place parts outcome after this None = IsSurplusPart l before place parts outcome after (out-Init this.init)
-
-abbrev member_in : PartOfInitialiser → Option Identifier
-member_in this = this.member
-
 pub no_surplus : {l : Language} {before after : l.Environment} {place : Place} {outcome : Outcome (Unit {0})}
     → Finds l before (SurplusAre place [] outcome) after → Given (Refused (fault place (Rule 5))) before outcome after
 no_surplus NoSurplusValue = (refl, refl)
 
-pub surplus_parts_row : {l : Language} {before after : l.Environment} {place : Place} {part : InitPart} {parts : List InitPart} {outcome : Outcome (Unit {0})}
-    → Finds l before (SurplusAre place (part ∷ parts) outcome) after → ByMember l before place parts outcome after (out-InitPart part) (out-InitPart part).member
-surplus_parts_row {l} {before} {after} {place} {part} {parts} {outcome} (SurplusDesignator e f) =
-    named_so member_in (ByMember l before place parts outcome after) e f (refl, refl)
-surplus_parts_row {l} {before} {after} {place} {part} {parts} {outcome} (SurplusPart e f g found) =
-    named_so member_in (ByMember l before place parts outcome after) e f (subst (IsSurplusPart l before place parts outcome after) (sym g) found)
-surplus_parts_row {l} {before} {after} {place} {part} {parts} {outcome} (SurplusInside e f g found) =
-    named_so member_in (ByMember l before place parts outcome after) e f (subst (IsSurplusPart l before place parts outcome after) (sym g) found)
-
-pub surplus_parts_by : (l : Language) (before after : l.Environment) (place : Place) (part : InitPart) (parts : List InitPart) (this : PartOfInitialiser) (member : Option Identifier) (outcome : Outcome (Unit {0}))
-    → out-InitPart part ≡ this → this.member ≡ member → Finds l before (SurplusAre place (part ∷ parts) outcome) after → ByMember l before place parts outcome after this member
-surplus_parts_by l before after place part parts this member outcome e f found = so_named member_in (ByMember l before place parts outcome after) e f (surplus_parts_row found)
-
-pub surplus_inside_by : (l : Language) (before after : l.Environment) (place : Place) (part : InitPart) (parts : List InitPart) (this : PartOfInitialiser) (form : Initialiser) (outcome : Outcome (Unit {0}))
-    → out-InitPart part ≡ this → this.member ≡ None → out-Init this.init ≡ form → Finds l before (SurplusAre place (part ∷ parts) outcome) after
-    → IsSurplusPart l before place parts outcome after form
-surplus_inside_by l before after place part parts this form outcome e f g found =
-    subst (IsSurplusPart l before place parts outcome after) g (surplus_parts_by l before after place part parts this None outcome e f found)
+pub surplus_part : {l : Language} {before after : l.Environment} {place : Place} {part : InitPart} {parts : List InitPart} {outcome : Outcome (Unit {0})} (this : PartOfInitialiser)
+    → out-InitPart part ≡ this → Finds l before (SurplusAre place (part ∷ parts) outcome) after → SurplusFound l before place this.init outcome after
+surplus_part {l} {before} {after} {place} {outcome = outcome} this e (SurplusPart f found) =
+    subst (λ (p : PartOfInitialiser). SurplusFound l before place p.init outcome after) (sym f ∙ e) found
 
 -- one outcome of an array whose size is told
 pub one_array : (l : Language) (name : Identifier) (fixed : Bool) (item : CType) (parts : List InitPart) (handed : List Handed) (middle : l.Environment)

@@ -1,6 +1,6 @@
 -- An expression has one outcome in an environment, and so has each part of the walk: a derivation is compared with any other one of the same part.
 use Rattle.std.proofs.Common.{ℕ, suc, length, Bool, true, false, List, [], ◌∷◌, ◌++◌, Option, Some, None, refl, sym, ap, ◌∙◌, subst}
-use Rattle.std.specs.Prelude.{is_some}
+use Rattle.std.specs.Prelude.{◌&&◌, is_some}
 use Rattle.cbase.specs.declared.tree.expr.ExprForm.TheOpen.{Value, Braces}
 use Rattle.typing.specs.declared.ctypes.found.Broken.TheVariants.{Rule}
 use Rattle.typing.specs.ctypes.Binary.{int_type}
@@ -23,7 +23,7 @@ use Rattle.typing.specs.Pieces.{Loaded, SizeOfArray}
 use Rattle.typing.specs.Rules.{AtNode}
 use Rattle.typing.specs.Statements.{Stored, parts_in, without_value}
 use Rattle.typing.specs.Told.{Told, OperandIs, SizeIs}
-use Rattle.typing.specs.Typing.{Saying, ExpressionIs, PieceIs, StatementIs, named, Finds, RefusedInside, Walked, NoPieces, MorePieces, RefusedHere, RefusedBehind, LoadedValue, LoadOfIncomplete, LoadedRefused, UnloadedOperand, UnloadedRefused, CalledFunction, CalledOther, CalledRefused, TypeInside, TypeRefused, IndexOfPath, IndexNotConstant, IndexRefused, SizeOfItems, SizeUnderOne, SizeRefused, BlockInside, BlockRefused, NoStatements, LastExpression, LastStruct, LastRefused, MoreStatements, StatementRefused, StatementsRefused, BasicSpecifier, TypedefSpecifier, StructSpecifier, StructDeclared, StructIsEnum, EnumSpecifier, EnumDeclared, EnumIsStruct, StructOfNothing, EnumOfNothing, StructWithMembers, StructCompletedInside, MembersRefused, StructTwice, EnumWithConstants, EnumTwice, TypeofExpression, TypeofRefused, TypeofType, NoSizes, SizeLeftOut, SizeLeftOutRefused, MoreSizes, SizesRefusedHere, SizesRefusedBehind, TypeNamed, WordsRefused, SizesRefused, NoDeclarations, MoreDeclarations, DeclarationRefused, MembersDeclared, MemberWordsRefused, NoNames, MoreNames, NameRefused, MemberFound, MemberSizesRefused, MemberWidthRefused, NoMemberSizes, MoreMemberSizes, MemberSizeRefusedHere, MemberSizeRefusedBehind, MemberSizeLeftOut, MemberSizeGiven, MemberSizeRefused, NoWidth, WidthGiven, NoEnumerators, EnumeratorTwice, EnumeratorRefused, EnumeratorTwiceInside, MoreEnumerators, NextValue, NoNextValue, GivenValue, GivenNoInt, GivenRefused, StatementOfParts, StatementInScope, NoStatementParts, MoreStatementParts, StatementPartRefused, ValueInStatement, StatementInside, BodyOfLoop, StatementOfIf, BlockOfStatements, LoopLeft, NoLoopToLeave, NothingReturned, ValueReturned, ValueTaken, ValueRefused, TagAlone, TagAloneOfOther, WordsWithNames, DeclaredWordsRefused, NoDeclarators, SomeDeclarators, NoMoreDeclarators, MoreDeclarators, DeclaratorRefused, NameWithSizesRefused, NameBroken, NameGiven, FixedSizes, AnySizes, ParametersRefused, FunctionBroken, FunctionGiven, NoParameters, MoreParameters, ParameterRefused, ParameterFound, ParameterWordsRefused, ParameterSizesRefused, NotInitialised, ObjectInitialised, ArrayInitialised, ArrayOfWrongSize, ArrayPartsRefused, ArrayByValue, LinkedInitialised, TypeInitialised, ValueStored, BracesFill, BracesTooMany, NoMoreParts, PartSets, PartRefused, NoMemberToSet, NothingToSet, SurplusValue, SurplusBraces, NoSurplusValue, SurplusDesignator, SurplusPart, SurplusInside, DeclarationInside}
+use Rattle.typing.specs.Typing.{Saying, ExpressionIs, PieceIs, StatementIs, named, Finds, RefusedInside, Walked, NoPieces, MorePieces, RefusedHere, RefusedBehind, LoadedValue, LoadOfIncomplete, LoadedRefused, UnloadedOperand, UnloadedRefused, CalledFunction, CalledOther, CalledRefused, TypeInside, TypeRefused, IndexOfPath, IndexNotConstant, IndexRefused, SizeOfItems, SizeUnderOne, SizeRefused, BlockInside, BlockRefused, NoStatements, LastExpression, LastStruct, LastRefused, MoreStatements, StatementRefused, StatementsRefused, BasicSpecifier, TypedefSpecifier, StructSpecifier, StructDeclared, StructIsEnum, EnumSpecifier, EnumDeclared, EnumIsStruct, StructOfNothing, EnumOfNothing, StructWithMembers, StructCompletedInside, MembersRefused, StructTwice, EnumWithConstants, EnumTwice, TypeofExpression, TypeofRefused, TypeofType, NoSizes, SizeLeftOut, SizeLeftOutRefused, MoreSizes, SizesRefusedHere, SizesRefusedBehind, TypeNamed, WordsRefused, SizesRefused, NoDeclarations, MoreDeclarations, DeclarationRefused, MembersDeclared, MemberWordsRefused, NoNames, MoreNames, NameRefused, MemberFound, MemberSizesRefused, MemberWidthRefused, NoMemberSizes, MoreMemberSizes, MemberSizeRefusedHere, MemberSizeRefusedBehind, MemberSizeLeftOut, MemberSizeGiven, MemberSizeRefused, NoWidth, WidthGiven, NoEnumerators, EnumeratorTwice, EnumeratorRefused, EnumeratorTwiceInside, MoreEnumerators, NextValue, NoNextValue, GivenValue, GivenNoInt, GivenRefused, StatementOfParts, StatementInScope, NoStatementParts, MoreStatementParts, StatementPartRefused, ValueInStatement, StatementInside, BodyOfLoop, StatementOfIf, BlockOfStatements, LoopLeft, NoLoopToLeave, NothingReturned, ValueReturned, ValueTaken, ValueRefused, TagAlone, TagAloneOfOther, WordsWithNames, DeclaredWordsRefused, NoDeclarators, SomeDeclarators, NoMoreDeclarators, MoreDeclarators, DeclaratorRefused, NameWithSizesRefused, NameBroken, NameGiven, FixedSizes, AnySizes, ParametersRefused, FunctionBroken, FunctionGiven, NoParameters, MoreParameters, ParameterRefused, ParameterFound, ParameterWordsRefused, ParameterSizesRefused, NotInitialised, ObjectInitialised, ArrayInitialised, ArrayOfWrongSize, ArrayPartsRefused, ArrayByValue, LinkedInitialised, TypeInitialised, ValueStored, BracesFill, BracesTooMany, NoMoreParts, PartSets, PartRefused, NoMemberToSet, NothingToSet, SurplusValue, SurplusBraces, NoSurplusValue, SurplusPart, DeclarationInside}
 use Rattle.typing.specs.values.Values.{word_of, int_value, next_value}
 use Rattle.typing.proofs.OneFault.{one_settled}
 use Rattle.typing.proofs.BraceRows as braces
@@ -92,16 +92,16 @@ one l before _ after (BlockInside {after = inside} found) = λ second other also
 one l before _ after (BlockRefused {after = inside} found) = λ second other also.
     one_block l inside _ _ second other (row.block_row also) (one l (l.entered before) _ inside found (row.block_row also).0 (row.block_row also).1 (row.block_row also).2)
 one l before _ after NoStatements = λ second other found. (sym (row.no_statements found).0, (row.no_statements found).1)
-one l before _ after (LastExpression {stmt = stmt} {expr = expr} {known = known} {last = last} {handed = handed} e found seen no_struct) = λ second other also.
-    one_last l before stmt [] expr (Passes (OperandIs known) handed) _ after (ap is_some e) e
+one l before _ after (LastExpression {stmt = stmt} {stmts = stmts} {expr = expr} {known = known} {last = last} {handed = handed} e empty found seen no_struct) = λ second other also.
+    one_last l before stmt stmts expr (Passes (OperandIs known) handed) _ after (λ i. empty i && is_some (e i)) e
     ((λ i. if_struct expr (sym no_struct i) last.kind known.ctype handed) ∙ ap (λ (op : Operand). if_struct expr (is_struct op.kind) op.kind known.ctype handed) (sym seen))
     (one l before _ after found) second other (row.block_rows also)
-one l before _ after (LastStruct {stmt = stmt} {expr = expr} {known = known} {last = last} {handed = handed} e found seen struct) = λ second other also.
-    one_last l before stmt [] expr (Passes (OperandIs known) handed) _ after (ap is_some e) e
+one l before _ after (LastStruct {stmt = stmt} {stmts = stmts} {expr = expr} {known = known} {last = last} {handed = handed} e empty found seen struct) = λ second other also.
+    one_last l before stmt stmts expr (Passes (OperandIs known) handed) _ after (λ i. empty i && is_some (e i)) e
     ((λ i. if_struct expr (sym struct i) last.kind known.ctype handed) ∙ ap (λ (op : Operand). if_struct expr (is_struct op.kind) op.kind known.ctype handed) (sym seen))
     (one l before _ after found) second other (row.block_rows also)
-one l before _ after (LastRefused {stmt = stmt} {expr = expr} {first = first} e found) = λ second other also.
-    one_last l before stmt [] expr (Refused first) _ after (ap is_some e) e refl (one l before _ after found) second other (row.block_rows also)
+one l before _ after (LastRefused {stmt = stmt} {stmts = stmts} {expr = expr} {first = first} e empty found) = λ second other also.
+    one_last l before stmt stmts expr (Refused first) _ after (λ i. empty i && is_some (e i)) e refl (one l before _ after found) second other (row.block_rows also)
 one l before _ after (MoreStatements {middle = middle} {stmt = stmt} {stmts = stmts} {t = t} {further = further} handed not_last it rest) = λ second other also.
     one_front l before middle after stmt stmts handed (Passes t further) not_last (one l before _ middle it) (one l middle _ after rest) second other (row.block_rows also)
 one l before _ after (StatementRefused {stmt = stmt} {stmts = stmts} {first = first} not_last it) = λ second other also.
@@ -356,12 +356,7 @@ one l before _ after (SurplusValue {value = value} {behind_it = behind_it} e fou
     one l before _ after found second other (initialisers.surplus_by (Value value behind_it) e also)
 one l before _ after (SurplusBraces {parts = parts} e found) = λ second other also. one l before _ after found second other (initialisers.surplus_by (Braces parts) e also)
 one l before _ after (NoSurplusValue {place = place}) = λ second other found. one_given (Refused (fault place (Rule 5))) before second other (initialisers.no_surplus found)
-one l before _ after (SurplusDesignator {place = place} {part = part} {parts = parts} {this = this} {name = name} e f) = λ second other also.
-    one_given (Refused (fault name.place (Rule 6))) before second other (initialisers.surplus_parts_by l before other place part parts this (Some name) second e f also)
-one l before _ after (SurplusPart {place = place} {part = part} {parts = parts} {this = this} {value = value} {behind_it = behind_it} e f g found) = λ second other also.
-    one l before _ after found second other (initialisers.surplus_inside_by l before other place part parts this (Value value behind_it) second e f g also)
-one l before _ after (SurplusInside {place = place} {part = part} {parts = parts} {inner = inner} {this = this} e f g found) = λ second other also.
-    one l before _ after found second other (initialisers.surplus_inside_by l before other place part parts this (Braces inner) second e f g also)
+one l before _ after (SurplusPart {part = part} {parts = parts} {this = this} e found) = λ second other also. one l before _ after found second other (initialisers.surplus_part this e also)
 
 pub one_outcome : (l : Language) → HasOneOutcome l
 one_outcome l = record {

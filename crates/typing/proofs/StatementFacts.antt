@@ -1,6 +1,6 @@
 -- Values, statements and blocks of the examples, in any environment.
 use Rattle.std.proofs.Common.{◌≡◌, ℕ, Bool, true, false, List, [], ◌∷◌, ◌++◌, Some, None, refl, ap, ◌∙◌}
-use Rattle.std.specs.Prelude.{not, is_some, codes, length, option_map}
+use Rattle.std.specs.Prelude.{◌&&◌, not, is_some, codes, length, option_map}
 use Rattle.cbase.specs.declared.abi.Abi.TheVariants.{Lp64}
 use Rattle.cbase.specs.declared.ctype.CType.{CType}
 use Rattle.cbase.specs.declared.ctype.CType.TheVariants.{Void as VoidType, Pointer as PointerType, Struct as StructType, Array as ArrayType}
@@ -8,6 +8,7 @@ use Rattle.cbase.specs.declared.structs.StructDef.{StructDef}
 use Rattle.cbase.specs.declared.tree.expr.Expr.{Expr}
 use Rattle.cbase.specs.declared.tree.expr.ExprForm.TheViews.{out-StmtForm, outs-Name, outs-Eval, outs-Block}
 use Rattle.cbase.specs.declared.tree.stmt.Stmt.{Stmt}
+use Rattle.cbase.specs.declared.tree.stmt.StmtForm.{StmtForm}
 use Rattle.cbase.specs.declared.tree.stmt.StmtForm.TheVariants.{Eval, Block}
 use Rattle.cbase.specs.Layout.{layout_of, struct_at, scalar, repeated}
 use Rattle.cbase.proofs.Types.{type_layout-Void, type_layout-Int, type_layout-Pointer, type_layout-Array}
@@ -18,7 +19,7 @@ use Rattle.typing.specs.Calls.{is_struct}
 use Rattle.typing.specs.declared.fault.Fault.{Fault}
 use Rattle.typing.specs.Entities.{ObjectIs}
 use Rattle.typing.specs.Faults.{fault, unless}
-use Rattle.typing.specs.Forms.{Clause, value_in}
+use Rattle.typing.specs.Forms.{Clause, is_empty, value_in}
 use Rattle.typing.specs.Known.{Known, behind}
 use Rattle.typing.specs.Nodes.{object_known, is_last_value}
 use Rattle.typing.specs.Outcomes.{Handed, Passes, Refused}
@@ -130,6 +131,10 @@ refused_in_braces body {first = first} found = StatementOfParts (outs-Block body
 pub last : {env after : Declarations} {stmt : Stmt} {handed : List Handed}
     → is_last_value (stmt ∷ []) ≡ false → Finds sample env (StatementIs stmt (Passes tt handed)) after → Finds sample env (StatementsAre (stmt ∷ []) (Passes VoidType (handed ++ []))) after
 last {handed = handed} e found = MoreStatements handed e found NoStatements
+
+-- one in front of another that is not empty
+pub followed : (form : StmtForm) {clause : Clause} (others first : Bool) → out-StmtForm form ≡ clause → is_empty clause ≡ false → ((is_empty (out-StmtForm form) && others) && first) ≡ false
+followed form others first e f = ap (λ (c : Clause). (is_empty c && others) && first) e ∙ ap (λ (b : Bool). (b && others) && first) f
 
 pub no_value : (stmt : Stmt) {clause : Clause} → out-StmtForm stmt.form ≡ clause → is_some (value_in clause) ≡ false → is_last_value (stmt ∷ []) ≡ false
 no_value stmt e f = ap (λ (c : Clause). is_some (value_in c)) e ∙ f

@@ -3,7 +3,7 @@
 -- Of each part but those of braces a lemma says what a derivation of it holds: what is found of the parts below, and what is made of that. So a derivation is compared
 -- with any other one of the same part.
 use Rattle.std.proofs.Common.{◌≡◌, ℕ, Bool, true, false, List, [], ◌∷◌, ◌++◌, Option, Some, None, refl, sym, ap, ◌∙◌, subst}
-use Rattle.std.specs.Prelude.{is_some, length, option_and_then, if◌then◌else◌}
+use Rattle.std.specs.Prelude.{◌&&◌, is_some, length, option_and_then, if◌then◌else◌}
 use Rattle.cbase.specs.declared.ctype.CType.{CType}
 use Rattle.cbase.specs.declared.ctype.CType.TheVariants.{Void as VoidType, Struct as StructType}
 use Rattle.cbase.specs.declared.structs.StructDef.{StructDef}
@@ -252,13 +252,13 @@ pub data IsBlock (l : Language) (before : l.Environment) (stmt : Stmt) (stmts : 
 
 pub block_rows : {l : Language} {before after : l.Environment} {stmt : Stmt} {stmts : List Stmt} {outcome : Outcome CType}
     → Finds l before (StatementsAre (stmt ∷ stmts) outcome) after → IsBlock l before stmt stmts outcome after
-block_rows {l} {after = after} (LastExpression {expr = expr} {known = known} {last = last} {handed = handed} e found is no_struct) =
-    Last expr (ap is_some e) e (Passes (OperandIs known) handed) found
+block_rows {l} {after = after} (LastExpression {expr = expr} {known = known} {last = last} {handed = handed} e empty found is no_struct) =
+    Last expr (λ i. empty i && is_some (e i)) e (Passes (OperandIs known) handed) found
     ((λ i. if_struct expr (sym no_struct i) last.kind known.ctype handed) ∙ ap (λ (op : Operand). if_struct expr (is_struct op.kind) op.kind known.ctype handed) (sym is))
-block_rows {l} {after = after} (LastStruct {expr = expr} {known = known} {last = last} {handed = handed} e found is struct) =
-    Last expr (ap is_some e) e (Passes (OperandIs known) handed) found
+block_rows {l} {after = after} (LastStruct {expr = expr} {known = known} {last = last} {handed = handed} e empty found is struct) =
+    Last expr (λ i. empty i && is_some (e i)) e (Passes (OperandIs known) handed) found
     ((λ i. if_struct expr (sym struct i) last.kind known.ctype handed) ∙ ap (λ (op : Operand). if_struct expr (is_struct op.kind) op.kind known.ctype handed) (sym is))
-block_rows (LastRefused {expr = expr} {first = first} e found) = Last expr (ap is_some e) e (Refused first) found refl
+block_rows (LastRefused {expr = expr} {first = first} e empty found) = Last expr (λ i. empty i && is_some (e i)) e (Refused first) found refl
 block_rows (MoreStatements {middle = middle} {t = t} {further = further} handed not_last is rest) = Front not_last (Passes tt handed) middle is (Passes t further, rest, refl)
 block_rows {after = after} (StatementRefused {first = first} not_last is) = Front not_last (Refused first) after is (refl, refl)
 block_rows (StatementsRefused {middle = middle} {first = first} handed not_last is rest) = Front not_last (Passes tt handed) middle is (Refused first, rest, refl)

@@ -142,7 +142,7 @@ abbrev pub faults_of_name : Abi → List StructDef → DeclaratorParts → Named
 faults_of_name abi structs parts base counts gives again =
     name_faults parts.place (found_of_name base counts (is_large abi structs (declared_type base parts.stars counts))) again (is_complete structs (is_some parts.init) gives)
 
--- the type that declarations give what has linkage, so far (6.2.7p3)
+-- the type that declarations give what has linkage, so far, in whatever scopes they stand (6.2.7p3)
 abbrev pub composite_type : DeclaredType → DeclaredType → DeclaredType
 composite_type (WholeType first) second = WholeType first
 composite_type (ItemsOf item) second = second
@@ -151,10 +151,26 @@ abbrev pub composite : Option Linked → Linked → Linked
 composite (Some (ObjectLinked first)) (ObjectLinked second) = ObjectLinked (composite_type first second)
 composite before now = now
 
+-- the type that an object has where it is declared, by this declaration and those that are visible there (6.2.7p4). What a block says of it is not visible
+-- behind that
+abbrev pub seen_type : Option CType → DeclaredType → DeclaredType
+seen_type None given = given
+seen_type (Some t) given = WholeType t
+
+-- the items of an array whose size is not known there
+abbrev pub unsized_items : DeclaredType → Option CType
+unsized_items (WholeType t) = None
+unsized_items (ItemsOf item) = Some item
+
+abbrev pub hidden_items : Option CType → Linked → Option CType
+hidden_items visible (ObjectLinked given) = unsized_items (seen_type visible given)
+hidden_items visible (FunctionLinked result params) = None
+
 -- the name is declared (6.2.1p7)
 abbrev pub name_declared : (l : Language) → List ℕ → ℕ → Given → l.Environment → l.Environment
 name_declared l name token (ObjectGiven fixed t) env = l.object_declared name token fixed t env
-name_declared l name token (LinkedGiven linked) env = l.linked_declared name token (composite (l.linked name env) linked) env
+name_declared l name token (LinkedGiven linked) env =
+    l.linked_declared name token (hidden_items (l.visible_type name env) linked) (composite (l.linked name env) linked) env
 name_declared l name token (TypeGiven t) env = l.typedef_declared name t env
 
 -- the name with its place

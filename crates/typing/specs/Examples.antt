@@ -278,6 +278,8 @@ pub record AreSizes : Type 0 where
 pub record AreInner : Type 0 where
   -- ({ ; n; })
   pub value : HasType (node 1 0 (Inner (statement (Eval None) ∷ statement (Eval (Some (name (codes "n") 0 3))) ∷ []) (token 9))) int_type
+  -- ({ n; ; })
+  pub before_empty : HasType (node 1 0 (Inner (statement (Eval (Some (name (codes "n") 0 2))) ∷ statement (Eval None) ∷ []) (token 9))) int_type
   -- ({ row; })
   pub array : HasType (node 1 0 (Inner (statement (Eval (Some (name (codes "row") 0 2))) ∷ []) (token 9))) (PointerType char_type)
   -- ({ ; })

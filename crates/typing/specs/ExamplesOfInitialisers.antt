@@ -6,7 +6,7 @@ use Rattle.cbase.specs.declared.tree.expr.ExprForm.TheVariants.{Unary, Binary, C
 use Rattle.cbase.specs.declared.tree.init.Init.TheVariants.{Braces}
 use Rattle.cbase.specs.declared.tree.operators.BinaryOp.TheVariants.{Add}
 use Rattle.cbase.specs.declared.tree.operators.UnaryOp.TheVariants.{Address}
-use Rattle.cbase.specs.declared.tree.spec.BasicType.TheVariants.{Void, Integer}
+use Rattle.cbase.specs.declared.tree.spec.BasicType.TheVariants.{Void, Bool, Integer}
 use Rattle.cbase.specs.declared.tree.spec.Rank.TheVariants.{Char, Int}
 use Rattle.cbase.specs.declared.tree.spec.TypeSpec.TheVariants.{Basic, Struct as StructWords}
 use Rattle.cbase.specs.declared.tree.stmt.StmtForm.TheVariants.{Block, Declare}
@@ -62,6 +62,8 @@ pub record AreInitialisers : Type 0 where
   pub items : MakesIn in_function (statement_at 0 (Declare (declare Plain (Basic (Integer Int true)) ((declarator (codes "i") 1 0 (Some (constant (codes "2") 0 3) ∷ []) (Some (Braces (part (value_of (constant (codes "1") 1 7)) ∷ [])))) ∷ [])))) (record { object = 1; offset = 0; ctype = int_type; number = 1 } ∷ []) (record { token = 1; ctype = (ArrayType int_type 2); fixed = false; zeroed = true })
   -- int i[1] = { 1, 2 };
   pub item_too_many : IsRefusedIn in_function (statement_at 0 (Declare (declare Plain (Basic (Integer Int true)) ((declarator (codes "i") 1 0 (Some (constant (codes "1") 0 3) ∷ []) (Some (Braces (part (value_of (constant (codes "1") 1 7)) ∷ part (value_of (constant (codes "2") 2 9)) ∷ [])))) ∷ [])))) 9 (Rule 5)
+  -- int i[1] = { 1, { }, 2 };
+  pub empty_braces_behind : IsRefusedIn in_function (statement_at 0 (Declare (declare Plain (Basic (Integer Int true)) ((declarator (codes "i") 1 0 (Some (constant (codes "1") 0 3) ∷ []) (Some (Braces (part (value_of (constant (codes "1") 1 7)) ∷ part (Braces []) ∷ part (value_of (constant (codes "2") 2 12)) ∷ [])))) ∷ [])))) 1 (Rule 5)
   -- int i[2] = 1;
   pub int_for_array : IsRefusedIn in_function (statement_at 0 (Declare (declare Plain (Basic (Integer Int true)) ((declarator (codes "i") 1 0 (Some (constant (codes "2") 0 3) ∷ []) (Some (value_of (constant (codes "1") 1 6)))) ∷ [])))) 6 (Rule 5)
   -- int i[] = { 1, 2 };
@@ -90,6 +92,8 @@ pub record AreInitialisers : Type 0 where
   pub static_address : PassesIn in_function (statement_at 0 (Declare (declare Static (Basic (Integer Int true)) ((declarator (codes "i") 3 1 [] (Some (value_of (node 1 5 (Unary Address (name (codes "n") 0 6)))))) ∷ []))))
   -- static char *i = &row[1];
   pub static_item : PassesIn in_function (statement_at 0 (Declare (declare Static (Basic (Integer Char true)) ((declarator (codes "i") 3 1 [] (Some (value_of (node 3 5 (Unary Address (node 2 7 (Index (name (codes "row") 0 6) (constant (codes "1") 1 8)))))))) ∷ []))))
+  -- static _Bool i = &row[1];
+  pub static_test : IsRefusedIn in_function (statement_at 0 (Declare (declare Static (Basic Bool) ((declarator (codes "i") 2 0 [] (Some (value_of (node 3 4 (Unary Address (node 2 6 (Index (name (codes "row") 0 5) (constant (codes "1") 1 7)))))))) ∷ [])))) 4 (Rule 9)
   -- static char *i = row + 1;
   pub static_sum : IsRefusedIn in_function (statement_at 0 (Declare (declare Static (Basic (Integer Char true)) ((declarator (codes "i") 3 1 [] (Some (value_of (node 2 6 (Binary Add (name (codes "row") 0 5) (constant (codes "1") 1 7)))))) ∷ [])))) 6 (Rule 9)
   -- static void *i = (void *)0;
@@ -100,5 +104,7 @@ pub record AreInitialisers : Type 0 where
   pub static_address_of_automatic : IsRefusedIn in_function (statement_at 0 (Block ((statement_at 1 (Declare (declare Plain (Basic (Integer Int true)) ((declarator (codes "i") 2 0 [] None) ∷ [])))) ∷ (statement_at 4 (Declare (declare Static (Basic (Integer Int true)) ((declarator (codes "j") 7 1 [] (Some (value_of (node 1 9 (Unary Address (name (codes "i") 0 10)))))) ∷ [])))) ∷ []))) 9 (Rule 9)
   -- extern int i = 3;
   pub of_linked : IsRefusedIn in_function (statement_at 0 (Declare (declare Extern (Basic (Integer Int true)) ((declarator (codes "i") 2 0 [] (Some (value_of (constant (codes "3") 0 4)))) ∷ [])))) 4 (Rule 5)
+  -- extern struct s i = { .a = 1 };
+  pub designator_of_linked : IsRefusedIn in_function (statement_at 0 (Declare (declare Extern (StructWords (Some (identifier (codes "s") 2)) None) ((declarator (codes "i") 3 0 [] (Some (Braces (part_named (codes "a") 7 (value_of (constant (codes "1") 0 9)) ∷ [])))) ∷ [])))) 9 (Rule 5)
   -- typedef int i = 3;
   pub of_typedef : IsRefusedIn in_function (statement_at 0 (Declare (declare Typedef (Basic (Integer Int true)) ((declarator (codes "i") 2 0 [] (Some (value_of (constant (codes "3") 0 4)))) ∷ [])))) 4 (Rule 5)

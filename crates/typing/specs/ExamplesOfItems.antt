@@ -214,6 +214,8 @@ pub record AreFunctions : Type 0 where
   -- types that change between items
   -- extern int a[]; int h(void) { a; return 0; }
   pub incomplete_where_used : AreRefused ((DeclareItem (declare Extern (Basic (Integer Int true)) ((declarator (codes "a") 2 0 (None ∷ []) None) ∷ []))) ∷ (Function (Basic (Integer Int true)) Plain (function_declarator (codes "h") 7 []) ((statement_at 12 (Eval (Some (name (codes "a") 0 12)))) ∷ (statement_at 14 (Return (Some (constant (codes "0") 1 15)))) ∷ []) (token 0)) ∷ []) 12 (Rule 3)
+  -- extern int a[]; int h(void) { { extern int a[3]; } a; return 0; }
+  pub size_of_an_inner_block : AreRefused ((DeclareItem (declare Extern (Basic (Integer Int true)) ((declarator (codes "a") 2 0 (None ∷ []) None) ∷ []))) ∷ (Function (Basic (Integer Int true)) Plain (function_declarator (codes "h") 7 []) ((statement_at 12 (Block ((statement_at 13 (Declare (declare Extern (Basic (Integer Int true)) ((declarator (codes "a") 15 0 (Some (constant (codes "3") 0 17) ∷ []) None) ∷ [])))) ∷ []))) ∷ (statement_at 21 (Eval (Some (name (codes "a") 1 21)))) ∷ (statement_at 23 (Return (Some (constant (codes "0") 2 24)))) ∷ []) (token 0)) ∷ []) 21 (Rule 3)
   -- int a[3]; int h(void) { a; return 0; }
   pub complete_where_used : PassInFile ((DeclareItem (declare Plain (Basic (Integer Int true)) ((declarator (codes "a") 1 0 (Some (constant (codes "3") 0 3) ∷ []) None) ∷ []))) ∷ (Function (Basic (Integer Int true)) Plain (function_declarator (codes "h") 7 []) ((statement_at 12 (Eval (Some (name (codes "a") 0 12)))) ∷ (statement_at 14 (Return (Some (constant (codes "0") 1 15)))) ∷ []) (token 0)) ∷ [])
   -- void k(struct q *a); struct q; void k(struct q *a) { }

@@ -1,6 +1,6 @@
 -- Objects that are declared outside of functions (C11 6.9.2): their definitions, their types, and what is found at their names. They have linkage (6.2.2p3 to
 -- p5), and it is not asked whether that is internal.
-use Rattle.std.specs.Prelude.{ℕ, ◌&&◌, ◌||◌, not, Bool, true, false, List, [], ◌∷◌, ◌++◌, Option, None, Some, is_some}
+use Rattle.std.specs.Prelude.{ℕ, ◌&&◌, ◌||◌, not, Bool, true, false, List, [], ◌∷◌, ◌++◌, is_some}
 use Rattle.cbase.specs.declared.abi.Abi.{Abi}
 use Rattle.cbase.specs.declared.ctype.CType.{CType}
 use Rattle.cbase.specs.declared.place.Place.{Place}
@@ -10,8 +10,8 @@ use Rattle.cbase.specs.declared.tree.decl.Storage.TheVariants.{Plain, Typedef, E
 use Rattle.typing.specs.declared.ctypes.found.Broken.TheVariants.{Rule}
 use Rattle.typing.specs.declared.fault.Fault.{Fault}
 use Rattle.typing.specs.declared.size.Size.{Size}
-use Rattle.typing.specs.Declarations.{ObjectGiven, LinkedGiven, given_type, is_complete, found_of_name, name_faults, composite_type, name_declared, object_row, told_faults}
-use Rattle.typing.specs.Entities.{DeclaredType, Linked, ObjectLinked, FunctionLinked, Definition, NotDefined, Tentative, Defined}
+use Rattle.typing.specs.Declarations.{ObjectGiven, LinkedGiven, given_type, is_complete, found_of_name, name_faults, seen_type, name_declared, object_row, told_faults}
+use Rattle.typing.specs.Entities.{DeclaredType, ObjectLinked, Definition, NotDefined, Tentative, Defined}
 use Rattle.typing.specs.Faults.{unless}
 use Rattle.typing.specs.FileScope.{FileScope}
 use Rattle.typing.specs.Forms.{DeclaratorParts}
@@ -55,14 +55,9 @@ is_declared_only Defined = false
 abbrev pub is_listed : Definition → Definition → Bool
 is_listed before now = is_declared_only before && not (is_declared_only now)
 
--- the type that an object has by a declaration and by those before it (6.2.7p4)
-abbrev pub type_so_far : Option Linked → DeclaredType → DeclaredType
-type_so_far None t = t
-type_so_far (Some (FunctionLinked result params)) t = t
-type_so_far (Some (ObjectLinked before)) t = composite_type before t
-
+-- the type that an object has by a declaration and by those before it that are visible (6.2.7p4)
 abbrev pub object_type : (l : Language) → NamedType → DeclaratorParts → List Size → l.Environment → DeclaredType
-object_type l base parts counts env = type_so_far (l.linked parts.name env) (given_type base parts.stars counts)
+object_type l base parts counts env = seen_type (l.visible_type parts.name env) (given_type base parts.stars counts)
 
 -- whether it is complete: where the declaration defines it, it is so at once, once an initialiser stands; where it does not, it is not `void`
 -- (6.7p7)

@@ -1,5 +1,5 @@
 -- The trees that are walked, each as one layer: the parts of a form, a type or a way stand in it as trees.
-use Rattle.std.specs.Prelude.{ℕ, List, Option, None, Some}
+use Rattle.std.specs.Prelude.{ℕ, Bool, true, false, List, Option, None, Some}
 use Rattle.cbase.specs.declared.tree.decl.Decl.{Decl}
 use Rattle.cbase.specs.declared.tree.decl.Declared.{Declared}
 use Rattle.cbase.specs.declared.tree.decl.Param.{Param}
@@ -69,3 +69,8 @@ name_in other = None
 abbrev pub value_in : Clause → Option Expr
 value_in (Eval expr) = expr
 value_in other = None
+
+-- an empty statement (C11 6.8.3p3)
+abbrev pub is_empty : Clause → Bool
+is_empty (Eval None) = true
+is_empty other = false

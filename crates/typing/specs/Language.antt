@@ -42,11 +42,14 @@ pub record Language : Type 1 where
   -- what the innermost scope alone says of a name, and what has linkage under it in the whole text so far
   pub name_here : List ℕ → Environment → Option NameHere
   pub linked : List ℕ → Environment → Option Linked
+  -- the type that visible declarations give an object that has linkage under a name, where that is a whole one (C11 6.2.7p4)
+  pub visible_type : List ℕ → Environment → Option CType
   -- a name is declared in the innermost scope: an object without linkage, or one of that scope again, whose type is known now, by how many tokens stand
   -- before its name, whether it lives as long as the program runs, and its type; a typedef; and what has linkage, declared by the name behind so
-  -- many tokens, which is that in the whole text from here on (C11 6.2.2)
+  -- many tokens, which is that in the whole text from here on (C11 6.2.2). Where no declaration that is visible gives the size of an array, it is one of
+  -- these items in its scope
   pub object_declared : List ℕ → ℕ → Bool → DeclaredType → Environment → Environment
   pub typedef_declared : List ℕ → DeclaredType → Environment → Environment
-  pub linked_declared : List ℕ → ℕ → Linked → Environment → Environment
+  pub linked_declared : List ℕ → ℕ → Option CType → Linked → Environment → Environment
   -- whether `main` may not be called there, so that it returns once in a run
   pub strict : Environment → Bool

@@ -1,5 +1,5 @@
 -- What is asked at single nodes, and what is known of an expression that passes.
-use Rattle.std.specs.Prelude.{ℕ, ◌++◌, ◌||◌, not, Bool, true, false, List, [], ◌∷◌, Option, None, Some, is_some, nat_eq, if◌then◌else◌}
+use Rattle.std.specs.Prelude.{ℕ, ◌++◌, ◌&&◌, ◌||◌, not, Bool, true, false, List, [], ◌∷◌, Option, None, Some, is_some, nat_eq, if◌then◌else◌}
 use Rattle.cbase.specs.declared.abi.Abi.{Abi}
 use Rattle.cbase.specs.declared.ctype.CType.{CType}
 use Rattle.cbase.specs.declared.ctype.CType.TheVariants.{Void as VoidType, Int as IntType}
@@ -27,7 +27,7 @@ use Rattle.typing.specs.declared.idiom.Idiom.TheVariants.{Outside}
 use Rattle.typing.specs.Faults.{fault, unless}
 use Rattle.typing.specs.Idiom.{offset_in, null_cast, member_offset}
 use Rattle.typing.specs.Known.{Known, valued, is_zero}
-use Rattle.typing.specs.Forms.{value_in}
+use Rattle.typing.specs.Forms.{is_empty, value_in}
 use Rattle.typing.specs.values.Values.{is_whole, cast_value}
 
 -- an object by its name (C11 6.5.1p2)
@@ -139,8 +139,12 @@ abbrev pub place_of_assignment : Place → Place → Broken → Place
 place_of_assignment mark value (Construct number) = mark
 place_of_assignment mark value (Rule number) = if nat_eq number 5 then value else mark
 
--- whether only one statement is left, which is an expression
+-- whether statements are all empty, as those of `;` alone
+abbrev pub are_empty : List Stmt → Bool
+are_empty [] = true
+are_empty (stmt ∷ stmts) = is_empty (out-StmtForm stmt.form) && are_empty stmts
+
+-- whether the first statement is the last that is not empty, and an expression: GNU C passes over empty statements at the end of a statement expression
 abbrev pub is_last_value : List Stmt → Bool
 is_last_value [] = false
-is_last_value (stmt ∷ []) = is_some (value_in (out-StmtForm stmt.form))
-is_last_value (stmt ∷ (next ∷ stmts)) = false
+is_last_value (stmt ∷ stmts) = are_empty stmts && is_some (value_in (out-StmtForm stmt.form))

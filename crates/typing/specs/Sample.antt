@@ -7,7 +7,7 @@
 --
 -- and the built-in functions `malloc`, `calloc` and `free`. The last two have no definition, and `open` has its size behind this
 -- place. `count` is a parameter of `main`. `vast` is larger than an object can be.
-use Rattle.std.specs.Prelude.{◌≡◌, ℕ, Bool, true, false, List, [], ◌∷◌, ◌++◌, Option, None, Some, is_some, option_map, codes, length, if◌then◌else◌}
+use Rattle.std.specs.Prelude.{◌≡◌, ℕ, Bool, true, false, List, [], ◌∷◌, ◌++◌, Option, None, Some, is_some, option_map, option_and_then, codes, length, if◌then◌else◌}
 use Rattle.std.specs.Str.{bytes_eq}
 use Rattle.cbase.specs.declared.abi.Abi.TheVariants.{Lp64}
 use Rattle.cbase.specs.declared.ctype.CType.{CType}
@@ -109,11 +109,11 @@ linked_names =
     ∷ (codes "free", FunctionLinked VoidType (PointerType VoidType ∷ []))
     ∷ []
 
--- what a scope of the examples says of a name: it is its own, a typedef, or it has linkage
+-- what a scope of the examples says of a name: it is its own, a typedef, or it has linkage, perhaps as an array of those items whose size is not known there
 pub data ScopeName : Type 0 where
   OwnName : Entity → ScopeName
   TypedefName : DeclaredType → ScopeName
-  LinkedName : ScopeName
+  LinkedName : Option CType → ScopeName
 
 -- where a place lies; the names of the scopes inside that of the names above, the innermost first; the tags of the innermost scope, and those of
 -- the others; structs; constants of enums beside those names; what has linkage, behind how many tokens it was declared first, if not behind none, and what
@@ -162,11 +162,17 @@ linked_entity token None = None
 linked_entity token (Some (ObjectLinked t)) = Some (ObjectIs (own_object token true t))
 linked_entity token (Some (FunctionLinked result params)) = Some (FunctionIs (function result params))
 
+-- as a scope sees it
+abbrev pub shown : Option CType → Linked → Linked
+shown None linked = linked
+shown (Some item) (ObjectLinked t) = ObjectLinked (ItemsOf item)
+shown (Some item) (FunctionLinked result params) = FunctionLinked result params
+
 abbrev pub entity_by : Declarations → List ℕ → Option ScopeName → Option Entity
 entity_by env name None = named_in (env.constants ++ names) name
 entity_by env name (Some (OwnName entity)) = Some entity
 entity_by env name (Some (TypedefName t)) = Some (TypedefIs (whole_of t))
-entity_by env name (Some LinkedName) = linked_entity (token_of (named_in env.tokens name)) (named_in env.linked name)
+entity_by env name (Some (LinkedName items)) = linked_entity (token_of (named_in env.tokens name)) (option_map (shown items) (named_in env.linked name))
 
 abbrev pub entity_in : Declarations → List ℕ → Option Entity
 entity_in env name = entity_by env name (named_through env.scopes name)
@@ -175,7 +181,7 @@ entity_in env name = entity_by env name (named_through env.scopes name)
 abbrev pub said_by : ScopeName → NameHere
 said_by (OwnName entity) = OwnHere
 said_by (TypedefName t) = TypedefHere t
-said_by LinkedName = LinkedHere
+said_by (LinkedName items) = LinkedHere
 
 abbrev pub said_in : List (List (List ℕ × ScopeName)) → Option Entity → List ℕ → Option NameHere
 said_in [] outside name = option_map (λ entity. OwnHere) outside
@@ -183,6 +189,18 @@ said_in (scope ∷ scopes) outside name = option_map said_by (named_in scope nam
 
 abbrev pub said_here : Declarations → List ℕ → Option NameHere
 said_here env name = said_in env.scopes (entity_in env name) name
+
+-- the type that visible declarations give an object with linkage
+abbrev pub whole_linked : Linked → Option CType
+whole_linked (ObjectLinked t) = whole_of t
+whole_linked (FunctionLinked result params) = None
+
+abbrev pub visible_by : Declarations → List ℕ → Option ScopeName → Option CType
+visible_by env name None = option_and_then whole_linked (named_in linked_names name)
+visible_by env name (Some (OwnName entity)) = None
+visible_by env name (Some (TypedefName t)) = None
+visible_by env name (Some (LinkedName (Some item))) = None
+visible_by env name (Some (LinkedName None)) = option_and_then whole_linked (named_in env.linked name)
 
 -- a name is declared in the innermost scope; a constant of an enum also beside the names above
 abbrev pub bound_in : List ℕ → ScopeName → List (List (List ℕ × ScopeName)) → List (List (List ℕ × ScopeName))
@@ -272,9 +290,10 @@ sample = record {
   result = λ env. env.result;
   name_here = λ name env. said_here env name;
   linked = λ name env. named_in env.linked name;
+  visible_type = λ name env. visible_by env name (named_through env.scopes name);
   object_declared = λ name token fixed t env. bound name (OwnName (ObjectIs (own_object token fixed t))) env;
   typedef_declared = λ name t env. bound name (TypedefName t) env;
-  linked_declared = λ name token linked env. bound name LinkedName (now_linked name token linked env);
+  linked_declared = λ name token items linked env. bound name (LinkedName items) (now_linked name token linked env);
   strict = λ env. false;
 }
 

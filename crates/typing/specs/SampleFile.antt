@@ -7,6 +7,7 @@ use Rattle.std.specs.Prelude.{◌≡◌, ℕ, List, [], ◌∷◌, map, codes, t
 use Rattle.cbase.specs.declared.place.Place.{Place}
 use Rattle.cbase.specs.declared.tree.item.Item.{Item}
 use Rattle.typing.specs.declared.ctypes.found.Broken.{Broken}
+use Rattle.typing.specs.ctypes.Binary.{int_type}
 use Rattle.typing.specs.Entities.{ObjectIs, Definition, NotDefined}
 use Rattle.typing.specs.Faults.{fault}
 use Rattle.typing.specs.FileScope.{FileScope}
@@ -17,12 +18,12 @@ use Rattle.typing.specs.Sample.{sample, Declarations, start, ScopeName, OwnName,
 abbrev pub in_file : Declarations
 in_file = record start {
   scopes = (
-      (codes "n", LinkedName)
-      ∷ (codes "row", LinkedName)
-      ∷ (codes "open", LinkedName)
-      ∷ (codes "f", LinkedName)
-      ∷ (codes "g", LinkedName)
-      ∷ (codes "free", LinkedName)
+      (codes "n", LinkedName None)
+      ∷ (codes "row", LinkedName None)
+      ∷ (codes "open", LinkedName (Some int_type))
+      ∷ (codes "f", LinkedName None)
+      ∷ (codes "g", LinkedName None)
+      ∷ (codes "free", LinkedName None)
       ∷ []
       ) ∷ [];
 }
@@ -44,7 +45,7 @@ file = record {
   definition = λ name env. definition_of (named_in env.definitions name);
   definition_set = λ name definition env. record env { definitions = (name, definition) ∷ env.definitions };
   first_token = λ name env. token_of (named_in env.tokens name);
-  declared_around = λ name token linked env. bound_around name LinkedName (now_linked name token linked env);
+  declared_around = λ name token linked env. bound_around name (LinkedName None) (now_linked name token linked env);
   main_parameter = λ name token t env. bound name (OwnName (ObjectIs (record { ctype = Some t; token = token; defined = true; of_main = true; fixed = false }))) env;
   result_set = λ result env. record env { result = result };
 }

@@ -1,5 +1,5 @@
 -- What statements are made of, in the order in which it is walked, and what is asked of their values (C11 6.8).
-use Rattle.std.specs.Prelude.{Bool, true, false, not, List, [], ◌∷◌, ◌++◌, Option, None, Some}
+use Rattle.std.specs.Prelude.{◌&&◌, Bool, true, false, not, List, [], ◌∷◌, ◌++◌, Option, None, Some}
 use Rattle.cbase.specs.declared.ctype.CType.{CType}
 use Rattle.cbase.specs.declared.place.Place.{Place}
 use Rattle.cbase.specs.declared.structs.StructDef.{StructDef}
@@ -102,10 +102,29 @@ result_faults word place (Array item target) value null = unless (converts (Arra
 result_faults word place (Struct number) value null = unless (converts (Struct number) value null) place (Rule 5)
 
 -- a value of an initialiser is converted as by an assignment, or rule 5 at it (6.7.9p11, p13); that of an object that lives as long as the program
--- runs is also of the form of a constant, or rule 9 at it (6.7.9p4)
+-- runs is also of the form of a constant, and no pointer that becomes a `_Bool`, or rule 9 at it (6.7.9p4)
 abbrev pub stored_faults : Bool → Bool → Place → Bool → List Fault
 stored_faults false constant place converted = unless converted place (Rule 5)
 stored_faults true constant place converted = unless converted place (Rule 5) ++ unless constant place (Rule 9)
+
+-- whether a pointer becomes a `_Bool`, by whether it is null (6.3.1.2). Of an object that lives as long as the program runs it is never so: where such
+-- an object stands is known only when the program runs, and with it whether an address behind its front or before it is null
+abbrev pub is_truth : Kind → Bool
+is_truth (Integer t) = t.truth
+is_truth (Pointer item target) = false
+is_truth (Array item target) = false
+is_truth (Struct number) = false
+is_truth Void = false
+
+abbrev pub is_pointer : Kind → Bool
+is_pointer (Pointer item target) = true
+is_pointer (Integer t) = false
+is_pointer (Array item target) = false
+is_pointer (Struct number) = false
+is_pointer Void = false
+
+abbrev pub is_test_of_pointer : Kind → Kind → Bool
+is_test_of_pointer to from = is_truth to && is_pointer from
 
 -- what is broken at a value, which has the form of a constant or not, where that is asked. What is no condition, and a struct that is dropped, is
 -- rule 4 at the expression
@@ -116,7 +135,8 @@ faults_of_value structs (Returned word None) constant place known = fault word (
 faults_of_value structs (Returned word (Some t)) constant place known =
     result_faults word place (kind_of structs t) (decayed (kind_of structs known.ctype)) known.null
 faults_of_value structs (Stored fixed t) constant place known =
-    stored_faults fixed constant place (converts (kind_of structs t) (decayed (kind_of structs known.ctype)) known.null)
+    stored_faults fixed (constant && not (is_test_of_pointer (kind_of structs t) (decayed (kind_of structs known.ctype)))) place
+    (converts (kind_of structs t) (decayed (kind_of structs known.ctype)) known.null)
 faults_of_value structs Surplus constant place known = fault place (Rule 5) ∷ []
 
 -- `return` without a value stands in a function that has none (6.8.6.4p1)

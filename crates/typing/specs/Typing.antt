@@ -42,7 +42,7 @@ use Rattle.typing.specs.Initialisers.{Slot, Subject, Filled, Sets, NoMember, Ful
 use Rattle.typing.specs.Known.{Known, operand, can_load, value_type, behind}
 use Rattle.typing.specs.Language.{Language}
 use Rattle.typing.specs.NamedTypes.{NamedType, whole, basic_type, no_type, typedef_of, size_of, declared_type, declared, is_large}
-use Rattle.typing.specs.Nodes.{function_faults, is_function, called_of, is_last_value}
+use Rattle.typing.specs.Nodes.{function_faults, is_function, called_of, are_empty, is_last_value}
 use Rattle.typing.specs.Outcomes.{Outcome, Handed, Passes, Refused, IsSettled, with_front}
 use Rattle.typing.specs.Pieces.{Piece, Loaded, Unloaded, Called, OfType as OfTypeName, ConstantIndex, SizeOfArray, BlockOf, pieces_in}
 use Rattle.typing.specs.Rules.{AtNode}
@@ -199,25 +199,28 @@ pub data Finds (l : Language) : l.Environment → Saying → l.Environment → T
   BlockRefused : {before after : l.Environment} {body : List Stmt} {first : Fault}
       → Finds l (l.entered before) (StatementsAre body (Refused first)) after
       → Finds l before (PieceIs (BlockOf body) (Refused first)) (l.left after)
-  -- a block's value is that of its last statement, where that is an expression, and else there is none
+  -- a block's value is that of its last statement that is not empty, where that is an expression, and else there is none
   NoStatements : {env : l.Environment} → Finds l env (StatementsAre [] (Passes VoidType [])) env
-  LastExpression : {before after : l.Environment} {stmt : Stmt} {expr : Expr} {known : Known} {last : Operand} {handed : List Handed}
+  LastExpression : {before after : l.Environment} {stmt : Stmt} {stmts : List Stmt} {expr : Expr} {known : Known} {last : Operand} {handed : List Handed}
       → value_in (out-StmtForm stmt.form) ≡ Some expr
+      → are_empty stmts ≡ true
       → Finds l before (PieceIs (Loaded expr) (Passes (OperandIs known) handed)) after
       → operand (l.structs after) known ≡ last
       → is_struct last.kind ≡ false
-      → Finds l before (StatementsAre (stmt ∷ []) (Passes (value_type last.kind known.ctype) handed)) after
+      → Finds l before (StatementsAre (stmt ∷ stmts) (Passes (value_type last.kind known.ctype) handed)) after
   -- a struct is no value of it: rule 4 at the expression
-  LastStruct : {before after : l.Environment} {stmt : Stmt} {expr : Expr} {known : Known} {last : Operand} {handed : List Handed}
+  LastStruct : {before after : l.Environment} {stmt : Stmt} {stmts : List Stmt} {expr : Expr} {known : Known} {last : Operand} {handed : List Handed}
       → value_in (out-StmtForm stmt.form) ≡ Some expr
+      → are_empty stmts ≡ true
       → Finds l before (PieceIs (Loaded expr) (Passes (OperandIs known) handed)) after
       → operand (l.structs after) known ≡ last
       → is_struct last.kind ≡ true
-      → Finds l before (StatementsAre (stmt ∷ []) (Refused (fault expr.place (Rule 4)))) after
-  LastRefused : {before after : l.Environment} {stmt : Stmt} {expr : Expr} {first : Fault}
+      → Finds l before (StatementsAre (stmt ∷ stmts) (Refused (fault expr.place (Rule 4)))) after
+  LastRefused : {before after : l.Environment} {stmt : Stmt} {stmts : List Stmt} {expr : Expr} {first : Fault}
       → value_in (out-StmtForm stmt.form) ≡ Some expr
+      → are_empty stmts ≡ true
       → Finds l before (PieceIs (Loaded expr) (Refused first)) after
-      → Finds l before (StatementsAre (stmt ∷ []) (Refused first)) after
+      → Finds l before (StatementsAre (stmt ∷ stmts) (Refused first)) after
   -- statements and declarations before it
   MoreStatements : {before middle after : l.Environment} {stmt : Stmt} {stmts : List Stmt} {t : CType} {further : List Handed} (handed : List Handed)
       → is_last_value (stmt ∷ stmts) ≡ false
@@ -504,7 +507,7 @@ pub data Finds (l : Language) : l.Environment → Saying → l.Environment → T
       → Finds l before (SurplusAre subject.place (part ∷ parts) found) after
       → Finds l before (PartsFill subject filled index (part ∷ parts) found) after
   -- what stands where there is no place for it is rule 5 at its first expression, which is walked before, and where it has none at the declared
-  -- name; a designator in front of that is rule 6 at its name
+  -- name. Of a designator in front of it nothing is asked
   SurplusValue : {before after : l.Environment} {place : Place} {init : Init} {value : Expr} {behind_it : Place} {outcome : Outcome (Unit {0})}
       → out-Init init ≡ Value value behind_it
       → Finds l before (ValueUsed Surplus value outcome) after
@@ -514,21 +517,9 @@ pub data Finds (l : Language) : l.Environment → Saying → l.Environment → T
       → Finds l before (SurplusAre place parts outcome) after
       → Finds l before (SurplusIs place init outcome) after
   NoSurplusValue : {env : l.Environment} {place : Place} → Finds l env (SurplusAre place [] (Refused (fault place (Rule 5)))) env
-  SurplusDesignator : {env : l.Environment} {place : Place} {part : InitPart} {parts : List InitPart} {this : PartOfInitialiser} {name : Identifier}
+  SurplusPart : {before after : l.Environment} {place : Place} {part : InitPart} {parts : List InitPart} {this : PartOfInitialiser} {outcome : Outcome (Unit {0})}
       → out-InitPart part ≡ this
-      → this.member ≡ Some name
-      → Finds l env (SurplusAre place (part ∷ parts) (Refused (fault name.place (Rule 6)))) env
-  SurplusPart : {before after : l.Environment} {place : Place} {part : InitPart} {parts : List InitPart} {this : PartOfInitialiser} {value : Expr} {behind_it : Place} {outcome : Outcome (Unit {0})}
-      → out-InitPart part ≡ this
-      → this.member ≡ None
-      → out-Init this.init ≡ Value value behind_it
-      → Finds l before (ValueUsed Surplus value outcome) after
-      → Finds l before (SurplusAre place (part ∷ parts) outcome) after
-  SurplusInside : {before after : l.Environment} {place : Place} {part : InitPart} {parts inner : List InitPart} {this : PartOfInitialiser} {outcome : Outcome (Unit {0})}
-      → out-InitPart part ≡ this
-      → this.member ≡ None
-      → out-Init this.init ≡ Braces inner
-      → Finds l before (SurplusAre place (inner ++ parts) outcome) after
+      → Finds l before (SurplusIs place this.init outcome) after
       → Finds l before (SurplusAre place (part ∷ parts) outcome) after
   -- the words of a type (6.7.2)
   BasicSpecifier : {env : l.Environment} {basic : BasicType}

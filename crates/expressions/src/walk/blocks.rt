@@ -1,4 +1,4 @@
-ghost use Rattle.std.specs.Prelude.{◌≡◌, ◌≤◌, ◌<◌, ◌∷◌, [], ℕ, length, true, All, Some, None, IfOk, IfSome, IfNone};
+ghost use Rattle.std.specs.Prelude.{◌≡◌, ◌≤◌, ◌<◌, ◌∷◌, ℕ, List, length, true, false, All, Some, None, IfOk, IfSome, IfNone};
 ghost use Rattle.cbase.specs.declared.abi.Abi.{Abi};
 ghost use Rattle.cbase.specs.declared.tree.expr.Expr.{Expr as ExprTree};
 ghost use Rattle.cbase.specs.declared.tree.expr.ExprForm.TheOpen.{Inner};
@@ -6,7 +6,8 @@ ghost use Rattle.cbase.specs.declared.tree.expr.ExprForm.TheViews.{out-StmtForm}
 ghost use Rattle.cbase.specs.declared.place.Place.{Place};
 ghost use Rattle.cbase.specs.declared.tree.stmt.Stmt.{Stmt as StmtTree};
 ghost use Rattle.ctrees.specs.Levels.{expr_levels, stmt_levels};
-ghost use Rattle.typing.specs.Forms.{value_in};
+ghost use Rattle.typing.specs.Forms.{is_empty, value_in};
+ghost use Rattle.typing.specs.Nodes.{are_empty, is_last_value};
 ghost use Rattle.typing.specs.Pieces.{Loaded};
 ghost use Rattle.typing.specs.Typing.{PieceIs, StatementsAre};
 ghost use Rattle.expressions.specs.Context.{Context as AtPlace};
@@ -50,7 +51,7 @@ impl<F: Fn(&mut Context, Within, Part<'_>) -> Result<Found<Told>, NoMemory>> Che
         }
     }
 
-    /// Its statements: the value is that of the last one where that is an expression, and else there is none.
+    /// Its statements: the value is that of the last one that is not empty, where that is an expression, and else there is none.
     pub fn statements(&self, context: &mut Context, body: &[Stmt]) -> Result<Found<u32>, NoMemory>
         requires nests { Nests self.now.abi self.now.depth (F.pre self.now.inner) (F.post self.now.inner) }
         requires deep { All (λ stmt. stmt_levels stmt ≤ self.now.depth) body.now }
@@ -58,8 +59,8 @@ impl<F: Fn(&mut Context, Within, Part<'_>) -> Result<Found<Told>, NoMemory>> Che
     {
         for at in 0..body.len() {
             let stmt = &body[at];
-            let last = at + 1 == body.len();
-            if let Some(expr) = value_of(last, stmt) {
+            let rest = &body[at + 1..];
+            if let Some(expr) = value_of(stmt, rest) {
                 return match self.loaded(context, expr) {
                     Ok(Found::Passes(known)) => value_type(context, expr.place, known),
                     Ok(Found::Refused(fault)) => Ok(Found::Refused(fault)),
@@ -82,7 +83,7 @@ impl<F: Fn(&mut Context, Within, Part<'_>) -> Result<Found<Told>, NoMemory>> Che
 /// The type of the value of a block, of what is known of its last expression: a struct is none, rule 4 at the expression.
 fn value_type(context: &mut Context, place: Place, known: Known) -> Result<Found<u32>, NoMemory>
     requires { known.ctype < length context.old.types }
-    ensures { (abi : Abi) (stmt : StmtTree) (expr : ExprTree) (before : AtPlace) → expr.place ≡ place → value_in (out-StmtForm stmt.form) ≡ Some expr → Passed (Says abi (λ o. PieceIs (Loaded expr) o)) an_operand before context.old known → IfOk result (λ found. Walked (Says abi (λ o. StatementsAre (stmt ∷ []) o)) a_value_type before context.new found) }
+    ensures { (abi : Abi) (stmt : StmtTree) (expr : ExprTree) (rest : List StmtTree) (before : AtPlace) → expr.place ≡ place → value_in (out-StmtForm stmt.form) ≡ Some expr → are_empty rest ≡ true → Passed (Says abi (λ o. PieceIs (Loaded expr) o)) an_operand before context.old known → IfOk result (λ found. Walked (Says abi (λ o. StatementsAre (stmt ∷ rest) o)) a_value_type before context.new found) }
 {
     if context.is_struct(known.ctype) {
         return Ok(Found::Refused(Fault {
@@ -96,20 +97,49 @@ fn value_type(context: &mut Context, place: Place, known: Known) -> Result<Found
     }
 }
 
-/// The expression that is a statement, where it is the last of its block and an expression.
-fn value_of(last: bool, stmt: &Stmt) -> Option<&Expr>
-    ensures some { IfSome result (λ expr. (last ≡ true) × (value_in (out-StmtForm stmt.now.form) ≡ Some expr.now)) }
+/// The expression that is a statement, where those behind it are all empty.
+fn value_of<'a>(stmt: &'a Stmt, rest: &[Stmt]) -> Option<&'a Expr>
+    ensures some { IfSome result (λ expr. (are_empty rest.now ≡ true) × (value_in (out-StmtForm stmt.now.form) ≡ Some expr.now)) }
     ensures levels { IfSome result (λ expr. expr_levels expr.now ≤ stmt_levels stmt.now) }
-    ensures none { IfNone result (last ≡ true → value_in (out-StmtForm stmt.now.form) ≡ None) }
+    ensures none { IfNone result (is_last_value (stmt.now ∷ rest.now) ≡ false) }
 {
-    if !last {
-        return None;
-    }
+    let value = value_in(stmt);
+    if are_empty(rest) { value } else { None }
+}
+
+/// The expression that is a statement, where it is one.
+fn value_in(stmt: &Stmt) -> Option<&Expr>
+    ensures some { IfSome result (λ expr. value_in (out-StmtForm stmt.now.form) ≡ Some expr.now) }
+    ensures levels { IfSome result (λ expr. expr_levels expr.now ≤ stmt_levels stmt.now) }
+    ensures none { IfNone result (value_in (out-StmtForm stmt.now.form) ≡ None) }
+{
     match &stmt.form {
         StmtForm::Eval(expr) => match expr {
             Some(expr) => Some(expr),
             None => None,
         },
         _ => None,
+    }
+}
+
+/// Whether statements are all empty (C11 6.8.3p3).
+fn are_empty(stmts: &[Stmt]) -> bool
+    ensures { result ≡ are_empty stmts.now }
+{
+    for stmt in stmts {
+        if !is_empty(stmt) {
+            return false;
+        }
+    }
+    true
+}
+
+/// Whether a statement is empty.
+fn is_empty(stmt: &Stmt) -> bool
+    ensures { result ≡ is_empty (out-StmtForm stmt.now.form) }
+{
+    match &stmt.form {
+        StmtForm::Eval(expr) => expr.is_none(),
+        _ => false,
     }
 }

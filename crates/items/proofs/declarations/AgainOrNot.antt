@@ -27,7 +27,7 @@ pub typedef_again : (n : Numbering) (context : Context) (binding : Option Bindin
     → IfSome binding (BindingBelow (length context.types) context.environment.signatures) → DeclaredBelow (length context.types) t
     → IsTypedefAgain binding t again → IsAgain (option_map (name_here_at n) binding) linked (TypeGiven (declared_type_at n t)) again
 typedef_again n context None linked t again agrees below also is = is
-typedef_again n context (Some WithLinkage) linked t again agrees below also is = is
+typedef_again n context (Some (WithLinkage items)) linked t again agrees below also is = is
 typedef_again n context (Some (Own (Typedef before))) linked t again agrees below also is = two_declared n context agrees before t again below also is
 typedef_again n context (Some (Own (Object before token lifetime defined))) linked t again agrees below also is = is
 typedef_again n context (Some (Own (Enumerator bits))) linked t again agrees below also is = is
@@ -37,7 +37,7 @@ typedef_again n context (Some (Own (Function signature defined built_in))) linke
 pub own_again : (n : Numbering) (binding : Option Binding) (linked : Option Linked) (now : Linked) → is_own binding ≡ true
     → IsAgain (option_map (name_here_at n) binding) linked (LinkedGiven now) true
 own_again n None linked now own = cc own
-own_again n (Some WithLinkage) linked now own = cc own
+own_again n (Some (WithLinkage items)) linked now own = cc own
 own_again n (Some (Own (Typedef before))) linked now own = refl
 own_again n (Some (Own (Object before token lifetime defined))) linked now own = refl
 own_again n (Some (Own (Enumerator bits))) linked now own = refl
@@ -47,5 +47,5 @@ own_again n (Some (Own (Function signature defined built_in))) linked now own = 
 pub other_again : (n : Numbering) (binding : Option Binding) (linked : Option Linked) (now : Linked) (other : Bool) → is_own binding ≡ false
     → IsOther linked now other → IsAgain (option_map (name_here_at n) binding) linked (LinkedGiven now) other
 other_again n None linked now other own is = is
-other_again n (Some WithLinkage) linked now other own is = is
+other_again n (Some (WithLinkage items)) linked now other own is = is
 other_again n (Some (Own entity)) linked now other own is = cc own

@@ -105,7 +105,7 @@ head_declared_so head name params types before marks around new text linked so_f
 -- a function around, and what the text has for it, of what is declared
 abbrev around_in : List ℕ → ℕ → List ℕ → Declared → Declared
 around_in name result params before = record before {
-  environment = linked_declared_around name
+  environment = linked_declared_around name None
       (linked_function (length before.environment.signatures) (is_defined name before.environment) (built_in_by_now (value_in name before.environment.linked))
       (definition_by_now (value_in name before.environment.linked)))
       (signature_added (record { result = result; parameters = params }) before.environment);

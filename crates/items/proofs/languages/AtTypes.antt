@@ -1,6 +1,6 @@
 -- What the numbers of a context stand for, and what types are that were given numbers, by a numbering that leads back.
 use Rattle.std.proofs.Common.{◌≡◌, ℕ, List, [], ◌∷◌, Option, Some, None, refl, sym, ap, ◌∙◌}
-use Rattle.std.specs.Prelude.{Bool, true, false, map, option_map}
+use Rattle.std.specs.Prelude.{Bool, true, false, map, option_map, option_and_then}
 use Rattle.cbase.specs.declared.ctype.CType.{CType}
 use Rattle.typing.specs.declared.environment.entity.Binding.{Binding as BindingByNumber}
 use Rattle.typing.specs.declared.environment.entity.Binding.TheVariants.{Own as OwnByNumber, WithLinkage as LinkageByNumber}
@@ -14,6 +14,7 @@ use Rattle.typing.specs.declared.environment.entity.Signature.{Signature}
 use Rattle.typing.specs.declared.environment.entity.Tag.{Tag as TagByNumber}
 use Rattle.typing.specs.declared.environment.entity.Tag.TheVariants.{Struct, Enum}
 use Rattle.typing.specs.environment.Environment.{resolved}
+use Rattle.typing.specs.environment.Environment.{shown as shown_number, whole_type as whole_number, visible_in as visible_number}
 use Rattle.typing.specs.environment.Names.{Entries, value_in}
 use Rattle.typing.specs.Entities.{DeclaredType, WholeType, ItemsOf, ObjectLinked, FunctionLinked, FunctionEntity, Definition, NotDefined, Tentative, Defined}
 use Rattle.expressions.specs.FileScope.{definition_at, definition_in_text}
@@ -24,7 +25,7 @@ use Rattle.items.specs.languages.AtTypes.{meaning_at, binding_at, link_at}
 use Rattle.items.specs.languages.CLanguage.{link_by}
 use Rattle.items.specs.languages.LeadsBack.{LeadsBack}
 use Rattle.items.specs.languages.Mapped.{entries_mapped}
-use Rattle.items.specs.languages.Meanings.{Own, AnObject, AFunction, ATypedef, Link, meaning_of, written, entity_of, here_by, linked_by, tag_of, first_token, built_in_before, definition_before, token_in, is_built_in}
+use Rattle.items.specs.languages.Meanings.{Meaning, Own, AnObject, AFunction, ATypedef, Link, shown, whole_type, visible_in, meaning_of, written, entity_of, here_by, linked_by, tag_of, first_token, built_in_before, definition_before, token_in, is_built_in}
 use Rattle.items.proofs.languages.Mapped.{mapped_twice, value_mapped}
 
 module _ (n : Numbering) where
@@ -49,7 +50,7 @@ module _ (n : Numbering) where
   here_at_types (OwnByNumber (Typedef ctype)) = refl
   here_at_types (OwnByNumber (Enumerator bits)) = refl
   here_at_types (OwnByNumber (Function signature defined built_in)) = refl
-  here_at_types LinkageByNumber = refl
+  here_at_types (LinkageByNumber items) = refl
 
   pub linked_at_types : (e : EntityByNumber) → linked_by (meaning_at n e) ≡ linked_entity_at n e
   linked_at_types (Object ctype token lifetime defined) = refl
@@ -82,17 +83,47 @@ module _ (n : Numbering) where
   definition_as_before None = refl
   definition_as_before (Some linked) = refl
 
-  as_linked : (o : Option LinkedByNumber) → option_map (λ (link : Link). link.meaning) (option_map (link_at n) o) ≡ option_map (meaning_at n) (option_map (λ meaning. meaning.entity) o)
-  as_linked None = refl
-  as_linked (Some meaning) = refl
+  -- as a scope sees it
+  shown_at_types : (items : Option ℕ) (e : EntityByNumber) → shown (option_map n.ctype items) (meaning_at n e) ≡ meaning_at n (shown_number items e)
+  shown_at_types None e = refl
+  shown_at_types (Some item) (Object ctype token lifetime defined) = refl
+  shown_at_types (Some item) (Typedef ctype) = refl
+  shown_at_types (Some item) (Enumerator bits) = refl
+  shown_at_types (Some item) (Function signature defined built_in) = refl
+
+  as_linked : (items : Option ℕ) (o : Option LinkedByNumber)
+      → option_map (λ (link : Link). shown (option_map n.ctype items) link.meaning) (option_map (link_at n) o) ≡ option_map (meaning_at n) (option_map (λ meaning. shown_number items meaning.entity) o)
+  as_linked items None = refl
+  as_linked items (Some linked) = ap (λ (meaning : Meaning). Some meaning) (shown_at_types items linked.entity)
+
+  -- the type that is visible
+  whole_at_types : (e : EntityByNumber) → whole_type (meaning_at n e) ≡ option_map n.ctype (whole_number e)
+  whole_at_types (Object (Whole number) token lifetime defined) = refl
+  whole_at_types (Object (UnsizedArray item) token lifetime defined) = refl
+  whole_at_types (Typedef ctype) = refl
+  whole_at_types (Enumerator bits) = refl
+  whole_at_types (Function signature defined built_in) = refl
+
+  whole_as_before : (o : Option LinkedByNumber)
+      → option_and_then (λ (link : Link). whole_type link.meaning) (option_map (link_at n) o) ≡ option_map n.ctype (option_and_then (λ linked. whole_number linked.entity) o)
+  whole_as_before None = refl
+  whole_as_before (Some linked) = whole_at_types linked.entity
+
+  pub visible_at_types : (name : List ℕ) (linked : Entries LinkedByNumber) (binding : Option BindingByNumber)
+      → visible_in name (entries_mapped (link_at n) linked) (option_map (binding_at n) binding) ≡ option_map n.ctype (visible_number name linked binding)
+  visible_at_types name linked None = refl
+  visible_at_types name linked (Some (OwnByNumber entity)) = refl
+  visible_at_types name linked (Some (LinkageByNumber (Some item))) = refl
+  visible_at_types name linked (Some (LinkageByNumber None)) =
+      ap (option_and_then (λ (link : Link). whole_type link.meaning)) (value_mapped (link_at n) name linked) ∙ whole_as_before (value_in name linked)
 
   -- what a name stands for
   stands_for : (name : List ℕ) (linked : Entries LinkedByNumber) (binding : Option BindingByNumber)
       → meaning_of name (entries_mapped (link_at n) linked) (option_map (binding_at n) binding) ≡ option_map (meaning_at n) (resolved name linked binding)
   stands_for name linked None = refl
   stands_for name linked (Some (OwnByNumber entity)) = refl
-  stands_for name linked (Some LinkageByNumber) =
-      ap (option_map (λ link. link.meaning)) (value_mapped (link_at n) name linked) ∙ as_linked (value_in name linked)
+  stands_for name linked (Some (LinkageByNumber items)) =
+      ap (option_map (λ (link : Link). shown (option_map n.ctype items) link.meaning)) (value_mapped (link_at n) name linked) ∙ as_linked items (value_in name linked)
 
   pub entity_stands : (name : List ℕ) (linked : Entries LinkedByNumber) (binding : Option BindingByNumber)
       → option_map entity_of (meaning_of name (entries_mapped (link_at n) linked) (option_map (binding_at n) binding)) ≡ option_map (entity_at n) (resolved name linked binding)

@@ -38,7 +38,7 @@ signature_of n function = record { result = n.number function.result; parameters
 
 abbrev pub built_in_added : Numbering → List ℕ → FunctionType → Environment → Environment
 built_in_added n name function env =
-    linked_declared name (linked_function (length env.signatures) (is_defined name env) true NotDefinedByNow) (signature_added (signature_of n function) env)
+    linked_declared name None (linked_function (length env.signatures) (is_defined name env) true NotDefinedByNow) (signature_added (signature_of n function) env)
 
 -- a name that has no value gets one behind the others
 put_behind : {A : Type 0} (name : List ℕ) (value : A) (table : Entries A) → value_in name table ≡ None → with_value name value table ≡ table ++ (name, value) ∷ []
@@ -61,7 +61,7 @@ module _ {A B : Type 0} (f : List ℕ → A → B) (name : List ℕ) (value : A)
 module _ (n : Numbering) (back : LeadsBack n) (strict : Bool) (defined : List (List ℕ)) (name : List ℕ) (function : FunctionType) (table : Entries FunctionType)
     (none : value_in name table ≡ None) where
   one_more : record (with_functions strict defined table) {
-    names = declared name WithLinkage (with_functions strict defined table).names;
+    names = declared name (WithLinkage None) (with_functions strict defined table).names;
     links = with_value name (built_in_link defined name function) (with_functions strict defined table).links;
   } ≡ with_functions strict defined (table ++ (name, function) ∷ [])
   one_more = λ i. record (with_functions strict defined table) {
@@ -85,10 +85,10 @@ module _ (n : Numbering) (back : LeadsBack n) (strict : Bool) (defined : List (L
     built_in_one : declarations_at n (record { environment = built_in_added n name function env; structs = [] }) ≡ with_functions strict defined (table ++ (name, function) ∷ [])
     built_in_one =
         linked_with n name (linked_function (length env.signatures) (is_defined name env) true NotDefinedByNow) (built_in_link defined name function)
-        (declared name LinkageByNumber env.names) (declared name WithLinkage (declarations_at n (record { environment = env; structs = [] })).names)
+        (declared name (LinkageByNumber None) env.names) (declared name (WithLinkage None) (declarations_at n (record { environment = env; structs = [] })).names)
         (record { environment = signature_added (signature_of n function) env; structs = [] })
-        (declared_mapped (binding_at n) name LinkageByNumber env.names) link_is
-        ∙ (ap (λ (at : Declarations). record at { names = declared name WithLinkage at.names; links = with_value name (built_in_link defined name function) at.links }) so_far
+        (declared_mapped (binding_at n) name (LinkageByNumber None) env.names) link_is
+        ∙ (ap (λ (at : Declarations). record at { names = declared name (WithLinkage None) at.names; links = with_value name (built_in_link defined name function) at.links }) so_far
         ∙ one_more)
 
 -- each name of the table is new there

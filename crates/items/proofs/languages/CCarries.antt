@@ -30,8 +30,8 @@ use Rattle.items.specs.languages.CLanguage.{bound, tagged, link_by, linked_decla
 use Rattle.items.specs.languages.CLanguage.{definition_set as set_definition}
 use Rattle.items.specs.languages.LeadsBack.{LeadsBack}
 use Rattle.items.specs.languages.Mapped.{scopes_mapped}
-use Rattle.items.specs.languages.Meanings.{Binding, Own, WithLinkage, AConstant, Link, meaning_of, entity_of, tag_of, here_by, linked_by, first_token, definition_before}
-use Rattle.items.proofs.languages.AtTypes.{tag_at_types, here_at_types, linked_at_types, token_before, definition_as_before, entity_stands, result_back, object_back, typedef_back, main_parameter_back, linked_object_back, linked_function_back, definition_back}
+use Rattle.items.specs.languages.Meanings.{Binding, Own, WithLinkage, AConstant, Link, meaning_of, entity_of, tag_of, here_by, linked_by, visible_in, first_token, definition_before}
+use Rattle.items.proofs.languages.AtTypes.{tag_at_types, here_at_types, linked_at_types, visible_at_types, token_before, definition_as_before, entity_stands, result_back, object_back, typedef_back, main_parameter_back, linked_object_back, linked_function_back, definition_back}
 use Rattle.items.proofs.languages.Mapped.{is_some_mapped, mapped_twice, value_mapped, with_mapped, found_mapped, here_mapped, declared_mapped, around_mapped, left_mapped}
 
 -- the last of a row is at the number of those before it
@@ -101,32 +101,42 @@ module _ (n : Numbering) (back : LeadsBack n) (name : List ℕ) (token : ℕ) (b
       (at_the_end before.environment.signatures (record { result = n.number result; parameters = map n.number params })))
       ∙ ap (link_by token ((declarations_at n before).defines name) (FunctionLinked result params)) (sym (value_mapped (link_at n) name before.environment.linked))
 
-  linked_follows : (linked : Linked) → HasSignatures n (name_linked_as n name token linked before)
-      → Follows (declarations_at n) (HasSignatures n) before (name_linked_as n name token linked before) (linked_declared name token linked (declarations_at n before))
-  linked_follows (ObjectLinked t) valid = record {
+  -- the binding of a name with linkage
+  linkage_back : (items : Option CType) → binding_at n (LinkageByNumber (option_map n.number items)) ≡ WithLinkage items
+  linkage_back items = ap (λ (o : Option CType). WithLinkage o) (result_back n back items)
+
+  linked_here : (items : Option CType)
+      → scopes_mapped (binding_at n) (declared name (LinkageByNumber (option_map n.number items)) before.environment.names) ≡ declared name (WithLinkage items) (declarations_at n before).names
+  linked_here items =
+      declared_mapped (binding_at n) name (LinkageByNumber (option_map n.number items)) before.environment.names
+      ∙ ap (λ (b : Binding). declared name b (declarations_at n before).names) (linkage_back items)
+
+  linked_follows : (items : Option CType) (linked : Linked) → HasSignatures n (name_linked_as n name token items linked before)
+      → Follows (declarations_at n) (HasSignatures n) before (name_linked_as n name token items linked before) (linked_declared name token items linked (declarations_at n before))
+  linked_follows items (ObjectLinked t) valid = record {
     valid = valid;
-    same = linked_with n name _ _ (declared name LinkageByNumber before.environment.names) (declared name WithLinkage (declarations_at n before).names) before
-        (declared_mapped (binding_at n) name LinkageByNumber before.environment.names) (linked_object_at t);
+    same = linked_with n name _ _ (declared name (LinkageByNumber (option_map n.number items)) before.environment.names) (declared name (WithLinkage items) (declarations_at n before).names) before
+        (linked_here items) (linked_object_at t);
   }
-  linked_follows (FunctionLinked result params) valid = record {
+  linked_follows items (FunctionLinked result params) valid = record {
     valid = signature_valid n (record { result = n.number result; parameters = map n.number params }) before valid;
-    same = linked_with n name _ _ (declared name LinkageByNumber before.environment.names) (declared name WithLinkage (declarations_at n before).names)
+    same = linked_with n name _ _ (declared name (LinkageByNumber (option_map n.number items)) before.environment.names) (declared name (WithLinkage items) (declarations_at n before).names)
         (record before { environment = signature_added (record { result = n.number result; parameters = map n.number params }) before.environment })
-        (declared_mapped (binding_at n) name LinkageByNumber before.environment.names) (linked_function_at result params valid);
+        (linked_here items) (linked_function_at result params valid);
   }
 
   linked_around_follows : (linked : Linked) → HasSignatures n (name_linked_around n name token linked before)
       → Follows (declarations_at n) (HasSignatures n) before (name_linked_around n name token linked before) (linked_declared_around name token linked (declarations_at n before))
   linked_around_follows (ObjectLinked t) valid = record {
     valid = valid;
-    same = linked_with n name _ _ (declared_around name LinkageByNumber before.environment.names) (declared_around name WithLinkage (declarations_at n before).names) before
-        (around_mapped (binding_at n) name LinkageByNumber before.environment.names) (linked_object_at t);
+    same = linked_with n name _ _ (declared_around name (LinkageByNumber None) before.environment.names) (declared_around name (WithLinkage None) (declarations_at n before).names) before
+        (around_mapped (binding_at n) name (LinkageByNumber None) before.environment.names) (linked_object_at t);
   }
   linked_around_follows (FunctionLinked result params) valid = record {
     valid = signature_valid n (record { result = n.number result; parameters = map n.number params }) before valid;
-    same = linked_with n name _ _ (declared_around name LinkageByNumber before.environment.names) (declared_around name WithLinkage (declarations_at n before).names)
+    same = linked_with n name _ _ (declared_around name (LinkageByNumber None) before.environment.names) (declared_around name (WithLinkage None) (declarations_at n before).names)
         (record before { environment = signature_added (record { result = n.number result; parameters = map n.number params }) before.environment })
-        (around_mapped (binding_at n) name LinkageByNumber before.environment.names) (linked_function_at result params valid);
+        (around_mapped (binding_at n) name (LinkageByNumber None) before.environment.names) (linked_function_at result params valid);
   }
 
 module _ (abi : Abi) (n : Numbering) (back : LeadsBack n) where
@@ -157,6 +167,8 @@ module _ (abi : Abi) (n : Numbering) (back : LeadsBack n) where
         ∙ mapped_twice (binding_at n) here_by (name_here_at n) (here_at_types n) (found_here name before.environment.names);
     linked = λ name before. ap (option_and_then (λ (link : Link). linked_by link.meaning)) (value_mapped (link_at n) name before.environment.linked)
         ∙ and_then_mapped (link_at n) (λ (link : Link). linked_by link.meaning) (linked_at n) (λ linked. linked_at_types n linked.entity) (value_in name before.environment.linked);
+    visible_type = λ name before. ap (visible_in name (declarations_at n before).links) (found_mapped (binding_at n) name before.environment.names)
+        ∙ visible_at_types n name before.environment.linked (found name before.environment.names);
     strict = λ before. refl;
     definition = λ name before. ap definition_before (value_mapped (link_at n) name before.environment.linked)
         ∙ definition_as_before n (value_in name before.environment.linked);
@@ -190,7 +202,7 @@ module _ (abi : Abi) (n : Numbering) (back : LeadsBack n) where
       valid = valid;
       same = bound_at n name (OwnByNumber (Typedef (declared_number n t))) _ before (typedef_back n back t);
     };
-    linked_declared = λ name token linked before valid. linked_follows n back name token before linked valid;
+    linked_declared = λ name token items linked before valid. linked_follows n back name token before items linked valid;
     definition_set = λ name definition before valid. record {
       valid = definition_valid n name (definition_in_text definition) (value_in name before.environment.linked) before valid;
       same = definition_with n name definition (value_in name before.environment.linked) before

@@ -8,7 +8,7 @@ use Rattle.cbase.specs.Completing.{is_open}
 use Rattle.typing.specs.declared.fault.Fault.{Fault}
 use Rattle.typing.specs.declared.size.Size.{Size}
 use Rattle.typing.specs.Braces.{Opening, Opens, IsTwice, reopened, tagged_struct, struct_opening, tagged_enum, enum_opening}
-use Rattle.typing.specs.Declarations.{Given, ObjectGiven, LinkedGiven, TypeGiven, Parameter, composite, alone_by, alone, name_declared, is_named_here, parameter_declared, function_given}
+use Rattle.typing.specs.Declarations.{Given, ObjectGiven, LinkedGiven, TypeGiven, Parameter, composite, hidden_items, alone_by, alone, name_declared, is_named_here, parameter_declared, function_given}
 use Rattle.typing.specs.Entities.{ObjectLinked, TagHere, StructHere, EnumHere, Definition, WholeType}
 use Rattle.typing.specs.FileNames.{definition_in, with_definition, object_type, object_declared}
 use Rattle.typing.specs.FileScope.{FileScope}
@@ -171,7 +171,8 @@ module _ {l m : Language} {file : FileScope l} {other : FileScope m} {to : l.Env
   pub name_follows : (name : List ℕ) (token : ℕ) (gives : Given) (env : l.Environment) → Valid (name_declared (seen l m to) name token gives env)
       → Follows to Valid env (name_declared (seen l m to) name token gives env) (name_declared m name token gives (to env))
   name_follows name token (ObjectGiven fixed t) env valid = c.object_declared name token fixed t env valid
-  name_follows name token (LinkedGiven linked) env valid = c.linked_declared name token (composite (m.linked name (to env)) linked) env valid
+  name_follows name token (LinkedGiven linked) env valid =
+      c.linked_declared name token (hidden_items (m.visible_type name (to env)) linked) (composite (m.linked name (to env)) linked) env valid
   name_follows name token (TypeGiven t) env valid = c.typedef_declared name t env valid
 
   pub named_here_alike : (name : Option Identifier) (env : l.Environment) → is_named_here (seen l m to) name env ≡ is_named_here m name (to env)

@@ -16,6 +16,7 @@ carries_itself l file = record {
   result = λ env. refl;
   name_here = λ name env. refl;
   linked = λ name env. refl;
+  visible_type = λ name env. refl;
   strict = λ env. refl;
   definition = λ name env. refl;
   first_token = λ name env. refl;
@@ -32,7 +33,7 @@ carries_itself l file = record {
   result_set = λ result env valid. record { valid = tt; same = refl };
   object_declared = λ name token fixed t env valid. record { valid = tt; same = refl };
   typedef_declared = λ name t env valid. record { valid = tt; same = refl };
-  linked_declared = λ name token linked env valid. record { valid = tt; same = refl };
+  linked_declared = λ name token items linked env valid. record { valid = tt; same = refl };
   definition_set = λ name definition env valid. record { valid = tt; same = refl };
   declared_around = λ name token linked env valid. record { valid = tt; same = refl };
   main_parameter = λ name token t env valid. record { valid = tt; same = refl };

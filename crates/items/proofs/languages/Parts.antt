@@ -4,7 +4,7 @@ use Rattle.std.proofs.Common.{◌≡◌, length, Bool, true, [], sym, ap, ◌∙
 use Rattle.typing.specs.Declarations.{LinkedGiven, ObjectGiven, parameter, IsAgain, name_declared, given, given_type, told_type, faults_of_function, function_given}
 use Rattle.typing.specs.FileScope.{FileScope}
 use Rattle.typing.specs.Language.{Language}
-use Rattle.typing.specs.Typing.{Saying, Finds, RefusedInside, Walked, NoPieces, MorePieces, RefusedHere, RefusedBehind, LoadedValue, LoadOfIncomplete, LoadedRefused, UnloadedOperand, UnloadedRefused, CalledFunction, CalledOther, CalledRefused, TypeInside, TypeRefused, IndexOfPath, IndexNotConstant, IndexRefused, SizeOfItems, SizeUnderOne, SizeRefused, BlockInside, BlockRefused, NoStatements, LastExpression, LastStruct, LastRefused, MoreStatements, StatementRefused, StatementsRefused, StatementOfParts, StatementInScope, NoStatementParts, MoreStatementParts, StatementPartRefused, ValueInStatement, StatementInside, BodyOfLoop, StatementOfIf, BlockOfStatements, LoopLeft, NoLoopToLeave, NothingReturned, ValueReturned, ValueTaken, ValueRefused, DeclarationInside, TagAlone, TagAloneOfOther, WordsWithNames, DeclaredWordsRefused, NoDeclarators, SomeDeclarators, NoMoreDeclarators, MoreDeclarators, DeclaratorRefused, NameWithSizesRefused, NameBroken, NameGiven, FixedSizes, AnySizes, ParametersRefused, FunctionBroken, FunctionGiven, NoParameters, MoreParameters, ParameterRefused, ParameterFound, ParameterWordsRefused, ParameterSizesRefused, NotInitialised, ObjectInitialised, ArrayInitialised, ArrayOfWrongSize, ArrayPartsRefused, ArrayByValue, LinkedInitialised, TypeInitialised, ValueStored, BracesFill, BracesTooMany, NoMoreParts, PartSets, PartRefused, NoMemberToSet, NothingToSet, SurplusValue, SurplusBraces, NoSurplusValue, SurplusDesignator, SurplusPart, SurplusInside, BasicSpecifier, TypedefSpecifier, StructSpecifier, StructDeclared, StructIsEnum, EnumSpecifier, EnumDeclared, EnumIsStruct, StructOfNothing, EnumOfNothing, StructWithMembers, StructCompletedInside, MembersRefused, StructTwice, EnumWithConstants, EnumTwice, TypeofExpression, TypeofRefused, TypeofType, NoSizes, SizeLeftOut, SizeLeftOutRefused, MoreSizes, SizesRefusedHere, SizesRefusedBehind, TypeNamed, WordsRefused, SizesRefused, NoDeclarations, MoreDeclarations, DeclarationRefused, MembersDeclared, MemberWordsRefused, NoNames, MoreNames, NameRefused, MemberFound, MemberSizesRefused, MemberWidthRefused, NoMemberSizes, MoreMemberSizes, MemberSizeRefusedHere, MemberSizeRefusedBehind, MemberSizeLeftOut, MemberSizeGiven, MemberSizeRefused, NoWidth, WidthGiven, NoEnumerators, EnumeratorTwice, EnumeratorRefused, EnumeratorTwiceInside, MoreEnumerators, NextValue, NoNextValue, GivenValue, GivenNoInt, GivenRefused}
+use Rattle.typing.specs.Typing.{Saying, Finds, RefusedInside, Walked, NoPieces, MorePieces, RefusedHere, RefusedBehind, LoadedValue, LoadOfIncomplete, LoadedRefused, UnloadedOperand, UnloadedRefused, CalledFunction, CalledOther, CalledRefused, TypeInside, TypeRefused, IndexOfPath, IndexNotConstant, IndexRefused, SizeOfItems, SizeUnderOne, SizeRefused, BlockInside, BlockRefused, NoStatements, LastExpression, LastStruct, LastRefused, MoreStatements, StatementRefused, StatementsRefused, StatementOfParts, StatementInScope, NoStatementParts, MoreStatementParts, StatementPartRefused, ValueInStatement, StatementInside, BodyOfLoop, StatementOfIf, BlockOfStatements, LoopLeft, NoLoopToLeave, NothingReturned, ValueReturned, ValueTaken, ValueRefused, DeclarationInside, TagAlone, TagAloneOfOther, WordsWithNames, DeclaredWordsRefused, NoDeclarators, SomeDeclarators, NoMoreDeclarators, MoreDeclarators, DeclaratorRefused, NameWithSizesRefused, NameBroken, NameGiven, FixedSizes, AnySizes, ParametersRefused, FunctionBroken, FunctionGiven, NoParameters, MoreParameters, ParameterRefused, ParameterFound, ParameterWordsRefused, ParameterSizesRefused, NotInitialised, ObjectInitialised, ArrayInitialised, ArrayOfWrongSize, ArrayPartsRefused, ArrayByValue, LinkedInitialised, TypeInitialised, ValueStored, BracesFill, BracesTooMany, NoMoreParts, PartSets, PartRefused, NoMemberToSet, NothingToSet, SurplusValue, SurplusBraces, NoSurplusValue, SurplusPart, BasicSpecifier, TypedefSpecifier, StructSpecifier, StructDeclared, StructIsEnum, EnumSpecifier, EnumDeclared, EnumIsStruct, StructOfNothing, EnumOfNothing, StructWithMembers, StructCompletedInside, MembersRefused, StructTwice, EnumWithConstants, EnumTwice, TypeofExpression, TypeofRefused, TypeofType, NoSizes, SizeLeftOut, SizeLeftOutRefused, MoreSizes, SizesRefusedHere, SizesRefusedBehind, TypeNamed, WordsRefused, SizesRefused, NoDeclarations, MoreDeclarations, DeclarationRefused, MembersDeclared, MemberWordsRefused, NoNames, MoreNames, NameRefused, MemberFound, MemberSizesRefused, MemberWidthRefused, NoMemberSizes, MoreMemberSizes, MemberSizeRefusedHere, MemberSizeRefusedBehind, MemberSizeLeftOut, MemberSizeGiven, MemberSizeRefused, NoWidth, WidthGiven, NoEnumerators, EnumeratorTwice, EnumeratorRefused, EnumeratorTwiceInside, MoreEnumerators, NextValue, NoNextValue, GivenValue, GivenNoInt, GivenRefused}
 use Rattle.items.specs.languages.Carries.{Carries}
 use Rattle.items.proofs.languages.Changes.{follows_both, in_front, at_end, alone_follows, alone_twice, struct_opening_follows, struct_opening_twice, enum_opening_follows, enum_opening_twice, name_follows, named_here_alike, parameter_follows}
 use Rattle.items.proofs.languages.Nodes.{node_carried}
@@ -90,15 +90,15 @@ module _ {l m : Language} {file : FileScope l} {other : FileScope m} {to : l.Env
       (at_end left (BlockRefused (in_front entered inner.0)), entered.valid)
   -- statements, and the values of blocks (6.8)
   part_carried NoStatements valid = (NoStatements, valid)
-  part_carried (LastExpression e found g h) valid =
+  part_carried (LastExpression e empty found g h) valid =
       let inner = part_carried found valid in
-      (LastExpression e inner.0 g h, inner.1)
-  part_carried (LastStruct e found g h) valid =
+      (LastExpression e empty inner.0 g h, inner.1)
+  part_carried (LastStruct e empty found g h) valid =
       let inner = part_carried found valid in
-      (LastStruct e inner.0 g h, inner.1)
-  part_carried (LastRefused e found) valid =
+      (LastStruct e empty inner.0 g h, inner.1)
+  part_carried (LastRefused e empty found) valid =
       let inner = part_carried found valid in
-      (LastRefused e inner.0, inner.1)
+      (LastRefused e empty inner.0, inner.1)
   part_carried (MoreStatements handed e first rest) valid =
       let others = part_carried rest valid in
       let front = part_carried first others.1 in
@@ -305,13 +305,9 @@ module _ {l m : Language} {file : FileScope l} {other : FileScope m} {to : l.Env
       let inner = part_carried found valid in
       (SurplusBraces e inner.0, inner.1)
   part_carried NoSurplusValue valid = (NoSurplusValue, valid)
-  part_carried (SurplusDesignator e g) valid = (SurplusDesignator e g, valid)
-  part_carried (SurplusPart e g h found) valid =
+  part_carried (SurplusPart e found) valid =
       let inner = part_carried found valid in
-      (SurplusPart e g h inner.0, inner.1)
-  part_carried (SurplusInside e g h found) valid =
-      let inner = part_carried found valid in
-      (SurplusInside e g h inner.0, inner.1)
+      (SurplusPart e inner.0, inner.1)
   -- the words of types, and type names (6.7.2, 6.7.7)
   part_carried BasicSpecifier valid = (BasicSpecifier, valid)
   part_carried TypedefSpecifier valid = (TypedefSpecifier, valid)

@@ -55,7 +55,7 @@ array_is Void = refl
 -- a function that a context declares, in the numbers of its types
 abbrev linked_in : List ℕ → ℕ → List ℕ → Declared → Declared
 linked_in name result params before = record before {
-  environment = linked_declared name
+  environment = linked_declared name None
       (linked_function (length before.environment.signatures) (is_defined name before.environment) (built_in_by_now (value_in name before.environment.linked))
       (definition_by_now (value_in name before.environment.linked)))
       (signature_added (record { result = result; parameters = params }) before.environment);
@@ -150,7 +150,7 @@ module _ (abi : Abi) (storage : Storage) (base : NamedByNumber) (name : Declared
             let there : declared mid ≡ declared old = sym (declared_by_types old mid numbers.only_types) in
             ap declared declares
             ∙ ((λ i. linked_in (spelling i) (result_number i) (param_numbers i) (there i))
-            ∙ ap (λ (now : Linked). name_linked_as n (out-Declared name).name (out-Declared name).place.at now (declared old))
+            ∙ ap (λ (now : Linked). name_linked_as n (out-Declared name).name (out-Declared name).place.at None now (declared old))
             (sym (composite_is (option_and_then (linked_at n) (value_in (out-Declared name).name old.environment.linked)) (with_stars (out-Declared name).stars (n.ctype base.ctype)) (map (λ (param : Parameter). param.ctype) (map (parameter_at n) params)))));
       }
 

@@ -18,6 +18,7 @@ use Rattle.typing.specs.declared.environment.entity.Entity.TheVariants as entity
 use Rattle.typing.specs.declared.environment.entity.Linked.{Linked as LinkedByNumber}
 use Rattle.typing.specs.declared.environment.environment.Environment.{Environment}
 use Rattle.typing.specs.environment.Bounds.{DeclaredBelow}
+use Rattle.typing.specs.environment.Environment.{visible_type}
 use Rattle.typing.specs.environment.Linkage.{linked_declared, own_declared}
 use Rattle.typing.specs.environment.Names.{value_in}
 use Rattle.typing.specs.environment.Scopes.{found_here}
@@ -70,7 +71,7 @@ linked_now n context name = option_and_then (linked_at n) (value_in name context
 abbrev pub is_own : Option Binding → Bool
 is_own None = false
 is_own (Some (Own entity)) = true
-is_own (Some WithLinkage) = false
+is_own (Some (WithLinkage items)) = false
 
 -- whether a scope says of the name of a typedef that it is something else
 abbrev pub IsEntityAgain : Entity → DeclaredType → Bool → Type 0
@@ -81,7 +82,7 @@ IsEntityAgain (entity.Function signature defined built_in) t again = again ≡ t
 
 abbrev pub IsTypedefAgain : Option Binding → DeclaredType → Bool → Type 0
 IsTypedefAgain None t again = again ≡ false
-IsTypedefAgain (Some WithLinkage) t again = again ≡ true
+IsTypedefAgain (Some (WithLinkage items)) t again = again ≡ true
 IsTypedefAgain (Some (Own entity)) t again = IsEntityAgain entity t again
 
 -- whether what has linkage is another thing than an object of a type
@@ -100,6 +101,16 @@ abbrev pub composite_by_now : Option LinkedByNumber → DeclaredType → Declare
 composite_by_now None t = t
 composite_by_now (Some meaning) t = composite_in meaning.entity t
 
+-- the type that an object has where it is declared, by the number of the type that visible declarations give it, if they give it a whole one; and the number of
+-- the type of the items of an array whose size is not known there
+abbrev pub seen_in : Option ℕ → DeclaredType → DeclaredType
+seen_in None t = t
+seen_in (Some number) t = Whole number
+
+abbrev pub unsized_in : DeclaredType → Option ℕ
+unsized_in (Whole number) = None
+unsized_in (UnsizedArray item) = Some item
+
 -- a name is declared by the storage word of its declaration
 abbrev pub linked_by_now : List ℕ → ℕ → DeclaredType → Environment → LinkedByNumber
 linked_by_now name token t env = linked_object (composite_by_now (value_in name env.linked) t) (token_by_now (value_in name env.linked) token)
@@ -109,7 +120,7 @@ abbrev pub bound : List ℕ → ℕ → Storage → DeclaredType → Environment
 bound name token Plain t env = own_declared name (entity.Object t token (lifetime_of false) true) env
 bound name token Static t env = own_declared name (entity.Object t token (lifetime_of true) true) env
 bound name token Typedef t env = own_declared name (entity.Typedef t) env
-bound name token Extern t env = linked_declared name (linked_by_now name token t env) env
+bound name token Extern t env = linked_declared name (unsized_in (seen_in (visible_type name env) t)) (linked_by_now name token t env) env
 
 -- what is handed on of an object without an initialiser
 abbrev pub object_rows : Place → Storage → DeclaredType → List HandedRow

@@ -23,7 +23,7 @@ meaning_at n (Function signature defined built_in) = AFunction (function_at n (n
 
 abbrev pub binding_at : Numbering → BindingByNumber → Binding
 binding_at n (OwnByNumber entity) = Own (meaning_at n entity)
-binding_at n LinkageByNumber = WithLinkage
+binding_at n (LinkageByNumber items) = WithLinkage (option_map n.ctype items)
 
 abbrev pub link_at : Numbering → LinkedByNumber → Link
 link_at n linked = record { meaning = meaning_at n linked.entity; definition = definition_at linked.definition }

@@ -25,7 +25,7 @@ built_in_link defined name function = record {
 }
 
 abbrev pub with_linkage : List ℕ → FunctionType → Binding
-with_linkage name function = WithLinkage
+with_linkage name function = WithLinkage None
 
 -- the file scope has the names of these functions, with linkage, before its first item (6.2.1p4, 7.1.3p1), and nothing else is declared: so a block may hide such a
 -- name, and outside of functions it is no typedef and no constant

@@ -11,7 +11,7 @@ use Rattle.typing.specs.environment.Scopes.{Scopes, found, found_here, declared,
 use Rattle.typing.specs.Entities.{TagHere, StructHere, EnumHere, DeclaredType, WholeType, Linked, ObjectLinked, FunctionLinked, Definition}
 use Rattle.typing.specs.FileScope.{FileScope}
 use Rattle.typing.specs.Language.{Language}
-use Rattle.items.specs.languages.Meanings.{AnObject, AFunction, AConstant, ATypedef, Binding, Own, WithLinkage, Link, meaning_of, entity_of, here_by, linked_by, tag_of, first_token, built_in_before, definition_before}
+use Rattle.items.specs.languages.Meanings.{AnObject, AFunction, AConstant, ATypedef, Binding, Own, WithLinkage, Link, meaning_of, entity_of, here_by, linked_by, visible_in, tag_of, first_token, built_in_before, definition_before}
 
 -- What is declared at a place: names and tags, which are two name spaces (6.2.3), by scope, the innermost first; what has linkage under a name, in
 -- whatever scope; and the structs, each at its number. And where the place lies: whether in the body of a loop, and in a function of which result,
@@ -94,12 +94,13 @@ linked_as name token linked env = record env {
   links = with_value name (link_by token (env.defines name) linked (value_in name env.links)) env.links;
 }
 
--- a name that has linkage is declared in the innermost scope, and in the one around it
-abbrev pub linked_declared : List ℕ → ℕ → Linked → Declarations → Declarations
-linked_declared name token linked env = bound name WithLinkage (linked_as name token linked env)
+-- a name that has linkage is declared in the innermost scope, with the items of an array of which no visible declaration gives the size (6.2.7p4); and in the one
+-- around it
+abbrev pub linked_declared : List ℕ → ℕ → Option CType → Linked → Declarations → Declarations
+linked_declared name token items linked env = bound name (WithLinkage items) (linked_as name token linked env)
 
 abbrev pub linked_declared_around : List ℕ → ℕ → Linked → Declarations → Declarations
-linked_declared_around name token linked env = bound_around name WithLinkage (linked_as name token linked env)
+linked_declared_around name token linked env = bound_around name (WithLinkage None) (linked_as name token linked env)
 
 abbrev pub c_language : Abi → Language
 c_language abi = record {
@@ -123,6 +124,7 @@ c_language abi = record {
   result = λ env. env.result;
   name_here = λ name env. option_map here_by (found_here name env.names);
   linked = λ name env. option_and_then (λ link. linked_by link.meaning) (value_in name env.links);
+  visible_type = λ name env. visible_in name env.links (found name env.names);
   object_declared = object_declared;
   typedef_declared = typedef_declared;
   linked_declared = linked_declared;

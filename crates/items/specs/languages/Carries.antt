@@ -27,6 +27,7 @@ pub record Carries (l m : Language) (file : FileScope l) (other : FileScope m) (
   pub result : (env : l.Environment) → m.result (to env) ≡ l.result env
   pub name_here : (name : List ℕ) (env : l.Environment) → m.name_here name (to env) ≡ l.name_here name env
   pub linked : (name : List ℕ) (env : l.Environment) → m.linked name (to env) ≡ l.linked name env
+  pub visible_type : (name : List ℕ) (env : l.Environment) → m.visible_type name (to env) ≡ l.visible_type name env
   pub strict : (env : l.Environment) → m.strict (to env) ≡ l.strict env
   pub definition : (name : List ℕ) (env : l.Environment) → other.definition name (to env) ≡ file.definition name env
   pub first_token : (name : List ℕ) (env : l.Environment) → other.first_token name (to env) ≡ file.first_token name env
@@ -55,8 +56,8 @@ pub record Carries (l m : Language) (file : FileScope l) (other : FileScope m) (
       → Follows to Valid env (l.object_declared name token fixed t env) (m.object_declared name token fixed t (to env))
   pub typedef_declared : (name : List ℕ) (t : DeclaredType) (env : l.Environment) → Valid (l.typedef_declared name t env)
       → Follows to Valid env (l.typedef_declared name t env) (m.typedef_declared name t (to env))
-  pub linked_declared : (name : List ℕ) (token : ℕ) (linked : Linked) (env : l.Environment) → Valid (l.linked_declared name token linked env)
-      → Follows to Valid env (l.linked_declared name token linked env) (m.linked_declared name token linked (to env))
+  pub linked_declared : (name : List ℕ) (token : ℕ) (items : Option CType) (linked : Linked) (env : l.Environment) → Valid (l.linked_declared name token items linked env)
+      → Follows to Valid env (l.linked_declared name token items linked env) (m.linked_declared name token items linked (to env))
   pub definition_set : (name : List ℕ) (definition : Definition) (env : l.Environment) → Valid (file.definition_set name definition env)
       → Follows to Valid env (file.definition_set name definition env) (other.definition_set name definition (to env))
   pub declared_around : (name : List ℕ) (token : ℕ) (linked : Linked) (env : l.Environment) → Valid (file.declared_around name token linked env)

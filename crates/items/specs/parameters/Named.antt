@@ -22,7 +22,7 @@ use Rattle.items.specs.parameters.Parameters.{parameter_at}
 -- a function of those types: its signature has the number behind all others, and it has a body and is built in where it was before
 abbrev pub function_declared : List ℕ → ℕ → List ℕ → Context → Context
 function_declared name result params before = record before {
-  environment = linked_declared name
+  environment = linked_declared name None
       (linked_function (length before.environment.signatures) (is_defined name before.environment) (built_in_by_now (value_in name before.environment.linked))
       (definition_by_now (value_in name before.environment.linked)))
       (signature_added (record { result = result; parameters = params }) before.environment);

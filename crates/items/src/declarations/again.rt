@@ -33,7 +33,7 @@ fn is_own(binding: Option<Binding>) -> bool
 {
     match binding {
         Some(Binding::Own(_)) => true,
-        Some(Binding::WithLinkage) => false,
+        Some(Binding::WithLinkage(_)) => false,
         None => false,
     }
 }
@@ -44,7 +44,7 @@ fn is_typedef_again(binding: Option<Binding>, ctype: DeclaredType) -> bool
 {
     match binding {
         None => false,
-        Some(Binding::WithLinkage) => true,
+        Some(Binding::WithLinkage(_)) => true,
         Some(Binding::Own(entity)) => match entity {
             Entity::Typedef { ctype: before } => are_two(before, ctype),
             Entity::Object { .. } => true,

@@ -3,13 +3,14 @@ ghost use Rattle.cbase.specs.declared.abi.Abi.{Abi};
 ghost use Rattle.cbase.specs.declared.tree.decl.Storage.TheVariants.{Extern};
 ghost use Rattle.typing.specs.declared.environment.entity.Entity.TheVariants.{Object};
 ghost use Rattle.typing.specs.environment.Bounds.{DeclaredBelow};
+ghost use Rattle.typing.specs.environment.Environment.{visible_type};
 ghost use Rattle.typing.specs.environment.Linkage.{own_declared};
 ghost use Rattle.typing.specs.environment.Names.{value_in};
 ghost use Rattle.expressions.specs.Context.{Agrees, declared};
 ghost use Rattle.expressions.specs.Language.{definition_by_now, language, lifetime_of, token_by_now};
 ghost use Rattle.expressions.specs.Numbers.{Numbering, declared_type_at};
 ghost use Rattle.typing.specs.Declarations.{given, name_declared};
-ghost use Rattle.items.specs.declarations.Given.{bound, composite_by_now};
+ghost use Rattle.items.specs.declarations.Given.{bound, composite_by_now, seen_in, unsized_in};
 
 use cbase::{NoMemory, Storage};
 use expressions::Context;
@@ -73,8 +74,8 @@ fn lifetime_of(fixed: bool) -> Lifetime
     }
 }
 
-/// Declares an object with linkage (C11 6.2.2p4): it is known by the name that declared it first, it has the type that all its declarations so far give
-/// (6.2.7p3), and it stays what the text says of its definition.
+/// Declares an object with linkage (C11 6.2.2p4): it is known by the name that declared it first, it stays what the text says of its definition, and every
+/// declaration of it anywhere is compared with the type that all its declarations so far give (6.2.7p3). In its scope it has the size that visible ones give (6.2.7p4).
 fn declare_linked(
     alloc: Global,
     context: &mut Context,
@@ -85,7 +86,9 @@ fn declare_linked(
     requires { DeclaredBelow (length context.old.types) ctype }
     ensures bound { OnOk result (context.new ≡ record context.old { environment = bound name.now token Extern ctype context.old.environment }) }
     ensures below { DeclaredBelow (length context.old.types) (composite_by_now (value_in name.now context.old.environment.linked) ctype) }
+    ensures seen { DeclaredBelow (length context.old.types) (seen_in (visible_type name.now context.old.environment) ctype) }
 {
+    let items = unsized_items(seen_type(context.visible_type(name), ctype));
     let before = context.linked(name);
     let entity = Entity::Object {
         ctype: composite_by_now(before, ctype),
@@ -97,11 +100,32 @@ fn declare_linked(
         entity,
         definition: definition_by_now(before),
     };
-    context.declare_linked(alloc, name, meaning)
+    context.declare_linked(alloc, name, items, meaning)
 }
 
-/// The type that the declarations of an object give together (C11 6.2.7p3).
-pub fn composite_by_now(before: Option<Linked>, ctype: DeclaredType) -> DeclaredType
+/// The type that an object has where a declaration gives it that one, and the visible ones before it the type of that number, if they give it a whole one (C11
+/// 6.2.7p4).
+pub fn seen_type(visible: Option<u32>, ctype: DeclaredType) -> DeclaredType
+    ensures { result ≡ seen_in visible ctype }
+{
+    match visible {
+        None => ctype,
+        Some(number) => DeclaredType::Whole(number),
+    }
+}
+
+/// The number of the type of the items of an array whose size is not known.
+fn unsized_items(ctype: DeclaredType) -> Option<u32>
+    ensures { result ≡ unsized_in ctype }
+{
+    match ctype {
+        DeclaredType::Whole(_) => None,
+        DeclaredType::UnsizedArray(item) => Some(item),
+    }
+}
+
+/// The type that the declarations of an object give together, in whatever scopes they stand (C11 6.2.7p3).
+fn composite_by_now(before: Option<Linked>, ctype: DeclaredType) -> DeclaredType
     ensures { result ≡ composite_by_now before ctype }
 {
     let Some(meaning) = before else {

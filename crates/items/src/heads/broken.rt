@@ -65,7 +65,7 @@ fn is_other_around(context: &Context, name: &[u8], result_type: u32, params: &[u
 {
     match context.binding_around(name) {
         Some(Binding::Own(_)) => true,
-        Some(Binding::WithLinkage) | None => {
+        Some(Binding::WithLinkage(_)) | None => {
             is_other(context, context.linked(name), result_type, params)
         }
     }

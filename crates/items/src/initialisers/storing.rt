@@ -5,6 +5,7 @@ ghost use Rattle.expressions.specs.declared.found.Found.TheVariants.{Refused};
 ghost use Rattle.items.specs.initialisers.Storing.{IsForm, IsJudged, IsStored};
 
 use crate::initialisers::constant::{Use, is_constant};
+use crate::initialisers::testing::is_test_of_pointer;
 use cbase::{Expr, NoMemory, Place};
 use expressions::{Context, Found, HandedRow, Known, Slot, Subject};
 use typing::Fault;
@@ -42,7 +43,7 @@ pub(crate) fn store(
 }
 
 /// What is broken at a value that is stored: one that does not convert is rule 5 (C11 6.7.9p11, p13), and one of an object that lives as long as the program
-/// runs is of the form of a constant, or rule 9 (6.7.9p4).
+/// runs is of the form of a constant, and no pointer that becomes a `_Bool`, or rule 9 (6.7.9p4).
 fn fault_of(
     context: &Context,
     before: usize,
@@ -61,6 +62,9 @@ fn fault_of(
         return Ok(Some(broken(value.place, 5)));
     }
     if !constant {
+        return Ok(Some(broken(value.place, 9)));
+    }
+    if fixed && is_test_of_pointer(context, to, known.ctype) {
         return Ok(Some(broken(value.place, 9)));
     }
     Ok(None)

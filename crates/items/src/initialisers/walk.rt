@@ -15,7 +15,7 @@ ghost use Rattle.items.specs.initialisers.Filled.{filled_at, IsKept};
 use crate::initialisers::filled::{Filled, filled_of};
 use crate::initialisers::next::{Next, ended, following, next_in};
 use crate::initialisers::storing::{no_member, store, unwanted};
-use crate::initialisers::surplus::{Surplus, first_among};
+use crate::initialisers::surplus::first_value;
 use cbase::{Expr, Init, InitPart, NoMemory, Place};
 use expressions::{Checker, Context, Found, Part, Slot, Subject, Told, Within};
 use std::alloc::Global;
@@ -119,8 +119,8 @@ fn fill<F: Fn(&mut Context, Within, Part<'_>) -> Result<Found<Told>, NoMemory>>(
     Ok(ended(subject.place, filled, index))
 }
 
-/// Parts for which there is no place: the first value in them is walked, and is rule 5 then; a designator in front of it is rule 6 at its name, and where there is
-/// no value it is rule 5 at the declared name (C11 6.7.9p2).
+/// Parts for which there is no place: the value of the first of them is walked, and is rule 5 then; where it has none, it is rule 5 at the declared name (C11
+/// 6.7.9p2).
 fn surplus<F: Fn(&mut Context, Within, Part<'_>) -> Result<Found<Told>, NoMemory>>(
     checker: &Checker<F>,
     context: &mut Context,
@@ -131,10 +131,9 @@ fn surplus<F: Fn(&mut Context, Within, Part<'_>) -> Result<Found<Told>, NoMemory
     requires deep { joined depth (map init_part_levels parts.now) ≤ checker.now.depth }
     ensures { IfOk result (λ found. Walked (Says checker.now.abi (λ o. SurplusAre place parts.now o)) nothing context.old context.new found) }
 {
-    match first_among(parts) {
-        Surplus::Value(value) => surplus_value(checker, context, value),
-        Surplus::Designator(name) => Ok(no_member(name)),
-        Surplus::Nothing => Ok(unwanted(place)),
+    match first_value(parts) {
+        Some(value) => surplus_value(checker, context, value),
+        None => Ok(unwanted(place)),
     }
 }
 

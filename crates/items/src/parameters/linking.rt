@@ -23,7 +23,7 @@ pub(crate) fn is_again(context: &Context, name: &[u8], result_type: u32, params:
 {
     match context.binding_here(name) {
         Some(Binding::Own(_)) => true,
-        Some(Binding::WithLinkage) | None => {
+        Some(Binding::WithLinkage(_)) | None => {
             is_other(context, context.linked(name), result_type, params)
         }
     }
@@ -76,7 +76,7 @@ pub(crate) fn declare_function(
         parameters: params,
     })?;
     let meaning = function_linked(context, name, signature);
-    context.declare_linked(alloc, name, meaning)
+    context.declare_linked(alloc, name, None, meaning)
 }
 
 /// What a function with the signature of that number is under a name (C11 6.2.2p2): it has a body and is built in where it was before, and the text so far

@@ -1,6 +1,6 @@
 -- The numbers of types and of signatures in an environment stay below their counts.
 use Rattle.std.proofs.Common.{◌≡◌, ℕ, zero, suc, ◌<◌, ◌≤◌, Bool, true, false, refl, subst, arith, List, [], ◌∷◌, ◌++◌, length, length-append, slice_get, Option, None, Some}
-use Rattle.std.specs.Prelude.{if◌then◌else◌, option_map, IfSome}
+use Rattle.std.specs.Prelude.{if◌then◌else◌, option_map, option_and_then, IfSome}
 use Rattle.std.specs.List.{All}
 use Rattle.std.specs.Str.{bytes_eq}
 use Rattle.std.proofs.lemmas.Option.{IfSome_then}
@@ -18,7 +18,7 @@ use Rattle.typing.specs.declared.environment.entity.Tag.{Tag}
 use Rattle.typing.specs.declared.environment.environment.Environment.{Environment}
 use Rattle.typing.specs.environment.Names.{Entries, value_in, with_value}
 use Rattle.typing.specs.environment.Scopes.{Scopes, first_answer, found, found_here, declared, declared_around, entered, left}
-use Rattle.typing.specs.environment.Environment.{nothing_declared, resolved, name_found, name_found_here, scope_entered, scope_left, name_bound, name_bound_around, tag_declared, name_linked, definition_of_linked, definition_set, signature_added, loop_set, function_set, name_defined, strict_set}
+use Rattle.typing.specs.environment.Environment.{nothing_declared, shown, resolved, whole_type, visible_in, visible_type, name_found, name_found_here, scope_entered, scope_left, name_bound, name_bound_around, tag_declared, name_linked, definition_of_linked, definition_set, signature_added, loop_set, function_set, name_defined, strict_set}
 use Rattle.typing.specs.environment.Bounds.{DeclaredBelow, SignatureBelow, EntityBelow, BindingBelow, LinkedBelow, EachValue, EachMeaning, AreBelow}
 
 -- what holds of all values of some names
@@ -111,7 +111,7 @@ entity_grows count more signatures others grows longer (Function signature defin
 binding_grows : (count more : ℕ) (signatures others : List Signature) → count ≤ more → length signatures ≤ length others
     → (binding : Binding) → BindingBelow count signatures binding → BindingBelow more others binding
 binding_grows count more signatures others grows longer (Own entity) below = entity_grows count more signatures others grows longer entity below
-binding_grows count more signatures others grows longer WithLinkage below = tt
+binding_grows count more signatures others grows longer (WithLinkage items) below = IfSome_then items below (below_more count more grows)
 
 pub bounds_grow : (count more : ℕ) (env : Environment) → count ≤ more → AreBelow count env → AreBelow more env
 bounds_grow count more env grows below =
@@ -130,6 +130,14 @@ bounds_grow count more env grows below =
 
 -- what is found
 
+shown_below : (count : ℕ) (signatures : List Signature) (items : Option ℕ) (entity : Entity) → IfSome items (λ item. item < count) → EntityBelow count signatures entity
+    → EntityBelow count signatures (shown items entity)
+shown_below count signatures None entity hidden below = below
+shown_below count signatures (Some item) (Object ctype token lifetime defined) hidden below = hidden
+shown_below count signatures (Some item) (Typedef ctype) hidden below = below
+shown_below count signatures (Some item) (Enumerator bits) hidden below = below
+shown_below count signatures (Some item) (Function signature defined built_in) hidden below = below
+
 resolved_below : (count : ℕ) (name : List ℕ) (env : Environment) (binding : Option Binding) (entity : Entity) → AreBelow count env
     → ((own : Binding) → binding ≡ Some own → BindingBelow count env.signatures own) → resolved name env.linked binding ≡ Some entity
     → EntityBelow count env.signatures entity
@@ -137,13 +145,14 @@ resolved_below count name env None entity below binds is = cc is
 resolved_below count name env (Some (Own own)) entity below binds is =
     let same : own ≡ entity = cc is in
     subst (EntityBelow count env.signatures) same (binds (Own own) refl)
-resolved_below count name env (Some WithLinkage) entity below binds is = step (value_in name env.linked) refl is
+resolved_below count name env (Some (WithLinkage items)) entity below binds is = step (value_in name env.linked) refl is
   where
-    step : (o : Option Linked) → value_in name env.linked ≡ o → option_map (λ meaning. meaning.entity) o ≡ Some entity → EntityBelow count env.signatures entity
+    step : (o : Option Linked) → value_in name env.linked ≡ o → option_map (λ meaning. shown items meaning.entity) o ≡ Some entity → EntityBelow count env.signatures entity
     step None at i = cc i
     step (Some meaning) at i =
-        let same : meaning.entity ≡ entity = cc i in
-        subst (EntityBelow count env.signatures) same (value_of_each (LinkedBelow count env.signatures) name meaning env.linked below.linked at)
+        let same : shown items meaning.entity ≡ entity = cc i in
+        subst (EntityBelow count env.signatures) same
+        (shown_below count env.signatures items meaning.entity (binds (WithLinkage items) refl) (value_of_each (LinkedBelow count env.signatures) name meaning env.linked below.linked at))
 
 pub found_is_below : (count : ℕ) (name : List ℕ) (env : Environment) (entity : Entity) → AreBelow count env → name_found name env ≡ Some entity → EntityBelow count env.signatures entity
 found_is_below count name env entity below is =
@@ -157,6 +166,27 @@ found_here_is_below count name env entity below is =
 
 pub linked_is_below : (count : ℕ) (name : List ℕ) (env : Environment) (meaning : Linked) → AreBelow count env → value_in name env.linked ≡ Some meaning → EntityBelow count env.signatures meaning.entity
 linked_is_below count name env meaning below is = value_of_each (LinkedBelow count env.signatures) name meaning env.linked below.linked is
+
+-- the type that is visible
+whole_below : (count : ℕ) (signatures : List Signature) (entity : Entity) → EntityBelow count signatures entity → IfSome (whole_type entity) (λ number. number < count)
+whole_below count signatures (Object (Whole number) token lifetime defined) below = below
+whole_below count signatures (Object (UnsizedArray item) token lifetime defined) below = tt
+whole_below count signatures (Typedef ctype) below = tt
+whole_below count signatures (Enumerator bits) below = tt
+whole_below count signatures (Function signature defined built_in) below = tt
+
+visible_in_below : (count : ℕ) (name : List ℕ) (env : Environment) (binding : Option Binding) → AreBelow count env → IfSome (visible_in name env.linked binding) (λ number. number < count)
+visible_in_below count name env None below = tt
+visible_in_below count name env (Some (Own entity)) below = tt
+visible_in_below count name env (Some (WithLinkage (Some item))) below = tt
+visible_in_below count name env (Some (WithLinkage None)) below = step (value_in name env.linked) refl
+  where
+    step : (o : Option Linked) → value_in name env.linked ≡ o → IfSome (option_and_then (λ meaning. whole_type meaning.entity) o) (λ number. number < count)
+    step None at = tt
+    step (Some meaning) at = whole_below count env.signatures meaning.entity (linked_is_below count name env meaning below at)
+
+pub visible_is_below : (count : ℕ) (name : List ℕ) (env : Environment) → AreBelow count env → IfSome (visible_type name env) (λ number. number < count)
+visible_is_below count name env below = visible_in_below count name env (found name env.names) below
 
 item_of_all : {A : Type 0} (P : A → Type 0) (items : List A) (number : ℕ) (item : A) → All P items → slice_get items number ≡ Some item → P item
 item_of_all P [] number item all is = cc is

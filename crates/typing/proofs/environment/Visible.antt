@@ -9,7 +9,7 @@ use Rattle.typing.specs.declared.environment.entity.Binding.TheVariants.{WithLin
 use Rattle.typing.specs.environment.Names.{Entries, value_in, with_value}
 use Rattle.typing.specs.environment.Scopes.{Scopes, IsVisible, first_answer, found, declared, all_declared, entered, left}
 use Rattle.typing.specs.declared.environment.environment.Environment.{Environment}
-use Rattle.typing.specs.environment.Environment.{resolved, name_defined, is_defined}
+use Rattle.typing.specs.environment.Environment.{shown, resolved, name_defined, is_defined}
 use Rattle.typing.specs.environment.Linkage.{LastIsFound, IsOneThing}
 use Rattle.typing.proofs.environment.Tables.{value-put}
 
@@ -79,10 +79,10 @@ left_declared A names scopes = inside names []
     inside (entry ∷ entries) scope = inside entries (with_value entry.0 entry.1 scope)
 
 pub last_found : LastIsFound
-last_found name meaning env is =
+last_found name items meaning env is =
     ap (resolved name (with_value name meaning env.linked)) is
-    ∙ ap (option_map (λ linked. linked.entity)) (put_is name meaning env.linked)
+    ∙ ap (option_map (λ linked. shown items linked.entity)) (put_is name meaning env.linked)
 
 pub one_thing : IsOneThing
-one_thing name one other same is there =
-    ap (resolved name one.linked) is ∙ (ap (λ (linked : Entries Linked). resolved name linked (Some WithLinkage)) same ∙ ap (resolved name other.linked) (sym there))
+one_thing name items one other same is there =
+    ap (resolved name one.linked) is ∙ (ap (λ (linked : Entries Linked). resolved name linked (Some (WithLinkage items))) same ∙ ap (resolved name other.linked) (sym there))

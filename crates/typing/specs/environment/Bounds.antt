@@ -30,10 +30,10 @@ EntityBelow count signatures (Typedef ctype) = DeclaredBelow count ctype
 EntityBelow count signatures (Enumerator bits) = Unit {0}
 EntityBelow count signatures (Function signature defined built_in) = signature < length signatures
 
--- what a scope says of a name: of one with linkage it says no number
+-- what a scope says of a name: of one with linkage it may say the type of its items
 abbrev pub BindingBelow : ℕ → List Signature → Binding → Type 0
 BindingBelow count signatures (Own entity) = EntityBelow count signatures entity
-BindingBelow count signatures WithLinkage = Unit {0}
+BindingBelow count signatures (WithLinkage items) = IfSome items (λ item. item < count)
 
 abbrev pub LinkedBelow : ℕ → List Signature → Linked → Type 0
 LinkedBelow count signatures meaning = EntityBelow count signatures meaning.entity

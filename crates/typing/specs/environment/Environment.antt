@@ -1,8 +1,10 @@
 -- What is declared at a place of a text: names and tags, which are two name spaces (C11 6.2.3), by scope; what has linkage under
 -- a name; and the signatures of functions, each at its number. And what statements ask of the place: whether it lies in the body
 -- of a loop, what the function around it gives back, which names the whole text defines, and whether `main` may not be called.
-use Rattle.std.specs.Prelude.{ℕ, Bool, false, List, [], ◌∷◌, ◌++◌, Option, None, Some, option_map, is_some}
+use Rattle.std.specs.Prelude.{ℕ, Bool, false, List, [], ◌∷◌, ◌++◌, Option, None, Some, option_map, option_and_then, is_some}
+use Rattle.typing.specs.declared.environment.entity.DeclaredType.TheVariants.{Whole, UnsizedArray}
 use Rattle.typing.specs.declared.environment.entity.Entity.{Entity}
+use Rattle.typing.specs.declared.environment.entity.Entity.TheVariants.{Object, Typedef, Enumerator, Function}
 use Rattle.typing.specs.declared.environment.entity.Definition.{Definition}
 use Rattle.typing.specs.declared.environment.entity.Linked.{Linked}
 use Rattle.typing.specs.declared.environment.entity.Binding.{Binding}
@@ -20,11 +22,36 @@ abbrev pub nothing_declared : Environment
 nothing_declared =
     record { names = []; tags = []; linked = []; signatures = []; in_loop = false; result = None; definitions = []; strict = false }
 
--- what a name that is bound so stands for: what has linkage has the type that all its declarations so far give
+-- what has linkage as a scope sees it: where no visible declaration gives the size of an array of those items, it is not known there (C11 6.2.7p4)
+abbrev pub shown : Option ℕ → Entity → Entity
+shown None entity = entity
+shown (Some item) (Object ctype token lifetime defined) = Object (UnsizedArray item) token lifetime defined
+shown (Some item) (Typedef ctype) = Typedef ctype
+shown (Some item) (Enumerator bits) = Enumerator bits
+shown (Some item) (Function signature defined built_in) = Function signature defined built_in
+
+-- what a name that is bound so stands for
 abbrev pub resolved : List ℕ → Entries Linked → Option Binding → Option Entity
 resolved name linked None = None
 resolved name linked (Some (Own entity)) = Some entity
-resolved name linked (Some WithLinkage) = option_map (λ meaning. meaning.entity) (value_in name linked)
+resolved name linked (Some (WithLinkage items)) = option_map (λ meaning. shown items meaning.entity) (value_in name linked)
+
+-- the type that visible declarations give an object with linkage, where that is a whole one
+abbrev pub whole_type : Entity → Option ℕ
+whole_type (Object (Whole number) token lifetime defined) = Some number
+whole_type (Object (UnsizedArray item) token lifetime defined) = None
+whole_type (Typedef ctype) = None
+whole_type (Enumerator bits) = None
+whole_type (Function signature defined built_in) = None
+
+abbrev pub visible_in : List ℕ → Entries Linked → Option Binding → Option ℕ
+visible_in name linked None = None
+visible_in name linked (Some (Own entity)) = None
+visible_in name linked (Some (WithLinkage (Some item))) = None
+visible_in name linked (Some (WithLinkage None)) = option_and_then (λ meaning. whole_type meaning.entity) (value_in name linked)
+
+abbrev pub visible_type : List ℕ → Environment → Option ℕ
+visible_type name env = visible_in name env.linked (found name env.names)
 
 -- what a name stands for (C11 6.2.1p4)
 abbrev pub name_found : List ℕ → Environment → Option Entity

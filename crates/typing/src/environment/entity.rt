@@ -90,8 +90,9 @@ pub struct Linked {
 pub enum Binding {
     /// It stands for something that has no linkage (C11 6.2.2p6).
     Own(Entity),
-    /// It stands for what has linkage under that name.
-    WithLinkage,
+    /// It stands for what has linkage under that name. Where that is an array of which no visible declaration gives the size (C11 6.2.7p4), with the
+    /// number of the type of its items: its size is not known there, though another scope may have given it.
+    WithLinkage(Option<u32>),
 }
 
 /// What a tag stands for (C11 6.7.2.3).

@@ -1,9 +1,11 @@
 ghost use Rattle.std.specs.Prelude.{◌≡◌, length, option_copied, slice_get, IfOk, OnOk, OnErr};
 ghost use Rattle.typing.specs.environment.Names.{value_in};
 ghost use Rattle.typing.specs.environment.Scopes.{found_here, left};
-ghost use Rattle.typing.specs.environment.Environment.{nothing_declared, resolved, name_found, name_found_here, tag_found, scope_entered, scope_left, name_bound, name_bound_around, tag_declared, name_linked, definition_set, signature_added, loop_set, function_set, name_defined, is_defined, strict_set};
+ghost use Rattle.typing.specs.environment.Environment.{nothing_declared, resolved, shown, whole_type, visible_type, name_found, name_found_here, tag_found, scope_entered, scope_left, name_bound, name_bound_around, tag_declared, name_linked, definition_set, signature_added, loop_set, function_set, name_defined, is_defined, strict_set};
 
-use crate::environment::entity::{Binding, Definition, Entity, Linked, Signature, Tag, TagForm};
+use crate::environment::entity::{
+    Binding, DeclaredType, Definition, Entity, Linked, Signature, Tag, TagForm,
+};
 use crate::environment::names::Names;
 use crate::environment::scopes::Scopes;
 use cbase::{List, NoMemory};
@@ -121,6 +123,22 @@ impl Environment {
         ensures err { OnErr result (self.new ≡ self.old) }
     {
         self.names.declare_around(alloc, name, binding)
+    }
+
+    /// The number of the type that the visible declarations of a name give an object with linkage (C11 6.2.7p4): none where the name stands for something
+    /// else, and none where they do not give the size of an array.
+    pub fn visible_type(&self, name: &[u8]) -> Option<u32>
+        ensures { result ≡ visible_type name.now self.now }
+    {
+        match self.names.look_up(name) {
+            Some(Binding::WithLinkage(None)) => match self.linked.get(name) {
+                None => None,
+                Some(linked) => whole_type(linked.entity),
+            },
+            Some(Binding::WithLinkage(Some(_))) => None,
+            Some(Binding::Own(_)) => None,
+            None => None,
+        }
     }
 
     /// What has linkage under a name, whether or not the name is in scope (C11 6.2.2p2).
@@ -267,10 +285,50 @@ impl Environment {
         match binding {
             None => None,
             Some(Binding::Own(entity)) => Some(entity),
-            Some(Binding::WithLinkage) => match self.linked.get(name) {
+            Some(Binding::WithLinkage(items)) => match self.linked.get(name) {
                 None => None,
-                Some(linked) => Some(linked.entity),
+                Some(linked) => Some(shown(items, linked.entity)),
             },
         }
+    }
+}
+
+/// What has linkage as a scope sees it, for which the size of that array of items is not known, if there are any.
+fn shown(items: Option<u32>, entity: Entity) -> Entity
+    ensures { result ≡ shown items entity }
+{
+    let Some(item) = items else {
+        return entity;
+    };
+    match entity {
+        Entity::Object {
+            token,
+            lifetime,
+            defined,
+            ..
+        } => Entity::Object {
+            ctype: DeclaredType::UnsizedArray(item),
+            token,
+            lifetime,
+            defined,
+        },
+        Entity::Typedef { .. } => entity,
+        Entity::Enumerator { .. } => entity,
+        Entity::Function { .. } => entity,
+    }
+}
+
+/// The number of the type of an object, where it is a whole one.
+fn whole_type(entity: Entity) -> Option<u32>
+    ensures { result ≡ whole_type entity }
+{
+    match entity {
+        Entity::Object { ctype, .. } => match ctype {
+            DeclaredType::Whole(number) => Some(number),
+            DeclaredType::UnsizedArray(_) => None,
+        },
+        Entity::Typedef { .. } => None,
+        Entity::Enumerator { .. } => None,
+        Entity::Function { .. } => None,
     }
 }

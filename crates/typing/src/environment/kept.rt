@@ -1,3 +1,5 @@
+ghost use Rattle.std.specs.Prelude.{⊤, ◌≡◌};
+
 use std::alloc::AllocError;
 
 /// What a name stands for in a scope that declares it, with what it is visible as around that scope.
@@ -9,6 +11,10 @@ pub(crate) struct Kept<A> {
 }
 
 impl<A: Copy> Clone for Kept<A> {
+    ghost is_clone = { λ kept copy. copy ≡ kept };
+
+    ghost is_infallible = { λ _. ⊤ };
+
     fn clone(&self) -> Result<Kept<A>, AllocError> {
         Ok(*self)
     }

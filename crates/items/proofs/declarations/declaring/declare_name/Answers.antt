@@ -6,12 +6,13 @@ use Rattle.cbase.specs.declared.tree.decl.Storage.{Storage}
 use Rattle.cbase.specs.declared.tree.decl.Storage.TheVariants.{Plain, Typedef, Extern, Static}
 use Rattle.typing.specs.declared.environment.entity.DeclaredType.{DeclaredType}
 use Rattle.typing.specs.environment.Bounds.{DeclaredBelow}
+use Rattle.typing.specs.environment.Environment.{visible_type}
 use Rattle.typing.specs.environment.Names.{value_in}
 use Rattle.typing.specs.Declarations.{given, name_declared}
 use Rattle.expressions.specs.Context.{Context, declared, Agrees}
 use Rattle.expressions.specs.Language.{language}
 use Rattle.expressions.specs.Numbers.{Numbering, declared_type_at}
-use Rattle.items.specs.declarations.Given.{bound, composite_by_now}
+use Rattle.items.specs.declarations.Given.{bound, composite_by_now, seen_in}
 use Rattle.items.proofs.declarations.Bound.{linked_bound, object_bound, typedef_bound}
 use Rattle.items.proofs.declarations.declaring.declare_name.Goals as goal
 
@@ -36,9 +37,9 @@ typedef name token t old new (Ok told) below left n abi agrees = ap declared lef
 typedef name token t old new (Err error) below left n abi agrees = tt
 
 linked : (name : List ℕ) (token : ℕ) (t : DeclaredType) (old new : Context) (r : Result (Unit {0}) NoMemory) → DeclaredBelow (length old.types) (composite_by_now (value_in name old.environment.linked) t)
-    → Left name token t old new r Extern → Means name token t old new r Extern
-linked name token t old new (Ok told) below left n abi agrees = ap declared left ∙ linked_bound n old name token t (declared old) agrees below
-linked name token t old new (Err error) below left n abi agrees = tt
+    → DeclaredBelow (length old.types) (seen_in (visible_type name old.environment) t) → Left name token t old new r Extern → Means name token t old new r Extern
+linked name token t old new (Ok told) below seen left n abi agrees = ap declared left ∙ linked_bound n old name token t (declared old) agrees below seen
+linked name token t old new (Err error) below seen left n abi agrees = tt
 
 pub returns-in-Plain-clause-declared : goal.returns-in-Plain-clause-declared
 returns-in-Plain-clause-declared c = subst (λ (s : Storage). Means c.args.name.now c.args.token c.args.ctype c.args.context.now c.declare_object.new.context c.declare_object.result s) (sym c.in-Plain.is)
@@ -54,4 +55,4 @@ returns-in-Typedef-clause-declared c = subst (λ (s : Storage). Means c.args.nam
 
 pub returns-in-Extern-clause-declared : goal.returns-in-Extern-clause-declared
 returns-in-Extern-clause-declared c = subst (λ (s : Storage). Means c.args.name.now c.args.token c.args.ctype c.args.context.now c.declare_linked.new.context c.declare_linked.result s) (sym c.in-Extern.is)
-    (linked c.args.name.now c.args.token c.args.ctype c.args.context.now c.declare_linked.new.context c.declare_linked.result c.declare_linked.ensures.below c.declare_linked.ensures.bound)
+    (linked c.args.name.now c.args.token c.args.ctype c.args.context.now c.declare_linked.new.context c.declare_linked.result c.declare_linked.ensures.below c.declare_linked.ensures.seen c.declare_linked.ensures.bound)
