@@ -5,7 +5,7 @@ program. Times say nothing here: a file that was touched is the same file.
 """
 import hashlib
 import os
-import shutil
+import subprocess
 from pathlib import Path
 
 HOME = Path(__file__).resolve().parent.parent.parent
@@ -62,10 +62,11 @@ def checksum():
 
 
 def kit():
-    """What names the kit whose command is `rt`, or nothing where that cannot be told."""
-    command = shutil.which("rt")
-    name = Path(os.path.realpath(command)).parent.parent / "KIT-ID" if command else None
-    return name.read_text().strip() if name and name.is_file() else ""
+    """What names the kit whose command is `rt`, or nothing where there is none."""
+    try:
+        return subprocess.run(["rt", "version"], stdin=subprocess.DEVNULL, capture_output=True, text=True).stdout.strip()
+    except OSError:
+        return ""
 
 
 def sum_of(file):
