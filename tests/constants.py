@@ -168,4 +168,5 @@ def main():
     sys.exit(bool(wrong))
 
 
-main()
+if __name__ == "__main__":
+    sys.exit(print(__doc__) if "--help" in sys.argv else main())

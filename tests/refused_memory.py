@@ -101,4 +101,5 @@ def main():
     sys.exit(1 if differs else 0)
 
 
-main()
+if __name__ == "__main__":
+    sys.exit(print(__doc__) if "--help" in sys.argv else main())
