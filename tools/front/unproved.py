@@ -1,13 +1,16 @@
 """The program built from sources that are not proved: built once by the kit's `rt try`, and kept in a cache folder of the user.
 
-It is kept in `$XDG_CACHE_HOME/predator` (`~/.cache/predator` where that is not set) by the checksum of its sources and of the kit's name. `rt try` keeps no
-program. So the program is given a pipe to read, and while it waits there it is copied; then it is given a short text, whose answer shows that it runs.
+It is kept in `$XDG_CACHE_HOME/predator` (`~/.cache/predator` where that is not set), or in `predator-UID` in the folder for temporary files where that cannot be used, by
+the checksum of its sources and of the kit's name. `rt try` keeps no program. So the program is given a pipe to read, and while it waits there it is copied; then it is given a short text, whose answer shows that it runs.
 """
+import contextlib
+import errno
 import fcntl
 import hashlib
 import os
 import resource
 import shutil
+import stat
 import subprocess
 import sys
 import tempfile
@@ -18,18 +21,24 @@ from . import sources
 CRATE = sources.HOME / "crates" / sources.NAME
 TEXT = b"int main(void) { return 0; }\n"
 KEPT = 3  # programs: of these sources, and of others that were used last
-# Trees of 1,024 levels need more than the usual eight megabytes where the program is built with checks (docs/tests.md).
-STACK = 512 << 20
+# Trees of 1,024 levels take up to 14 megabytes where the program is built with checks, and the usual limit is eight (docs/tests.md).
+STACK = 64 << 20
 
 
 class NotBuilt(Exception):
     """There is no program, for the reason that is given."""
 
 
-def folder():
-    """Where programs are kept."""
+def folders():
+    """Where programs are kept: in the user's cache, and where that cannot be used in a folder of the user's own for what is temporary."""
     cache = os.environ.get("XDG_CACHE_HOME") or os.path.join(os.path.expanduser("~"), ".cache")
-    return Path(cache, "predator")
+    yield Path(cache, "predator")
+    own = Path(tempfile.gettempdir(), f"predator-{os.getuid()}")
+    own.mkdir(mode=0o700, exist_ok=True)
+    about = own.lstat()
+    if about.st_uid != os.getuid() or not stat.S_ISDIR(about.st_mode) or about.st_mode & 0o022:
+        raise PermissionError(errno.EPERM, os.strerror(errno.EPERM), own)
+    yield own
 
 
 def name():
@@ -110,18 +119,29 @@ def drop_old(room):
 
 def program():
     """The program, which is built where none is kept."""
-    room = folder()
+    said = "no folder to keep it in"
+    try:
+        for room in folders():
+            try:
+                return kept(room)
+            except OSError as error:
+                said = f"{room}: {error.strerror}"
+    except OSError as error:
+        said = f"{error.filename}: {error.strerror}"
+    raise NotBuilt(said)
+
+
+def kept(room):
+    """The program that is kept in a folder, which is built where there is none."""
     file = room / f"{name()}.program"
     if not file.is_file():
-        try:
-            room.mkdir(parents=True, exist_ok=True)
-            with open(room / "lock", "wb") as lock:
-                fcntl.flock(lock, fcntl.LOCK_EX)
-                if not file.is_file():
-                    build_into(file)
-        except OSError as error:
-            raise NotBuilt(f"{room}: {error.strerror}") from error
-    os.utime(file)
+        room.mkdir(parents=True, exist_ok=True)
+        with open(room / "lock", "wb") as lock:
+            fcntl.flock(lock, fcntl.LOCK_EX)
+            if not file.is_file():
+                build_into(file)
+    with contextlib.suppress(OSError):
+        os.utime(file)
     return file
 
 
