@@ -165,7 +165,7 @@ def main():
     print(f"{len(known)} rows are compared")
     for what in wrong:
         print("differs:", *what)
-    sys.exit(bool(wrong))
+    return 1 if wrong else 0
 
 
 if __name__ == "__main__":

@@ -380,7 +380,8 @@ def main():
         name = case.__name__.replace("_", " ")
         differs += got != wanted
         print(f"{name}: " + ("holds" if got == wanted else f"differs: wanted {wanted!r}, got {got!r}"))
-    sys.exit(1 if differs else 0)
+    print(f"edges: {len(CASES) - differs} of {len(CASES)} cases hold")
+    return 1 if differs else 0
 
 
 if __name__ == "__main__":
