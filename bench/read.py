@@ -2,7 +2,7 @@
 """Compares the reading of large texts with gcc's, in one run.
 
 Usage, at the project's root: bench/read.py [TEXT ..]
-Without words it takes all texts. It writes texts of some 4 MiB into a folder of its own, runs ./predator and
+Without words it takes all texts. It writes texts of some 4 MiB into a folder of its own, runs the proved program and
 `gcc -fpreprocessed -fsyntax-only` on each in turn, five times, and prints for each text the ratio of the medians of their
 times, the peak memory of both, and the status and the answer of ./predator. Then it prints, for each text that is made to
 be slow, how many times as long ./predator takes as on a text of the same size that is not: each of these ratios has to be
@@ -37,7 +37,9 @@ import tempfile
 import time
 from pathlib import Path
 
-ROOT = Path(__file__).resolve().parent.parent
+sys.path.insert(0, str(Path(__file__).resolve().parent.parent / "tools"))
+from front import sources  # noqa: E402
+
 MOST = 4_194_304
 ROUNDS = 5
 DEEPEST = 256  # the most brackets that may be open at one place
@@ -200,8 +202,9 @@ PAIRS = (("casts", "casts_flat"), ("blocks", "blocks_flat"), ("sums", "sums_flat
 
 
 def main():
-    subprocess.run([str(ROOT / "predator"), str(ROOT / "examples/first.c")], check=True, stdout=subprocess.DEVNULL)
-    program = str(ROOT / "crates/predator/out/predator")
+    if not sources.is_proved():
+        sys.exit("bench/read.py: no proved program stands: `./prove` leaves one")
+    program = str(sources.PROGRAM)
     seconds_of = {}
     with tempfile.TemporaryDirectory() as folder:
         print("| text | bytes | predator / gcc | predator | gcc | peak, predator | peak, gcc | status | answer |")
@@ -234,4 +237,5 @@ def main():
             print(f"| {name} | {against} | {seconds_of[name] / seconds_of[against]:.2f} |")
 
 
-main()
+if __name__ == "__main__":
+    sys.exit(print(__doc__) if "--help" in sys.argv else main())

@@ -1,12 +1,13 @@
 #!/usr/bin/env python3
-"""Runs ./predator on each program of answers/ and preprocessed/, and compares what it prints and its status.
+"""Runs the proved program on each program of answers/ and preprocessed/, and compares what it prints and its status.
 
-Usage: python3 tests/check.py
+Usage: python3 tests/check.py [--unproved]
 answers/ has short texts whose answers were worked out by hand, preprocessed/ programs as gcc -E writes them. What is
 wanted of NAME.c or NAME.i stands in NAME.expect. answers/types.rows has one program a line, and below it the status and the
 report that are wanted of it as a file t.c; a line that begins with `# ` says what the rows below it show. replay/replay.rows has such
 rows for `predator replay`: a line between the two has the options and, each behind a `|`, the lines of the choices, which are the file c. It
-prints a line for each that differs; the status is 1 where one does, and where the picture of docs/flow.md is not that of its rows.
+prints a line for each that differs; the status is 1 where one does, and where no program stands that was proved from the sources as they are
+now. With --unproved it takes one that is built from them without proofs.
 """
 import re
 import subprocess
@@ -15,7 +16,9 @@ import tempfile
 from pathlib import Path
 
 HOME = Path(__file__).resolve().parent
-PROGRAM = HOME.parent / "predator"
+sys.path.insert(0, str(HOME.parent / "tools"))
+from front import run, sources  # noqa: E402
+
 FOLDERS = (("answers", "*.c"), ("preprocessed", "*.i"))
 ROWS = HOME / "answers" / "types.rows"
 REPLAY_ROWS = HOME / "replay" / "replay.rows"
@@ -28,17 +31,16 @@ def wanted(file):
     return text, int(last)
 
 
-def answered(file):
+def answered(program, file):
     """The bytes that are printed for a program, and the status."""
-    done = subprocess.run([PROGRAM, file.name], cwd=file.parent, stdin=subprocess.DEVNULL, stdout=subprocess.PIPE)
-    return done.stdout, done.returncode
+    return program.answer([file.name], cwd=file.parent, stdin=subprocess.DEVNULL)
 
 
-def differing(files):
+def differing(program, files):
     """How many of these programs are answered otherwise than is wanted."""
     count = 0
     for file in files:
-        want, got = wanted(file), answered(file)
+        want, got = wanted(file), answered(program, file)
         if got != want:
             count += 1
             print(f"{file.name} differs: wanted {want!r}, got {got!r}")
@@ -68,14 +70,14 @@ def rows(file):
     return found
 
 
-def differing_rows(found):
+def differing_rows(program, found):
     """How many of these rows are answered otherwise than is wanted."""
     count = 0
     with tempfile.TemporaryDirectory() as folder:
         file = Path(folder, "t.c")
         for heading, text, want in found:
             file.write_bytes(text)
-            got = answered(file)
+            got = answered(program, file)
             if got != want:
                 count += 1
                 print(f"{heading}: {text!r} differs: wanted {want!r}, got {got!r}")
@@ -96,15 +98,14 @@ def replay_rows(file):
     return found
 
 
-def differing_replays(found):
+def differing_replays(program, found):
     """How many of these rows are answered otherwise than is wanted."""
     count = 0
     with tempfile.TemporaryDirectory() as folder:
         for heading, text, options, choices, want in found:
             Path(folder, "t.c").write_bytes(text)
             Path(folder, "c").write_bytes(choices)
-            done = subprocess.run([PROGRAM, "replay", *options, "t.c", "c"], cwd=folder, stdin=subprocess.DEVNULL, stdout=subprocess.PIPE)
-            got = done.stdout, done.returncode
+            got = program.answer(["replay", *options, "t.c", "c"], cwd=folder, stdin=subprocess.DEVNULL)
             if got != want:
                 count += 1
                 print(f"{heading}: {text!r} with {choices!r} differs: wanted {want!r}, got {got!r}")
@@ -112,22 +113,24 @@ def differing_replays(found):
 
 
 def main():
-    is_wrong = False
+    if sys.argv[1:] not in ([], ["--unproved"]):
+        sys.exit(__doc__)
+    if not sys.argv[1:] and not sources.is_proved():
+        sys.exit("tests/check.py: no program stands that was proved from these sources: `.ci/run` and `./prove` leave one")
+    program, is_wrong = run.Program(), False
+    program.note()
     for folder, pattern in FOLDERS:
         files = sorted((HOME / folder).glob(pattern))
-        count = differing(files)
+        count = differing(program, files)
         is_wrong = is_wrong or count > 0 or not files
         print(f"{folder}: {len(files) - count} of {len(files)} programs as wanted")
-    found = rows(ROWS)
-    count = differing_rows(found)
-    is_wrong = is_wrong or count > 0 or not found
-    print(f"{ROWS.name}: {len(found) - count} of {len(found)} programs as wanted")
-    found = replay_rows(REPLAY_ROWS)
-    count = differing_replays(found)
-    is_wrong = is_wrong or count > 0 or not found
-    print(f"{REPLAY_ROWS.name}: {len(found) - count} of {len(found)} runs as wanted")
-    picture = subprocess.run([sys.executable, HOME.parent / "tools" / "flow_picture.py", "--check"])
-    return 1 if is_wrong or picture.returncode else 0
+    for file, read, differ, what in ((ROWS, rows, differing_rows, "programs"), (REPLAY_ROWS, replay_rows, differing_replays, "runs")):
+        found = read(file)
+        count = differ(program, found)
+        is_wrong = is_wrong or count > 0 or not found
+        print(f"{file.name}: {len(found) - count} of {len(found)} {what} as wanted")
+    return 1 if is_wrong else 0
 
 
-sys.exit(main())
+if __name__ == "__main__":
+    sys.exit(print(__doc__) if "--help" in sys.argv else main())

@@ -165,7 +165,8 @@ def main():
     print(f"{len(known)} rows are compared")
     for what in wrong:
         print("differs:", *what)
-    sys.exit(bool(wrong))
+    return 1 if wrong else 0
 
 
-main()
+if __name__ == "__main__":
+    sys.exit(print(__doc__) if "--help" in sys.argv else main())

@@ -124,4 +124,5 @@ def main():
     assert several >= 30, several
 
 
-main()
+if __name__ == "__main__":
+    sys.exit(print(__doc__) if "--help" in sys.argv else main())

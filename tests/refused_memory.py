@@ -98,7 +98,9 @@ def main():
             differs += bool(wrong) or NO_MEMORY not in got
             print(f"{file.name}: {asked} allocations, {got.count(NO_MEMORY)} ends for want of memory, {got.count(whole)} as with all"
                   f" memory, {len(wrong)} otherwise" + (f": {wrong[:3]!r}" if wrong else ""), flush=True)
-    sys.exit(1 if differs else 0)
+    print(f"refused memory: {len(files) - differs} of {len(files)} files end as they are to")
+    return 1 if differs else 0
 
 
-main()
+if __name__ == "__main__":
+    sys.exit(print(__doc__) if "--help" in sys.argv else main())

@@ -6,7 +6,9 @@ A program makes blocks, links them, reads and writes inside and outside of them,
 that most meet a fault at some line: null pointers, blocks that are freed, ranges that go past a block, frees of what is no block's first byte, and copies that
 overlap. No line writes a part of a pointer alone, since what is left then depends on addresses. An array holds each block that was made, so none is lost. For `replay` each new block lies behind those before it, and each allocation succeeds.
 It prints each program in which one of the two finds a fault in a line and the other does not. The status is 1 where there is one.
+The environment variable PREDATOR may name another program.
 """
+import os
 import random
 import re
 import subprocess
@@ -16,7 +18,7 @@ from collections import Counter
 from pathlib import Path
 
 HOME = Path(__file__).resolve().parent
-PROGRAM = HOME.parent / "predator"
+PROGRAM = Path(os.environ.get("PREDATOR", HOME.parent / "predator"))
 NAMES = 5  # pointers that a program has
 STATEMENTS = 30
 HEAD = """struct node { int one; struct node *next; char text[6]; struct pair { short low, high; } pair; };
@@ -149,4 +151,5 @@ def main():
     return 1 if differing else 0
 
 
-sys.exit(main())
+if __name__ == "__main__":
+    sys.exit(print(__doc__) if "--help" in sys.argv else main())

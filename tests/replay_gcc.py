@@ -7,7 +7,9 @@ A program either ends, or meets one fault. Its inputs stand below; those that it
 address it had there, with contents of zeros. Which choice is asked for next is found by trying: a run that is given another kind of
 choice, or contents of another size, is over at once. It prints a line for each program on which the two differ: one ends and the other
 does not, or their faults stand on two lines. The status is 1 where there is one.
+The environment variable PREDATOR may name another program.
 """
+import os
 import re
 import subprocess
 import sys
@@ -15,7 +17,7 @@ import tempfile
 from pathlib import Path
 
 HOME = Path(__file__).resolve().parent
-PROGRAM = HOME.parent / "predator"
+PROGRAM = Path(os.environ.get("PREDATOR", HOME.parent / "predator"))
 MOST_BYTES = 128  # of an object or a block of these programs
 MOST_CHOICES = 200
 INPUTS = {
@@ -101,4 +103,5 @@ def main():
     return 1 if differing or not names else 0
 
 
-sys.exit(main())
+if __name__ == "__main__":
+    sys.exit(print(__doc__) if "--help" in sys.argv else main())

@@ -6,7 +6,9 @@ A program has objects of all sizes of integers, arrays, structs and pointers to 
 expression has two orders of evaluation that differ, no shift and no division is without a value. gcc's program writes the values of some
 expressions (signed arithmetic wraps there, by -fwrapv). That for `replay` compares each with what gcc wrote, and frees what is no block where
 it differs, so `replay` has to say `ended`. Where it says something else the program is printed. The status is 1 where there is one.
+The environment variable PREDATOR may name another program.
 """
+import os
 import random
 import subprocess
 import sys
@@ -15,7 +17,7 @@ from pathlib import Path
 from typing import NamedTuple
 
 HOME = Path(__file__).resolve().parent
-PROGRAM = HOME.parent / "predator"
+PROGRAM = Path(os.environ.get("PREDATOR", HOME.parent / "predator"))
 SIZES = {
     "_Bool": 1, "char": 1, "signed char": 1, "unsigned char": 1, "short": 2, "unsigned short": 2, "int": 4,
     "unsigned int": 4, "long": 8, "unsigned long": 8, "long long": 8, "unsigned long long": 8,
@@ -217,4 +219,5 @@ def main():
     return 1 if differing else 0
 
 
-sys.exit(main())
+if __name__ == "__main__":
+    sys.exit(print(__doc__) if "--help" in sys.argv else main())

@@ -1,20 +1,31 @@
 #!/usr/bin/env python3
-"""Lays out the tables of wrong bodies in docs/attack.md from the edits that stand in the repository.
+"""Keeps the results of wrong bodies in their edits, and sums them up in docs/attack.md.
 
 Usage: tools/attack.py [--check] [LOG ..]
-An edit of crates/NAME/must-fail/ is one that the gate tries, one of tests/wrong_bodies/NAME/ was tried by hand. What refused an
-edit is taken from a LOG of the gate, of rt must-fail or of tests/wrong_bodies/try.py, else from the page as it stands. With --check
-nothing is written, and the status is 1 where the page would change, or where an edit has no record or no longer fits: a text that it
-replaces has to stand in its file, once. What is wrong is printed.
+An edit of crates/NAME/must-fail/ is one that the gate tries, one of tests/wrong_bodies/NAME/ was tried by hand. What refused an edit stands in it as a line
+`refused by: WHAT`, behind a `#` in must-fail/. From a LOG of the gate, of rt must-fail or of tests/wrong_bodies/try.py these lines are written anew, and
+then the tables of the page between the lines `attack.py: begin` and `attack.py: end`. `refused by: nothing, WHY` is that of an edit which got through, and
+why it is right. With --check nothing is written, and the status is 1 where the page would change, or where an edit has no such line or no longer fits: a
+text that it replaces has to stand in its file, once. What is wrong is printed.
 """
 import re
 import sys
+from collections import Counter
 from pathlib import Path
 
 HOME = Path(__file__).resolve().parent.parent
 PAGE = HOME / "docs" / "attack.md"
-HEAD = "| bug | changed | refused by |\n|---|---|---|\n"
-UNTRIED = "not tried yet"
+BEGIN, END = "<!-- attack.py: begin -->\n", "<!-- attack.py: end -->\n"
+RECORD = re.compile(r"^(?:# )?refused by: (.*)\n", re.M)
+# What refuses edits, as records begin, and the head of its column.
+CAUSES = {
+    "what a function ensures": "what a function ensures",
+    "a proof, ": "a proof",
+    "the invariant": "an invariant",
+    "what a call requires": "what a call requires",
+    "a proof that names what is gone": "a proof names what is gone",
+}
+OTHER = "else"
 
 
 def crates():
@@ -23,13 +34,12 @@ def crates():
     return [line.partition(":")[0].split()[0] for line in lines if ":" in line and not line.startswith("#")]
 
 
-def edits(folder):
-    return sorted(folder.glob("*.edit")) if folder.is_dir() else []
+def by_gate(crate):
+    return sorted((HOME / "crates" / crate / "must-fail").glob("*.edit"))
 
 
-def folders(crate):
-    """The folders of a crate's edits, each with the words above its table."""
-    return ("The gate tries:", HOME / "crates" / crate / "must-fail"), ("Tried by hand:", HOME / "tests" / "wrong_bodies" / crate)
+def by_hand(crate):
+    return sorted((HOME / "tests" / "wrong_bodies" / crate).glob("*.edit"))
 
 
 def fits(edit, crate):
@@ -49,16 +59,6 @@ def fits(edit, crate):
     return True
 
 
-def title(edit):
-    return edit.stem.replace("_", " ")
-
-
-def changed(edit):
-    """The files that an edit changes."""
-    files = dict.fromkeys(line[6:].strip() for line in edit.read_text().splitlines() if line.startswith("file: "))
-    return ", ".join(f"`{file}`" for file in files)
-
-
 def cause(said):
     """What refused an edit, from the first line that the prover said of it."""
     proof, code = re.search(r"\./proofs/[\w/+.-]+\.antt", said), re.search(r"src/[\w/]+\.rt", said)
@@ -71,56 +71,90 @@ def cause(said):
 
 
 def told(log):
-    """What a log says of edits: the crate, the title, and what refused it."""
+    """What a log says of edits: the crate, the name, and what refused it."""
     for line in Path(log).read_text(errors="replace").splitlines():
         if found := re.search(r"must-fail (\w+)/(\w+)\.edit: refused, as it must be[^:]*: (.*)", line):
-            yield found.group(1), found.group(2).replace("_", " "), cause(found.group(3))
+            yield found.group(1), found.group(2), cause(found.group(3))
         elif found := re.search(r"must-fail (\w+)/(\w+)\.edit: (refused, as it must be)", line):
-            yield found.group(1), found.group(2).replace("_", " "), "the check; its log names no place"
+            yield found.group(1), found.group(2), "the check; its log names no place"
 
 
-def recorded(text, logs):
-    """What refused each edit, by its crate and title."""
-    refused, crate = {}, None
-    for line in text.splitlines():
-        if head := re.fullmatch(r"### `(\w+)`", line):
-            crate = head.group(1)
-        elif crate and (row := re.fullmatch(r"\| (.+?) \| (.+?) \| (.+) \|", line)) and row.group(1) != "bug":
-            refused[crate, row.group(1)] = row.group(3)
-    refused.update(((crate, bug), what) for log in logs for crate, bug, what in told(log))
-    return refused
+def record(edit):
+    """What refused an edit, or nothing where it was not tried."""
+    found = RECORD.search(edit.read_text())
+    return found.group(1) if found else None
 
 
-def table(crate, found, refused):
-    rows = "".join(f"| {title(edit)} | {changed(edit)} | {refused.get((crate, title(edit)), UNTRIED)} |\n" for edit in found)
-    return HEAD + rows
+def with_record(edit, what):
+    """The text of an edit with its record."""
+    front = "# " if edit.parent.name == "must-fail" else ""
+    return f"{front}refused by: {what}\n{RECORD.sub('', edit.read_text())}"
 
 
-def section(crate, refused):
-    tables = [f"{words}\n\n{table(crate, edits(folder), refused)}" for words, folder in folders(crate) if edits(folder)]
-    return f"### `{crate}`\n\n" + "\n".join(tables) if tables else ""
+def take(log):
+    """Writes what a log says into the edits."""
+    for crate, name, what in told(log):
+        for edit in (*by_gate(crate), *by_hand(crate)):
+            if edit.stem == name:
+                edit.write_text(with_record(edit, what))
+
+
+def kind(what):
+    """The head of the column in which an edit is counted."""
+    return next((head for begin, head in reversed(CAUSES.items()) if what.startswith(begin)), OTHER)
+
+
+def row(crate):
+    """The row of a crate: how many edits it has, and how many each cause refused."""
+    records = [record(edit) for edit in (*by_gate(crate), *by_hand(crate))]
+    counts = Counter(kind(what) for what in records if what and not what.startswith("nothing"))
+    through = sum(what.startswith("nothing") for what in records if what)
+    heads = [counts[head] or "" for head in (*CAUSES.values(), OTHER)]
+    cells = [f"`{crate}`", len(by_gate(crate)) or "", len(by_hand(crate)) or "", *heads, through or ""]
+    return "| " + " | ".join(map(str, cells)) + " |"
+
+
+def passed():
+    """The edits that got through, each with why it is right."""
+    edits = [edit for crate in crates() for edit in (*by_gate(crate), *by_hand(crate))]
+    return [f"| `{edit.relative_to(HOME)}` | {what.removeprefix('nothing, ')} |" for edit in edits if (what := record(edit) or "").startswith("nothing")]
+
+
+def summed_up():
+    """What stands on the page between the marks."""
+    heads = ["crate", "the gate tries", "by hand", *CAUSES.values(), OTHER, "got through"]
+    rows = [row(crate) for crate in crates() if by_gate(crate) or by_hand(crate)]
+    sums = [sum(int(cell or 0) for cell in column) for column in zip(*([cell.strip() for cell in line.split("|")[2:-1]] for line in rows))]
+    lines = ["| " + " | ".join(heads) + " |", "|---" * len(heads) + "|", *rows, "| together | " + " | ".join(map(str, sums)) + " |"]
+    through = passed()
+    if through:
+        lines += ["", "| got through | why it is right |", "|---|---|", *through]
+    return "\n" + "\n".join(lines) + "\n\n"
 
 
 def wrong(new, text):
     """What is wrong with the page and the edits."""
     names = crates()
     strays = sorted(folder.name for folder in (HOME / "tests" / "wrong_bodies").iterdir() if folder.is_dir() and folder.name not in names)
-    yield from (f"tests/wrong_bodies/{name} is no crate's folder" for name in strays)
+    yield from (f"tests/wrong_bodies/{name} is no crate's folder" for name in strays if name != "__pycache__")
     for crate in names:
-        for _, folder in folders(crate):
-            yield from (f"{edit.relative_to(HOME)} no longer fits" for edit in edits(folder) if not fits(edit, crate))
+        for edit in (*by_gate(crate), *by_hand(crate)):
+            if not fits(edit, crate):
+                yield f"{edit.relative_to(HOME)} no longer fits"
+            if record(edit) is None:
+                yield f"{edit.relative_to(HOME)} has not been tried: it has no line `refused by: ..`"
     if new != text:
         yield "docs/attack.md is not what tools/attack.py makes"
-    if UNTRIED in new:
-        yield f"an edit is {UNTRIED}"
 
 
 def main():
     words = sys.argv[1:]
+    if "--check" not in words:
+        for log in words:
+            take(log)
     text = PAGE.read_text()
-    at = text.index("\n### `", text.index("\n## Wrong bodies\n")) + 1
-    refused = recorded(text[at:], [word for word in words if word != "--check"])
-    new = text[:at] + "\n".join(filter(None, (section(crate, refused) for crate in crates())))
+    at, end = text.index(BEGIN) + len(BEGIN), text.index(END)
+    new = text[:at] + summed_up() + text[end:]
     if "--check" in words:
         found = list(wrong(new, text))
         print("".join(f"{line}\n" for line in found), end="")
@@ -129,4 +163,5 @@ def main():
     return 0
 
 
-sys.exit(main())
+if __name__ == "__main__":
+    sys.exit(print(__doc__) if "--help" in sys.argv else main())

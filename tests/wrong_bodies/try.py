@@ -39,4 +39,5 @@ def main():
         sys.exit(subprocess.run(["rt", "must-fail", *edits], cwd=copy).returncode)
 
 
-main()
+if __name__ == "__main__":
+    sys.exit(print(__doc__) if "--help" in sys.argv else main())

@@ -114,7 +114,7 @@ fn is_right_alone(flow: &Flow) -> bool
 ///
 /// It is made to take time in proportion to the edges and points, and for each of them to the square of what stands there and of
 /// what its instruction names; for what static variables hold at the start it is as `are_initials_apart` says. No clause says so;
-/// `bench/flow.py` measures it.
+/// `bench/linear.py` measures it.
 pub fn is_well_formed(alloc: Global, flow: &Flow) -> Result<bool, NoMemory>
     ensures { IfOk result (λ holds. IsTrue holds ↔ IsFlow flow.now) }
 {
