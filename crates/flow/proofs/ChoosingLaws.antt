@@ -21,7 +21,9 @@ use Rattle.flow.specs.declared.flow_graph.FlowEdge.{FlowEdge}
 use Rattle.flow.specs.declared.flow_graph.FlowFunction.{FlowFunction}
 use Rattle.flow.specs.declared.flow_graph.Variable.{Variable}
 use Rattle.flow.specs.Holding.{Held, emptied, put_owned, held_by}
-use Rattle.flow.specs.Machine.{Choice, NoBlock, NewBlock, GivenInput, Caller, State, Outcome, Went, Barred, Waits, Ended, Faulted, execute, step, step_along, step_among, unless_barred, given, unless_fault, unless_lost, if_computed, with_new_block, with_variable, with_memory, with_value, entered, with_parameters, with_arguments, size_in, at, block_here, addressed, allocated, allocated_none, received, called, returned, result_of, roots}
+use Rattle.choices.specs.declared.choice.Choice.{Choice}
+use Rattle.choices.specs.declared.choice.Choice.TheVariants.{None as NoBlock, Block as NewBlock, Input as GivenInput}
+use Rattle.flow.specs.Machine.{Caller, State, Outcome, Went, Barred, Waits, Ended, Faulted, execute, step, step_along, step_among, unless_barred, given, unless_fault, unless_lost, if_computed, with_new_block, with_variable, with_memory, with_value, entered, with_parameters, with_arguments, size_in, at, block_here, addressed, allocated, allocated_none, received, called, returned, result_of, roots}
 use Rattle.flow.specs.Runs.{parameters_of, then_go, with_statics, with_initials, start, run, blank}
 use Rattle.flow.specs.InRange.{entry_of}
 use Rattle.flow.proofs.Ascending.{Among, Contains-among}

@@ -40,7 +40,9 @@ use Rattle.flow.specs.declared.flow_graph.FlowFunction.{FlowFunction}
 use Rattle.flow.specs.declared.flow_graph.Variable.{Variable}
 use Rattle.flow.specs.declared.flow_graph.Initial.{Initial}
 use Rattle.flow.specs.Holding.{Held, Owned, held_by, put, put_owned, emptied, block_of}
-use Rattle.flow.specs.Machine.{Choice, NoBlock, NewBlock, GivenInput, Frame, Caller, State, Outcome, Went, Barred, Waits, Ended, Faulted, execute, step_along, given, unless_fault, if_computed, with_new_block, step, step_among, unless_barred, with_variable, with_memory, with_registers, with_value, without_registers, entered, with_parameters, with_arguments, size_in, size_after, at, block_here, addressed, allocated, allocated_none, received, called, returned, result_of, with_result, number_in, after_scope, without_variables, without_block}
+use Rattle.choices.specs.declared.choice.Choice.{Choice}
+use Rattle.choices.specs.declared.choice.Choice.TheVariants.{None as NoBlock, Block as NewBlock, Input as GivenInput}
+use Rattle.flow.specs.Machine.{Frame, Caller, State, Outcome, Went, Barred, Waits, Ended, Faulted, execute, step_along, given, unless_fault, if_computed, with_new_block, step, step_among, unless_barred, with_variable, with_memory, with_registers, with_value, without_registers, entered, with_parameters, with_arguments, size_in, size_after, at, block_here, addressed, allocated, allocated_none, received, called, returned, result_of, with_result, number_in, after_scope, without_variables, without_block}
 use Rattle.flow.specs.InRange.{entry_of}
 use Rattle.flow.specs.Runs.{blank, parameters_of, with_statics, with_initial, with_initials, initial_word, start, run, then_go}
 use Rattle.flow.specs.Valid.{IsFlow, has_sizes, is_scalar_size, fits_size}

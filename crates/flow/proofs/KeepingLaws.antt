@@ -22,7 +22,9 @@ use Rattle.flow.specs.declared.flow_graph.Standing.{Standing}
 use Rattle.flow.specs.declared.flow_graph.Variable.{Variable}
 use Rattle.flow.specs.declared.flow_graph.Width.{Width}
 use Rattle.flow.specs.Holding.{Held, Owned, width, held_by, size_of, put, put_width, emptied, emptied_widths, put_owned}
-use Rattle.flow.specs.Machine.{Choice, NoBlock, NewBlock, GivenInput, Frame, Caller, State, Outcome, Went, Barred, Waits, Ended, Faulted, execute, step_along, with_new_block, with_variable, with_memory, entered, with_parameters, with_arguments, size_in, at, with_value, without_registers, block_here, addressed, allocated, allocated_none, received, after_scope, called, returned, result_of, with_result, step, step_among, unless_barred}
+use Rattle.choices.specs.declared.choice.Choice.{Choice}
+use Rattle.choices.specs.declared.choice.Choice.TheVariants.{None as NoBlock, Block as NewBlock, Input as GivenInput}
+use Rattle.flow.specs.Machine.{Frame, Caller, State, Outcome, Went, Barred, Waits, Ended, Faulted, execute, step_along, with_new_block, with_variable, with_memory, entered, with_parameters, with_arguments, size_in, at, with_value, without_registers, block_here, addressed, allocated, allocated_none, received, after_scope, called, returned, result_of, with_result, step, step_among, unless_barred}
 use Rattle.flow.specs.Standing.{emptied_by, filled_by, with_filled, registers_after, variables_after, stands_after, stands_at, with_variables, any, sized, result_size, first_size}
 use Rattle.flow.specs.InRange.{entry_of}
 use Rattle.flow.specs.Walks.{is_return}

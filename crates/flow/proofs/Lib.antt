@@ -26,3 +26,6 @@ pub mod LossLaws
 pub mod RunLaws
 pub mod FittingWords
 pub mod FittingLaws
+pub mod ExclusiveLaws
+pub mod OutLaws
+pub mod RangeLaws

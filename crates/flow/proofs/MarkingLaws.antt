@@ -12,7 +12,7 @@ use Rattle.std.proofs.lemmas.Option.{slice_get_within, get_or_from_slice_get}
 use Rattle.flow.specs.declared.flow_graph.FlowEdge.{FlowEdge}
 use Rattle.flow.specs.declared.flow_graph.FlowFunction.{FlowFunction}
 use Rattle.flow.specs.declared.outs.Out.{Out}
-use Rattle.flow.specs.declared.outs.Out.TheVariants.{Nothing, One, More}
+use Rattle.flow.specs.declared.outs.Out.TheVariants.{Nothing, One, Two, More}
 use Rattle.flow.specs.Walks.{is_return}
 use Rattle.flow.specs.Marked.{AreMarks, out_of, SaysOut, AreOuts, noted}
 
@@ -89,15 +89,18 @@ says_more : (edges first more : List FlowEdge) (number : ℕ) (edge : FlowEdge) 
     out_of more point ≡ out_of first point ++ edge ∷ [] → SaysOut edges first point old → SaysOut edges more point (noted number old)
 says_more edges first more number edge point Nothing stands is says = (edge, stands, is ∙ ap (λ (es : List FlowEdge). es ++ edge ∷ []) says)
 says_more edges first more number edge point (One at) stands is (one, there, only) =
-    (one, edge, ([], is ∙ ap (λ (es : List FlowEdge). es ++ edge ∷ []) only))
-says_more edges first more number edge point More stands is (one, other, (rest, are)) =
-    (one, other, (rest ++ edge ∷ [], is ∙ ap (λ (es : List FlowEdge). es ++ edge ∷ []) are))
+    (one, edge, there, stands, is ∙ ap (λ (es : List FlowEdge). es ++ edge ∷ []) only)
+says_more edges first more number edge point (Two at at') stands is (one, other, there, there', are) =
+    (one, other, edge, ([], is ∙ ap (λ (es : List FlowEdge). es ++ edge ∷ []) are))
+says_more edges first more number edge point More stands is (one, other, third, (rest, are)) =
+    (one, other, third, (rest ++ edge ∷ [], is ∙ ap (λ (es : List FlowEdge). es ++ edge ∷ []) are))
 
 says_kept : (edges first more : List FlowEdge) (point : ℕ) (old : Out) → out_of more point ≡ out_of first point →
     SaysOut edges first point old → SaysOut edges more point old
 says_kept edges first more point Nothing is says = is ∙ says
 says_kept edges first more point (One at) is (one, there, only) = (one, there, is ∙ only)
-says_kept edges first more point More is (one, other, (rest, are)) = (one, other, (rest, is ∙ are))
+says_kept edges first more point (Two at at') is (one, other, there, there', are) = (one, other, there, there', is ∙ are)
+says_kept edges first more point More is (one, other, third, (rest, are)) = (one, other, third, (rest, is ∙ are))
 
 pub outs_more : (edges : List FlowEdge) (number : ℕ) (edge : FlowEdge) (outs : List Out) → slice_get edges number ≡ Some edge →
     edge.from < length outs → AreOuts edges (take number edges) outs →

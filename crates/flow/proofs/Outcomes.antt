@@ -9,7 +9,9 @@ use Rattle.bytes_core.specs.Placement.{new_block, is_new_block, placed}
 use Rattle.bytes_core.specs.Fault.{memory_lost}
 use Rattle.bytes_core.specs.Loss.{is_lost}
 use Rattle.flow.specs.Holding.{Held}
-use Rattle.flow.specs.Machine.{Choice, NoBlock, NewBlock, GivenInput, State, Outcome, Went, Barred, Waits, Ended, Faulted, given, unless_fault, unless_lost, if_computed, with_new_block, with_memory, roots}
+use Rattle.choices.specs.declared.choice.Choice.{Choice}
+use Rattle.choices.specs.declared.choice.Choice.TheVariants.{None as NoBlock, Block as NewBlock, Input as GivenInput}
+use Rattle.flow.specs.Machine.{State, Outcome, Went, Barred, Waits, Ended, Faulted, given, unless_fault, unless_lost, if_computed, with_new_block, with_memory, roots}
 use Rattle.flow.specs.Runs.{then_go}
 
 -- what the outcome leaves is such

@@ -27,7 +27,9 @@ use Rattle.flow.specs.declared.instruction.Instr.TheVariants.{Number, Address, M
 use Rattle.flow.specs.declared.flow_graph.Flow.{Flow}
 use Rattle.flow.specs.declared.flow_graph.FlowFunction.{FlowFunction}
 use Rattle.flow.specs.Holding.{Held, Owned, held_by, block_of, emptied}
-use Rattle.flow.specs.Machine.{Choice, NoBlock, NewBlock, GivenInput, Caller, State, Outcome, Went, Barred, Waits, Ended, Faulted, execute, step_along, given, unless_fault, if_computed, with_new_block, with_variable, with_memory, with_value, without_registers, entered, with_parameters, with_arguments, size_in, size_after, at, block_here, addressed, allocated, allocated_none, received, called, returned, result_of, with_result, roots, number_in, after_scope, without_variables, without_block}
+use Rattle.choices.specs.declared.choice.Choice.{Choice}
+use Rattle.choices.specs.declared.choice.Choice.TheVariants.{None as NoBlock, Block as NewBlock, Input as GivenInput}
+use Rattle.flow.specs.Machine.{Caller, State, Outcome, Went, Barred, Waits, Ended, Faulted, execute, step_along, given, unless_fault, if_computed, with_new_block, with_variable, with_memory, with_value, without_registers, entered, with_parameters, with_arguments, size_in, size_after, at, block_here, addressed, allocated, allocated_none, received, called, returned, result_of, with_result, roots, number_in, after_scope, without_variables, without_block}
 use Rattle.flow.specs.Walks.{is_return}
 use Rattle.flow.specs.Hiding.{hidden, IsPartOf, IsLoss, Follows, DoPartsFollow}
 use Rattle.flow.proofs.HiddenBlocks.{length-hidden, hidden-placed, address_number-hidden, loaded-hidden, stored-hidden, filled-hidden, copied-hidden, without-hidden, freed-hidden, access_fault-hidden, range_fault-hidden, copy_fault-hidden, free_fault-hidden, new_block-hidden}

@@ -24,7 +24,9 @@ use Rattle.flow.specs.declared.instruction.Instr.TheVariants.{Number, Address, M
 use Rattle.flow.specs.declared.flow_graph.Flow.{Flow}
 use Rattle.flow.specs.declared.flow_graph.FlowFunction.{FlowFunction}
 use Rattle.flow.specs.Holding.{Held, Owned, held_by, put, emptied, block_of}
-use Rattle.flow.specs.Machine.{Choice, NoBlock, NewBlock, GivenInput, Frame, Caller, State, Outcome, Went, Barred, Ended, Faulted, execute, step_along, given, unless_fault, unless_lost, if_computed, with_new_block, with_variable, with_memory, with_value, with_registers, without_registers, entered, with_parameters, with_arguments, size_in, size_after, at, block_here, addressed, allocated, allocated_none, received, called, returned, result_of, with_result, roots, number_in, after_scope, without_variables, without_block}
+use Rattle.choices.specs.declared.choice.Choice.{Choice}
+use Rattle.choices.specs.declared.choice.Choice.TheVariants.{None as NoBlock, Block as NewBlock, Input as GivenInput}
+use Rattle.flow.specs.Machine.{Frame, Caller, State, Outcome, Went, Barred, Ended, Faulted, execute, step_along, given, unless_fault, unless_lost, if_computed, with_new_block, with_variable, with_memory, with_value, with_registers, without_registers, entered, with_parameters, with_arguments, size_in, size_after, at, block_here, addressed, allocated, allocated_none, received, called, returned, result_of, with_result, roots, number_in, after_scope, without_variables, without_block}
 use Rattle.flow.specs.Renaming.{renamed_word, AreRenamed, ReadsRenamed, ChangesRenamed}
 use Rattle.flow.specs.RenamedSteps.{renamed_held, renamed_owned, renamed_frame, renamed_caller, renamed_state, IsSameRenamed, DoStepsRename}
 use Rattle.flow.proofs.RenamedBlocks.{renaming_kept}

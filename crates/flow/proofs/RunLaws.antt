@@ -2,7 +2,8 @@
 use Rattle.std.proofs.Common.{◌≡◌, ℕ, zero, suc, List, [], ◌∷◌, refl, sym, ap, subst, ◌∙◌, inl, inr}
 use Rattle.flow.specs.declared.flow_graph.Flow.{Flow}
 use Rattle.flow.specs.declared.flow_graph.FlowEdge.{FlowEdge}
-use Rattle.flow.specs.Machine.{Choice, State, Outcome, Went, Barred, Waits, Ended, Faulted, step, step_among, step_along, unless_barred}
+use Rattle.choices.specs.declared.choice.Choice.{Choice}
+use Rattle.flow.specs.Machine.{State, Outcome, Went, Barred, Waits, Ended, Faulted, step, step_among, step_along, unless_barred}
 use Rattle.flow.specs.Runs.{then_go, run}
 use Rattle.flow.specs.Choosing.{run_along}
 use Rattle.flow.specs.Hiding.{IsPartOf, Follows, FollowsTo, StaysInside, DoRunsFollow}

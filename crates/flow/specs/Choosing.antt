@@ -4,7 +4,8 @@ use Rattle.flow.specs.declared.instruction.Instr.{Instr}
 use Rattle.flow.specs.declared.instruction.Instr.TheVariants.{Allocate, AllocateNone, Enter, Input, Call}
 use Rattle.flow.specs.declared.flow_graph.Flow.{Flow}
 use Rattle.flow.specs.declared.flow_graph.FlowEdge.{FlowEdge}
-use Rattle.flow.specs.Machine.{Choice, State, Outcome, Went, Barred, Waits, Ended, Faulted, step_along}
+use Rattle.choices.specs.declared.choice.Choice.{Choice}
+use Rattle.flow.specs.Machine.{State, Outcome, Went, Barred, Waits, Ended, Faulted, step_along}
 use Rattle.flow.specs.Runs.{parameters_of, start, run, then_go}
 
 -- how many choices an instruction asks for: one for each block that is made, and one for an input

@@ -7,7 +7,8 @@ use Rattle.bytes_core.specs.declared.word.Word.TheVariants.{Plain, To}
 use Rattle.flow.specs.declared.flow_graph.Flow.{Flow}
 use Rattle.flow.specs.declared.flow_graph.FlowEdge.{FlowEdge}
 use Rattle.flow.specs.Holding.{Held}
-use Rattle.flow.specs.Machine.{Choice, State, Went, step_along}
+use Rattle.choices.specs.declared.choice.Choice.{Choice}
+use Rattle.flow.specs.Machine.{State, Went, step_along}
 use Rattle.flow.specs.Runs.{start, run, then_go}
 use Rattle.flow.specs.Valid.{IsFlow}
 

@@ -16,7 +16,8 @@ use Rattle.bytes_core.specs.Release.{is_heap, free_fault, freed, without}
 use Rattle.bytes_core.specs.Loss.{Chain, is_lost}
 use Rattle.flow.specs.declared.flow_graph.Flow.{Flow}
 use Rattle.flow.specs.declared.flow_graph.FlowEdge.{FlowEdge}
-use Rattle.flow.specs.Machine.{Choice, Caller, State, Outcome, Went, Barred, Waits, Ended, Faulted, step_along}
+use Rattle.choices.specs.declared.choice.Choice.{Choice}
+use Rattle.flow.specs.Machine.{Caller, State, Outcome, Went, Barred, Waits, Ended, Faulted, step_along}
 use Rattle.flow.specs.Walks.{is_return}
 use Rattle.flow.specs.Choosing.{run_along}
 

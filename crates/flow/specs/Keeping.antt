@@ -7,7 +7,8 @@ use Rattle.flow.specs.declared.flow_graph.FlowFunction.{FlowFunction}
 use Rattle.flow.specs.declared.flow_graph.Standing.{Standing}
 use Rattle.flow.specs.declared.flow_graph.Width.{Width}
 use Rattle.flow.specs.Holding.{Owned, width}
-use Rattle.flow.specs.Machine.{Choice, Frame, Caller, State, Went, step_along}
+use Rattle.choices.specs.declared.choice.Choice.{Choice}
+use Rattle.flow.specs.Machine.{Frame, Caller, State, Went, step_along}
 use Rattle.flow.specs.Runs.{start, run, then_go}
 use Rattle.flow.specs.Standing.{stands_at, result_size, with_filled}
 use Rattle.flow.specs.Valid.{Reached, IsFlow}

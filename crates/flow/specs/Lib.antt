@@ -18,3 +18,5 @@ pub mod ClauseRows
 pub mod Deciding
 pub mod Marked
 pub mod Owning
+pub mod Exclusive
+pub mod Ranges

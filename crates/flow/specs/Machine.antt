@@ -13,6 +13,8 @@ use Rattle.arithmetic.specs.declared.op.Op.TheVariants.{Less, LessEqual}
 use Rattle.arithmetic.specs.Value.{value}
 use Rattle.arithmetic.specs.Conversion.{converted}
 use Rattle.arithmetic.specs.Computing.{computed}
+use Rattle.choices.specs.declared.choice.Choice.{Choice}
+use Rattle.choices.specs.declared.choice.Choice.TheVariants.{None as NoBlock, Block as NewBlock, Input as GivenInput}
 use Rattle.bytes_core.specs.declared.word.Word.{Word}
 use Rattle.bytes_core.specs.declared.word.Word.TheVariants.{Plain, To}
 use Rattle.bytes_core.specs.declared.block.BlockKind.{BlockKind}
@@ -31,15 +33,6 @@ use Rattle.flow.specs.declared.flow_graph.Flow.{Flow}
 use Rattle.flow.specs.declared.flow_graph.FlowEdge.{FlowEdge}
 use Rattle.flow.specs.declared.flow_graph.FlowFunction.{FlowFunction}
 use Rattle.flow.specs.Holding.{Held, Owned, held_by, put, emptied, block_of, put_owned, left}
-
--- what a run leaves open; a step that asks for a choice takes the next one
-pub data Choice : Type 0 where
-  -- an allocation answers null
-  NoBlock : Choice
-  -- a new block has this base and these contents
-  NewBlock : (base : ℕ) (contents : List ℕ) → Choice
-  -- an input has these bits
-  GivenInput : (number : ℕ) → Choice
 
 -- the frame of a function that runs: its variables and its registers
 pub record Frame : Type 0 where

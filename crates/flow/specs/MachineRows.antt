@@ -16,7 +16,9 @@ use Rattle.flow.specs.declared.instruction.Instr.TheVariants.{Number, Address, M
 use Rattle.flow.specs.declared.flow_graph.Flow.{Flow}
 use Rattle.flow.specs.declared.flow_graph.FlowEdge.{FlowEdge}
 use Rattle.flow.specs.Holding.{Held}
-use Rattle.flow.specs.Machine.{Choice, NoBlock, NewBlock, GivenInput, State, Outcome, Went, Barred, Waits, Ended, Faulted, at, with_memory, execute, step_along, step}
+use Rattle.choices.specs.declared.choice.Choice.{Choice}
+use Rattle.choices.specs.declared.choice.Choice.TheVariants.{None as NoBlock, Block as NewBlock, Input as GivenInput}
+use Rattle.flow.specs.Machine.{State, Outcome, Went, Barred, Waits, Ended, Faulted, at, with_memory, execute, step_along, step}
 
 -- a graph with two variables of 16 and of 4 bytes, and with a function whose parameter is the second
 abbrev pub graph : Flow

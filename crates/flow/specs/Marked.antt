@@ -3,7 +3,7 @@ use Rattle.std.specs.Prelude.{◌≡◌, ℕ, Bool, false, List, [], ◌∷◌, 
 use Rattle.std.specs.List.{list_any}
 use Rattle.flow.specs.declared.flow_graph.FlowEdge.{FlowEdge}
 use Rattle.flow.specs.declared.outs.Out.{Out}
-use Rattle.flow.specs.declared.outs.Out.TheVariants.{Nothing, One, More}
+use Rattle.flow.specs.declared.outs.Out.TheVariants.{Nothing, One, Two, More}
 
 -- each number below the length of the marks is marked where it is among the numbers
 pub record AreMarks (numbers : List ℕ) (marks : List Bool) : Type 0 where
@@ -17,13 +17,17 @@ out_of edges point = filter (λ edge. nat_eq edge.from point) edges
 abbrev pub SaysOut : List FlowEdge → List FlowEdge → ℕ → Out → Type 0
 SaysOut edges first point Nothing = out_of first point ≡ []
 SaysOut edges first point (One number) = (edge : FlowEdge) × (slice_get edges number ≡ Some edge) × (out_of first point ≡ edge ∷ [])
-SaysOut edges first point More = (one other : FlowEdge) × ((rest : List FlowEdge) × (out_of first point ≡ one ∷ other ∷ rest))
+SaysOut edges first point (Two number second) = (edge other : FlowEdge) × (slice_get edges number ≡ Some edge) × (slice_get edges second ≡ Some other)
+    × (out_of first point ≡ edge ∷ other ∷ [])
+SaysOut edges first point More = (one other third : FlowEdge) × ((rest : List FlowEdge) × (out_of first point ≡ one ∷ other ∷ third ∷ rest))
 
 -- what is noted where the edge of this number is one more
 abbrev pub noted : ℕ → Out → Out
 noted number Nothing = One number
-noted number (One other) = More
+noted number (One other) = Two other number
+noted number (Two one other) = More
 noted number More = More
 
+-- the notes of all points
 pub record AreOuts (edges first : List FlowEdge) (outs : List Out) : Type 0 where
   pub says : (point : ℕ) → SaysOut edges first point (slice_index_or outs point Nothing)

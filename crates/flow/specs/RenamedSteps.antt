@@ -4,7 +4,8 @@ use Rattle.bytes_core.specs.declared.block.Block.{Block}
 use Rattle.flow.specs.declared.flow_graph.Flow.{Flow}
 use Rattle.flow.specs.declared.flow_graph.FlowEdge.{FlowEdge}
 use Rattle.flow.specs.Holding.{Held, Owned}
-use Rattle.flow.specs.Machine.{Choice, Frame, Caller, State, Outcome, Went, Barred, Waits, Ended, Faulted, step_along}
+use Rattle.choices.specs.declared.choice.Choice.{Choice}
+use Rattle.flow.specs.Machine.{Frame, Caller, State, Outcome, Went, Barred, Waits, Ended, Faulted, step_along}
 use Rattle.flow.specs.Runs.{run}
 use Rattle.flow.specs.Renaming.{renamed_word, AreRenamed}
 

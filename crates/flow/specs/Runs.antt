@@ -15,7 +15,8 @@ use Rattle.flow.specs.declared.flow_graph.InitialWord.{InitialWord}
 use Rattle.flow.specs.declared.flow_graph.InitialWord.TheVariants.{Number, Address}
 use Rattle.flow.specs.Holding.{Owned, block_of, put_owned}
 use Rattle.flow.specs.InRange.{entry_of}
-use Rattle.flow.specs.Machine.{Choice, State, Outcome, Went, Barred, Waits, Ended, Faulted, with_memory, with_new_block, entered, step, step_along}
+use Rattle.choices.specs.declared.choice.Choice.{Choice}
+use Rattle.flow.specs.Machine.{State, Outcome, Went, Barred, Waits, Ended, Faulted, with_memory, with_new_block, entered, step, step_along}
 
 -- a state before anything is made
 abbrev pub blank : ℕ → State

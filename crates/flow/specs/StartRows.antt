@@ -10,7 +10,9 @@ use Rattle.flow.specs.declared.flow_graph.Flow.{Flow}
 use Rattle.flow.specs.declared.flow_graph.Initial.{Initial}
 use Rattle.flow.specs.declared.flow_graph.InitialWord.TheVariants.{Number, Address}
 use Rattle.flow.specs.Holding.{Owned}
-use Rattle.flow.specs.Machine.{Choice, NoBlock, NewBlock, GivenInput, Went, Waits, Ended}
+use Rattle.choices.specs.declared.choice.Choice.{Choice}
+use Rattle.choices.specs.declared.choice.Choice.TheVariants.{None as NoBlock, Block as NewBlock, Input as GivenInput}
+use Rattle.flow.specs.Machine.{Went, Waits, Ended}
 use Rattle.flow.specs.Runs.{blank, start, with_statics, initial_word, with_initials}
 
 -- a static variable of 16 bytes, main's parameter of 4, and a static variable of 8 bytes. The first holds at the start

@@ -153,7 +153,7 @@ fn filled_by(flow: &Flow, instr: &Instr, widths: &[Width]) -> Option<Width>
 }
 
 /// The registers that stand behind an instruction, where these stand before it.
-fn registers_after(
+pub fn registers_after(
     alloc: Global,
     flow: &Flow,
     instr: &Instr,
@@ -188,7 +188,7 @@ fn with_variable(alloc: Global, new: u32, mut variables: &[u32]) -> Result<Vec<u
 }
 
 /// The variables that stand when these are entered.
-fn with_variables(
+pub fn with_variables(
     alloc: Global,
     mut entered: &[u32],
     variables: &[u32],
@@ -204,7 +204,11 @@ fn with_variables(
 }
 
 /// The variables that stand when these are left.
-fn without_variables(alloc: Global, gone: &[u32], variables: &[u32]) -> Result<Vec<u32>, NoMemory>
+pub fn without_variables(
+    alloc: Global,
+    gone: &[u32],
+    variables: &[u32],
+) -> Result<Vec<u32>, NoMemory>
     ensures { IfOk result (λ left. left.items ≡ left_variables gone.now variables.now) }
 {
     let left = variables

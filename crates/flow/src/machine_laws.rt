@@ -1,8 +1,10 @@
 //! Laws of the flow machine. Each is the contract of a function that does nothing.
 ghost use Rattle.flow.specs.Choosing.{AreRunsByFirst, AreStepsByFirst, DoRunsGoAlong, DoRunsKeepMore};
+ghost use Rattle.flow.specs.Exclusive.{DoEdgesRun, DoEdgesStep, DoStepsLookOut};
 ghost use Rattle.flow.specs.Fitting.{DoRunsFit, DoStepsFit};
 ghost use Rattle.flow.specs.Hiding.{AreHiddenRightly, DoPartsFollow, DoRunsFollow, IsNoMoreLost};
 ghost use Rattle.flow.specs.Keeping.{DoReturnsLeaveNothing, DoRunsKeep, DoStartsKeep, DoStepsKeep};
+ghost use Rattle.flow.specs.Ranges.{DoRangesSeparate};
 ghost use Rattle.flow.specs.RenamedSteps.{DoRunsRename, DoStepsRename};
 ghost use Rattle.flow.specs.Renaming.{IsRenamingKept};
 
@@ -105,4 +107,26 @@ pub fn a_step_does_the_same_under_other_numbers()
 #[tactic(auto, using(crate::proofs::RunLaws::runs_rename))]
 pub fn a_run_does_the_same_under_other_numbers()
     ensures { DoRunsRename }
+{}
+
+/// A step looks at the edges out of its point, and at no others.
+pub fn a_step_looks_at_the_edges_out_of_its_point()
+    ensures { DoStepsLookOut }
+{}
+
+/// Where one edge leads out of each point, or two that exclude each other, the machine goes along each edge that is not barred.
+#[tactic(auto, using(crate::proofs::ExclusiveLaws::edges_step))]
+pub fn an_edge_of_an_exclusive_graph_is_a_step()
+    ensures { DoEdgesStep }
+{}
+
+/// And so a run along edges of such a graph is a run of its machine.
+#[tactic(auto, using(crate::proofs::ExclusiveLaws::edges_run))]
+pub fn a_run_along_edges_of_an_exclusive_graph_is_a_run()
+    ensures { DoEdgesRun }
+{}
+
+/// Functions that lie in ranges of points of their own, which no edge leaves, are separate.
+pub fn functions_in_ranges_are_separate()
+    ensures { DoRangesSeparate }
 {}

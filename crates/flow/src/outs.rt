@@ -1,4 +1,4 @@
-ghost use Rattle.std.specs.Prelude.{◌≡◌, ◌↔◌, [], IsTrue, IfOk, All, slice_index_or};
+ghost use Rattle.std.specs.Prelude.{◌≡◌, ◌↔◌, [], IsTrue, IfOk, All, length, slice_index_or};
 ghost use Rattle.flow.specs.Counting.{AreEndsBelow};
 ghost use Rattle.flow.specs.InRange.{IsInRange};
 ghost use Rattle.flow.specs.Marked.{AreOuts, noted};
@@ -11,13 +11,15 @@ use crate::standing::{registers_at, variables_at};
 use cbase::NoMemory;
 use std::alloc::Global;
 
-/// Which edges lead out of a point.
+/// Which edges lead out of a point, by their numbers in order.
 #[derive(Clone, Copy)]
 pub enum Out {
     /// There is none.
     Nothing,
-    /// There is one, that of this number.
+    /// There is one.
     One(usize),
+    /// There are two.
+    Two(usize, usize),
     /// There are more.
     More,
 }
@@ -28,14 +30,16 @@ fn noted(out: Out, number: usize) -> Out
 {
     match out {
         Out::Nothing => Out::One(number),
+        Out::One(other) => Out::Two(other, number),
         _ => Out::More,
     }
 }
 
 /// For each of so many points which edges lead out of it.
-fn outs_of(alloc: Global, edges: &[FlowEdge], points: u32) -> Result<Vec<Out>, NoMemory>
+pub fn outs_of(alloc: Global, edges: &[FlowEdge], points: u32) -> Result<Vec<Out>, NoMemory>
     requires { AreEndsBelow edges.now points }
-    ensures { IfOk result (λ outs. AreOuts edges.now edges.now outs.items) }
+    ensures points { IfOk result (λ outs. length outs.items ≡ points) }
+    ensures says { IfOk result (λ outs. AreOuts edges.now edges.now outs.items) }
 {
     let mut outs: Vec<Out> = vec![in alloc; Out::Nothing; points as usize]?;
     for (at, edge) in edges.iter().enumerate() {
@@ -46,7 +50,7 @@ fn outs_of(alloc: Global, edges: &[FlowEdge], points: u32) -> Result<Vec<Out>, N
 }
 
 /// Which edges lead out of a point; none where there is no such point.
-fn out_at(outs: &[Out], point: u32) -> Out
+pub fn out_at(outs: &[Out], point: u32) -> Out
     ensures { result ≡ slice_index_or outs.now point Out.Nothing }
 {
     match outs.get(point as usize) {
