@@ -1,5 +1,8 @@
 pub mod Tests
 pub mod Found
+pub mod Sent
+pub mod Closed
+pub mod Frames
 pub mod Pulled
 pub mod DeadObjects
 pub mod Renamed
@@ -22,6 +25,7 @@ pub mod Table
 pub mod Placing
 pub mod Witness
 pub mod InOrder
+pub mod Following
 pub mod ByHalves
 pub mod InSlots
 pub mod Ranges
