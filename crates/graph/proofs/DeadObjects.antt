@@ -24,6 +24,7 @@ use Rattle.graph.specs.declared.value.Value.{Value}
 use Rattle.graph.specs.declared.value.Value.TheVariants.{Address}
 use Rattle.graph.specs.declared.parts.KeyedObject.{KeyedObject}
 use Rattle.graph.specs.declared.parts.KeyedValue.{KeyedValue}
+use Rattle.graph.specs.declared.parts.Parts.{Parts}
 use Rattle.graph.specs.DeadObjects.{IsDeadBlock, IsHeld, InRegister, InPort, InObject, AreHeldBlocksThere}
 use Rattle.graph.specs.Maps.{object_at, value_at}
 use Rattle.graph.specs.State.{IsWordBelow}
@@ -71,6 +72,9 @@ dead_block memory kind number gone below = elim (slice_get_cases memory number).
   | inr past ↦ (let above = past.0 in absurd (omega arith))
 ]
 
+abbrev own_in : Parts → ℕ → Option ℤ
+own_in parts key = own_offset (value_at parts.values key)
+
 pub held_blocks_there : AreHeldBlocksThere
 held_blocks_there parts state given key value object offset target well is meets stands dead leads held = (
   gone.0,
@@ -92,10 +96,7 @@ held_blocks_there parts state given key value object offset target well is meets
         (found-all (λ (entry : KeyedValue). entry.key) (λ entry. entry.value) (leads_to_object parts) parts.values value (Address key offset target) well.addresses_lead_to_objects leads)
 
     gone : (number : ℕ) × (given.blocks key ≡ number ∷ []) × IsGone object.kind (slice_get state.memory number)
-    gone = subst (λ (live : Bool). HasBlocksAs live state.memory object given.word own (given.blocks key)) dead (meets.objects key object stands)
-
-    abbrev own : ℕ → Option ℤ
-    own one = own_offset (value_at parts.values one)
+    gone = subst (λ (live : Bool). HasBlocksAs live state.memory object given.word (own_in parts) (given.blocks key)) dead (meets.objects key object stands)
 
     within : (number : ℕ) (holder : Object) (place : ℕ) (edge : HasValue) → slice_get holder.edges place ≡ Some edge → edge.value ≡ value → 8 ≡ edge.size →
         StandsAt state.memory holder given.word number → WordNamesBelow (length state.memory) (given.word value)
@@ -108,7 +109,7 @@ held_blocks_there parts state given key value object offset target well is meets
         (All-at (λ (block : Block). All (NamesBelow (length state.memory)) block.bytes) state.memory number there.block there.there is.memory.named)))))
 
     by_shape : (shape : Shape) (holds : ℕ) (holder : Object) (place : ℕ) (edge : HasValue) → object_at parts.objects holds ≡ Some holder → holder.shape ≡ shape → slice_get holder.edges place ≡ Some edge → edge.value ≡ value → (8 ≡ edge.size) →
-        (blocks : List ℕ) → HasShape shape state.memory holder given.word own blocks → WordNamesBelow (length state.memory) (given.word value)
+        (blocks : List ℕ) → HasShape shape state.memory holder given.word (own_in parts) blocks → WordNamesBelow (length state.memory) (given.word value)
     by_shape RegionShape holds holder place edge holder_stands shape_is at same sized blocks has = within has.0 holder place edge at same sized has.2
     by_shape (Segment twofold head next prev back least next_value prev_value node) holds holder place edge holder_stands shape_is at same sized blocks has =
         absurd (none-some edge (sym (ap (λ (edges : List HasValue). slice_get edges place) (segment_edges parts well holds holder holder_stands (ap is_region shape_is))) ∙ at))
@@ -138,4 +139,4 @@ held_blocks_there parts state given key value object offset target well is meets
         (subst (All (IsWordBelow (length state.memory))) meets.ports is.ports)).named
     by_held (InObject holds holder place edge holder_stands live at same) =
         by_shape holder.shape holds holder place edge holder_stands refl at same (has_size holds holder place edge holder_stands at same) (given.blocks holds)
-        (subst (λ (one : Bool). HasBlocksAs one state.memory holder given.word own (given.blocks holds)) live (meets.objects holds holder holder_stands))
+        (subst (λ (one : Bool). HasBlocksAs one state.memory holder given.word (own_in parts) (given.blocks holds)) live (meets.objects holds holder holder_stands))

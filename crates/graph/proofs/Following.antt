@@ -1,6 +1,6 @@
 -- Following addresses through segments that may be empty: it comes to an end, or an end comes back.
 use Rattle.std.proofs.Common.{◌≡◌, ◌≢◌, ℕ, zero, suc, ◌+◌, ◌*◌, ◌<◌, ◌≤◌, Bool, true, false, List, [], ◌∷◌, length, Option, None, Some, nat_eq, refl, sym, ◌∙◌, ap, subst, eqb-true, arith}
-use Rattle.std.specs.Prelude.{IsTrue, nat_lt, if◌then◌else◌}
+use Rattle.std.specs.Prelude.{IsTrue, IfSome, is_some, not, nat_lt, if◌then◌else◌}
 use Rattle.std.proofs.lemmas.Bool.{false≢true, ltb-true, lt-ltb}
 use Rattle.std.proofs.lemmas.Option.{same_Some, none-some}
 use Rattle.graph.specs.declared.ends.End.{End}
@@ -14,7 +14,7 @@ use Rattle.graph.specs.declared.parts.KeyedObject.{KeyedObject}
 use Rattle.graph.specs.declared.parts.Parts.{Parts}
 use Rattle.graph.specs.Maps.{object_at, value_at}
 use Rattle.graph.specs.Nodes.{links_in}
-use Rattle.graph.specs.Ends.{target_end, value_end, beyond, beyond_in, end_at, next_end, followed, Stops, AllStop, SomeRuns}
+use Rattle.graph.specs.Ends.{target_end, value_end, beyond, beyond_in, end_at, next_end, followed, Stops, AllStop, Runs, SomeRuns}
 use Rattle.graph.specs.WellFormed.{Ranks, Falls, ComesToAnEnd}
 
 -- how many entries have a rank below a bound
@@ -287,14 +287,42 @@ module _ (parts : Parts) where
                 by_step None none = absurd (none-some last (sym (ap (followed parts count) none ∙ followed_none count) ∙ on))
                 by_step (Some further) leads_on = there next further leads_on
 
-  pub never_ends : (count : ℕ) → count ≡ 2 * length parts.objects + 2 → SomeRuns parts count → ComesToAnEnd parts → ⊥
-  never_ends count is runs comes = by_last (followed parts count (Some runs.end)) refl
+  pub never_ends : SomeRuns parts → ComesToAnEnd parts → ⊥
+  never_ends runs comes = by_last (followed parts (2 * length parts.objects + 2) (Some runs.end)) refl
     where
-      by_last : (last : Option End) → followed parts count (Some runs.end) ≡ last → ⊥
+      by_last : (last : Option End) → followed parts (2 * length parts.objects + 2) (Some runs.end) ≡ last → ⊥
       by_last None none = runs.runs none
       by_last (Some last) leads =
-          let counted : count ≡ suc (2 * length parts.objects + 1) = omega arith in
+          let counted : 2 * length parts.objects + 2 ≡ suc (2 * length parts.objects + 1) = omega arith in
           let below = steps_below comes (2 * length parts.objects + 1) runs.end last (sym (ap (λ (n : ℕ). followed parts n (Some runs.end)) counted) ∙ leads) in
           let firsts = count_most comes.ranks.first parts.objects (rank_of comes runs.end) in
           let lasts = count_most comes.ranks.last parts.objects (rank_of comes runs.end) in
           omega arith
+
+  -- three walks in a row
+  followed_on : (one other : ℕ) (start end : End) → followed parts one (Some start) ≡ Some end → followed parts (one + other) (Some start) ≡ followed parts other (Some end)
+  followed_on zero other start end is =
+      let count : 0 + other ≡ other = omega arith in
+      ap (λ (n : ℕ). followed parts n (Some start)) count ∙ ap (followed parts other) is
+  followed_on (suc one) other start end is = by_next (next_end parts start) refl (λ next on. followed_on one other next end on)
+    where
+      by_next : (next : Option End) → next_end parts start ≡ next → ((next : End) → followed parts one (Some next) ≡ Some end → followed parts (one + other) (Some next) ≡ followed parts other (Some end)) →
+          followed parts (suc one + other) (Some start) ≡ followed parts other (Some end)
+      by_next None none later = absurd (none-some end (sym (ap (followed parts one) none ∙ followed_none one) ∙ is))
+      by_next (Some next) leads later =
+          let more : suc one + other ≡ suc (one + other) = omega arith in
+          ap (λ (n : ℕ). followed parts n (Some start)) more ∙ ap (followed parts (one + other)) leads ∙ later next (sym (ap (followed parts one) leads) ∙ is)
+
+  pub runs_of : (count : ℕ) (start one two three : End) → count ≡ length parts.objects → followed parts count (Some start) ≡ Some one → followed parts count (Some one) ≡ Some two → followed parts 2 (Some two) ≡ Some three → Runs parts start
+  runs_of count start one two three is first second third none =
+      let total : 2 * length parts.objects + 2 ≡ count + (count + 2) = omega arith in
+      none-some three (sym none ∙ ap (λ (n : ℕ). followed parts n (Some start)) total ∙ followed_on count (count + 2) start one first ∙ followed_on count 2 one two second ∙ third)
+
+  pub last_stops : (two : End) (result : Option End) → (result ≡ None → Stops parts two) → is_some result ≡ not true → Stops parts two
+  last_stops two None stops is = stops refl
+  last_stops two (Some three) stops is = absurd (false≢true (sym is))
+
+  pub last_runs : (count : ℕ) (start one two : End) (result : Option End) → count ≡ length parts.objects → followed parts count (Some start) ≡ Some one → followed parts count (Some one) ≡ Some two →
+      IfSome result (λ end. followed parts 2 (Some two) ≡ Some end) → is_some result ≡ not false → Runs parts start
+  last_runs count start one two None is first second third some = absurd (false≢true some)
+  last_runs count start one two (Some three) is first second third some = runs_of count start one two three is first second third

@@ -22,10 +22,12 @@ pub mod AlikeStates
 pub mod AlikeMeaning
 pub mod Chosen
 pub mod Table
+pub mod Rows
 pub mod Placing
 pub mod Witness
 pub mod InOrder
 pub mod Following
+pub mod Counts
 pub mod ByHalves
 pub mod InSlots
 pub mod Ranges

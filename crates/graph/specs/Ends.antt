@@ -1,5 +1,5 @@
 -- The ends of segments that may be empty, and what is followed from them.
-use Rattle.std.specs.Prelude.{◌≡◌, ◌≢◌, ℕ, zero, suc, Bool, true, false, List, [], ◌∷◌, Option, None, Some, nat_eq, slice_index_or, if◌then◌else◌}
+use Rattle.std.specs.Prelude.{◌≡◌, ◌≢◌, ℕ, zero, suc, ◌+◌, ◌*◌, length, Bool, true, false, List, [], ◌∷◌, Option, None, Some, nat_eq, slice_index_or, if◌then◌else◌}
 use Rattle.graph.specs.declared.ends.End.{End}
 use Rattle.graph.specs.declared.ends.Known.{Known}
 use Rattle.graph.specs.declared.object.Links.{Links}
@@ -70,7 +70,10 @@ AllStop parts [] = Unit {0}
 AllStop parts (entry ∷ rest) =
     Stops parts (record { object = entry.key; last = false }) × Stops parts (record { object = entry.key; last = true }) × AllStop parts rest
 
--- from some end so many steps lead to an end
-pub record SomeRuns (parts : Parts) (count : ℕ) : Type 0 where
+-- from an end more steps lead on than there are ends of objects
+abbrev pub Runs : Parts → End → Type 0
+Runs parts end = followed parts (2 * length parts.objects + 2) (Some end) ≢ None
+
+pub record SomeRuns (parts : Parts) : Type 0 where
   pub end : End
-  pub runs : followed parts count (Some end) ≢ None
+  pub runs : Runs parts end

@@ -3,9 +3,9 @@
 //! An end of a segment that may have no node leads to the value beyond it. From each end that is not known yet the ends are
 //! followed, and when they come to an end all of them are known. So each is followed twice at most. Where memory is wanting
 //! nothing is known, and the answer is the same. Where there are more steps than ends, an end has come back.
-ghost use Rattle.std.specs.Prelude.{◌≡◌, ◌≢◌, ◌↔◌, true, false, None, Some, IsTrue, IfOk, replicate, slice_index_or, slice_set};
+ghost use Rattle.std.specs.Prelude.{◌≡◌, ◌↔◌, true, false, None, Some, IsTrue, IfOk, IfSome, replicate, slice_index_or, slice_set};
 ghost use Rattle.graph.specs.declared.parts.Parts.{Parts};
-ghost use Rattle.graph.specs.Ends.{AllStop, AreKnown, SomeRuns, Stops, end_at, followed, is_known, next_end, target_end, value_end};
+ghost use Rattle.graph.specs.Ends.{AllStop, AreKnown, Runs, SomeRuns, Stops, end_at, followed, is_known, next_end, target_end, value_end};
 ghost use Rattle.graph.specs.WellFormed.{ComesToAnEnd, HasAscendingKeys};
 
 use crate::look_up::{object_with, value_with};
@@ -139,24 +139,41 @@ fn learn_end(parts: &Parts, known: &mut Known, end: End)
     }
 }
 
-/// Follows at most so many steps from an end. Whether this comes to an end, or to one that is known.
-fn stops(parts: &Parts, known: &Known, start: End, steps: usize) -> bool
+/// Follows so many steps from an end. None where this comes to an end, or to one that is known; else where it leads.
+fn go(parts: &Parts, known: &Known, start: End, steps: usize) -> Option<End>
     requires ascending { HasAscendingKeys parts.now }
     requires known { AreKnown parts.now known.now }
-    ensures stops { result ≡ true → Stops parts.now start }
-    ensures runs { result ≡ false → followed parts.now steps (Some start) ≢ None }
+    ensures stops { result ≡ None → Stops parts.now start }
+    ensures runs { IfSome result (λ end. followed parts.now steps (Some start) ≡ Some end) }
 {
     let mut end = start;
     for _ in 0..steps {
         if is_known(known, end) {
-            return true;
+            return None;
         }
         match next_end(parts, end) {
-            None => return true,
+            None => return None,
             Some(next) => end = next,
         }
     }
-    false
+    Some(end)
+}
+
+/// Whether following from an end comes to an end: where it does, it takes no more steps than there are ends.
+fn stops(parts: &Parts, known: &Known, start: End) -> bool
+    requires ascending { HasAscendingKeys parts.now }
+    requires known { AreKnown parts.now known.now }
+    ensures stops { result ≡ true → Stops parts.now start }
+    ensures runs { result ≡ false → Runs parts.now start }
+{
+    let count = parts.objects.len();
+    let Some(one) = go(parts, known, start, count) else {
+        return true;
+    };
+    let Some(two) = go(parts, known, one, count) else {
+        return true;
+    };
+    go(parts, known, two, 2).is_none()
 }
 
 /// Makes each end known that is followed from one that comes to an end.
@@ -180,17 +197,17 @@ fn learn(parts: &Parts, known: &mut Known, start: End, steps: usize)
 }
 
 /// Whether following from an end comes to an end. What is followed is known then.
-fn end_stops(parts: &Parts, known: &mut Known, end: End, steps: usize) -> bool
+fn end_stops(parts: &Parts, known: &mut Known, end: End) -> bool
     requires ascending { HasAscendingKeys parts.now }
     requires known { AreKnown parts.now known.old }
     ensures known { AreKnown parts.now known.new }
     ensures stops { result ≡ true → Stops parts.now end }
-    ensures runs { result ≡ false → followed parts.now steps (Some end) ≢ None }
+    ensures runs { result ≡ false → Runs parts.now end }
 {
-    if !stops(parts, known, end, steps) {
+    if !stops(parts, known, end) {
         return false;
     }
-    learn(parts, known, end, steps);
+    learn(parts, known, end, parts.objects.len());
     true
 }
 
@@ -221,35 +238,27 @@ fn marks_of(alloc: Global, count: usize) -> Result<Vec<bool>, NoMemory>
     Ok(marks)
 }
 
-/// Whether following from each end of these objects comes to an end.
-fn all_stop(parts: &Parts, known: &mut Known, steps: usize) -> bool
+/// Whether following from each end comes to an end.
+fn all_stop(parts: &Parts, known: &mut Known) -> bool
     requires ascending { HasAscendingKeys parts.now }
     requires known { AreKnown parts.now known.old }
     ensures stops { result ≡ true → AllStop parts.now parts.now.objects }
-    ensures runs { result ≡ false → SomeRuns parts.now steps }
+    ensures runs { result ≡ false → SomeRuns parts.now }
 {
     let mut left = parts.objects.as_slice();
     while let [first, rest @ ..] = left {
+        let object = first.key;
         if !end_stops(
             parts,
             known,
             End {
-                object: first.key,
+                object,
                 last: false,
             },
-            steps,
         ) {
             return false;
         }
-        if !end_stops(
-            parts,
-            known,
-            End {
-                object: first.key,
-                last: true,
-            },
-            steps,
-        ) {
+        if !end_stops(parts, known, End { object, last: true }) {
             return false;
         }
         left = rest;
@@ -263,9 +272,8 @@ pub(crate) fn comes_to_an_end(alloc: Global, parts: &Parts) -> bool
     requires { HasAscendingKeys parts.now }
     ensures { IsTrue result ↔ ComesToAnEnd parts.now }
 {
-    let count = parts.objects.len();
-    let mut known = unknown(alloc, count);
-    let result = all_stop(parts, &mut known, 2 * count + 2);
+    let mut known = unknown(alloc, parts.objects.len());
+    let result = all_stop(parts, &mut known);
     drop(known);
     result
 }
