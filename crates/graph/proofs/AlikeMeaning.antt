@@ -3,7 +3,7 @@
 -- A dead block that nothing names may be missing in the other state. An object that is dead then has a number that no block
 -- has, and the word of a value that stands nowhere is another.
 use Rattle.std.proofs.Common.{◌≡◌, ℕ, zero, suc, ◌+◌, ◌-◌, ◌<◌, List, [], ◌∷◌, map, length, take, drop, Bool, true, false, refl, sym, ap, subst, ◌∙◌, ◌⊎◌, inl, inr, Option, None, Some, arith}
-use Rattle.std.specs.Prelude.{◌&&◌, ◌||◌, not, if◌then◌else◌, nat_eq, nat_lt, option_map, slice_get, Contains, All, ◌↔◌, ℤ}
+use Rattle.std.specs.Prelude.{◌&&◌, ◌||◌, not, if◌then◌else◌, nat_eq, nat_lt, option_map, slice_get, Contains, All, ◌↔◌, ℤ, pos}
 use Rattle.std.specs.List.{list_all}
 use Rattle.std.specs.Option.{option_map_or}
 use Rattle.std.proofs.lemmas.Bool.{cases_Bool, lt-ltb, le-ltb, false≢true, and_parts, or_cases, both_ways}
@@ -19,16 +19,23 @@ use Rattle.bytes_core.specs.Value.{word_bytes}
 use Rattle.graph.specs.declared.edges.HasValue.{HasValue}
 use Rattle.graph.specs.declared.object.Object.{Object}
 use Rattle.graph.specs.declared.object.Shape.{Shape}
-use Rattle.graph.specs.declared.object.Shape.TheVariants.{Region as RegionShape}
+use Rattle.graph.specs.declared.object.Shape.TheVariants.{Region as RegionShape, Segment}
+use Rattle.graph.specs.declared.object.Links.{Links}
+use Rattle.graph.specs.declared.template.Node.{Node}
+use Rattle.graph.specs.declared.parts.KeyedObject.{KeyedObject}
 use Rattle.graph.specs.declared.value.Value.{Value}
 use Rattle.graph.specs.declared.value.Value.TheVariants.{Const, Number, Any, Address}
 use Rattle.graph.specs.declared.parts.Pair.{Pair}
 use Rattle.graph.specs.declared.parts.Parts.{Parts}
-use Rattle.graph.specs.Maps.{value_at}
+use Rattle.graph.specs.Maps.{object_at, value_at}
 use Rattle.graph.specs.Sizes.{is_number, is_constant}
-use Rattle.graph.specs.WellFormed.{IsWellFormed, passes_at, are_numbers, may_be_unequal, is_unequal_pair}
+use Rattle.graph.specs.Nodes.{links_in, back_edges, link_edges}
+use Rattle.graph.specs.Closed.{OnEnds}
+use Rattle.graph.specs.WellFormed.{IsWellFormed, passes_at, is_outward, is_null, back_fits, are_numbers, may_be_unequal, is_unequal_pair}
 use Rattle.graph.specs.State.{State, IsWordBelow}
-use Rattle.graph.specs.Meaning.{IsGone, HoldsWord, HoldEdges, HasShape, HasBlocksAs, HasWord, AreUnequal, Maps, maps_of, Assignment, Meets, StandsFor}
+use Rattle.graph.specs.Meaning.{IsGone, HoldsWord, HoldEdges, AreNodes, end_word, own_word, word_at, HasShape, HasBlocksAs, Ends, ends_in, ends_of, no_ends, address_word, HasWord, own_offset, IsRooted, Maps, maps_of, Assignment, Meets, StandsFor}
+use Rattle.graph.proofs.Found.{found-all}
+use Rattle.graph.proofs.Closed.{passes-at}
 use Rattle.graph.specs.Alike.{renumbered_word, Shows, IsLiveAt}
 use Rattle.graph.specs.AlikeMemories.{NamesAmong, WordNamesAmong, AreLiveAlike, AreDeadAlike, ArePaired, AreAlike}
 use Rattle.graph.specs.AlikeStates.{StateNamesAmong, AreAlikeStates}
@@ -71,12 +78,33 @@ below_chosen : (count : ℕ) (block : ℕ) (offset : ℤ) (test : Bool) → IsWo
 below_chosen count block offset true below = below
 below_chosen count block offset false below = record { small = omega arith; named = tt }
 
-chosen_has : (set : ℕ → Bool) (count : ℕ) (blocks : ℕ → List ℕ) (value : Value) (word : Word) → HasWord count blocks value word → HasWord count blocks value (chosen set (Some value) word)
-chosen_has set count blocks (Const number size) word has = has
-chosen_has set count blocks (Number size) word has = has
-chosen_has set count blocks Any (Plain number) has = has
-chosen_has set count blocks Any (To block offset) has = below_chosen count block offset (set block) has
-chosen_has set count blocks (Address object offset target) word has = has
+chosen_has : (set : ℕ → Bool) (count : ℕ) (blocks : ℕ → List ℕ) (ends : ℕ → Ends) (value : Value) (word : Word) → HasWord count blocks ends value word → HasWord count blocks ends value (chosen set (Some value) word)
+chosen_has set count blocks ends (Const number size) word has = has
+chosen_has set count blocks ends (Number size) word has = has
+chosen_has set count blocks ends Any (Plain number) has = has
+chosen_has set count blocks ends Any (To block offset) has = below_chosen count block offset (set block) has
+chosen_has set count blocks ends (Address object offset target) word has = has
+
+-- an address and a constant are as they were
+outward_chosen : (set : ℕ → Bool) (value : Value) (word : Word) → is_outward value ≡ true → chosen set (Some value) word ≡ word
+outward_chosen set (Const number size) word outward = refl
+outward_chosen set (Number size) word outward = refl
+outward_chosen set Any word outward = absurd (false≢true outward)
+outward_chosen set (Address object offset target) word outward = refl
+
+null_chosen : (set : ℕ → Bool) (value : Value) (word : Word) → is_null value ≡ true → chosen set (Some value) word ≡ word
+null_chosen set (Const number size) word null = refl
+null_chosen set (Number size) word null = refl
+null_chosen set Any word null = absurd (false≢true null)
+null_chosen set (Address object offset target) word null = refl
+
+-- what an address leads to is rooted as it was
+rooted_chosen : (set : ℕ → Bool) (roots : List ℕ) (found : Option Value) (word : Word) → IsRooted roots found word → IsRooted roots found (chosen set found word)
+rooted_chosen set roots None word rooted = tt
+rooted_chosen set roots (Some (Const number size)) word rooted = tt
+rooted_chosen set roots (Some (Number size)) word rooted = tt
+rooted_chosen set roots (Some Any) word rooted = tt
+rooted_chosen set roots (Some (Address object offset target)) word rooted = rooted
 
 -- a number is as it was
 number_chosen : (set : ℕ → Bool) (value : Value) (size : ℕ) (word : Word) → is_number value size ≡ true → chosen set (Some value) word ≡ word
@@ -107,6 +135,15 @@ holds_chosen set bytes edge (Some Any) (To block offset) names holds = by_test (
     by_test true inside = holds
     by_test false outside = by_size edge.size outside holds
 holds_chosen set bytes edge (Some (Address object offset target)) word names holds = holds
+
+-- so it is at a node, for which a value may be its own address
+node_chosen : (set : ℕ → Bool) (bytes : List Byte) (edge : HasValue) (value : Option Value) (word : Word) (number : ℕ) → All (NamesAmong set) bytes →
+    HoldsWord bytes edge (own_word (own_offset value) word number) → HoldsWord bytes edge (own_word (own_offset value) (chosen set value word) number)
+node_chosen set bytes edge None word number names holds = holds
+node_chosen set bytes edge (Some (Const number' size)) word number names holds = holds
+node_chosen set bytes edge (Some (Number size)) word number names holds = holds
+node_chosen set bytes edge (Some Any) word number names holds = holds_chosen set bytes edge (Some Any) word names holds
+node_chosen set bytes edge (Some (Address object offset target)) word number names holds = holds
 
 module _ (there back : ℕ → ℕ) (paired : ℕ → Bool) (one other : State) (are : AreAlikeStates there back paired one other) where
   abbrev memories : AreAlike there back paired one.memory other.memory
@@ -219,13 +256,89 @@ module _ (there back : ℕ → ℕ) (paired : ℕ → Bool) (one other : State) 
     abbrev word' : ℕ → Word
     word' key = chosen paired (value_at parts.values key) (given.word key)
 
+    abbrev own : ℕ → Option ℤ
+    own key = own_offset (value_at parts.values key)
+
     edges_chosen : (bytes : List Byte) → All (NamesAmong paired) bytes → (edges : List HasValue) → HoldEdges bytes given.word edges → HoldEdges bytes word' edges
     edges_chosen bytes names [] hold = tt
     edges_chosen bytes names (edge ∷ rest) hold =
         (holds_chosen paired bytes edge (value_at parts.values edge.value) (given.word edge.value) names hold.0, edges_chosen bytes names rest hold.1)
 
-    shape_chosen : (shape : Shape) (object : Object) (blocks : List ℕ) → HasShape shape one.memory object given.word blocks → HasShape shape one.memory object word' blocks
-    shape_chosen RegionShape object blocks (number, is, at) =
+    at_nodes_chosen : (bytes : List Byte) (number : ℕ) → All (NamesAmong paired) bytes → (edges : List HasValue) → HoldEdges bytes (word_at given.word own number) edges → HoldEdges bytes (word_at word' own number) edges
+    at_nodes_chosen bytes number names [] hold = tt
+    at_nodes_chosen bytes number names (edge ∷ rest) hold =
+        (node_chosen paired bytes edge (value_at parts.values edge.value) (given.word edge.value) number names hold.0, at_nodes_chosen bytes number names rest hold.1)
+
+    -- words beyond a segment are as they were
+    passes_chosen : (test : Value → Bool) → ((value : Value) (word : Word) → test value ≡ true → chosen paired (Some value) word ≡ word) → (key : ℕ) (found : Option Value) → value_at parts.values key ≡ found → option_map_or test found false ≡ true →
+        word' key ≡ given.word key
+    passes_chosen test same key None is passes = absurd (false≢true passes)
+    passes_chosen test same key (Some value) is passes = ap (λ (o : Option Value). chosen paired o (given.word key)) is ∙ same value (given.word key) passes
+
+    prev_chosen : (twofold : Bool) (size head next prev back least next_value prev_value : ℕ) →
+        list_all (λ (link : HasValue). passes_at parts is_outward link.value) (back_edges twofold prev prev_value) ≡ true →
+        back_fits parts size (Some (record { twofold = twofold; head = head; next = next; prev = prev; back = back; least = least; next_value = next_value; prev_value = prev_value })) ≡ true → word' prev_value ≡ given.word prev_value
+    prev_chosen true size head next prev back least next_value prev_value links fits =
+        passes_chosen is_outward (outward_chosen paired) prev_value (value_at parts.values prev_value) refl (and_parts (passes_at parts is_outward prev_value) true links).0
+    prev_chosen false size head next prev back least next_value prev_value links fits =
+        passes_chosen is_null (null_chosen paired) prev_value (value_at parts.values prev_value) refl
+        (and_parts (nat_eq back 0) (passes_at parts is_null prev_value) (and_parts (nat_eq prev 0) (nat_eq back 0 && passes_at parts is_null prev_value) fits).1).1
+
+    abbrev AreKept : Shape → Type 0
+    AreKept shape = OnEnds (λ key. word' key ≡ given.word key) shape
+
+    ends_chosen : (shape : Shape) (size : ℕ) → list_all (λ (link : HasValue). passes_at parts is_outward link.value) (link_edges shape) ≡ true → back_fits parts size (links_in shape) ≡ true → AreKept shape
+    ends_chosen RegionShape size links fits = tt
+    ends_chosen (Segment twofold head next prev back least next_value prev_value node) size links fits =
+        let both = and_parts (passes_at parts is_outward next_value) (list_all (λ (link : HasValue). passes_at parts is_outward link.value) (back_edges twofold prev prev_value)) links in
+        (passes_chosen is_outward (outward_chosen paired) next_value (value_at parts.values next_value) refl both.0, prev_chosen twofold size head next prev back least next_value prev_value both.1 fits)
+
+    ends_kept : (key : ℕ) (object : Object) → object_at parts.objects key ≡ Some object → AreKept object.shape
+    ends_kept key object stands =
+        ends_chosen object.shape object.size
+        (found-all (λ (entry : KeyedObject). entry.key) (λ entry. entry.object) (λ object. list_all (λ (link : HasValue). passes_at parts is_outward link.value) (link_edges object.shape)) parts.objects key object well.links_lead_on stands)
+        (found-all (λ (entry : KeyedObject). entry.key) (λ entry. entry.object) (λ object. back_fits parts object.size (links_in object.shape)) parts.objects key object well.links_back_fit stands)
+
+    ends_same : (shape : Shape) → AreKept shape → ends_in shape given.word ≡ ends_in shape word'
+    ends_same RegionShape kept = refl
+    ends_same (Segment twofold head next prev back least next_value prev_value node) kept =
+        ap (λ (after : Word). record { head = head; back = back; after = after; before = given.word prev_value }) (sym kept.0)
+        ∙ ap (λ (before : Word). record { head = head; back = back; after = word' next_value; before = before }) (sym kept.1)
+
+    ends_at : (key : ℕ) → ends_of (object_at parts.objects) given.word key ≡ ends_of (object_at parts.objects) word' key
+    ends_at key = by_found (object_at parts.objects key) refl
+      where
+        by_found : (found : Option Object) → object_at parts.objects key ≡ found → option_map_or (λ object. ends_in object.shape given.word) found no_ends ≡ option_map_or (λ object. ends_in object.shape word') found no_ends
+        by_found None stands = refl
+        by_found (Some object) stands = ends_same object.shape (ends_kept key object stands)
+
+    has_ends : (value : Value) (word : Word) → HasWord (length one.memory) given.blocks (ends_of (object_at parts.objects) given.word) value word → HasWord (length one.memory) given.blocks (ends_of (object_at parts.objects) word') value word
+    has_ends (Const number size) word has = has
+    has_ends (Number size) word has = has
+    has_ends Any word has = has
+    has_ends (Address object offset target) word has = has ∙ ap (λ (ends : Ends). address_word target (given.blocks object) ends offset) (ends_at object)
+
+    nodes_chosen : (object : Object) (links : Links) (node : Node) (after before : Word) (blocks : List ℕ) → AreNodes one.memory object links node given.word own after before blocks → AreNodes one.memory object links node word' own after before blocks
+    nodes_chosen object links node after before [] are = tt
+    nodes_chosen object links node after before (number ∷ rest) (is, others) = (
+      record {
+        block = is.block;
+        there = is.there;
+        node = record {
+          live = is.node.live;
+          kind = is.node.kind;
+          size = is.node.size;
+          edges = at_nodes_chosen is.block.bytes number (memories.held number is.block is.there is.node.live) node.edges is.node.edges;
+          classes = is.node.classes;
+        };
+        next = is.next;
+        prev = is.prev;
+      },
+      nodes_chosen object links node after (To number (pos links.back)) rest others,
+    )
+
+    shape_chosen : (shape : Shape) (object : Object) (blocks : List ℕ) → AreKept shape → HasShape shape one.memory object given.word own blocks → HasShape shape one.memory object word' own blocks
+    shape_chosen RegionShape object blocks kept (number, is, at) =
         let node = at.node in (
           number,
           is,
@@ -241,10 +354,17 @@ module _ (there back : ℕ → ℕ) (paired : ℕ → Bool) (one other : State) 
             };
           },
         )
+    shape_chosen (Segment twofold head next prev back least next_value prev_value node) object blocks kept (enough, are) =
+        let links : Links = record { twofold = twofold; head = head; next = next; prev = prev; back = back; least = least; next_value = next_value; prev_value = prev_value } in (
+          enough,
+          subst (λ (after : Word). AreNodes one.memory object links node word' own after (end_word None (word' prev_value) back (pos back)) blocks) (sym kept.0)
+              (subst (λ (before : Word). AreNodes one.memory object links node word' own (given.word next_value) (end_word None before back (pos back)) blocks) (sym kept.1)
+              (nodes_chosen object links node (given.word next_value) (end_word None (given.word prev_value) back (pos back)) blocks are)),
+        )
 
-    blocks_chosen : (live : Bool) (object : Object) (blocks : List ℕ) → HasBlocksAs live one.memory object given.word blocks → HasBlocksAs live one.memory object word' blocks
-    blocks_chosen true object blocks has = shape_chosen object.shape object blocks has
-    blocks_chosen false object blocks has = has
+    blocks_chosen : (live : Bool) (object : Object) (blocks : List ℕ) → AreKept object.shape → HasBlocksAs live one.memory object given.word own blocks → HasBlocksAs live one.memory object word' own blocks
+    blocks_chosen true object blocks kept has = shape_chosen object.shape object blocks kept has
+    blocks_chosen false object blocks kept has = has
 
     passes_some : (test : Value → Bool) (found : Option Value) → option_map_or test found false ≡ true → (value : Value) × (found ≡ Some value) × (test value ≡ true)
     passes_some test None passes = absurd (false≢true passes)
@@ -271,13 +391,6 @@ module _ (there back : ℕ → ℕ) (paired : ℕ → Bool) (one other : State) 
         let numbers = are_numbers_of left.0 right.0 right.2 in
         (word_of pair.left left.0 numbers.0 left.1 numbers.1, word_of pair.right right.0 numbers.0 right.1 numbers.2)
 
-    unequal_chosen : (pairs : List Pair) → list_all (is_unequal_pair parts) pairs ≡ true → AreUnequal given.word pairs → AreUnequal word' pairs
-    unequal_chosen [] all differ = tt
-    unequal_chosen (pair ∷ rest) all differ =
-        let both = and_parts (is_unequal_pair parts pair) (list_all (is_unequal_pair parts) rest) all in
-        let words = pair_chosen pair both.0 in
-        (λ equal. differ.0 (sym words.0 ∙ equal ∙ words.1), unequal_chosen rest both.1 differ.1)
-
     ports_chosen : (ports : List ℕ) → All (WordNamesAmong paired) (map given.word ports) → map given.word ports ≡ map word' ports
     ports_chosen [] all = refl
     ports_chosen (port ∷ rest) all =
@@ -291,9 +404,9 @@ module _ (there back : ℕ → ℕ) (paired : ℕ → Bool) (one other : State) 
 
     meets' : Meets (maps_of parts) one given'
     meets' = record {
-      values = λ key value is. subst (λ (found : Option Value). HasWord (length one.memory) given.blocks value (chosen paired found (given.word key))) (sym is)
-          (chosen_has paired (length one.memory) given.blocks value (given.word key) (meets.values key value is));
-      objects = λ key object is. blocks_chosen object.live object (given.blocks key) (meets.objects key object is);
+      values = λ key value is. subst (λ (found : Option Value). HasWord (length one.memory) given.blocks (ends_of (object_at parts.objects) word') value (chosen paired found (given.word key))) (sym is)
+          (chosen_has paired (length one.memory) given.blocks (ends_of (object_at parts.objects) word') value (given.word key) (has_ends value (given.word key) (meets.values key value is)));
+      objects = λ key object is. blocks_chosen object.live object (given.blocks key) (ends_kept key object is) (meets.objects key object is);
       owners = meets.owners;
       places = meets.places;
       used = λ number block stands live. let owned = meets.used number block stands live in record { object = owned.object; block = owned.block };
@@ -304,8 +417,10 @@ module _ (there back : ℕ → ℕ) (paired : ℕ → Bool) (one other : State) 
           (λ key holds. sym (chosen_same paired (value_at parts.values key) (given.word key)
           (named.registers register (given.word key) (meets.registers register ∙ ap (option_map given.word) holds))));
       ports = meets.ports ∙ ports_chosen parts.ports (All-same (WordNamesAmong paired) (map given.word parts.ports) one.ports (sym meets.ports) named.ports);
-      rooted = meets.rooted;
-      unequal = unequal_chosen parts.unequal well.pairs_may_be_unequal meets.unequal;
+      rooted = λ place port is. rooted_chosen paired one.roots (value_at parts.values port) (given.word port) (meets.rooted place port is);
+      unequal = λ place pair is equal.
+          let words = pair_chosen pair (passes-at (is_unequal_pair parts) parts.unequal place pair is well.pairs_may_be_unequal) in
+          meets.unequal place pair is (sym words.0 ∙ equal ∙ words.1);
     }
 
     pub stands_for_other : StandsFor parts other

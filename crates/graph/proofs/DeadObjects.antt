@@ -1,8 +1,9 @@
 -- A dead object whose address is held has its block: the word that is held names a block of the memory.
-use Rattle.std.proofs.Common.{◌≡◌, ℕ, ◌<◌, Bool, true, false, List, [], ◌∷◌, map, length, Option, Some, sym, ◌∙◌, ap, subst, arith, eqb-true, nat_eq, slice_get, zero, suc, inl, inr}
+use Rattle.std.proofs.Common.{◌≡◌, ℕ, ◌<◌, Bool, true, false, List, [], ◌∷◌, map, length, Option, Some, refl, sym, ◌∙◌, ap, subst, arith, ◌&&◌, ◌||◌, eqb-true, nat_eq, slice_get, zero, suc, inl, inr}
 use Rattle.std.specs.Prelude.{ℤ, take, drop, option_map}
 use Rattle.std.specs.Option.{option_map_or}
 use Rattle.std.specs.List.{All, list_all}
+use Rattle.std.proofs.lemmas.Bool.{false≢true}
 use Rattle.std.proofs.lemmas.Option.{same_Some, none-some, slice_get_cases}
 use Rattle.std.proofs.lemmas.List.Elements.{All-head, All-tail, All-take, All-drop}
 use Rattle.bytes_core.specs.declared.byte.Byte.{Byte}
@@ -16,28 +17,27 @@ use Rattle.bytes_core.specs.Value.{word_bytes}
 use Rattle.graph.specs.declared.edges.HasValue.{HasValue}
 use Rattle.graph.specs.declared.object.Object.{Object}
 use Rattle.graph.specs.declared.object.Shape.{Shape}
-use Rattle.graph.specs.declared.object.Shape.TheVariants.{Region as RegionShape}
+use Rattle.graph.specs.declared.object.Shape.TheVariants.{Region as RegionShape, Segment}
 use Rattle.graph.specs.declared.value.Target.{Target}
-use Rattle.graph.specs.declared.value.Target.TheVariants.{Region}
+use Rattle.graph.specs.declared.value.Target.TheVariants.{Region, First, Last, Each}
 use Rattle.graph.specs.declared.value.Value.{Value}
 use Rattle.graph.specs.declared.value.Value.TheVariants.{Address}
 use Rattle.graph.specs.declared.parts.KeyedObject.{KeyedObject}
+use Rattle.graph.specs.declared.parts.KeyedValue.{KeyedValue}
+use Rattle.graph.specs.declared.parts.Parts.{Parts}
 use Rattle.graph.specs.DeadObjects.{IsDeadBlock, IsHeld, InRegister, InPort, InObject, AreHeldBlocksThere}
 use Rattle.graph.specs.Maps.{object_at, value_at}
 use Rattle.graph.specs.State.{IsWordBelow}
-use Rattle.graph.specs.Meaning.{IsGone, HoldsWord, HoldEdges, StandsAt, HasShape, HasBlocksAs, address_word}
+use Rattle.graph.specs.Nodes.{is_region, own_node, node_in, node_of}
+use Rattle.graph.specs.Meaning.{IsGone, HoldsWord, HoldEdges, StandsAt, HasShape, HasBlocksAs, Ends, ends_of, address_word, own_offset}
 use Rattle.graph.specs.Sizes.{value_size}
-use Rattle.graph.specs.WellFormed.{edge_has_size}
+use Rattle.graph.specs.WellFormed.{edge_has_size, target_fits, leads_to_object, says_nothing}
+use Rattle.graph.proofs.Closed.{passes-at, segment_edges}
 use Rattle.graph.proofs.AlikeStates.{All-at}
 use Rattle.graph.proofs.Found.{found-all}
 use Rattle.graph.proofs.Tests.{and_left, and_right}
 
 -- items at a place
-passes-at : {X : Type 0} (test : X → Bool) (items : List X) (place : ℕ) (item : X) → slice_get items place ≡ Some item → list_all test items ≡ true → test item ≡ true
-passes-at test [] place item is all = absurd (none-some item is)
-passes-at test (first ∷ rest) zero item is all = subst (λ one. test one ≡ true) (same_Some first item is) (and_left (test first) (list_all test rest) all)
-passes-at test (first ∷ rest) (suc place) item is all = passes-at test rest place item is (and_right (test first) (list_all test rest) all)
-
 mapped-at : {X Y : Type 0} (P : Y → Type 0) (f : X → Y) (items : List X) (place : ℕ) (item : X) → slice_get items place ≡ Some item → All P (map f items) → P (f item)
 mapped-at P f [] place item is all = absurd (none-some item is)
 mapped-at P f (first ∷ rest) zero item is all = subst (λ one. P (f one)) (same_Some first item is) (All-head P (f first) (map f rest) all)
@@ -56,10 +56,14 @@ whole_below count size (To block offset) is all =
     (All-head (NamesBelow count) (Part block offset 0) (map (Part block offset) (1 ∷ 2 ∷ 3 ∷ 4 ∷ 5 ∷ 6 ∷ 7 ∷ []))
     (subst (λ size. All (NamesBelow count) (take size (word_bytes (To block offset)))) (sym is) all)).0
 
--- the word of an address names the block of its object
-names_block : (target : Target) (blocks : List ℕ) (number count : ℕ) (offset : ℤ) → blocks ≡ number ∷ [] →
-    WordNamesBelow count (address_word target blocks offset) → number < count
-names_block Region blocks number count offset is below = subst (λ blocks. WordNamesBelow count (address_word Region blocks offset)) is below
+-- the word of an address of a region names its block
+names_block : (target : Target) (shape : Shape) (blocks : List ℕ) (ends : Ends) (number count : ℕ) (offset : ℤ) → is_region shape ≡ true → target_fits target shape ≡ true → blocks ≡ number ∷ [] →
+    WordNamesBelow count (address_word target blocks ends offset) → number < count
+names_block Region RegionShape blocks ends number count offset region fits is below = subst (λ blocks. WordNamesBelow count (address_word Region blocks ends offset)) is below
+names_block First RegionShape blocks ends number count offset region fits is below = absurd (false≢true fits)
+names_block Last RegionShape blocks ends number count offset region fits is below = absurd (false≢true fits)
+names_block Each RegionShape blocks ends number count offset region fits is below = absurd (false≢true fits)
+names_block target (Segment twofold head next prev back least next_value prev_value node) blocks ends number count offset region fits is below = absurd (false≢true region)
 
 -- a dead block that is there
 dead_block : (memory : List Block) (kind : BlockKind) (number : ℕ) → IsGone kind (slice_get memory number) → number < length memory → IsDeadBlock memory kind number
@@ -68,17 +72,31 @@ dead_block memory kind number gone below = elim (slice_get_cases memory number).
   | inr past ↦ (let above = past.0 in absurd (omega arith))
 ]
 
+abbrev own_in : Parts → ℕ → Option ℤ
+own_in parts key = own_offset (value_at parts.values key)
+
 pub held_blocks_there : AreHeldBlocksThere
 held_blocks_there parts state given key value object offset target well is meets stands dead leads held = (
   gone.0,
   gone.1,
   dead_block state.memory object.kind gone.0 gone.2
-      (names_block target (given.blocks key) gone.0 (length state.memory) offset gone.1
+      (names_block target object.shape (given.blocks key) (ends_of (object_at parts.objects) given.word key) gone.0 (length state.memory) offset region fits gone.1
       (subst (WordNamesBelow (length state.memory)) (meets.values value (Address key offset target) leads) (by_held held))),
 )
   where
+    region : is_region object.shape ≡ true
+    region = by_life object.live dead (found-all (λ (entry : KeyedObject). entry.key) (λ entry. entry.object) (λ (one : Object). one.live || (is_region one.shape && says_nothing one.edges one.plane)) parts.objects key object well.dead_objects_are_bare stands)
+      where
+        by_life : (live : Bool) → live ≡ false → (live || (is_region object.shape && says_nothing object.edges object.plane)) ≡ true → is_region object.shape ≡ true
+        by_life true is all = absurd (false≢true (sym is))
+        by_life false is all = and_left (is_region object.shape) (says_nothing object.edges object.plane) all
+
+    fits : target_fits target object.shape ≡ true
+    fits = subst (λ (found : Option Object). option_map_or (λ one. target_fits target one.shape) found false ≡ true) stands
+        (found-all (λ (entry : KeyedValue). entry.key) (λ entry. entry.value) (leads_to_object parts) parts.values value (Address key offset target) well.addresses_lead_to_objects leads)
+
     gone : (number : ℕ) × (given.blocks key ≡ number ∷ []) × IsGone object.kind (slice_get state.memory number)
-    gone = subst (λ (live : Bool). HasBlocksAs live state.memory object given.word (given.blocks key)) dead (meets.objects key object stands)
+    gone = subst (λ (live : Bool). HasBlocksAs live state.memory object given.word (own_in parts) (given.blocks key)) dead (meets.objects key object stands)
 
     within : (number : ℕ) (holder : Object) (place : ℕ) (edge : HasValue) → slice_get holder.edges place ≡ Some edge → edge.value ≡ value → 8 ≡ edge.size →
         StandsAt state.memory holder given.word number → WordNamesBelow (length state.memory) (given.word value)
@@ -90,9 +108,18 @@ held_blocks_there parts state given key value object offset target well is meets
         (All-drop (NamesBelow (length state.memory)) edge.at there.block.bytes
         (All-at (λ (block : Block). All (NamesBelow (length state.memory)) block.bytes) state.memory number there.block there.there is.memory.named)))))
 
-    by_shape : (shape : Shape) (holder : Object) (place : ℕ) (edge : HasValue) → slice_get holder.edges place ≡ Some edge → edge.value ≡ value → 8 ≡ edge.size →
-        (blocks : List ℕ) → HasShape shape state.memory holder given.word blocks → WordNamesBelow (length state.memory) (given.word value)
-    by_shape RegionShape holder place edge at same sized blocks has = within has.0 holder place edge at same sized has.2
+    by_shape : (shape : Shape) (holds : ℕ) (holder : Object) (place : ℕ) (edge : HasValue) → object_at parts.objects holds ≡ Some holder → holder.shape ≡ shape → slice_get holder.edges place ≡ Some edge → edge.value ≡ value → (8 ≡ edge.size) →
+        (blocks : List ℕ) → HasShape shape state.memory holder given.word (own_in parts) blocks → WordNamesBelow (length state.memory) (given.word value)
+    by_shape RegionShape holds holder place edge holder_stands shape_is at same sized blocks has = within has.0 holder place edge at same sized has.2
+    by_shape (Segment twofold head next prev back least next_value prev_value node) holds holder place edge holder_stands shape_is at same sized blocks has =
+        absurd (none-some edge (sym (ap (λ (edges : List HasValue). slice_get edges place) (segment_edges parts well holds holder holder_stands (ap is_region shape_is))) ∙ at))
+
+    -- the own edges of a holder have their sizes
+    own_sized : (shape : Shape) (holds : ℕ) (holder : Object) (place : ℕ) (edge : HasValue) → object_at parts.objects holds ≡ Some holder → holder.shape ≡ shape → slice_get holder.edges place ≡ Some edge →
+        list_all (edge_has_size parts) (node_in shape (own_node holder)).edges ≡ true → edge_has_size parts edge ≡ true
+    own_sized RegionShape holds holder place edge holder_stands shape_is at all = passes-at (edge_has_size parts) holder.edges place edge at all
+    own_sized (Segment twofold head next prev back least next_value prev_value node) holds holder place edge holder_stands shape_is at all =
+        absurd (none-some edge (sym (ap (λ (edges : List HasValue). slice_get edges place) (segment_edges parts well holds holder holder_stands (ap is_region shape_is))) ∙ at))
 
     has_size : (holds : ℕ) (holder : Object) (place : ℕ) (edge : HasValue) → object_at parts.objects holds ≡ Some holder → slice_get holder.edges place ≡ Some edge →
         edge.value ≡ value → 8 ≡ edge.size
@@ -100,8 +127,8 @@ held_blocks_there parts state given key value object offset target well is meets
         eqb-true 8 edge.size
         (subst (λ (found : Option Value). option_map_or (λ one. nat_eq (value_size one) edge.size) found false ≡ true)
         (ap (value_at parts.values) same ∙ leads)
-        (passes-at (edge_has_size parts) holder.edges place edge at
-        (found-all (λ (entry : KeyedObject). entry.key) (λ entry. entry.object) (λ (one : Object). list_all (edge_has_size parts) one.edges)
+        (own_sized holder.shape holds holder place edge holder_stands refl at
+        (found-all (λ (entry : KeyedObject). entry.key) (λ entry. entry.object) (λ (one : Object). list_all (edge_has_size parts) (node_of one).edges)
         parts.objects holds holder well.edges_have_their_sizes holder_stands)))
 
     by_held : IsHeld parts value → WordNamesBelow (length state.memory) (given.word value)
@@ -111,5 +138,5 @@ held_blocks_there parts state given key value object offset target well is meets
         (mapped-at (IsWordBelow (length state.memory)) given.word parts.ports place value there
         (subst (All (IsWordBelow (length state.memory))) meets.ports is.ports)).named
     by_held (InObject holds holder place edge holder_stands live at same) =
-        by_shape holder.shape holder place edge at same (has_size holds holder place edge holder_stands at same) (given.blocks holds)
-        (subst (λ (one : Bool). HasBlocksAs one state.memory holder given.word (given.blocks holds)) live (meets.objects holds holder holder_stands))
+        by_shape holder.shape holds holder place edge holder_stands refl at same (has_size holds holder place edge holder_stands at same) (given.blocks holds)
+        (subst (λ (one : Bool). HasBlocksAs one state.memory holder given.word (own_in parts) (given.blocks holds)) live (meets.objects holds holder holder_stands))

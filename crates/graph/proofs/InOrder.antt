@@ -1,18 +1,22 @@
 -- Items in order: what follows for all pairs from each item and the one behind it, and that a sort changes nothing of it.
-use Rattle.std.proofs.Common.{◌≡◌, ◌≢◌, ℕ, zero, suc, ◌+◌, ◌<◌, ◌≤◌, Bool, true, false, ◌&&◌, not, List, [], ◌∷◌, ◌⊎◌, inl, inr, length, get_or, set, refl, sym, ◌∙◌, ap, subst, arith}
-use Rattle.std.specs.Prelude.{nat_eq, nat_lt, nat_le}
+use Rattle.std.proofs.Common.{◌≡◌, ◌≢◌, ℕ, zero, suc, ◌+◌, ◌*◌, ◌<◌, ◌≤◌, Bool, true, false, ◌&&◌, not, List, [], ◌∷◌, ◌⊎◌, inl, inr, map, length, get_or, set, refl, sym, ◌∙◌, ap, subst, arith}
+use Rattle.std.specs.Prelude.{nat_eq, nat_lt, nat_le, if◌then◌else◌}
 use Rattle.std.specs.List.{AllPairs, list_all, swap}
 use Rattle.std.specs.List.Sorted.{IsPermutation, IsNonDecreasingBy, IsSorted}
 use Rattle.std.specs.Ordering.{nat_cmp}
-use Rattle.std.proofs.lemmas.Bool.{false≢true, eq-eqb, ne_eqb, ltb-true, lt-ltb, leb-true, le-leb, not-true, not_from_false, cases_eq, cases_order, or_cases, or_left, or_right}
+use Rattle.std.proofs.lemmas.Bool.{false≢true, eq-eqb, eqb-true, ne_eqb, ltb-true, lt-ltb, leb-true, le-leb, not-true, not_from_false, cases_eq, cases_lt, cases_order, or_left}
 use Rattle.std.proofs.lemmas.List.{get_or-set_same, get_or-set_other, length-set}
 use Rattle.std.proofs.lemmas.List.Edits.{swap_is, length-swap}
 use Rattle.std.proofs.lemmas.List.Sorted.{IsPermutation-keeps, IsPermutation-sym, IsNonDecreasingBy-from_sort}
 use Rattle.graph.specs.declared.edges.HasValue.{HasValue}
 use Rattle.graph.specs.declared.parts.KeyedObject.{KeyedObject}
 use Rattle.graph.specs.declared.parts.KeyedValue.{KeyedValue}
+use Rattle.graph.specs.declared.parts.Named.{Named}
+use Rattle.graph.specs.declared.parts.Held.{Held}
+use Rattle.graph.specs.declared.parts.Pair.{Pair}
 use Rattle.graph.specs.declared.parts.Parts.{Parts}
-use Rattle.graph.specs.WellFormed.{HasAscendingKeys, are_distinct, are_disjoint, share_no_byte}
+use Rattle.graph.specs.WellFormed.{HasAscendingKeys, are_distinct, are_ascending, are_disjoint, are_in_order, lies_before, share_no_byte, differs_from, are_different}
+use Rattle.graph.specs.PairCodes.{pair_code}
 use Rattle.graph.specs.Points.{neighbours}
 use Rattle.graph.proofs.Tests.{and_left, and_right, and_both, list_all-implies}
 
@@ -220,43 +224,155 @@ distinct_sorted xs ys permutation sorted =
 
 -- Edges.
 
-share_none_both : (one other : HasValue) → share_no_byte one other ≡ true → share_no_byte other one ≡ true
-share_none_both one other apart = by_side (or_cases (nat_le (one.at + one.size) other.at) (nat_le (other.at + other.size) one.at) apart)
-  where
-    by_side : (nat_le (one.at + one.size) other.at ≡ true) ⊎ (nat_le (other.at + other.size) one.at ≡ true) → share_no_byte other one ≡ true
-    by_side (inl before) = or_right (nat_le (other.at + other.size) one.at) (nat_le (one.at + one.size) other.at) before
-    by_side (inr behind) = or_left (nat_le (other.at + other.size) one.at) (nat_le (one.at + one.size) other.at) behind
-
-disjoint_is : (edges : List HasValue) → are_disjoint edges ≡ all_pairs share_no_byte edges
-disjoint_is [] = refl
-disjoint_is (edge ∷ edges) = ap (λ (b : Bool). list_all (share_no_byte edge) edges && b) (disjoint_is edges)
-
--- an edge that lies in front of another
-abbrev in_front : HasValue → HasValue → Bool
-in_front one other = nat_le (one.at + one.size) other.at
-
-front_of_all : (edge : HasValue) (edges : List HasValue) → neighbours (λ one other. nat_le (one.at + one.size) other.at) (edge ∷ edges) ≡ true → list_all (in_front edge) edges ≡ true
+front_of_all : (edge : HasValue) (edges : List HasValue) → neighbours lies_before (edge ∷ edges) ≡ true → list_all (lies_before edge) edges ≡ true
 front_of_all edge [] pass = refl
 front_of_all edge (other ∷ rest) pass =
-    let first : in_front edge other ≡ true = and_left (in_front edge other) (neighbours (λ one other. nat_le (one.at + one.size) other.at) (other ∷ rest)) pass in
+    let first : lies_before edge other ≡ true = and_left (lies_before edge other) (neighbours lies_before (other ∷ rest)) pass in
     let before : edge.at + edge.size ≤ other.at = leb-true (edge.at + edge.size) other.at first in
-    and_both (in_front edge other) (list_all (in_front edge) rest) first
-    (list_all-implies (in_front other) (in_front edge)
+    and_both (lies_before edge other) (list_all (lies_before edge) rest) first
+    (list_all-implies (lies_before other) (lies_before edge)
     (λ third behind. let later : other.at + other.size ≤ third.at = leb-true (other.at + other.size) third.at behind in
     le-leb (edge.at + edge.size) third.at (omega arith))
-    rest (front_of_all other rest (and_right (in_front edge other) (neighbours (λ one other. nat_le (one.at + one.size) other.at) (other ∷ rest)) pass)))
+    rest (front_of_all other rest (and_right (lies_before edge other) (neighbours lies_before (other ∷ rest)) pass)))
 
-pub disjoint_in_order : (edges : List HasValue) → neighbours (λ one other. nat_le (one.at + one.size) other.at) edges ≡ true → are_disjoint edges ≡ true
-disjoint_in_order [] pass = refl
-disjoint_in_order (edge ∷ []) pass = refl
-disjoint_in_order (edge ∷ (other ∷ rest)) pass =
-    and_both (list_all (share_no_byte edge) (other ∷ rest)) (are_disjoint (other ∷ rest))
-    (list_all-implies (in_front edge) (share_no_byte edge)
-    (λ third before. or_left (in_front edge third) (nat_le (third.at + third.size) edge.at) before) (other ∷ rest)
-    (front_of_all edge (other ∷ rest) pass))
-    (disjoint_in_order (other ∷ rest) (and_right (in_front edge other) (neighbours (λ one other. nat_le (one.at + one.size) other.at) (other ∷ rest)) pass))
+-- edges of which each ends before the next one begins end before all later ones begin
+pub in_order_neighbours : (edges : List HasValue) → neighbours lies_before edges ≡ are_in_order edges
+in_order_neighbours [] = refl
+in_order_neighbours (edge ∷ []) = refl
+in_order_neighbours (edge ∷ (other ∷ rest)) =
+    let later : neighbours lies_before (other ∷ rest) ≡ are_in_order (other ∷ rest) = in_order_neighbours (other ∷ rest) in
+    same_test (neighbours lies_before (edge ∷ (other ∷ rest))) (are_in_order (edge ∷ (other ∷ rest)))
+    (λ pass. and_both (list_all (lies_before edge) (other ∷ rest)) (are_in_order (other ∷ rest)) (front_of_all edge (other ∷ rest) pass)
+    (sym later ∙ and_right (lies_before edge other) (neighbours lies_before (other ∷ rest)) pass))
+    (λ all. and_both (lies_before edge other) (neighbours lies_before (other ∷ rest))
+    (and_left (lies_before edge other) (list_all (lies_before edge) rest) (and_left (list_all (lies_before edge) (other ∷ rest)) (are_in_order (other ∷ rest)) all))
+    (later ∙ and_right (list_all (lies_before edge) (other ∷ rest)) (are_in_order (other ∷ rest)) all))
 
-pub disjoint_sorted : (edges sorted : List HasValue) → IsPermutation edges sorted → neighbours (λ one other. nat_le (one.at + one.size) other.at) sorted ≡ true → are_disjoint edges ≡ true
-disjoint_sorted edges sorted permutation pass =
-    disjoint_is edges
-    ∙ all_permuted share_no_byte share_none_both sorted edges (IsPermutation-sym edges sorted permutation) (sym (disjoint_is sorted) ∙ disjoint_in_order sorted pass)
+-- edges in order share no byte
+pub disjoint_in_order : (edges : List HasValue) → are_in_order edges ≡ true → are_disjoint edges ≡ true
+disjoint_in_order [] all = refl
+disjoint_in_order (edge ∷ rest) all =
+    and_both (list_all (share_no_byte edge) rest) (are_disjoint rest)
+    (list_all-implies (lies_before edge) (share_no_byte edge) (λ other before. or_left (lies_before edge other) (lies_before other edge) before) rest
+    (and_left (list_all (lies_before edge) rest) (are_in_order rest) all))
+    (disjoint_in_order rest (and_right (list_all (lies_before edge) rest) (are_in_order rest) all))
+
+-- Variables and registers.
+
+module _ {Entry : Type 0} (key : Entry → ℕ) where
+  above_first : (first : Entry) (rest : List Entry) → neighbours (λ one other. nat_lt (key one) (key other)) (first ∷ rest) ≡ true → list_all (nat_lt (key first)) (map key rest) ≡ true
+  above_first first [] pass = refl
+  above_first first (second ∷ rest) pass =
+      let step : nat_lt (key first) (key second) ≡ true = and_left (nat_lt (key first) (key second)) (neighbours (λ one other. nat_lt (key one) (key other)) (second ∷ rest)) pass in
+      let lower : key first < key second = ltb-true (key first) (key second) step in
+      and_both (nat_lt (key first) (key second)) (list_all (nat_lt (key first)) (map key rest)) step
+      (list_all-implies (nat_lt (key second)) (nat_lt (key first))
+      (λ third behind. let later : key second < third = ltb-true (key second) third behind in lt-ltb (key first) third (omega arith))
+      (map key rest) (above_first second rest (and_right (nat_lt (key first) (key second)) (neighbours (λ one other. nat_lt (key one) (key other)) (second ∷ rest)) pass)))
+
+  pub ascending_by : (entries : List Entry) → neighbours (λ one other. nat_lt (key one) (key other)) entries ≡ are_ascending (map key entries)
+  ascending_by [] = refl
+  ascending_by (first ∷ []) = refl
+  ascending_by (first ∷ (second ∷ rest)) =
+      let later : neighbours (λ one other. nat_lt (key one) (key other)) (second ∷ rest) ≡ are_ascending (map key (second ∷ rest)) = ascending_by (second ∷ rest) in
+      same_test (neighbours (λ one other. nat_lt (key one) (key other)) (first ∷ (second ∷ rest))) (are_ascending (map key (first ∷ (second ∷ rest))))
+      (λ pass. and_both (list_all (nat_lt (key first)) (map key (second ∷ rest))) (are_ascending (map key (second ∷ rest))) (above_first first (second ∷ rest) pass)
+      (sym later ∙ and_right (nat_lt (key first) (key second)) (neighbours (λ one other. nat_lt (key one) (key other)) (second ∷ rest)) pass))
+      (λ all. and_both (nat_lt (key first) (key second)) (neighbours (λ one other. nat_lt (key one) (key other)) (second ∷ rest))
+      (and_left (nat_lt (key first) (key second)) (list_all (nat_lt (key first)) (map key rest)) (and_left (list_all (nat_lt (key first)) (map key (second ∷ rest))) (are_ascending (map key (second ∷ rest))) all))
+      (later ∙ and_right (list_all (nat_lt (key first)) (map key (second ∷ rest))) (are_ascending (map key (second ∷ rest))) all))
+
+pub ascending_variables : (variables : List Named) → neighbours (λ (one other : Named). nat_lt one.variable other.variable) variables ≡ are_ascending (map (λ (named : Named). named.variable) variables)
+ascending_variables variables = ascending_by (λ (named : Named). named.variable) variables
+
+pub ascending_registers : (registers : List Held) → neighbours (λ (one other : Held). nat_lt one.register other.register) registers ≡ are_ascending (map (λ (held : Held). held.register) registers)
+ascending_registers registers = ascending_by (λ (held : Held). held.register) registers
+
+-- Pairs.
+
+not_both : (a b : Bool) → (a ≡ true → b ≡ true → ⊥) → not (a && b) ≡ true
+not_both true true never = absurd (never refl refl)
+not_both true false never = refl
+not_both false b never = refl
+
+no_both : (a b : Bool) → not (a && b) ≡ true → a ≡ true → b ≡ true → ⊥
+no_both true true pass a_is b_is = false≢true pass
+no_both true false pass a_is b_is = false≢true b_is
+no_both false b pass a_is b_is = false≢true a_is
+
+-- pairs differ where they are not the same two values, in whatever order
+pub differs_if : (one other : Pair) → (one.left ≡ other.left → one.right ≡ other.right → ⊥) → (one.left ≡ other.right → one.right ≡ other.left → ⊥) → differs_from one other ≡ true
+differs_if one other straight crossed =
+    and_both (not (nat_eq one.left other.left && nat_eq one.right other.right)) (not (nat_eq one.left other.right && nat_eq one.right other.left))
+    (not_both (nat_eq one.left other.left) (nat_eq one.right other.right) (λ left right. straight (eqb-true one.left other.left left) (eqb-true one.right other.right right)))
+    (not_both (nat_eq one.left other.right) (nat_eq one.right other.left) (λ left right. crossed (eqb-true one.left other.right left) (eqb-true one.right other.left right)))
+
+pub not_straight : (one other : Pair) → differs_from one other ≡ true → one.left ≡ other.left → one.right ≡ other.right → ⊥
+not_straight one other pass left right =
+    no_both (nat_eq one.left other.left) (nat_eq one.right other.right)
+    (and_left (not (nat_eq one.left other.left && nat_eq one.right other.right)) (not (nat_eq one.left other.right && nat_eq one.right other.left)) pass)
+    (eq-eqb one.left other.left left) (eq-eqb one.right other.right right)
+
+pub not_crossed : (one other : Pair) → differs_from one other ≡ true → one.left ≡ other.right → one.right ≡ other.left → ⊥
+not_crossed one other pass left right =
+    no_both (nat_eq one.left other.right) (nat_eq one.right other.left)
+    (and_right (not (nat_eq one.left other.left && nat_eq one.right other.right)) (not (nat_eq one.left other.right && nat_eq one.right other.left)) pass)
+    (eq-eqb one.left other.right left) (eq-eqb one.right other.left right)
+
+pub differs_both : (one other : Pair) → differs_from one other ≡ true → differs_from other one ≡ true
+differs_both one other pass =
+    differs_if other one (λ left right. not_straight one other pass (sym left) (sym right)) (λ left right. not_crossed one other pass (sym right) (sym left))
+
+crossed_code : (left right : ℕ) → (if nat_le left right then left * 4294967296 + right else right * 4294967296 + left) ≡ (if nat_le right left then right * 4294967296 + left else left * 4294967296 + right)
+crossed_code left right = by_cases (nat_le left right) refl (nat_le right left) refl
+  where
+    by_cases : (a : Bool) → nat_le left right ≡ a → (b : Bool) → nat_le right left ≡ b →
+        (if a then left * 4294967296 + right else right * 4294967296 + left) ≡ (if b then right * 4294967296 + left else left * 4294967296 + right)
+    by_cases true a_is true b_is =
+        let low = leb-true left right a_is in
+        let high = leb-true right left b_is in
+        let same : left ≡ right = omega arith in
+        ap (λ (n : ℕ). n * 4294967296 + right) same ∙ ap (λ (n : ℕ). right * 4294967296 + n) (sym same)
+    by_cases true a_is false b_is = refl
+    by_cases false a_is true b_is = refl
+    by_cases false a_is false b_is = absurd (neither (cases_lt left right))
+      where
+        neither : (left < right) ⊎ (right ≤ left) → ⊥
+        neither (inl before) = false≢true (sym a_is ∙ le-leb left right (omega arith))
+        neither (inr behind) = false≢true (sym b_is ∙ le-leb right left behind)
+
+differs_by_code : (one other : Pair) → nat_lt (pair_code one) (pair_code other) ≡ true → differs_from one other ≡ true
+differs_by_code one other below =
+    let lower : pair_code one < pair_code other = ltb-true (pair_code one) (pair_code other) below in
+    differs_if one other
+    (λ left right.
+    let same : pair_code one ≡ pair_code other = ap (λ (l : ℕ). if nat_le l one.right then l * 4294967296 + one.right else one.right * 4294967296 + l) left
+    ∙ ap (λ (r : ℕ). if nat_le other.left r then other.left * 4294967296 + r else r * 4294967296 + other.left) right in
+    omega arith)
+    (λ left right.
+    let same : pair_code one ≡ pair_code other = ap (λ (l : ℕ). if nat_le l one.right then l * 4294967296 + one.right else one.right * 4294967296 + l) left
+    ∙ ap (λ (r : ℕ). if nat_le other.right r then other.right * 4294967296 + r else r * 4294967296 + other.right) right
+    ∙ crossed_code other.right other.left in
+    omega arith)
+
+different_is : (pairs : List Pair) → are_different pairs ≡ all_pairs differs_from pairs
+different_is [] = refl
+different_is (pair ∷ pairs) = ap (λ (b : Bool). list_all (differs_from pair) pairs && b) (different_is pairs)
+
+list_all-map : {X Y : Type 0} (test : Y → Bool) (f : X → Y) (xs : List X) → list_all test (map f xs) ≡ list_all (λ x. test (f x)) xs
+list_all-map test f [] = refl
+list_all-map test f (x ∷ xs) = ap (λ (b : Bool). test (f x) && b) (list_all-map test f xs)
+
+different_by_code : (pairs : List Pair) → are_ascending (map pair_code pairs) ≡ true → are_different pairs ≡ true
+different_by_code [] all = refl
+different_by_code (pair ∷ rest) all =
+    and_both (list_all (differs_from pair) rest) (are_different rest)
+    (list_all-implies (λ other. nat_lt (pair_code pair) (pair_code other)) (differs_from pair) (λ other below. differs_by_code pair other below) rest
+    (sym (list_all-map (nat_lt (pair_code pair)) pair_code rest) ∙ and_left (list_all (nat_lt (pair_code pair)) (map pair_code rest)) (are_ascending (map pair_code rest)) all))
+    (different_by_code rest (and_right (list_all (nat_lt (pair_code pair)) (map pair_code rest)) (are_ascending (map pair_code rest)) all))
+
+pub different_sorted : (pairs sorted : List Pair) → IsPermutation pairs sorted → neighbours (λ (one other : Pair). nat_lt (pair_code one) (pair_code other)) sorted ≡ true → are_different pairs ≡ true
+different_sorted pairs sorted permutation pass =
+    different_is pairs
+    ∙ all_permuted differs_from differs_both sorted pairs (IsPermutation-sym pairs sorted permutation)
+    (sym (different_is sorted) ∙ different_by_code sorted (sym (ascending_by pair_code sorted) ∙ pass))

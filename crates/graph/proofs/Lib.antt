@@ -1,5 +1,8 @@
 pub mod Tests
 pub mod Found
+pub mod Sent
+pub mod Closed
+pub mod Frames
 pub mod Pulled
 pub mod DeadObjects
 pub mod Renamed
@@ -19,9 +22,12 @@ pub mod AlikeStates
 pub mod AlikeMeaning
 pub mod Chosen
 pub mod Table
+pub mod Rows
 pub mod Placing
 pub mod Witness
 pub mod InOrder
+pub mod Following
+pub mod Counts
 pub mod ByHalves
 pub mod InSlots
 pub mod Ranges

@@ -6,13 +6,15 @@ use Rattle.std.proofs.lemmas.Bool.{false≢true}
 use Rattle.std.proofs.lemmas.List.{length-map, get_or-map}
 use Rattle.std.proofs.lemmas.List.Sums.{position_or_len_is, fails_before_first, passes_at_first}
 use Rattle.graph.specs.declared.object.Object.{Object}
+use Rattle.graph.specs.declared.object.Shape.{Shape}
+use Rattle.graph.specs.declared.object.Shape.TheVariants.{Region, Segment}
 use Rattle.graph.specs.declared.value.Value.{Value}
 use Rattle.graph.specs.declared.parts.KeyedObject.{KeyedObject}
 use Rattle.graph.specs.declared.parts.KeyedValue.{KeyedValue}
 use Rattle.graph.specs.declared.parts.Parts.{Parts}
 use Rattle.graph.specs.declared.contents.Contents.{Contents}
 use Rattle.graph.specs.Maps.{found_at}
-use Rattle.graph.specs.Renaming.{renamed, renamed_object, renamed_value, renamed_pair, place_among, object_place, value_place, numbered, objects_from, values_from}
+use Rattle.graph.specs.Renaming.{renamed, renamed_shape, renamed_object, renamed_value, renamed_pair, place_among, object_place, value_place, numbered, objects_from, values_from}
 use Rattle.graph.specs.WellFormed.{HasAscendingKeys, IsWellFormed, nodes_of, nodes, is_within_limits}
 use Rattle.graph.specs.Whole.{entries_of}
 use Rattle.graph.specs.Laws.{IsRenaming, IsOneToOne}
@@ -110,11 +112,18 @@ numbered_well_formed parts ascending well_formed =
     subst (λ (p : Parts). IsWellFormed p) (sym (numbered-renamed parts ascending))
     (IsWellFormed-renamed (object_place parts) (value_place parts) parts (IsRenaming-places parts) well_formed)
 
+nodes_of-renamed : (of_values : ℕ → ℕ) (shape : Shape) → nodes_of (renamed_shape of_values shape) ≡ nodes_of shape
+nodes_of-renamed of_values Region = refl
+nodes_of-renamed of_values (Segment twofold head next prev back least next_value prev_value node) = refl
+
 nodes-from : (of_values : ℕ → ℕ) (from before : ℕ) (entries : List KeyedObject) →
     fold (λ count (entry : KeyedObject). count + nodes_of entry.object.shape) before (objects_from from (map (λ (entry : KeyedObject). renamed_object of_values entry.object) entries))
     ≡ fold (λ count (entry : KeyedObject). count + nodes_of entry.object.shape) before entries
 nodes-from of_values from before [] = refl
-nodes-from of_values from before (entry ∷ rest) = nodes-from of_values (from + 1) (before + nodes_of entry.object.shape) rest
+nodes-from of_values from before (entry ∷ rest) =
+    ap (λ (count : ℕ). fold (λ count (entry : KeyedObject). count + nodes_of entry.object.shape) (before + count) (objects_from (from + 1) (map (λ (entry : KeyedObject). renamed_object of_values entry.object) rest)))
+    (nodes_of-renamed of_values entry.object.shape)
+    ∙ nodes-from of_values (from + 1) (before + nodes_of entry.object.shape) rest
 
 pub numbered_within_limits : (parts : Parts) → is_within_limits (numbered parts) ≡ is_within_limits parts
 numbered_within_limits parts =

@@ -33,17 +33,6 @@ place_end keys place key end =
     let none : place_among (drop place keys) key ≡ 0 = ap (λ (t : List ℕ). place_among t key) (drop_all place keys end) in
     omega arith
 
--- each region is one node
-pub nodes_are_objects : (objects : List KeyedObject) → sum_by (λ entry. nodes_of entry.object.shape) objects ≡ length objects
-nodes_are_objects [] = refl
-nodes_are_objects (entry ∷ objects) =
-    let one : nodes_of entry.object.shape ≡ 1 = node_of entry.object.shape in
-    let rest : sum_by (λ entry. nodes_of entry.object.shape) objects ≡ length objects = nodes_are_objects objects in
-    omega (arith, sum_by-cons (λ (e : KeyedObject). nodes_of e.object.shape) entry objects)
-  where
-    node_of : (shape : Shape) → nodes_of shape ≡ 1
-    node_of Region = refl
-
 -- a loop that maps one item after another
 pub mapped_more : {X Y : Type 0} (f : X → Y) (items : List X) (place : ℕ) (item none : X) (image : Y) (done next : List Y) → place < length items → item ≡ get_or items place none → image ≡ f item → done ≡ map f (take place items) → next ≡ done ++ image ∷ [] → next ≡ map f (take (place + 1) items)
 mapped_more f items place item none image done next inside is image_is done_is next_is =

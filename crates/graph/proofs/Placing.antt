@@ -83,16 +83,20 @@ module _ (bytes : ℕ → Object → List Byte) (sizes : (number : ℕ) (object 
       (compatible number (number + 1) object rest (leb-true _ _ (and_left (nat_le object.size 65536) (list_all (λ object. nat_le object.size 65536) rest) small)) (omega arith))
       (apart (number + 1) rest (and_right (nat_le object.size 65536) (list_all (λ object. nat_le object.size 65536) rest) small))
 
-  named : (count number : ℕ) → ((number : ℕ) (object : Object) → All (NamesBelow count) (bytes number object)) → (objects : List Object) → All (λ block. All (NamesBelow count) block.bytes) (blocks_from bytes number objects)
-  named count number names [] = All-nil (λ block. All (NamesBelow count) block.bytes)
-  named count number names (object ∷ rest) =
-      All-cons (λ block. All (NamesBelow count) block.bytes) (block_of bytes number object) (blocks_from bytes (number + 1) rest) (names number object) (named count (number + 1) names rest)
+  named : (count number : ℕ) (objects : List Object) → ((i : ℕ) (object : Object) → slice_get objects i ≡ Some object → All (NamesBelow count) (bytes (number + i) object)) →
+      All (λ block. All (NamesBelow count) block.bytes) (blocks_from bytes number objects)
+  named count number [] names = All-nil (λ block. All (NamesBelow count) block.bytes)
+  named count number (object ∷ rest) names =
+      All-cons (λ block. All (NamesBelow count) block.bytes) (block_of bytes number object) (blocks_from bytes (number + 1) rest)
+      (subst (λ (n : ℕ). All (NamesBelow count) (bytes n object)) (let e : number + 0 ≡ number = omega arith in e) (names 0 object refl))
+      (named count (number + 1) rest (λ i next is. subst (λ (n : ℕ). All (NamesBelow count) (bytes n next)) (let e : number + suc i ≡ number + 1 + i = omega arith in e) (names (suc i) next is)))
 
   -- such blocks make a memory
   pub IsMemory-blocks : (objects : List Object) → length objects < 2 ^ 30 → list_all (λ object. nat_le object.size 65536) objects ≡ true →
-      ((number : ℕ) (object : Object) → All (NamesBelow (length objects)) (bytes number object)) → IsMemory (blocks_from bytes 0 objects)
+      ((number : ℕ) (object : Object) → slice_get objects number ≡ Some object → All (NamesBelow (length objects)) (bytes number object)) → IsMemory (blocks_from bytes 0 objects)
   IsMemory-blocks objects few small names = record {
     placed = placed 0 objects (omega arith) small;
     apart = apart 0 objects small;
-    named = subst (λ (count : ℕ). All (λ block. All (NamesBelow count) block.bytes) (blocks_from bytes 0 objects)) (sym (length-blocks bytes 0 objects)) (named (length objects) 0 names objects);
+    named = subst (λ (count : ℕ). All (λ block. All (NamesBelow count) block.bytes) (blocks_from bytes 0 objects)) (sym (length-blocks bytes 0 objects))
+        (named (length objects) 0 objects (λ i object is. subst (λ (n : ℕ). All (NamesBelow (length objects)) (bytes n object)) (let e : i ≡ 0 + i = omega arith in e) (names i object is)));
   }

@@ -9,10 +9,11 @@ use Rattle.graph.specs.declared.parts.KeyedObject.{KeyedObject}
 use Rattle.graph.specs.declared.parts.Parts.{Parts}
 use Rattle.graph.specs.Maps.{value_at}
 use Rattle.graph.specs.Sizes.{value_size, is_sized, is_zero}
-use Rattle.graph.specs.WellFormed.{IsWellFormed, has_value, passes_at, lies_in, edge_has_size, edge_has_class, has_class_a_byte, is_bare, are_disjoint, leads_to_object, registers_hold_values, ports_are_values, variables_have_storage, storage_is_distinct, variables_are_distinct, registers_are_distinct}
-use Rattle.graph.specs.Points.{edge_fits, objects_fit, values_fit, is_well_formed}
+use Rattle.graph.specs.Nodes.{is_region, links_in, node_of, link_edges}
+use Rattle.graph.specs.WellFormed.{IsWellFormed, ComesToAnEnd, has_value, passes_at, may_stand_in, lies_in, are_in_order, edge_has_size, edge_has_class, has_class_a_byte, says_nothing, is_segment_storage, share_no_byte, link_is_any, is_outward, back_fits, leads_to_object, registers_hold_values, ports_are_values, variables_have_storage, storage_is_distinct, variables_ascend, registers_ascend, pairs_may_be_unequal, pairs_are_different}
+use Rattle.graph.specs.Points.{edge_fits, link_fits, objects_fit, values_fit, passes_all}
 use Rattle.graph.proofs.Tests.{and_left, and_right, and_both, list_all-implies}
-use Rattle.graph.proofs.Renamed.{passes-some}
+use Rattle.graph.proofs.Sent.{passes-some}
 
 -- one byte of a range, and the rest
 range_step : (class : ℕ) (plane : List ℕ) (at left found : ℕ) → slice_get plane at ≡ Some found →
@@ -67,17 +68,29 @@ size_has_value : (parts : Parts) (edge : HasValue) → edge_has_size parts edge 
 size_has_value parts edge has = passes-some (λ value. nat_eq (value_size value) edge.size) (value_at parts.values edge.value) has
 
 module _ (parts : Parts) where
-  abbrev inside : Object → HasValue → Bool
-  inside object edge = lies_in object.size edge
+  abbrev inside : KeyedObject → HasValue → Bool
+  inside entry edge = lies_in entry.object.size edge
 
-  abbrev sized : Object → HasValue → Bool
-  sized object edge = edge_has_size parts edge
+  abbrev sized : KeyedObject → HasValue → Bool
+  sized entry edge = edge_has_size parts edge
 
-  abbrev classed : Object → HasValue → Bool
-  classed object edge = edge_has_class parts object.plane edge
+  abbrev classed : KeyedObject → HasValue → Bool
+  classed entry edge = edge_has_class parts (node_of entry.object).plane edge
 
-  abbrev nonzero : Object → HasValue → Bool
-  nonzero object edge = passes_at parts (λ value. not (is_zero value)) edge.value
+  abbrev nonzero : KeyedObject → HasValue → Bool
+  nonzero entry edge = passes_at parts (λ value. not (is_zero value)) edge.value
+
+  abbrev home : KeyedObject → HasValue → Bool
+  home entry edge = passes_at parts (may_stand_in entry.key) edge.value
+
+  abbrev free : KeyedObject → HasValue → Bool
+  free entry link = list_all (share_no_byte link) (node_of entry.object).edges
+
+  abbrev any : KeyedObject → HasValue → Bool
+  any entry link = link_is_any (node_of entry.object).plane link
+
+  abbrev outward : KeyedObject → HasValue → Bool
+  outward entry link = passes_at parts is_outward link.value
 
   abbrev small : KeyedObject → Bool
   small entry = nat_le entry.object.size 65536
@@ -86,16 +99,44 @@ module _ (parts : Parts) where
   long entry = has_class_a_byte entry.object
 
   abbrev bare : KeyedObject → Bool
-  bare entry = entry.object.live || is_bare entry.object.shape entry.object.edges
+  bare entry = entry.object.live || (is_region entry.object.shape && says_nothing entry.object.edges entry.object.plane)
 
-  abbrev apart : KeyedObject → Bool
-  apart entry = are_disjoint entry.object.edges
+  abbrev allocated : KeyedObject → Bool
+  allocated entry = is_region entry.object.shape || is_segment_storage entry.object
+
+  abbrev stored : KeyedObject → Bool
+  stored entry = bare entry && allocated entry
+
+  abbrev order : KeyedObject → Bool
+  order entry = are_in_order (node_of entry.object).edges
+
+  abbrev fit : KeyedObject → HasValue → Bool
+  fit entry edge = edge_fits parts entry.key entry.object.size (node_of entry.object).plane edge
 
   abbrev edges : KeyedObject → Bool
-  edges entry = list_all (edge_fits parts entry.object) entry.object.edges
+  edges entry = list_all (fit entry) (node_of entry.object).edges
 
-  pub well_formed_is : is_well_formed parts ≡ true → IsWellFormed parts
-  well_formed_is all =
+  abbrev link_order : KeyedObject → Bool
+  link_order entry = are_in_order (link_edges entry.object.shape)
+
+  abbrev link : KeyedObject → HasValue → Bool
+  link entry edge = link_fits parts entry.object.size (node_of entry.object).plane (node_of entry.object).edges edge
+
+  abbrev links : KeyedObject → Bool
+  links entry = list_all (link entry) (link_edges entry.object.shape)
+
+  abbrev back : KeyedObject → Bool
+  back entry = back_fits parts entry.object.size (links_in entry.object.shape)
+
+  -- what each edge, and each link, of each object passes
+  parts_of : (items : KeyedObject → List HasValue) (test other : KeyedObject → HasValue → Bool) → ((entry : KeyedObject) (edge : HasValue) → test entry edge ≡ true → other entry edge ≡ true) →
+      list_all (λ (entry : KeyedObject). list_all (test entry) (items entry)) parts.objects ≡ true → list_all (λ (entry : KeyedObject). list_all (other entry) (items entry)) parts.objects ≡ true
+  parts_of items test other implies all =
+      list_all-implies (λ (entry : KeyedObject). list_all (test entry) (items entry)) (λ (entry : KeyedObject). list_all (other entry) (items entry))
+      (λ entry pass. list_all-implies (test entry) (other entry) (implies entry) (items entry) pass) parts.objects all
+
+  well_formed_is : passes_all parts ≡ true → ComesToAnEnd parts → IsWellFormed parts
+  well_formed_is all ends =
       let objects = and_left (objects_fit parts) _ all in
       let after1 = and_right (objects_fit parts) _ all in
       let values = and_left (values_fit parts) _ after1 in
@@ -104,70 +145,97 @@ module _ (parts : Parts) where
       let after3 = and_right (variables_have_storage parts) _ after2 in
       let storage_distinct = and_left (storage_is_distinct parts) _ after3 in
       let after4 = and_right (storage_is_distinct parts) _ after3 in
-      let variables_distinct = and_left (variables_are_distinct parts) _ after4 in
-      let after5 = and_right (variables_are_distinct parts) _ after4 in
+      let variables_ascending = and_left (variables_ascend parts) _ after4 in
+      let after5 = and_right (variables_ascend parts) _ after4 in
       let registers = and_left (registers_hold_values parts) _ after5 in
       let after6 = and_right (registers_hold_values parts) _ after5 in
-      let registers_distinct = and_left (registers_are_distinct parts) _ after6 in
-      let after7 = and_right (registers_are_distinct parts) _ after6 in
+      let registers_ascending = and_left (registers_ascend parts) _ after6 in
+      let after7 = and_right (registers_ascend parts) _ after6 in
       let ports = and_left (ports_are_values parts) _ after7 in
-      let pairs = and_right (ports_are_values parts) _ after7 in
-      let objects1 = right_all small (λ entry. long entry && (bare entry && (apart entry && edges entry))) parts.objects objects in
-      let objects2 = right_all long (λ entry. bare entry && (apart entry && edges entry)) parts.objects objects1 in
-      let objects3 = right_all bare (λ entry. apart entry && edges entry) parts.objects objects2 in
-      let each = right_all apart edges parts.objects objects3 in
-      let part = λ (test : Object → HasValue → Bool) (implies : (object : Object) (edge : HasValue) → edge_fits parts object edge ≡ true → test object edge ≡ true).
-      list_all-implies edges (λ (entry : KeyedObject). list_all (test entry.object) entry.object.edges)
-      (λ entry fit. list_all-implies (edge_fits parts entry.object) (test entry.object) (implies entry.object) entry.object.edges fit) parts.objects each in
+      let after8 = and_right (ports_are_values parts) _ after7 in
+      let pairs = and_left (pairs_may_be_unequal parts) _ after8 in
+      let different = and_right (pairs_may_be_unequal parts) _ after8 in
+      let objects1 = right_all small (λ entry. long entry && (stored entry && ((order entry && edges entry) && (link_order entry && (links entry && back entry))))) parts.objects objects in
+      let objects2 = right_all long (λ entry. stored entry && ((order entry && edges entry) && (link_order entry && (links entry && back entry)))) parts.objects objects1 in
+      let storages = left_all stored (λ entry. (order entry && edges entry) && (link_order entry && (links entry && back entry))) parts.objects objects2 in
+      let objects3 = right_all stored (λ entry. (order entry && edges entry) && (link_order entry && (links entry && back entry))) parts.objects objects2 in
+      let edges_all = left_all (λ entry. order entry && edges entry) (λ entry. link_order entry && (links entry && back entry)) parts.objects objects3 in
+      let links_all = right_all (λ entry. order entry && edges entry) (λ entry. link_order entry && (links entry && back entry)) parts.objects objects3 in
+      let each = right_all order edges parts.objects edges_all in
+      let links_back = right_all link_order (λ entry. links entry && back entry) parts.objects links_all in
+      let each_link = left_all links back parts.objects links_back in
+      let part = parts_of (λ entry. (node_of entry.object).edges) fit in
+      let link_part = parts_of (λ entry. link_edges entry.object.shape) link in
       record {
-        edges_hold_values = part (λ object edge. has_value parts edge.value)
-            (λ object edge fit. size_has_value parts edge (and_left (sized object edge) (classed object edge && nonzero object edge) (and_right (inside object edge) (sized object edge && (classed object edge && nonzero object edge)) fit)));
+        edges_hold_values = part (λ entry edge. has_value parts edge.value)
+            (λ entry edge fits. size_has_value parts edge (and_left (sized entry edge) (classed entry edge && (nonzero entry edge && home entry edge)) (and_right (inside entry edge) (sized entry edge && (classed entry edge && (nonzero entry edge && home entry edge))) fits))) each;
+        edges_are_at_home = part home
+            (λ entry edge fits. and_right (nonzero entry edge) (home entry edge) (and_right (classed entry edge) (nonzero entry edge && home entry edge) (and_right (sized entry edge) (classed entry edge && (nonzero entry edge && home entry edge))
+            (and_right (inside entry edge) (sized entry edge && (classed entry edge && (nonzero entry edge && home entry edge))) fits)))) each;
         registers_hold_values = registers;
         ports_are_values = ports;
         addresses_lead_to_objects = left_all (λ entry. leads_to_object parts entry.value) (λ entry. is_sized entry.value) parts.values values;
         variables_have_storage = storage;
         storage_is_distinct = storage_distinct;
-        variables_are_distinct = variables_distinct;
-        registers_are_distinct = registers_distinct;
-        objects_are_small = left_all small (λ entry. long entry && (bare entry && (apart entry && edges entry))) parts.objects objects;
-        planes_are_as_long = left_all long (λ entry. bare entry && (apart entry && edges entry)) parts.objects objects1;
-        dead_objects_are_bare = left_all bare (λ entry. apart entry && edges entry) parts.objects objects2;
-        edges_lie_inside = part inside (λ object edge fit. and_left (inside object edge) (sized object edge && (classed object edge && nonzero object edge)) fit);
-        edges_are_disjoint = left_all apart edges parts.objects objects3;
-        edges_have_their_sizes = part sized (λ object edge fit. and_left (sized object edge) (classed object edge && nonzero object edge) (and_right (inside object edge) (sized object edge && (classed object edge && nonzero object edge)) fit));
-        edges_have_their_classes = part classed (λ object edge fit. and_left (classed object edge) (nonzero object edge) (and_right (sized object edge) (classed object edge && nonzero object edge) (and_right (inside object edge) (sized object edge && (classed object edge && nonzero object edge)) fit)));
-        edges_are_not_zero = part nonzero (λ object edge fit. and_right (classed object edge) (nonzero object edge) (and_right (sized object edge) (classed object edge && nonzero object edge) (and_right (inside object edge) (sized object edge && (classed object edge && nonzero object edge)) fit)));
+        variables_ascend = variables_ascending;
+        registers_ascend = registers_ascending;
+        objects_are_small = left_all small (λ entry. long entry && (stored entry && ((order entry && edges entry) && (link_order entry && (links entry && back entry))))) parts.objects objects;
+        planes_are_as_long = left_all long (λ entry. stored entry && ((order entry && edges entry) && (link_order entry && (links entry && back entry)))) parts.objects objects1;
+        dead_objects_are_bare = left_all bare allocated parts.objects storages;
+        segments_are_allocated = right_all bare allocated parts.objects storages;
+        edges_lie_inside = part inside (λ entry edge fits. and_left (inside entry edge) (sized entry edge && (classed entry edge && (nonzero entry edge && home entry edge))) fits) each;
+        edges_are_in_order = left_all order edges parts.objects edges_all;
+        edges_have_their_sizes = part sized (λ entry edge fits. and_left (sized entry edge) (classed entry edge && (nonzero entry edge && home entry edge)) (and_right (inside entry edge) (sized entry edge && (classed entry edge && (nonzero entry edge && home entry edge))) fits)) each;
+        edges_have_their_classes = part classed (λ entry edge fits. and_left (classed entry edge) (nonzero entry edge && home entry edge) (and_right (sized entry edge) (classed entry edge && (nonzero entry edge && home entry edge))
+            (and_right (inside entry edge) (sized entry edge && (classed entry edge && (nonzero entry edge && home entry edge))) fits))) each;
+        edges_are_not_zero = part nonzero (λ entry edge fits. and_left (nonzero entry edge) (home entry edge) (and_right (classed entry edge) (nonzero entry edge && home entry edge) (and_right (sized entry edge) (classed entry edge && (nonzero entry edge && home entry edge))
+            (and_right (inside entry edge) (sized entry edge && (classed entry edge && (nonzero entry edge && home entry edge))) fits)))) each;
+        links_lie_inside = link_part inside (λ entry edge fits. and_left (inside entry edge) (free entry edge && (any entry edge && outward entry edge)) fits) each_link;
+        links_are_in_order = left_all link_order (λ entry. links entry && back entry) parts.objects links_all;
+        links_have_no_edge = link_part free (λ entry edge fits. and_left (free entry edge) (any entry edge && outward entry edge) (and_right (inside entry edge) (free entry edge && (any entry edge && outward entry edge)) fits)) each_link;
+        links_may_be_pointers = link_part any (λ entry edge fits. and_left (any entry edge) (outward entry edge) (and_right (free entry edge) (any entry edge && outward entry edge) (and_right (inside entry edge) (free entry edge && (any entry edge && outward entry edge)) fits))) each_link;
+        links_lead_on = link_part outward (λ entry edge fits. and_right (any entry edge) (outward entry edge) (and_right (free entry edge) (any entry edge && outward entry edge) (and_right (inside entry edge) (free entry edge && (any entry edge && outward entry edge)) fits))) each_link;
+        links_back_fit = right_all links back parts.objects links_back;
+        comes_to_an_end = ends;
         values_are_sized = right_all (λ entry. leads_to_object parts entry.value) (λ entry. is_sized entry.value) parts.values values;
         pairs_may_be_unequal = pairs;
+        pairs_are_different = different;
       }
 
-  edges_of : (one other : Object → HasValue → Bool) → list_all (λ (entry : KeyedObject). list_all (one entry.object) entry.object.edges) parts.objects ≡ true →
-      list_all (λ (entry : KeyedObject). list_all (other entry.object) entry.object.edges) parts.objects ≡ true →
-      list_all (λ (entry : KeyedObject). list_all (λ edge. one entry.object edge && other entry.object edge) entry.object.edges) parts.objects ≡ true
-  edges_of one other ones others =
-      list_all-implies (λ (entry : KeyedObject). list_all (one entry.object) entry.object.edges && list_all (other entry.object) entry.object.edges)
-      (λ (entry : KeyedObject). list_all (λ edge. one entry.object edge && other entry.object edge) entry.object.edges)
-      (λ entry both. both_all (one entry.object) (other entry.object) entry.object.edges (and_left (list_all (one entry.object) entry.object.edges) (list_all (other entry.object) entry.object.edges) both) (and_right (list_all (one entry.object) entry.object.edges) (list_all (other entry.object) entry.object.edges) both))
+  both_of : (items : KeyedObject → List HasValue) (one other : KeyedObject → HasValue → Bool) → list_all (λ (entry : KeyedObject). list_all (one entry) (items entry)) parts.objects ≡ true →
+      list_all (λ (entry : KeyedObject). list_all (other entry) (items entry)) parts.objects ≡ true →
+      list_all (λ (entry : KeyedObject). list_all (λ edge. one entry edge && other entry edge) (items entry)) parts.objects ≡ true
+  both_of items one other ones others =
+      list_all-implies (λ (entry : KeyedObject). list_all (one entry) (items entry) && list_all (other entry) (items entry))
+      (λ (entry : KeyedObject). list_all (λ edge. one entry edge && other entry edge) (items entry))
+      (λ entry both. both_all (one entry) (other entry) (items entry) (and_left (list_all (one entry) (items entry)) (list_all (other entry) (items entry)) both) (and_right (list_all (one entry) (items entry)) (list_all (other entry) (items entry)) both))
       parts.objects
-      (both_all (λ (entry : KeyedObject). list_all (one entry.object) entry.object.edges) (λ (entry : KeyedObject). list_all (other entry.object) entry.object.edges) parts.objects ones others)
+      (both_all (λ (entry : KeyedObject). list_all (one entry) (items entry)) (λ (entry : KeyedObject). list_all (other entry) (items entry)) parts.objects ones others)
 
-  pub is_well_formed_is : IsWellFormed parts → is_well_formed parts ≡ true
-  is_well_formed_is w =
-      let each = edges_of inside (λ object edge. sized object edge && (classed object edge && nonzero object edge)) w.edges_lie_inside
-      (edges_of sized (λ object edge. classed object edge && nonzero object edge) w.edges_have_their_sizes (edges_of classed nonzero w.edges_have_their_classes w.edges_are_not_zero)) in
+  passes_is : IsWellFormed parts → passes_all parts ≡ true
+  passes_is w =
+      let edges_both = both_of (λ entry. (node_of entry.object).edges) in
+      let links_both = both_of (λ entry. link_edges entry.object.shape) in
+      let each = edges_both inside (λ entry edge. sized entry edge && (classed entry edge && (nonzero entry edge && home entry edge))) w.edges_lie_inside
+      (edges_both sized (λ entry edge. classed entry edge && (nonzero entry edge && home entry edge)) w.edges_have_their_sizes
+      (edges_both classed (λ entry edge. nonzero entry edge && home entry edge) w.edges_have_their_classes (edges_both nonzero home w.edges_are_not_zero w.edges_are_at_home))) in
+      let each_link = links_both inside (λ entry edge. free entry edge && (any entry edge && outward entry edge)) w.links_lie_inside
+      (links_both free (λ entry edge. any entry edge && outward entry edge) w.links_have_no_edge (links_both any outward w.links_may_be_pointers w.links_lead_on)) in
       and_both (objects_fit parts) _
-      (both_all small (λ entry. long entry && (bare entry && (apart entry && edges entry))) parts.objects w.objects_are_small
-      (both_all long (λ entry. bare entry && (apart entry && edges entry)) parts.objects w.planes_are_as_long
-      (both_all bare (λ entry. apart entry && edges entry) parts.objects w.dead_objects_are_bare
-      (both_all apart edges parts.objects w.edges_are_disjoint each))))
+      (both_all small (λ entry. long entry && (stored entry && ((order entry && edges entry) && (link_order entry && (links entry && back entry))))) parts.objects w.objects_are_small
+      (both_all long (λ entry. stored entry && ((order entry && edges entry) && (link_order entry && (links entry && back entry)))) parts.objects w.planes_are_as_long
+      (both_all stored (λ entry. (order entry && edges entry) && (link_order entry && (links entry && back entry))) parts.objects (both_all bare allocated parts.objects w.dead_objects_are_bare w.segments_are_allocated)
+      (both_all (λ entry. order entry && edges entry) (λ entry. link_order entry && (links entry && back entry)) parts.objects (both_all order edges parts.objects w.edges_are_in_order each)
+      (both_all link_order (λ entry. links entry && back entry) parts.objects w.links_are_in_order (both_all links back parts.objects each_link w.links_back_fit))))))
       (and_both (values_fit parts) _ (both_all (λ entry. leads_to_object parts entry.value) (λ entry. is_sized entry.value) parts.values w.addresses_lead_to_objects w.values_are_sized)
       (and_both (variables_have_storage parts) _ w.variables_have_storage
       (and_both (storage_is_distinct parts) _ w.storage_is_distinct
-      (and_both (variables_are_distinct parts) _ w.variables_are_distinct
+      (and_both (variables_ascend parts) _ w.variables_ascend
       (and_both (registers_hold_values parts) _ w.registers_hold_values
-      (and_both (registers_are_distinct parts) _ w.registers_are_distinct
-      (and_both (ports_are_values parts) _ w.ports_are_values w.pairs_may_be_unequal)))))))
+      (and_both (registers_ascend parts) _ w.registers_ascend
+      (and_both (ports_are_values parts) _ w.ports_are_values
+      (and_both (pairs_may_be_unequal parts) _ w.pairs_may_be_unequal w.pairs_are_different))))))))
 
--- the one walk finds exactly the well-formed parts
-pub all_points : (parts : Parts) → ((is_well_formed parts ≡ true) ↔ IsWellFormed parts)
-all_points parts = (well_formed_is parts, is_well_formed_is parts)
+-- the one walk, and following ends, find exactly the well-formed parts
+pub all_points : (parts : Parts) → (((passes_all parts ≡ true) × ComesToAnEnd parts) ↔ IsWellFormed parts)
+all_points parts = ((λ both. well_formed_is parts both.0 both.1), (λ w. (passes_is parts w, w.comes_to_an_end)))

@@ -6,6 +6,9 @@ use Rattle.std.specs.Option.{option_map_or}
 use Rattle.std.proofs.lemmas.Bool.{false≢true}
 use Rattle.graph.specs.declared.edges.HasValue.{HasValue}
 use Rattle.graph.specs.declared.object.Object.{Object}
+use Rattle.graph.specs.declared.object.Shape.{Shape}
+use Rattle.graph.specs.declared.object.Shape.TheVariants.{Region, Segment}
+use Rattle.graph.specs.declared.template.Node.{Node}
 use Rattle.graph.specs.declared.value.Value.{Value}
 use Rattle.graph.specs.declared.value.Value.TheVariants.{Const, Number, Any, Address}
 use Rattle.graph.specs.declared.parts.KeyedObject.{KeyedObject}
@@ -15,18 +18,19 @@ use Rattle.graph.specs.declared.parts.Held.{Held}
 use Rattle.graph.specs.declared.parts.Pair.{Pair}
 use Rattle.graph.specs.declared.parts.Parts.{Parts}
 use Rattle.graph.specs.Maps.{object_at, value_at, storage_of, held_by}
-use Rattle.graph.specs.Renaming.{renamed, renamed_edge, renamed_object, renamed_value, renamed_pair}
-use Rattle.graph.specs.WellFormed.{IsWellFormed, has_value, passes_at, leads_to_object, is_storage, is_unequal_pair, may_be_unequal, target_fits}
+use Rattle.graph.specs.Renaming.{renamed, renamed_edge, renamed_node, renamed_shape, renamed_object, renamed_value, renamed_pair}
+use Rattle.graph.specs.WellFormed.{IsWellFormed, passes_at, may_be_held, leads_to_object, is_storage, is_unequal_pair, may_be_unequal, target_fits}
 use Rattle.graph.specs.State.{State}
 use Rattle.graph.specs.Meaning.{maps_of, StandsFor}
+use Rattle.graph.specs.Nodes.{own_node}
+use Rattle.graph.specs.Closed.{OnEdges, OnNamed, IsClosed}
 use Rattle.graph.specs.Laws.{IsRenaming}
 use Rattle.graph.proofs.Tests.{and_left, and_right}
 use Rattle.graph.proofs.Found.{Holds-some, IsSome-holds, WasFound-renamed, found-renamed, found-changed, found-all, back_in, back_in-there, back_in-same}
+use Rattle.graph.proofs.Sent.{passes-some, object_sent as object_goes, value_sent as value_goes, object_back as object_comes_back, object_same as object_is_same}
+use Rattle.graph.proofs.Closed.{closed_of, own_edges_there}
+use Rattle.graph.proofs.Reformed.{renaming_keeps_form}
 use Rattle.graph.proofs.Pulled.{IsSent, Meets-pulled}
-
-pub passes-some : {A : Type 0} (test : A → Bool) (o : Option A) → option_map_or test o false ≡ true → IsSome o
-passes-some test None passes = absurd (false≢true passes)
-passes-some test (Some x) passes = refl
 
 module _ (of_objects of_values : ℕ → ℕ) (parts : Parts) (renaming : IsRenaming of_objects of_values parts) where
   -- the old keys of new ones
@@ -39,29 +43,17 @@ module _ (of_objects of_values : ℕ → ℕ) (parts : Parts) (renaming : IsRena
   abbrev pub other : Parts
   other = renamed of_objects of_values parts
 
-  pub object_sent : (key : ℕ) (object : Object) → object_at parts.objects key ≡ Some object → object_at other.objects (of_objects key) ≡ Some (renamed_object of_values object)
-  object_sent key object stands =
-      found-renamed (λ (entry : KeyedObject). entry.key) (λ entry. entry.object) (λ (entry : KeyedObject). entry.key) (λ entry. entry.object)
-      (λ entry. record { key = of_objects entry.key; object = renamed_object of_values entry.object }) of_objects (renamed_object of_values) (λ _. refl) (λ _. refl)
-      parts.objects key object renaming.objects stands
+  object_sent : (key : ℕ) (object : Object) → object_at parts.objects key ≡ Some object → object_at other.objects (of_objects key) ≡ Some (renamed_object of_values object)
+  object_sent key object stands = object_goes of_objects of_values parts renaming key object stands
 
-  pub value_sent : (key : ℕ) (value : Value) → value_at parts.values key ≡ Some value → value_at other.values (of_values key) ≡ Some (renamed_value of_objects value)
-  value_sent key value stands =
-      found-renamed (λ (entry : KeyedValue). entry.key) (λ entry. entry.value) (λ (entry : KeyedValue). entry.key) (λ entry. entry.value)
-      (λ entry. record { key = of_values entry.key; value = renamed_value of_objects entry.value }) of_values (renamed_value of_objects) (λ _. refl) (λ _. refl)
-      parts.values key value renaming.values stands
+  value_sent : (key : ℕ) (value : Value) → value_at parts.values key ≡ Some value → value_at other.values (of_values key) ≡ Some (renamed_value of_objects value)
+  value_sent key value stands = value_goes of_objects of_values parts renaming key value stands
 
   object_back : (key : ℕ) → IsSome (object_at other.objects key) → IsSome (object_at parts.objects (old_object key)) × (of_objects (old_object key) ≡ key)
-  object_back key some =
-      back_in-there (λ (entry : KeyedObject). entry.key) (λ entry. entry.object) (λ (entry : KeyedObject). entry.key) (λ entry. entry.object)
-      (λ entry. record { key = of_objects entry.key; object = renamed_object of_values entry.object }) of_objects (renamed_object of_values) (λ _. refl) (λ _. refl)
-      parts.objects key some
+  object_back key some = object_comes_back of_objects of_values parts renaming key some
 
   object_same : (key : ℕ) → IsSome (object_at parts.objects key) → old_object (of_objects key) ≡ key
-  object_same key some =
-      back_in-same (λ (entry : KeyedObject). entry.key) (λ entry. entry.object) (λ (entry : KeyedObject). entry.key) (λ entry. entry.object)
-      (λ entry. record { key = of_objects entry.key; object = renamed_object of_values entry.object }) of_objects (renamed_object of_values) (λ _. refl) (λ _. refl)
-      parts.objects key renaming.objects some
+  object_same key some = object_is_same of_objects of_values parts renaming key some
 
   value_same : (key : ℕ) → IsSome (value_at parts.values key) → old_value (of_values key) ≡ key
   value_same key some =
@@ -79,39 +71,53 @@ module _ (of_objects of_values : ℕ → ℕ) (parts : Parts) (renaming : IsRena
       found-changed (λ (held : Held). held.register) (λ held. held.value) (λ (held : Held). held.register) (λ held. held.value)
       (λ held. record { register = held.register; value = of_values held.value }) of_values (λ _. refl) (λ _. refl) parts.registers register
 
-  -- from the old keys to the new ones
-  sent : IsSent (maps_of parts) (maps_of other) of_objects of_values old_object
-  sent = record {
-    objects = object_sent;
-    values = value_sent;
-    same = object_same;
-    all = object_back;
-    variables = variable_sent;
-    registers = register_sent;
-    ports = refl;
-    unequal = refl;
-  }
-
-  pub StandsFor-old : (state : State) → StandsFor other state → StandsFor parts state
-  StandsFor-old state stands = record {
-    given = _;
-    meets = Meets-pulled (maps_of parts) (maps_of other) of_objects of_values old_object sent state stands.given stands.meets;
-  }
-
   module _ (well_formed : IsWellFormed parts) where
-    edges_kept : (edges : List HasValue) → list_all (λ edge. has_value parts edge.value) edges ≡ true → map (renamed_edge old_value) (map (renamed_edge of_values) edges) ≡ edges
+    closed : IsClosed (maps_of parts)
+    closed = closed_of parts well_formed
+
+    -- from the old keys to the new ones
+    sent : IsSent (maps_of parts) (maps_of other) of_objects of_values old_object
+    sent = record {
+      closed = closed_of parts well_formed;
+      objects = object_sent;
+      values = value_sent;
+      same = object_same;
+      all = object_back;
+      variables = variable_sent;
+      registers = register_sent;
+      ports = refl;
+      unequal = refl;
+    }
+
+    pub StandsFor-old : (state : State) → StandsFor other state → StandsFor parts state
+    StandsFor-old state stands = record {
+      given = _;
+      meets = Meets-pulled (maps_of parts) (maps_of other) of_objects of_values old_object sent state stands.given stands.meets;
+    }
+
+    edges_kept : (edges : List HasValue) → OnEdges (λ key. IsSome (value_at parts.values key)) edges → map (renamed_edge old_value) (map (renamed_edge of_values) edges) ≡ edges
     edges_kept [] all = refl
     edges_kept (edge ∷ rest) all =
         let one : renamed_edge old_value (renamed_edge of_values edge) ≡ edge =
-        ap (λ (value : ℕ). record edge { value = value }) (value_same edge.value (and_left (has_value parts edge.value) (list_all (λ edge. has_value parts edge.value) rest) all)) in
-        let others = edges_kept rest (and_right (has_value parts edge.value) (list_all (λ edge. has_value parts edge.value) rest) all) in
+        ap (λ (value : ℕ). record edge { value = value }) (value_same edge.value all.0) in
+        let others = edges_kept rest all.1 in
         rw (one, others) refl
+
+    node_kept : (node : Node) → OnEdges (λ key. IsSome (value_at parts.values key)) node.edges → renamed_node old_value (renamed_node of_values node) ≡ node
+    node_kept node all = ap (λ (edges : List HasValue). record node { edges = edges }) (edges_kept node.edges all)
+
+    shape_kept : (shape : Shape) (own : Node) → OnNamed (λ key. IsSome (value_at parts.values key)) shape own → renamed_shape old_value (renamed_shape of_values shape) ≡ shape
+    shape_kept Region own all = refl
+    shape_kept (Segment twofold head next prev back least next_value prev_value node) own (edges, (after, before)) =
+        ap (λ (key : ℕ). Segment twofold head next prev back least key (old_value (of_values prev_value)) (renamed_node old_value (renamed_node of_values node))) (value_same next_value after)
+        ∙ ap (λ (key : ℕ). Segment twofold head next prev back least next_value key (renamed_node old_value (renamed_node of_values node))) (value_same prev_value before)
+        ∙ ap (λ (n : Node). Segment twofold head next prev back least next_value prev_value n) (node_kept node edges)
 
     object_kept : (key : ℕ) (object : Object) → object_at parts.objects key ≡ Some object → renamed_object old_value (renamed_object of_values object) ≡ object
     object_kept key object stands =
-        let all = found-all (λ (entry : KeyedObject). entry.key) (λ entry. entry.object) (λ object. list_all (λ edge. has_value parts edge.value) object.edges) parts.objects key object
-        well_formed.edges_hold_values stands in
-        ap (λ (edges : List HasValue). record object { edges = edges }) (edges_kept object.edges all)
+        ap (λ (shape : Shape). record object { shape = shape; edges = map (renamed_edge old_value) (map (renamed_edge of_values) object.edges) })
+        (shape_kept object.shape (own_node object) (closed.objects key object stands))
+        ∙ ap (λ (edges : List HasValue). record object { edges = edges }) (edges_kept object.edges (own_edges_there parts well_formed key object stands))
 
     value_kept : (value : Value) → leads_to_object parts value ≡ true → renamed_value old_object (renamed_value of_objects value) ≡ value
     value_kept (Const number size) leads = refl
@@ -138,11 +144,12 @@ module _ (of_objects of_values : ℕ → ℕ) (parts : Parts) (renaming : IsRena
         well_formed.addresses_lead_to_objects was.stands in
         ap (value_at parts.values) key_is ∙ was.stands ∙ ap Some (sym (value_kept was.old leads) ∙ ap (renamed_value old_object) was.new)
 
-    keys_kept : (keys : List ℕ) → list_all (has_value parts) keys ≡ true → keys ≡ map old_value (map of_values keys)
+    keys_kept : (keys : List ℕ) → list_all (passes_at parts may_be_held) keys ≡ true → keys ≡ map old_value (map of_values keys)
     keys_kept [] all = refl
     keys_kept (key ∷ rest) all =
-        let one : old_value (of_values key) ≡ key = value_same key (and_left (has_value parts key) (list_all (has_value parts) rest) all) in
-        let others : rest ≡ map old_value (map of_values rest) = keys_kept rest (and_right (has_value parts key) (list_all (has_value parts) rest) all) in
+        let one : old_value (of_values key) ≡ key =
+        value_same key (passes-some may_be_held (value_at parts.values key) (and_left (passes_at parts may_be_held key) (list_all (passes_at parts may_be_held) rest) all)) in
+        let others : rest ≡ map old_value (map of_values rest) = keys_kept rest (and_right (passes_at parts may_be_held key) (list_all (passes_at parts may_be_held) rest) all) in
         rw (one, ← others) refl
 
     pair_kept : (pair : Pair) → is_unequal_pair parts pair ≡ true → renamed_pair old_value (renamed_pair of_values pair) ≡ pair
@@ -176,12 +183,13 @@ module _ (of_objects of_values : ℕ → ℕ) (parts : Parts) (renaming : IsRena
     registers_from_new : (register : ℕ) → held_by parts.registers register ≡ option_map old_value (held_by other.registers register)
     registers_from_new register =
         option_kept old_value of_values (held_by parts.registers register)
-        (λ key stands. value_same key (found-all (λ (held : Held). held.register) (λ held. held.value) (has_value parts) parts.registers register key well_formed.registers_hold_values stands))
+        (λ key stands. value_same key (passes-some may_be_held (value_at parts.values key) (found-all (λ (held : Held). held.register) (λ held. held.value) (passes_at parts may_be_held) parts.registers register key well_formed.registers_hold_values stands)))
         ∙ ap (option_map old_value) (sym (register_sent register))
 
     -- and back
     sent_back : IsSent (maps_of other) (maps_of parts) old_object old_value of_objects
     sent_back = record {
+      closed = closed_of other (renaming_keeps_form of_objects of_values parts renaming well_formed);
       objects = objects_from_new;
       values = values_from_new;
       same = λ key some. (object_back key some).1;
@@ -202,4 +210,4 @@ module _ (of_objects of_values : ℕ → ℕ) (parts : Parts) (renaming : IsRena
 pub renaming_keeps : (of_objects of_values : ℕ → ℕ) (parts : Parts) (state : State) → IsRenaming of_objects of_values parts → IsWellFormed parts →
     (StandsFor (renamed of_objects of_values parts) state ↔ StandsFor parts state)
 renaming_keeps of_objects of_values parts state renaming well_formed =
-    (StandsFor-old of_objects of_values parts renaming state, StandsFor-new of_objects of_values parts renaming well_formed state)
+    (StandsFor-old of_objects of_values parts renaming well_formed state, StandsFor-new of_objects of_values parts renaming well_formed state)

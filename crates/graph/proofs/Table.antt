@@ -1,8 +1,8 @@
 -- The bytes of an object: at each place the byte of the edge that covers it, or one of choice.
-use Rattle.std.proofs.Common.{◌≡◌, ℕ, zero, suc, ◌+◌, ◌-◌, ◌<◌, ◌≤◌, Bool, true, false, ◌&&◌, ◌||◌, List, [], ◌∷◌, length, take, drop, get_or, nat_le, nat_lt, refl, ◌∙◌, ap, subst, le-leb, leb-true, lt-ltb, ltb-true, arith}
+use Rattle.std.proofs.Common.{◌≡◌, ℕ, zero, suc, ◌+◌, ◌-◌, ◌<◌, ◌≤◌, Bool, true, false, ◌&&◌, ◌||◌, not, List, [], ◌∷◌, length, take, drop, get_or, nat_le, nat_lt, refl, sym, ◌∙◌, ap, subst, le-leb, leb-true, lt-ltb, ltb-true, arith}
 use Rattle.std.specs.Prelude.{if◌then◌else◌}
 use Rattle.std.specs.List.{list_all}
-use Rattle.std.proofs.lemmas.Bool.{false≢true}
+use Rattle.std.proofs.lemmas.Bool.{false≢true, not-true}
 use Rattle.bytes_core.specs.declared.byte.Byte.{Byte}
 use Rattle.bytes_core.specs.declared.byte.Byte.TheVariants.{Num}
 use Rattle.bytes_core.specs.declared.word.Word.{Word}
@@ -11,7 +11,7 @@ use Rattle.bytes_core.specs.Value.{word_bytes}
 use Rattle.graph.specs.declared.edges.HasValue.{HasValue}
 use Rattle.graph.specs.WellFormed.{share_no_byte, are_disjoint, lies_in}
 use Rattle.graph.specs.Meaning.{HasClass, HaveClasses, HoldEdges}
-use Rattle.graph.proofs.Tests.{and_left, and_right}
+use Rattle.graph.proofs.Tests.{and_left, and_right, and_both}
 
 -- whether a place lies in the range of an edge
 abbrev pub covers : HasValue → ℕ → Bool
@@ -91,7 +91,7 @@ found_first word fill edge rest = record {
 }
 
 -- an edge that shares no byte with the first covers none of its places
-misses : (first edge : HasValue) (i : ℕ) → share_no_byte first edge ≡ true → i < edge.size → covers first (edge.at + i) ≡ false
+pub misses : (first edge : HasValue) (i : ℕ) → share_no_byte first edge ≡ true → i < edge.size → covers first (edge.at + i) ≡ false
 misses first edge i apart below = by_cases (nat_le (first.at + first.size) edge.at) refl (nat_le (edge.at + edge.size) first.at) refl apart
   where
     by_cases : (b : Bool) → nat_le (first.at + first.size) edge.at ≡ b → (c : Bool) → nat_le (edge.at + edge.size) first.at ≡ c → (b || c) ≡ true → covers first (edge.at + i) ≡ false
@@ -159,3 +159,45 @@ HaveClasses-table at from (class ∷ plane) has = (
   subst (λ (n : ℕ). HasClass class (at n)) (let e : from + 0 ≡ from = omega arith in e) (has 0 0 (omega arith)),
   HaveClasses-table at (from + 1) plane (λ i d below. subst (λ (n : ℕ). HasClass (get_or plane i d) (at n)) (let e : from + suc i ≡ from + 1 + i = omega arith in e) (has (suc i) d (omega arith))),
 )
+
+-- Two lists of edges, of which the first goes before the second.
+
+-- a place that no edge covers has the byte of choice
+pub byte_outside : (word : ℕ → Word) (fill : ℕ → Byte) (edges : List HasValue) (place : ℕ) → list_all (λ edge. not (covers edge place)) edges ≡ true → byte_at word fill edges place ≡ fill place
+byte_outside word fill [] place free = refl
+byte_outside word fill (edge ∷ rest) place free =
+    ap (λ (b : Bool). if b then edge_byte word edge place else byte_at word fill rest place)
+    (not-true (covers edge place) (and_left (not (covers edge place)) (list_all (λ edge. not (covers edge place)) rest) free))
+    ∙ byte_outside word fill rest place (and_right (not (covers edge place)) (list_all (λ edge. not (covers edge place)) rest) free)
+
+same-table : (one other : ℕ → Byte) (from count : ℕ) → ((i : ℕ) → i < count → one (from + i) ≡ other (from + i)) → table one from count ≡ table other from count
+same-table one other from zero same = refl
+same-table one other from (suc count) same =
+    let here : one from ≡ other from = ap one (let e : from ≡ from + 0 = omega arith in e) ∙ same 0 (omega arith) ∙ ap other (let e : from + 0 ≡ from = omega arith in e) in
+    ap (λ (b : Byte). b ∷ table one (from + 1) count) here
+    ∙ ap (λ (bs : List Byte). other from ∷ bs)
+    (same-table one other (from + 1) count (λ i below. let place : from + 1 + i ≡ from + suc i = omega arith in ap one place ∙ same (suc i) (omega arith) ∙ ap other (sym place)))
+
+-- an edge that shares no byte with any of these is covered by none of them
+uncovered : (first : List HasValue) (edge : HasValue) (i : ℕ) → list_all (λ link. share_no_byte link edge) first ≡ true → i < edge.size → list_all (λ link. not (covers link (edge.at + i))) first ≡ true
+uncovered [] edge i apart below = refl
+uncovered (link ∷ rest) edge i apart below =
+    and_both (not (covers link (edge.at + i))) (list_all (λ link. not (covers link (edge.at + i))) rest)
+    (ap not (misses link edge i (and_left (share_no_byte link edge) (list_all (λ link. share_no_byte link edge) rest) apart) below))
+    (uncovered rest edge i (and_right (share_no_byte link edge) (list_all (λ link. share_no_byte link edge) rest) apart) below)
+
+-- edges of the second list hold their words as well, where no edge of the first shares a byte with them
+pub HoldEdges-behind : (front : ℕ → Word) (inner : ℕ → Byte) (first : List HasValue) (word : ℕ → Word) (size : ℕ) (edges : List HasValue) →
+    list_all (λ edge. list_all (λ link. share_no_byte link edge) first) edges ≡ true → list_all (lies_in size) edges ≡ true →
+    HoldEdges (table inner 0 size) word edges → HoldEdges (table (byte_at front inner first) 0 size) word edges
+HoldEdges-behind front inner first word size [] apart inside hold = tt
+HoldEdges-behind front inner first word size (edge ∷ rest) apart inside hold =
+    let within = leb-true _ _ (and_left (lies_in size edge) (list_all (lies_in size) rest) inside) in
+    let free = and_left (list_all (λ link. share_no_byte link edge) first) (list_all (λ edge. list_all (λ link. share_no_byte link edge) first) rest) apart in (
+      range-table (byte_at front inner first) size edge.at edge.size within
+          ∙ same-table (byte_at front inner first) inner edge.at edge.size (λ i below. byte_outside front inner first (edge.at + i) (uncovered first edge i free below))
+          ∙ sym (range-table inner size edge.at edge.size within)
+          ∙ hold.0,
+      HoldEdges-behind front inner first word size rest (and_right (list_all (λ link. share_no_byte link edge) first) (list_all (λ edge. list_all (λ link. share_no_byte link edge) first) rest) apart)
+          (and_right (lies_in size edge) (list_all (lies_in size) rest) inside) hold.1,
+    )

@@ -1,4 +1,5 @@
 pub mod Maps
+pub mod Nodes
 pub mod Sizes
 pub mod WellFormed
 pub mod Renaming
@@ -6,6 +7,7 @@ pub mod Slots
 pub mod Whole
 pub mod State
 pub mod Meaning
+pub mod Closed
 pub mod Laws
 pub mod DeadObjects
 pub mod Choices
@@ -15,3 +17,5 @@ pub mod AlikeSteps
 pub mod AlikeStates
 pub mod AlikeLimits
 pub mod Points
+pub mod PairCodes
+pub mod Ends

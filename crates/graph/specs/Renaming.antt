@@ -3,6 +3,9 @@ use Rattle.std.specs.Prelude.{ℕ, ◌+◌, List, [], ◌∷◌, map, nat_eq}
 use Rattle.std.specs.List.{position_or_len}
 use Rattle.graph.specs.declared.edges.HasValue.{HasValue}
 use Rattle.graph.specs.declared.object.Object.{Object}
+use Rattle.graph.specs.declared.object.Shape.{Shape}
+use Rattle.graph.specs.declared.object.Shape.TheVariants.{Region, Segment}
+use Rattle.graph.specs.declared.template.Node.{Node}
 use Rattle.graph.specs.declared.value.Value.{Value}
 use Rattle.graph.specs.declared.value.Value.TheVariants.{Const, Number, Any, Address}
 use Rattle.graph.specs.declared.parts.KeyedObject.{KeyedObject}
@@ -16,9 +19,19 @@ use Rattle.graph.specs.declared.parts.Parts.{Parts}
 abbrev pub renamed_edge : (ℕ → ℕ) → HasValue → HasValue
 renamed_edge values edge = record edge { value = values edge.value }
 
+-- what is said of bytes, with other keys of values
+abbrev pub renamed_node : (ℕ → ℕ) → Node → Node
+renamed_node values node = record node { edges = map (renamed_edge values) node.edges }
+
+-- a shape whose values have other keys
+abbrev pub renamed_shape : (ℕ → ℕ) → Shape → Shape
+renamed_shape values Region = Region
+renamed_shape values (Segment twofold head next prev back least next_value prev_value node) =
+    Segment twofold head next prev back least (values next_value) (values prev_value) (renamed_node values node)
+
 -- an object whose values have other keys
 abbrev pub renamed_object : (ℕ → ℕ) → Object → Object
-renamed_object values object = record object { edges = map (renamed_edge values) object.edges }
+renamed_object values object = record object { shape = renamed_shape values object.shape; edges = map (renamed_edge values) object.edges }
 
 -- a value whose object has another key
 abbrev pub renamed_value : (ℕ → ℕ) → Value → Value

@@ -1,9 +1,10 @@
-ghost use Rattle.std.specs.Prelude.{◌≡◌, ◌↔◌, false, IfOk, IfSome};
-ghost use Rattle.graph.specs.WellFormed.{HasAscendingKeys, IsWellFormed, is_within_limits};
+ghost use Rattle.std.specs.Prelude.{◌≡◌, ◌↔◌, false, nat_lt, sum_by, IfOk, IfSome};
+ghost use Rattle.graph.specs.WellFormed.{HasAscendingKeys, IsWellFormed, is_within_limits, nodes_of};
 ghost use Rattle.graph.specs.Renaming.{numbered};
 
 use crate::graph::Graph;
-use crate::parts::Parts;
+use crate::object::Shape;
+use crate::parts::{KeyedObject, Parts};
 use crate::points::is_well_formed;
 use cbase::{NoMemory, Stop};
 use std::alloc::Global;
@@ -11,12 +12,43 @@ use std::alloc::Global;
 /// How many nodes, and how many unequal pairs, are too many.
 const TOO_MANY: usize = 1_073_741_824;
 
-/// Whether a graph may have so many nodes and unequal pairs. Each region is one node.
-#[tactic(auto, using(crate::proofs::PlaceAmong::nodes_are_objects))]
+/// For how many nodes an object of this shape counts.
+fn nodes_of(shape: &Shape) -> u32
+    ensures { result ≡ nodes_of shape.now }
+{
+    match shape.links() {
+        None => 1,
+        Some(links) => {
+            if links.least == 0 {
+                1
+            } else {
+                links.least
+            }
+        }
+    }
+}
+
+/// Whether objects count for fewer nodes than are too many.
+fn has_few_nodes(objects: &[KeyedObject]) -> bool
+    ensures { result ≡ nat_lt (sum_by (λ entry. nodes_of entry.object.shape) objects.now) 1073741824 }
+{
+    let mut count: u64 = 0;
+    let mut left = objects;
+    while let [first, rest @ ..] = left {
+        count += nodes_of(&first.object.shape) as u64;
+        if count >= TOO_MANY as u64 {
+            return false;
+        }
+        left = rest;
+    }
+    true
+}
+
+/// Whether a graph may have so many nodes and unequal pairs.
 fn is_within_limits(parts: &Parts) -> bool
     ensures { result ≡ is_within_limits parts.now }
 {
-    if parts.objects.len() < TOO_MANY {
+    if has_few_nodes(parts.objects.as_slice()) {
         parts.unequal.len() < TOO_MANY
     } else {
         false

@@ -4,8 +4,9 @@ ghost use Rattle.graph.specs.Whole.{entries_of, no_contents, no_parts};
 
 use crate::contents::{Contents, Objects, Values};
 use crate::edges::Edges;
-use crate::object::Object;
+use crate::object::{Object, Shape};
 use crate::parts::{KeyedObject, KeyedValue, Parts};
+use crate::template::{Node, Template};
 use cbase::{List, NoMemory};
 use std::alloc::Global;
 
@@ -53,20 +54,73 @@ fn copy_items<T: Copy>(alloc: Global, items: &List<T>, copy: &mut List<T>) -> Re
     Ok(())
 }
 
-/// An object that differs from another in its edges alone.
-pub(crate) fn with_edges(alloc: Global, object: &Object, edges: Edges) -> Result<Object, NoMemory>
-    ensures { IfOk result (λ copy. copy ≡ record object.now { edges = edges }) }
+/// An equal node.
+fn copied_node(alloc: Global, node: &Node) -> Result<Node, NoMemory>
+    ensures { IfOk result (λ copy. copy ≡ node.now) }
+{
+    let edges = Edges::of(alloc, node.edges.as_slice())?;
+    match node.plane.copied(alloc) {
+        Ok(plane) => Ok(Node { edges, plane }),
+        Err(error) => {
+            drop(edges);
+            Err(error)
+        }
+    }
+}
+
+/// An equal shape.
+fn copied_shape(alloc: Global, shape: &Shape) -> Result<Shape, NoMemory>
+    ensures { IfOk result (λ copy. copy ≡ shape.now) }
+{
+    match shape {
+        Shape::Region => Ok(Shape::Region),
+        Shape::Segment {
+            twofold,
+            head,
+            next,
+            prev,
+            back,
+            least,
+            next_value,
+            prev_value,
+            node,
+        } => {
+            let node = copied_node(alloc, node.get())?;
+            Ok(Shape::Segment {
+                twofold: *twofold,
+                head: *head,
+                next: *next,
+                prev: *prev,
+                back: *back,
+                least: *least,
+                next_value: *next_value,
+                prev_value: *prev_value,
+                node: Template::new(alloc, node)?,
+            })
+        }
+    }
+}
+
+/// An object with the size, kind, life and plane of another, and with this shape and these edges.
+pub(crate) fn with_shape(
+    alloc: Global,
+    object: &Object,
+    shape: Shape,
+    edges: Edges,
+) -> Result<Object, NoMemory>
+    ensures { IfOk result (λ copy. copy ≡ record object.now { shape = shape; edges = edges }) }
 {
     match object.plane.copied(alloc) {
         Ok(plane) => Ok(Object {
             size: object.size,
             kind: object.kind,
             live: object.live,
-            shape: object.shape,
+            shape,
             edges,
             plane,
         }),
         Err(error) => {
+            drop(shape);
             drop(edges);
             Err(error)
         }
@@ -78,7 +132,13 @@ fn copied_object(alloc: Global, object: &Object) -> Result<Object, NoMemory>
     ensures { IfOk result (λ copy. copy ≡ object.now) }
 {
     let edges = Edges::of(alloc, object.edges.as_slice())?;
-    with_edges(alloc, object, edges)
+    match copied_shape(alloc, &object.shape) {
+        Ok(shape) => with_shape(alloc, object, shape, edges),
+        Err(error) => {
+            drop(edges);
+            Err(error)
+        }
+    }
 }
 
 /// Puts the same objects under the same keys.

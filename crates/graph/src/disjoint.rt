@@ -1,50 +1,27 @@
-//! Whether the ranges of edges share no byte.
-ghost use Rattle.std.specs.Prelude.{◌≡◌, ◌+◌, nat_le, true};
+//! Whether the ranges of edges stand in order, and whether they share a byte.
+ghost use Rattle.std.specs.Prelude.{◌≡◌};
 ghost use Rattle.std.specs.List.{list_all};
 ghost use Rattle.graph.specs.Points.{neighbours};
-ghost use Rattle.graph.specs.WellFormed.{share_no_byte, are_disjoint};
+ghost use Rattle.graph.specs.WellFormed.{are_in_order, lies_before, share_no_byte};
 
 use crate::edges::HasValue;
-use std::alloc::Global;
 
-/// Whether no two of these edges share a byte.
-///
-/// Edges that lie one behind the other are found so by one walk, and all others by one behind a sort. Only where
-/// two share a byte, or memory for the sort is wanting, each edge is compared with each.
-pub(crate) fn are_disjoint(alloc: Global, edges: &[HasValue]) -> bool
-    ensures { result ≡ are_disjoint edges.now }
+/// Whether each of these edges ends before each later one begins.
+#[tactic(auto, using(crate::proofs::InOrder::in_order_neighbours))]
+pub(crate) fn are_in_order(edges: &[HasValue]) -> bool
+    ensures { result ≡ are_in_order edges.now }
 {
-    if lie_in_order(edges) {
-        return true;
-    }
-    if lie_apart(alloc, edges) {
-        return true;
-    }
-    share_none(edges)
+    lie_in_order(edges)
 }
 
-/// Whether these edges, in the order of their first bytes, lie one behind the other. Where memory is wanting, this
-/// is not known.
-fn lie_apart(alloc: Global, edges: &[HasValue]) -> bool
-    ensures { result ≡ true → are_disjoint edges.now ≡ true }
-{
-    match Vec::from_slice(alloc, edges) {
-        Ok(mut sorted) => {
-            sorted.sort_unstable_by_key(|edge| edge.at);
-            lie_in_order(sorted.as_slice())
-        }
-        Err(_) => false,
-    }
-}
-
-/// Whether these edges lie one behind the other.
+/// Whether each of these edges ends before the one behind it begins.
 fn lie_in_order(edges: &[HasValue]) -> bool
-    ensures order { result ≡ neighbours (λ one other. nat_le (one.at + one.size) other.at) edges.now }
+    ensures order { result ≡ neighbours lies_before edges.now }
 {
     let mut left = edges;
     while let [first, rest @ ..] = left {
         if let [second, ..] = rest {
-            if first.at as u64 + first.size as u64 > second.at as u64 {
+            if !lies_before(first, second) {
                 return false;
             }
         }
@@ -53,22 +30,15 @@ fn lie_in_order(edges: &[HasValue]) -> bool
     true
 }
 
-/// Whether no two of these edges share a byte, with each compared with each.
-fn share_none(edges: &[HasValue]) -> bool
-    ensures { result ≡ are_disjoint edges.now }
+/// Whether an edge ends before another begins.
+pub(crate) fn lies_before(edge: &HasValue, other: &HasValue) -> bool
+    ensures { result ≡ lies_before edge.now other.now }
 {
-    let mut left = edges;
-    while let [first, rest @ ..] = left {
-        if !is_apart(first, rest) {
-            return false;
-        }
-        left = rest;
-    }
-    true
+    edge.at as u64 + edge.size as u64 <= other.at as u64
 }
 
 /// Whether an edge shares no byte with any of the others.
-fn is_apart(edge: &HasValue, others: &[HasValue]) -> bool
+pub(crate) fn is_apart(edge: &HasValue, others: &[HasValue]) -> bool
     ensures { result ≡ list_all (share_no_byte edge.now) others.now }
 {
     let mut left = others;
@@ -85,8 +55,8 @@ fn is_apart(edge: &HasValue, others: &[HasValue]) -> bool
 fn shares_no_byte(edge: &HasValue, other: &HasValue) -> bool
     ensures { result ≡ share_no_byte edge.now other.now }
 {
-    if edge.at as u64 + edge.size as u64 <= other.at as u64 {
+    if lies_before(edge, other) {
         return true;
     }
-    other.at as u64 + other.size as u64 <= edge.at as u64
+    lies_before(other, edge)
 }

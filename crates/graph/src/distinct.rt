@@ -1,11 +1,11 @@
-//! Whether variables, their storage and registers are distinct. Numbers are sorted for it; where memory for that is
-//! wanting, each is compared with each.
+//! Whether the storage of variables is distinct. Numbers are sorted for it; where memory for that is wanting, each is
+//! compared with each.
 ghost use Rattle.std.specs.Prelude.{◌≡◌, not, map, nat_eq};
 ghost use Rattle.std.specs.List.{list_all};
 ghost use Rattle.graph.specs.Points.{neighbours};
 ghost use Rattle.graph.specs.WellFormed.{are_distinct};
 
-use crate::parts::{Held, Named};
+use crate::parts::Named;
 use std::alloc::Global;
 
 /// Whether no two of these variables have one storage.
@@ -15,26 +15,6 @@ pub(crate) fn storage_is_distinct(alloc: Global, variables: &[Named]) -> bool
     match variables.iter().map(|entry| entry.object).collect(alloc) {
         Ok(numbers) => all_differ(numbers),
         Err(_) => storage_is_apart(variables),
-    }
-}
-
-/// Whether no variable stands twice.
-pub(crate) fn variables_are_distinct(alloc: Global, variables: &[Named]) -> bool
-    ensures { result ≡ are_distinct (map (λ entry. entry.variable) variables.now) }
-{
-    match variables.iter().map(|entry| entry.variable).collect(alloc) {
-        Ok(numbers) => all_differ(numbers),
-        Err(_) => variables_are_apart(variables),
-    }
-}
-
-/// Whether no register stands twice.
-pub(crate) fn registers_are_distinct(alloc: Global, registers: &[Held]) -> bool
-    ensures { result ≡ are_distinct (map (λ entry. entry.register) registers.now) }
-{
-    match registers.iter().map(|entry| entry.register).collect(alloc) {
-        Ok(numbers) => all_differ(numbers),
-        Err(_) => registers_are_apart(registers),
     }
 }
 
@@ -85,62 +65,6 @@ fn is_new_storage(object: u32, variables: &[Named]) -> bool
     let mut left = variables;
     while let [first, rest @ ..] = left {
         if object == first.object {
-            return false;
-        }
-        left = rest;
-    }
-    true
-}
-
-/// Whether no variable stands twice, with each compared with each.
-fn variables_are_apart(variables: &[Named]) -> bool
-    ensures { result ≡ are_distinct (map (λ named. named.variable) variables.now) }
-{
-    let mut left = variables;
-    while let [first, rest @ ..] = left {
-        if !is_new_variable(first.variable, rest) {
-            return false;
-        }
-        left = rest;
-    }
-    true
-}
-
-/// Whether the variable is none of these.
-fn is_new_variable(variable: u32, variables: &[Named]) -> bool
-    ensures { result ≡ list_all (λ other. not (nat_eq variable other)) (map (λ named. named.variable) variables.now) }
-{
-    let mut left = variables;
-    while let [first, rest @ ..] = left {
-        if variable == first.variable {
-            return false;
-        }
-        left = rest;
-    }
-    true
-}
-
-/// Whether no register stands twice, with each compared with each.
-fn registers_are_apart(registers: &[Held]) -> bool
-    ensures { result ≡ are_distinct (map (λ held. held.register) registers.now) }
-{
-    let mut left = registers;
-    while let [first, rest @ ..] = left {
-        if !is_new_register(first.register, rest) {
-            return false;
-        }
-        left = rest;
-    }
-    true
-}
-
-/// Whether the register is none of these.
-fn is_new_register(register: u32, registers: &[Held]) -> bool
-    ensures { result ≡ list_all (λ other. not (nat_eq register other)) (map (λ held. held.register) registers.now) }
-{
-    let mut left = registers;
-    while let [first, rest @ ..] = left {
-        if register == first.register {
             return false;
         }
         left = rest;

@@ -1,15 +1,16 @@
 ghost use Rattle.std.specs.Prelude.{◌≡◌, ◌<◌, [], length, map, IfOk, OnOk};
 ghost use Rattle.std.specs.List.{AllPairs};
-ghost use Rattle.graph.specs.Renaming.{place_among, object_keys, value_keys, renamed_edge, renamed_object, renamed_value, renamed_pair};
+ghost use Rattle.graph.specs.Renaming.{place_among, object_keys, value_keys, renamed_edge, renamed_node, renamed_shape, renamed_object, renamed_value, renamed_pair};
 ghost use Rattle.graph.specs.WellFormed.{HasAscendingKeys};
 ghost use Rattle.graph.specs.Whole.{no_contents, placed};
 
 use crate::contents::{Contents, Objects, Values};
-use crate::copies::with_edges;
+use crate::copies::with_shape;
 use crate::edges::{Edges, HasValue};
 use crate::keyed::MOST_KEYS;
-use crate::object::Object;
+use crate::object::{Object, Shape};
 use crate::parts::{Held, KeyedObject, KeyedValue, Named, Pair, Parts};
+use crate::template::{Node, Template};
 use crate::value::Value;
 use cbase::{List, NoMemory};
 use std::alloc::Global;
@@ -127,14 +128,71 @@ fn placed_edges(alloc: Global, keys: &[u32], edges: &[HasValue]) -> Result<Edges
     Edges::of(alloc, placed.as_slice())
 }
 
-/// An object whose edges hold values by their places.
+/// A node whose edges hold values by their places.
+fn placed_node(alloc: Global, keys: &[u32], node: &Node) -> Result<Node, NoMemory>
+    requires few { length keys.now < 4294967296 }
+    requires ascending { AllPairs (λ one other. one < other) keys.now }
+    ensures { IfOk result (λ placed. placed ≡ renamed_node (place_among keys.now) node.now) }
+{
+    let edges = placed_edges(alloc, keys, node.edges.as_slice())?;
+    match node.plane.copied(alloc) {
+        Ok(plane) => Ok(Node { edges, plane }),
+        Err(error) => {
+            drop(edges);
+            Err(error)
+        }
+    }
+}
+
+/// A shape that names values by their places.
+fn placed_shape(alloc: Global, keys: &[u32], shape: &Shape) -> Result<Shape, NoMemory>
+    requires few { length keys.now < 4294967296 }
+    requires ascending { AllPairs (λ one other. one < other) keys.now }
+    ensures { IfOk result (λ placed. placed ≡ renamed_shape (place_among keys.now) shape.now) }
+{
+    match shape {
+        Shape::Region => Ok(Shape::Region),
+        Shape::Segment {
+            twofold,
+            head,
+            next,
+            prev,
+            back,
+            least,
+            next_value,
+            prev_value,
+            node,
+        } => {
+            let node = placed_node(alloc, keys, node.get())?;
+            Ok(Shape::Segment {
+                twofold: *twofold,
+                head: *head,
+                next: *next,
+                prev: *prev,
+                back: *back,
+                least: *least,
+                next_value: place_of(keys, *next_value),
+                prev_value: place_of(keys, *prev_value),
+                node: Template::new(alloc, node)?,
+            })
+        }
+    }
+}
+
+/// An object that names values by their places.
 fn placed_object(alloc: Global, keys: &[u32], object: &Object) -> Result<Object, NoMemory>
     requires few { length keys.now < 4294967296 }
     requires ascending { AllPairs (λ one other. one < other) keys.now }
     ensures { IfOk result (λ placed. placed ≡ renamed_object (place_among keys.now) object.now) }
 {
     let edges = placed_edges(alloc, keys, object.edges.as_slice())?;
-    with_edges(alloc, object, edges)
+    match placed_shape(alloc, keys, &object.shape) {
+        Ok(shape) => with_shape(alloc, object, shape, edges),
+        Err(error) => {
+            drop(edges);
+            Err(error)
+        }
+    }
 }
 
 /// Puts objects under their places, with edges that hold values by theirs.

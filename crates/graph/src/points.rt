@@ -3,10 +3,14 @@
 ghost use Rattle.std.specs.Prelude.{◌≡◌, ◌↔◌, false, IsTrue};
 ghost use Rattle.std.specs.Option.{option_map_or};
 ghost use Rattle.graph.specs.Maps.{object_at};
-ghost use Rattle.graph.specs.WellFormed.{HasAscendingKeys, IsWellFormed, leads_to_object, is_storage, variables_have_storage, registers_hold_values, ports_are_values, is_unequal_pair, pairs_may_be_unequal};
+ghost use Rattle.graph.specs.WellFormed.{HasAscendingKeys, IsWellFormed, passes_at, may_be_held, target_fits, leads_to_object, is_storage, variables_have_storage, registers_hold_values, ports_are_values, is_unequal_pair, pairs_may_be_unequal};
 ghost use Rattle.graph.specs.Points as points;
 
-use crate::distinct::{registers_are_distinct, storage_is_distinct, variables_are_distinct};
+use crate::ascending::{registers_ascend, variables_ascend};
+use crate::different::are_different;
+use crate::distinct::storage_is_distinct;
+use crate::ends::comes_to_an_end;
+use crate::link_points::means_one;
 use crate::look_up::{object_with, value_with};
 use crate::object::{Object, Shape};
 use crate::object_points::objects_fit;
@@ -22,15 +26,18 @@ pub(crate) fn is_well_formed(alloc: Global, parts: &Parts) -> bool
     requires { HasAscendingKeys parts.now }
     ensures { IsTrue result ↔ IsWellFormed parts.now }
 {
-    passes_all(alloc, parts)
+    if !passes_all(alloc, parts) {
+        return false;
+    }
+    comes_to_an_end(alloc, parts)
 }
 
 /// Whether parts pass each test.
 fn passes_all(alloc: Global, parts: &Parts) -> bool
     requires { HasAscendingKeys parts.now }
-    ensures { result ≡ points.is_well_formed parts.now }
+    ensures { result ≡ points.passes_all parts.now }
 {
-    if !objects_fit(alloc, parts) {
+    if !objects_fit(parts) {
         return false;
     }
     if !values_fit(parts) {
@@ -42,19 +49,42 @@ fn passes_all(alloc: Global, parts: &Parts) -> bool
     if !storage_is_distinct(alloc, parts.variables.as_slice()) {
         return false;
     }
-    if !variables_are_distinct(alloc, parts.variables.as_slice()) {
+    if !variables_ascend(parts.variables.as_slice()) {
         return false;
     }
     if !registers_hold_values(parts) {
         return false;
     }
-    if !registers_are_distinct(alloc, parts.registers.as_slice()) {
+    if !registers_ascend(parts.registers.as_slice()) {
         return false;
     }
     if !ports_are_values(parts) {
         return false;
     }
-    pairs_may_be_unequal(parts)
+    if !pairs_may_be_unequal(parts) {
+        return false;
+    }
+    are_different(alloc, parts.unequal.as_slice())
+}
+
+/// Whether an object of this shape has a block that an address with this target leads to.
+fn target_fits(target: Target, shape: &Shape) -> bool
+    ensures { result ≡ target_fits target shape.now }
+{
+    match shape {
+        Shape::Region => match target {
+            Target::Region => true,
+            Target::First => false,
+            Target::Last => false,
+            Target::Each => false,
+        },
+        Shape::Segment { twofold, .. } => match target {
+            Target::Region => false,
+            Target::First => true,
+            Target::Last => *twofold,
+            Target::Each => true,
+        },
+    }
 }
 
 /// Whether an address leads to an object that is there.
@@ -72,12 +102,35 @@ fn leads_to_object(parts: &Parts, value: Value) -> bool
             target,
         } => match object_with(parts, object) {
             None => false,
-            Some(found) => match target {
-                Target::Region => match found.shape {
-                    Shape::Region => true,
-                },
-            },
+            Some(found) => target_fits(target, &found.shape),
         },
+    }
+}
+
+/// Whether a register or a port may hold a value.
+fn may_be_held(value: Value) -> bool
+    ensures { result ≡ may_be_held value }
+{
+    match value {
+        Value::Const { number: _, size: _ } => true,
+        Value::Number { size: _ } => true,
+        Value::Any => true,
+        Value::Address {
+            object: _,
+            offset: _,
+            target,
+        } => means_one(target),
+    }
+}
+
+/// Whether a value with this key is there, and a register or a port may hold it.
+fn holds(parts: &Parts, key: u32) -> bool
+    requires { HasAscendingKeys parts.now }
+    ensures { result ≡ passes_at parts.now may_be_held key }
+{
+    match value_with(parts, key) {
+        None => false,
+        Some(value) => may_be_held(value),
     }
 }
 
@@ -146,7 +199,7 @@ fn registers_hold_values(parts: &Parts) -> bool
 {
     let mut left = parts.registers.as_slice();
     while let [first, rest @ ..] = left {
-        if value_with(parts, first.value).is_none() {
+        if !holds(parts, first.value) {
             return false;
         }
         left = rest;
@@ -161,7 +214,7 @@ fn ports_are_values(parts: &Parts) -> bool
 {
     let mut left = parts.ports.as_slice();
     while let [first, rest @ ..] = left {
-        if value_with(parts, *first).is_none() {
+        if !holds(parts, *first) {
             return false;
         }
         left = rest;

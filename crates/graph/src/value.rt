@@ -3,6 +3,12 @@
 pub enum Target {
     /// The one block of an object that is a region.
     Region,
+    /// The first node of a segment, or what lies behind a segment without nodes.
+    First,
+    /// The last node of a segment that is linked both ways, or what lies before one without nodes.
+    Last,
+    /// Each node itself. Such an address stands only in what is said of the nodes of the segment that it names.
+    Each,
 }
 
 /// What is known of a word.

@@ -1,10 +1,10 @@
 use Rattle.std.proofs.Common.{◌≡◌, length}
 use Rattle.std.specs.List.{list_all}
-use Rattle.graph.specs.Points.{edge_fits}
-use Rattle.graph.proofs.object_points.edges_fit.Given as goal
+use Rattle.graph.specs.WellFormed.{differs_from}
+use Rattle.graph.proofs.different.is_new.Given as goal
 
 abbrev pub invariant-loop-left : goal.invariant-loop-left
-invariant-loop-left l = list_all (edge_fits l.parts l.object) l.edges ≡ list_all (edge_fits l.parts l.object) l.left
+invariant-loop-left l = list_all (differs_from l.pair) l.others ≡ list_all (differs_from l.pair) l.left
 
 abbrev pub decreases-loop-left : goal.decreases-loop-left
 decreases-loop-left l = length l.left
