@@ -71,6 +71,9 @@ ASKED = {
     ("rule 9", r"\? .* :"): "`?:` on null pointers is of no form of a static initialiser",
     ("rule 2", r"\bstatic\b"): "what has linkage has one type in all scopes, also where one of two linkages is internal",
     ("rule 5", r"\{ \{"): "more than one pair of braces round a number or a pointer",
+    ("rule 5", r"\{ \}"): "braces without a value, or a part too many that has none",
+    ("rule 9", r"_Bool \w+ = [&(]"): "a pointer becomes no `_Bool` in a static initialiser",
+    ("rule 9", r"_Bool \w+ = \w+ ;"): "a pointer becomes no `_Bool` in a static initialiser",
 }
 # stands among the lines of gcc's errors where one of these is let
 LET_GO = "let"
@@ -336,7 +339,7 @@ class Writer:
             declared = self.declaration(block=True) + " "
         else:
             declared = ""
-        text = f"__extension__ ({{ {declared}{self.whole(below)}; }})"
+        text = f"__extension__ ({{ {declared}{self.whole(below)};{' ;' * self.pick((0, 0, 0, 0, 1, 2))} }})"
         self.close()
         return text
 
@@ -409,7 +412,32 @@ class Writer:
         name, one = self.pick(linked)
         return f"{self.pick(('extern ', '', 'extern '))}{one.words.replace('@', name)};" if "@" in one.words else None
 
+    def array_again(self):
+        """An array of ints with linkage, with a size or without one: what it is known as in a scope goes by the declarations that are visible."""
+        name = self.pick(("r", "r", "q"))
+        self.linked.add(name)
+        size = self.pick(("", "", "3", "3", "3", "2"))
+        if self.one_in(3):
+            return f"{self.whole(1)} + sizeof {name};" if len(self.scopes) > 1 else f"extern int {name}[{size}];"
+        if len(self.scopes) == 1 and self.one_in(2):
+            return f"int {name}[{size}]" + self.pick((";", f" = {{ {', '.join(str(at) for at in range(self.pick((2, 3, 3))))} }};"))
+        return f"extern int {name}[{size}];"
+
+    def surplus(self, block):
+        """An object with an initialiser that has parts too many, or in braces that nothing fills."""
+        members = "".join(f"int {name}; " for name in self.chance.sample(("a", "b", "c"), self.chance.randrange(1, 3)))
+        storage = self.pick(("", "static", "extern", "typedef") if block else ("", "static"))
+        parts = [self.pick(("1", "2", "{ }", ".a = 3", ".b = 4", "{ 5 }")) for _ in range(self.chance.randrange(1, 5))]
+        name = f"w{self.chance.randrange(1000)}"
+        return f"{storage} struct {{ {members}}} {name} = {{ {', '.join(parts)} }};".strip()
+
     def declaration(self, block):
+        if self.one_in(12):
+            return self.array_again()
+        if self.one_in(60):
+            return self.surplus(block)
+        if self.one_in(60):
+            return f"static _Bool {self.name_for('static', block)}{self.chance.randrange(1000)} = {self.pick((self.constant(1), self.fixed_place(), '(void *)0'))};"
         at = self.chance.randrange(12)
         if at == 0:
             return self.tag_alone()
