@@ -58,6 +58,7 @@ LET = {
     r"braced-group within expression allowed only inside": "a statement expression may stand outside of functions",
     r"forbids braced-groups": "a statement expression is read also without `__extension__`",
     r"extra \";\"|extra ';'": "a `;` alone is an item",
+    r"empty initializer braces": "braces of a struct may be empty, as in GNU C",
 }
 # What is refused here of texts that gcc takes, by the rule and by a form that the text, cut down, has; and why.
 ASKED = {

@@ -1,7 +1,7 @@
 -- What is found of the block of a statement expression.
-use Rattle.std.proofs.Common.{◌≡◌, ◌<◌, ℕ, true, false, List, [], ◌∷◌, ◌++◌, map, length, refl, sym, ap, subst, ◌∙◌, ◌≤◌, ◌+◌, drop, get_or, arith, length-drop, None, Some, append-nil, Result, Ok, Err, IfOk}
+use Rattle.std.proofs.Common.{◌≡◌, ◌<◌, ℕ, true, false, List, [], ◌∷◌, ◌++◌, map, length, refl, sym, ap, subst, ◌∙◌, ◌≤◌, ◌+◌, ◌-◌, take, drop, get_or, arith, length-drop, None, Some, append-nil, Result, Ok, Err, IfOk}
 use Rattle.std.specs.Prelude.{is_some}
-use Rattle.std.proofs.lemmas.List.{append_assoc, map-append, drop_all}
+use Rattle.std.proofs.lemmas.List.{append_assoc, map-append, drop_all, take_all}
 use Rattle.cbase.specs.declared.abi.Abi.{Abi}
 use Rattle.cbase.specs.declared.ctype.CType.{CType}
 use Rattle.cbase.specs.declared.ctype.CType.TheVariants.{Void as VoidType}
@@ -42,6 +42,10 @@ use Rattle.expressions.proofs.Growth.{agrees_before, agrees_before_types, grows_
 use Rattle.expressions.proofs.Loops.{next_item}
 use Rattle.expressions.proofs.TypeWords.{declared_by_types, grows_to}
 use Rattle.expressions.proofs.Walking.{handed_behind, passed_of, stopped_of, judged_result}
+
+-- the statements from one on, as code takes them
+pub rest_of : (body : List Stmt) (index : ℕ) → take (length body - index) (drop index body) ≡ drop index body
+rest_of body index = take_all (length body - index) (drop index body) (omega (arith, length-drop index body))
 
 module _ (abi : Abi) (stmt : Stmt) (rest : List Stmt) (expr : Expr) (old mid : Context) where
   -- the last statement that is not empty is an expression: a struct is no value of a block

@@ -11,7 +11,7 @@ use Rattle.typing.specs.environment.Bounds.{AreBelow, EntityBelow, BindingBelow,
 use Rattle.typing.specs.environment.Environment.{name_found, visible_type, name_bound, name_bound_around, name_defined, resolved, signature_added}
 use Rattle.typing.specs.environment.Names.{value_in}
 use Rattle.typing.specs.environment.Scopes.{found_here}
-use Rattle.typing.proofs.environment.Bounds.{meaning_here_of_each, visible_is_below, bound_below, bound_around_below, defined_below, found_is_below, found_here_is_below, linked_is_below, result_is_below, added_below}
+use Rattle.typing.proofs.environment.Bounds.{binding_here_is_below, visible_is_below, bound_below, bound_around_below, defined_below, found_is_below, found_here_is_below, linked_is_below, result_is_below, added_below}
 use Rattle.expressions.specs.Context.{Context}
 
 pub found_below : (count : ℕ) (name : List ℕ) (env : Environment) → AreBelow count env → (found : Option Entity) → found ≡ name_found name env
@@ -88,7 +88,7 @@ result_below_now {view} same below found is =
 binding_below : (count : ℕ) (name : List ℕ) (env : Environment) → AreBelow count env → (found : Option Binding) → found ≡ found_here name env.names
     → IfSome found (BindingBelow count env.signatures)
 binding_below count name env below None is = tt
-binding_below count name env below (Some (WithLinkage items)) is = meaning_here_of_each (BindingBelow count env.signatures) name (WithLinkage items) env.names below.names (sym is)
+binding_below count name env below (Some (WithLinkage items)) is = binding_here_is_below count name env (WithLinkage items) below (sym is)
 binding_below count name env below (Some (Own entity)) is = found_here_is_below count name env entity below (ap (resolved name env.linked) (sym is))
 
 pub binding_below_now : {view now : Context} → view ≡ now → (name : List ℕ) → AreBelow (length view.types) view.environment → (found : Option Binding)

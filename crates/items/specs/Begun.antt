@@ -1,5 +1,5 @@
 -- What is declared in front of the first item of a file: the functions that are built in, in its scope (C11 7.1.3, 6.2.1p4).
-use Rattle.std.specs.Prelude.{◌≡◌, ◌<◌, ◌||◌, ◌++◌, ℕ, All, Bool, true, false, List, [], ◌∷◌, length, map}
+use Rattle.std.specs.Prelude.{◌≡◌, ◌<◌, ◌||◌, ◌++◌, ℕ, All, Bool, true, false, List, [], ◌∷◌, length, map, None}
 use Rattle.std.specs.Str.{bytes_eq}
 use Rattle.cbase.specs.declared.abi.Abi.{Abi}
 use Rattle.cbase.specs.declared.ctype.CType.{CType}

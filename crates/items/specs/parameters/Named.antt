@@ -1,5 +1,5 @@
 -- What is found at the name of a function behind its parameters, and what declares it.
-use Rattle.std.specs.Prelude.{◌≡◌, ℕ, Bool, List, [], map, length}
+use Rattle.std.specs.Prelude.{◌≡◌, ℕ, Bool, List, [], map, length, None}
 use Rattle.cbase.specs.declared.abi.Abi.{Abi}
 use Rattle.cbase.specs.declared.tree.decl.Declared.{Declared as DeclaredName}
 use Rattle.cbase.specs.declared.tree.decl.Storage.{Storage}

@@ -164,6 +164,10 @@ found_here_is_below count name env entity below is =
     resolved_below count name env (found_here name env.names) entity below
     (λ own at. meaning_here_of_each (BindingBelow count env.signatures) name own env.names below.names at) is
 
+pub binding_here_is_below : (count : ℕ) (name : List ℕ) (env : Environment) (binding : Binding) → AreBelow count env → found_here name env.names ≡ Some binding
+    → BindingBelow count env.signatures binding
+binding_here_is_below count name env binding below is = meaning_here_of_each (BindingBelow count env.signatures) name binding env.names below.names is
+
 pub linked_is_below : (count : ℕ) (name : List ℕ) (env : Environment) (meaning : Linked) → AreBelow count env → value_in name env.linked ≡ Some meaning → EntityBelow count env.signatures meaning.entity
 linked_is_below count name env meaning below is = value_of_each (LinkedBelow count env.signatures) name meaning env.linked below.linked is
 
