@@ -6,10 +6,11 @@ use Rattle.definitions.specs.declared.form.Form.TheVariants.{Body, Typedef, Exte
 use Rattle.definitions.specs.declared.form.StorageWord.{StorageWord}
 use Rattle.definitions.specs.declared.form.StorageWord.TheVariants as storage
 use Rattle.definitions.specs.declared.role.Role.{Role}
-use Rattle.definitions.specs.declared.role.Role.TheVariants.{Name, LeftParenthesis, LeftBracket, LeftBrace, RightParenthesis, RightBracket, RightBrace, Other}
+use Rattle.definitions.specs.declared.role.Role.TheVariants.{Name, Typedef as TypedefWord, Extern as ExternWord, Static, LeftParenthesis, LeftBracket, LeftBrace, RightParenthesis, RightBracket, RightBrace, Other}
 use Rattle.definitions.specs.declared.sign.Sign.{Sign}
 use Rattle.definitions.specs.Roles.{follows_declared, is_comma, is_equals, is_left_brace, is_name, is_opening, is_right_parenthesis, is_semicolon, is_storage_word, is_tag_word}
-use Rattle.definitions.specs.Defined.{begins_initialiser, bodied_by, bodied_in, defined_by, names_in, with_body, declares, defined_in, defines, defines_word, ends_declarator, form_of, has_initialiser, is_function, set_after, typed_after}
+use Rattle.definitions.specs.Defined.{begins_initialiser, bodied_by, bodied_in, defined_by, first_word, is_untyped, names_in, typedefs_in, with_body, declares, defined_in, defines, defines_word, ends_declarator, form_of, has_initialiser, is_function, set_after, typed_after}
+use Rattle.ctokens.specs.Gathered.{is_among}
 use Rattle.definitions.specs.Rows.{body_after, depth_after, ends_body, ends_with_body, has_body, has_storage, is_storage, outermost, sign_word}
 
 -- so many brackets are open in a row, and in what is left of it
@@ -206,23 +207,73 @@ same_form row =
     ∙ ap (λ (b : Bool). if ends_with_body (outermost 0 row) then Body else (if has_storage storage.Typedef 0 (outermost 0 row) then Typedef else (if b then Extern else Plain))) (same_stored storage.Extern 0 0 Shut row)))
 
 -- so are the words that it defines
-same_names : (form : Form) (row : List Sign) → defined_in form Other 0 false false (outermost 0 row) ≡ defined_in form Other 0 false false row
-same_names form row = sym (all_names form row 0 0 Other Other false false Shut (λ h. refl) (λ h. absurd cc))
+same_names : (form : Form) (untyped : Bool) (row : List Sign) → defined_in form Other 0 false untyped (outermost 0 row) ≡ defined_in form Other 0 false untyped row
+same_names form untyped row = sym (all_names form row 0 0 Other Other false untyped Shut (λ h. refl) (λ h. absurd cc))
 
--- the names that an item defines, and those that it defines with a body, are found in its row without what stands inside of brackets
-pub same_defined : (text : List ℕ) (form : Form) (names row : List Sign) → form ≡ form_of (outermost 0 row) → names ≡ defined_in form Other 0 false false (outermost 0 row)
-    → map (sign_word text) names ≡ defined_by text row
-same_defined text form names row is named =
-    ap (map (sign_word text)) (named ∙ same_names form row) ∙ ap (λ (f : Form). names_in text f row) (is ∙ same_form row)
+-- no bracket is open behind a storage word that stands at depth 0
+storage_outermost : (role : Role) → is_storage_word role ≡ true → depth_after 0 role ≡ 0
+storage_outermost TypedefWord h = refl
+storage_outermost ExternWord h = refl
+storage_outermost Static h = refl
+storage_outermost role h = absurd cc
 
-pub same_bodied : (text : List ℕ) (form : Form) (names row : List Sign) → form ≡ form_of (outermost 0 row) → names ≡ defined_in form Other 0 false false (outermost 0 row)
-    → with_body form (map (sign_word text) names) ≡ bodied_by text row
+first_step : (text : List ℕ) (sign : Sign) (rest : List Sign) → first_word text (outermost 0 rest) ≡ first_word text rest → (storage : Bool) → is_storage_word sign.role ≡ storage
+    → (if storage then first_word text (outermost (depth_after 0 sign.role) rest) else sign_word text sign) ≡ (if storage then first_word text rest else sign_word text sign)
+first_step text sign rest later true is = subst (λ (depth : ℕ). first_word text (outermost depth rest) ≡ first_word text rest) (sym (storage_outermost sign.role is)) later
+first_step text sign rest later false is = refl
+
+-- so is its first word
+same_first : (text : List ℕ) (row : List Sign) → first_word text (outermost 0 row) ≡ first_word text row
+same_first text [] = refl
+same_first text (sign ∷ rest) = first_step text sign rest (same_first text rest) (is_storage_word sign.role) refl
+
+same_untyped : (text : List ℕ) (typedefs : List (List ℕ)) (kept row : List Sign) (first : List ℕ) (found : Bool) → kept ≡ outermost 0 row → first ≡ first_word text kept → found ≡ is_among first typedefs
+    → not found ≡ is_untyped text typedefs row
+same_untyped text typedefs kept row first found left is among =
+    ap not (among ∙ ap (λ (word : List ℕ). is_among word typedefs) (is ∙ (ap (first_word text) left ∙ same_first text row)))
+
+defined_there : (kept row names : List Sign) (untyped other : Bool) (form : Form) → kept ≡ outermost 0 row → untyped ≡ other → names ≡ defined_in form Other 0 false untyped kept
+    → names ≡ defined_in form Other 0 false other row
+defined_there kept row names untyped other form left same named =
+    named ∙ (ap (λ (signs : List Sign). defined_in form Other 0 false untyped signs) left ∙ (same_names form untyped row ∙ ap (λ (u : Bool). defined_in form Other 0 false u row) same))
+
+formed : (kept row : List Sign) (form : Form) → kept ≡ outermost 0 row → form ≡ form_of kept → form ≡ form_of row
+formed kept row form left is = is ∙ (ap form_of left ∙ same_form row)
+
+-- the names that an item defines, those that it defines with a body, and those that it makes a typedef's are found in its row without
+-- what stands inside of brackets
+pub same_defined : (text : List ℕ) (typedefs : List (List ℕ)) (kept row names : List Sign) (first : List ℕ) (found : Bool) (form : Form) → kept ≡ outermost 0 row → first ≡ first_word text kept
+    → found ≡ is_among first typedefs → form ≡ form_of kept → names ≡ defined_in form Other 0 false (not found) kept → map (sign_word text) names ≡ defined_by text typedefs row
+same_defined text typedefs kept row names first found form left is among formed_so named =
+    ap (map (sign_word text)) (defined_there kept row names (not found) (is_untyped text typedefs row) form left (same_untyped text typedefs kept row first found left is among) named)
+    ∙ ap (λ (f : Form). names_in text (is_untyped text typedefs row) f row) (formed kept row form left formed_so)
+
+pub same_bodied : (text : List ℕ) (typedefs : List (List ℕ)) (kept row names : List Sign) (first : List ℕ) (found : Bool) (form : Form) → kept ≡ outermost 0 row → first ≡ first_word text kept
+    → found ≡ is_among first typedefs → form ≡ form_of kept → names ≡ defined_in form Other 0 false (not found) kept → with_body form (map (sign_word text) names) ≡ bodied_by text typedefs row
 unfolding with_body
-same_bodied text form names row is named =
-    ap (λ (signs : List Sign). with_body form (map (sign_word text) signs)) (named ∙ same_names form row) ∙ (chosen form ∙ ap (λ (f : Form). bodied_in text f row) (is ∙ same_form row))
+same_bodied text typedefs kept row names first found form left is among formed_so named =
+    ap (λ (signs : List Sign). with_body form (map (sign_word text) signs))
+    (defined_there kept row names (not found) (is_untyped text typedefs row) form left (same_untyped text typedefs kept row first found left is among) named)
+    ∙ (chosen form ∙ ap (λ (f : Form). bodied_in text (is_untyped text typedefs row) f row) (formed kept row form left formed_so))
   where
-    chosen : (f : Form) → with_body f (names_in text f row) ≡ bodied_in text f row
+    chosen : (f : Form) → with_body f (names_in text (is_untyped text typedefs row) f row) ≡ bodied_in text (is_untyped text typedefs row) f row
     chosen Body = refl
     chosen Typedef = refl
     chosen Extern = refl
     chosen Plain = refl
+
+pub same_typedefs : (text : List ℕ) (kept row names : List Sign) → kept ≡ outermost 0 row → Typedef ≡ form_of kept → names ≡ defined_in Body Other 0 false false kept
+    → map (sign_word text) names ≡ typedefs_in text (form_of row) row
+same_typedefs text kept row names left is named =
+    ap (map (sign_word text)) (defined_there kept row names false false Body left refl named)
+    ∙ ap (λ (f : Form). typedefs_in text f row) (formed kept row Typedef left is)
+
+-- an item of another form makes no name a typedef's
+pub no_typedefs : (text : List ℕ) (kept row : List Sign) (form : Form) → kept ≡ outermost 0 row → form ≡ form_of kept → (form ≡ Typedef → ⊥) → typedefs_in text (form_of row) row ≡ []
+no_typedefs text kept row form left is other = ap (λ (f : Form). typedefs_in text f row) (sym (formed kept row form left is)) ∙ none form other
+  where
+    none : (f : Form) → (f ≡ Typedef → ⊥) → typedefs_in text f row ≡ []
+    none Typedef h = absurd (h refl)
+    none Body h = refl
+    none Extern h = refl
+    none Plain h = refl

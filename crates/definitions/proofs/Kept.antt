@@ -45,7 +45,7 @@ defined_all P form before depth set typed (sign ∷ rest) all =
     (all 0 sign (omega arith)) (defined_all P form sign.role (depth_after depth sign.role) (set_after depth set sign.role) (typed_after typed sign.role) rest (All-drop P 1 (sign ∷ rest) all))
 
 -- what names something has bytes
-pub defined_bytes : (text : List ℕ) (form : Form) (row names : List Sign) → All (HasSignBytes text) row → names ≡ defined_in form Other 0 false false row
+pub defined_bytes : (text : List ℕ) (form : Form) (untyped : Bool) (row names : List Sign) → All (HasSignBytes text) row → names ≡ defined_in form Other 0 false untyped row
     → All (HasSignBytes text) names
-defined_bytes text form row names all is =
-    subst (λ (signs : List Sign). All (HasSignBytes text) signs) (sym is) (defined_all (HasSignBytes text) form Other 0 false false row all)
+defined_bytes text form untyped row names all is =
+    subst (λ (signs : List Sign). All (HasSignBytes text) signs) (sym is) (defined_all (HasSignBytes text) form Other 0 false untyped row all)

@@ -2,3 +2,4 @@ pub mod Outermost
 pub mod Kept
 pub mod Words
 pub mod Inside
+pub mod NameSets

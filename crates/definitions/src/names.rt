@@ -3,7 +3,7 @@
 ghost use Rattle.std.specs.Prelude.{◌≡◌, ◌≤◌, ◌∷◌, ◌++◌, false, length, map, IfOk, OnOk};
 ghost use Rattle.std.specs.List.{All};
 ghost use Rattle.ctokens.specs.InText.{most_bytes};
-ghost use Rattle.definitions.specs.Defined.{declares, defined_in, defines, defines_word, has_initialiser, is_function, set_after, typed_after};
+ghost use Rattle.definitions.specs.Defined.{declares, defined_in, defines, defines_word, first_word, has_initialiser, is_function, set_after, typed_after};
 ghost use Rattle.definitions.specs.Rows.{HasSignBytes, depth_after, sign_word};
 ghost use Rattle.definitions.specs.declared.role.Role.TheVariants.{Other};
 
@@ -24,7 +24,7 @@ struct Before {
     depth: u32,
     /// Whether a `=` stands at depth 0 since the last `,` at depth 0.
     set: bool,
-    /// Whether a token that is no storage word stands before it.
+    /// Whether the type stands before it, or is left out.
     typed: bool,
     /// Whether a `=` stands at depth 0 from here on, before the next `,` or `;` there.
     initialised: bool,
@@ -124,17 +124,22 @@ fn behind(before: Before, sign: Sign, rest: &[Sign]) -> Before
     }
 }
 
-/// The tokens that name what an item of the form with this row defines.
-pub(crate) fn defined_in(alloc: Global, form: Form, row: &[Sign]) -> Result<Vec<Sign>, NoMemory>
+/// The tokens that name what an item of the form with this row defines, where it is known whether its type is left out.
+pub(crate) fn defined_in(
+    alloc: Global,
+    untyped: bool,
+    form: Form,
+    row: &[Sign],
+) -> Result<Vec<Sign>, NoMemory>
     requires { length row.now ≤ most_bytes }
-    ensures { IfOk result (λ found. found.items ≡ defined_in form Other 0 false false row.now) }
+    ensures { IfOk result (λ found. found.items ≡ defined_in form Other 0 false untyped row.now) }
 {
     let mut found = Vec::new(alloc);
     let mut before = Before {
         role: Role::Other,
         depth: 0,
         set: false,
-        typed: false,
+        typed: untyped,
         initialised: has_initialiser(row),
     };
     for (i, sign) in row.iter().enumerate() {
@@ -144,6 +149,19 @@ pub(crate) fn defined_in(alloc: Global, form: Form, row: &[Sign]) -> Result<Vec<
         before = behind(before, *sign, row.split_at(i + 1).1);
     }
     Ok(found)
+}
+
+/// The first word of a row that is no storage word.
+pub(crate) fn first_word<'a>(text: &'a [u8], row: &[Sign]) -> &'a [u8]
+    requires { All (HasSignBytes text.now) row.now }
+    ensures { result.now ≡ first_word text.now row.now }
+{
+    for sign in row {
+        if !sign.role.is_storage_word() {
+            return sign_word(text, *sign);
+        }
+    }
+    &[]
 }
 
 /// Appends the words of these tokens.
