@@ -108,6 +108,9 @@ def built(to):
         if not any(line.startswith("run=ended ") for line in text.splitlines()) or not os.path.getsize(to):
             raise NotBuilt(f"`rt try` says:\n{text.rstrip()}")
     os.chmod(to, 0o755)
+    done = subprocess.run([to], stdin=subprocess.DEVNULL, capture_output=True)
+    if done.returncode != 4 or not done.stdout.startswith(b"usage: predator "):
+        raise NotBuilt("what was copied from `rt try` is not the program: without words it does not print the usage line")
 
 
 def drop_old(room):
