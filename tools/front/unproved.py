@@ -1,7 +1,8 @@
 """The program built from sources that are not proved: built once by the kit's `rt try`, and kept in a cache folder of the user.
 
-It is kept in `$XDG_CACHE_HOME/predator` (`~/.cache/predator` where that is not set), or in `predator-UID` in the folder for temporary files where that cannot be used, by
-the checksum of its sources and of the kit's name. `rt try` keeps no program. So the program is given a pipe to read, and while it waits there it is copied; then it is given a short text, whose answer shows that it runs.
+It is kept in `$XDG_CACHE_HOME/predator` (`~/.cache/predator` where that is not set), or in `predator-UID` in the folder for temporary files where that
+cannot be used, by the checksum of its sources and of the kit's name. `rt try` keeps no program. So the program is given a pipe to read, and while it
+waits there it is copied; then it is given a short text, whose answer shows that it runs.
 """
 import contextlib
 import errno
