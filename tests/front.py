@@ -102,6 +102,18 @@ def what_is_told(folder):
     yield b"predator replay [--model" in told(folder, "replay"), True
 
 
+def an_enum_that_compilers_take_for_unsigned(folder):
+    for front, is_told in (("enum e { A, B };", True), ("enum e { A = 0x0, B = 5 };", True), ("enum e { A, B = -1 };", False), ("enum e { A, B, C = B };", False),
+                           ("enum e { A, B }; int i;", False)):
+        Path(folder, "t.c").write_text(f"{front}\nint main(void) {{ for (enum e i = B; i >= A; i--) ; return 0; }}\n")
+        said = told(folder, "t.c")
+        yield b"there this is always true" in said, is_told
+        yield b"int main(void) { for (enum e i = B; i >= A; i--) ; return 0; }\n" + b" " * 38 + b"^\n" in said, is_told
+    Path(folder, "t.c").write_text("typedef enum { A = 1, B } t;\nint main(void) { t i = B; int n = i >= A; return i < 0; }\n")
+    yield told(folder, "t.c").count(b"there this is never true"), 1
+    yield told(folder, "t.c").count(b"there this is always true"), 0
+
+
 def a_report_that_cannot_be_written(folder):
     for more in ([], ["--explain"]):
         with open("/dev/full", "wb") as full:
@@ -217,7 +229,7 @@ def the_second_answer_comes_at_once(folder):
     yield time.monotonic() - began < 2, True
 
 
-CASES = (the_answers_are_the_programs, what_a_terminal_is_told, what_is_told, a_report_that_cannot_be_written, a_compiler_reads_the_file_first,
+CASES = (the_answers_are_the_programs, what_a_terminal_is_told, what_is_told, an_enum_that_compilers_take_for_unsigned, a_report_that_cannot_be_written, a_compiler_reads_the_file_first,
          gcc_reads_the_file_first, each_refusal_has_advice, choices_that_are_written, marks_stand_where_choices_are_asked_for,
          a_program_is_proved_by_its_checksum, the_second_answer_comes_at_once)
 

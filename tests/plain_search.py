@@ -1,6 +1,7 @@
 #!/usr/bin/env python3
 """A plain search, written apart from the program's, for what the runs of small programs of the first form meet.
 
+Usage: python3 tests/plain_search.py rows | wanted
 It draws programs of three locals and six further lines from the seeds 1 to 100, takes each of their runs by itself, and prints for
 each program a row of the kind `found` (with the word `rows`) or the line that crates/reading_rows has to print for it (with the
 word `wanted`): the number of the token and the kind of each fault. A run's choices are what each local holds at first, a null

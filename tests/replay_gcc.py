@@ -1,15 +1,13 @@
 #!/usr/bin/env python3
-"""Runs the programs of replay/ by gcc under its address sanitizer and by `./predator replay`, and compares what both find.
+"""Runs the programs of replay/ by gcc under its address sanitizer and by `predator replay`, and compares what both find.
 
 Usage, at the project's root: python3 tests/replay_gcc.py [NAME ..]
 A program either ends, or meets one fault. Its inputs stand below; those that it asks for are taken from its run by gcc, and the choices of
 `replay` are made of them: each allocation succeeds, as it did in that run, and each new block is put behind those before it, whatever
-address it had there, with contents of zeros. Which choice is asked for next is found by trying: a run that is given another kind of
-choice, or contents of another size, is over at once. It prints a line for each program on which the two differ: one ends and the other
-does not, or their faults stand on two lines. The status is 1 where there is one.
-The environment variable PREDATOR may name another program.
+address it had there, with contents of zeros. Which choice is asked for next is found as `predator choices` finds it, with the program that
+./predator takes. It prints a line for each program on which the two differ: one ends and the other does not, or their faults stand on two
+lines. The status is 1 where there is one.
 """
-import os
 import re
 import subprocess
 import sys
@@ -17,9 +15,9 @@ import tempfile
 from pathlib import Path
 
 HOME = Path(__file__).resolve().parent
-PROGRAM = Path(os.environ.get("PREDATOR", HOME.parent / "predator"))
-MOST_BYTES = 128  # of an object or a block of these programs
-MOST_CHOICES = 200
+sys.path.insert(0, str(HOME.parent / "tools"))
+from front import choices, run  # noqa: E402
+
 INPUTS = {
     "list_built_and_freed": (1, 5, 1, -7, 1, 40, 0),
     "zeros_by_calloc": (3, 0, 9, 3, -1),
@@ -52,51 +50,32 @@ def run_by_gcc(file, folder):
     return inputs, int(fault[1]) if fault else None
 
 
-def replayed(file, choices, folder):
-    """What `replay` prints of a program with these choices."""
-    text = Path(folder, "choices")
-    text.write_text("".join(choice + "\n" for choice in choices))
-    done = subprocess.run([PROGRAM, "replay", file.name, text], cwd=file.parent, stdin=subprocess.DEVNULL, capture_output=True, text=True)
-    return done.stdout
+class Inputs:
+    """Gives the inputs of a run, and the default for all that is asked for besides."""
+
+    def __init__(self, inputs):
+        self.left = list(inputs)
+
+    def choice(self, prober, size):
+        return prober.default(size) if size >= 0 or not self.left else b"input %d" % (self.left.pop(0) % 2**32)
 
 
-def candidates(inputs, address):
-    """The choices that may be asked for next: the next input, and a new block of each size."""
-    if inputs:
-        yield f"input {inputs[0] % 2**32}"
-    for size in range(MOST_BYTES + 1):
-        yield f"block {address} {'00' * size or '-'}"
-
-
-def run_by_replay(file, inputs, folder):
-    """What `replay` prints where it asks for no further choice."""
-    choices, address, left = [], 4096, list(inputs)
-    said = replayed(file, choices, folder)
-    while said.endswith(": waits\n") and len(choices) < MOST_CHOICES:
-        for choice in candidates(left, address):
-            said = replayed(file, choices + [choice], folder)
-            if not said.endswith(": ended\n"):
-                break
-        else:
-            return said
-        if choice.startswith("input"):
-            left.pop(0)
-        choices.append(choice)
-        address += 256
-    return said
+def run_by_replay(program, file, inputs):
+    """What is told of the run with these inputs."""
+    _, said, _ = choices.found_choices(program, [], file.read_bytes(), file.name.encode(), [], Inputs(inputs))
+    return said.decode()
 
 
 def main():
     names = sys.argv[1:] or sorted(file.stem for file in (HOME / "replay").glob("*.c"))
-    differing = 0
+    program, differing = run.Program(), 0
     with tempfile.TemporaryDirectory() as folder:
         for name in names:
             file = HOME / "replay" / f"{name}.c"
             inputs, line = run_by_gcc(file, folder)
-            said = run_by_replay(file, inputs, folder)
+            said = run_by_replay(program, file, inputs)
             fault = re.match(re.escape(file.name) + r":(\d+):\d+: ", said)
-            ended = said == f"{file.name}: ended\n"
-            if (line is None) != ended or (line is not None and (fault is None or int(fault[1]) != line)):
+            if (line is None) != (said == "ended") or (line is not None and (fault is None or int(fault[1]) != line)):
                 differing += 1
                 print(f"{name}: gcc finds {'no fault' if line is None else f'a fault in line {line}'}, replay says {said!r}")
     print(f"replay: {len(names) - differing} of {len(names)} programs as gcc runs them")

@@ -36,7 +36,7 @@ class Runs:
         more = [b"--steps", b"%d" % steps] if steps else []
         report, _ = self.program.answer([b"replay", *self.options, *more, self.name, self.list])
         if report is None:
-            raise RuntimeError("the program gave no answer")
+            raise run.NoAnswer("the program gave no answer")
         return report.rstrip(b"\n").removeprefix(self.name + b": ")
 
     def waits_after(self, choices, least):
@@ -285,6 +285,11 @@ def text_of(found):
         return None, f"{os.fsdecode(file)}: {error.strerror}"
 
 
+def refused(said):
+    """The status where no run is made, 0 where one is."""
+    return next((status for begin, status in ((b"not read: ", 3), (b"gave up: ", 2), (b"usage: ", 4)) if said.startswith(begin)), 0)
+
+
 def command(found):
     """Finds choices for a file, and writes them."""
     if not 1 <= len(found.files) <= 2 or not names_files(found, len(found.files)):
@@ -298,9 +303,10 @@ def command(found):
     program, is_shown = run.Program(), found.is_explained is not False
     program.note()
     chosen, said, stopped = found_choices(program, options_of(found), text, name, given_choices(to) if to else [], Typist(is_shown))
-    if said.startswith((b"not read: ", b"gave up: ", b"usage: ")):
-        run.say([said if said.startswith(b"usage") else name + b": " + said])
-        return 2 if said.startswith(b"gave up") else 4 if said.startswith(b"usage") else 3
+    if status := refused(said):
+        lines = [said if status == 4 else name + b": " + said]
+        run.say(lines + (explain.explained([name], text, lines[0], status) if is_shown else []))
+        return status
     if why := written(chosen, to):
         print(f"predator: the choices could not be written: {why}", file=sys.stderr)
         return 6

@@ -3,7 +3,7 @@ import os
 import re
 import shlex
 
-from . import places
+from . import enums, places
 from .advice import advice
 
 USAGE = """\
@@ -100,6 +100,12 @@ def of_report(report, text, names):
     return []
 
 
+def of_answer(report, text, names):
+    """What to say of a report, and of what compilers make another program of where the text passes the check."""
+    is_refused = re.search(rb": (?:gave up: |not read: (?!not yet))", report)
+    return of_report(report, text, names) + ([] if is_refused else enums.warnings(text, names[0]))
+
+
 def explained(names, text, report, status, error=""):
     """What to say of an answer, and of how it came about; `error` is why the report could not be written."""
     if status == 4:
@@ -110,4 +116,4 @@ def explained(names, text, report, status, error=""):
         return [b"predator: the report could not be written whole" + (f": {error}".encode() if error else b"")]
     if status == 7:
         return [b"predator: more memory was wanted than there is (`ulimit -v` shows a limit that a shell sets)"]
-    return of_report(report, text, names)
+    return of_answer(report, text, names)

@@ -10,6 +10,7 @@ from .words import names_files, taken_apart
 # The commands of the front script itself; the program has `replay`.
 COMMANDS = {b"choices": choices.command}
 UNREAD = 5  # the status where a file cannot be read
+INTERRUPTED = 130
 
 
 def is_explained(found):
@@ -80,4 +81,8 @@ def main(arguments):
         return COMMANDS.get(found.command, judged)(found)
     except unproved.NotBuilt as error:
         print(f"predator: the program cannot be built: {error}", file=sys.stderr)
-        return run.NO_ANSWER
+    except run.NoAnswer as error:
+        print(f"predator: {error}", file=sys.stderr)
+    except KeyboardInterrupt:
+        return INTERRUPTED
+    return run.NO_ANSWER

@@ -3,6 +3,8 @@
 A mark is an expression that takes an input of its own and, where that is more than 0 or than the size that is asked for, reads at a null pointer: the place
 of that fault is the mark's. Marks stand in front of each call that asks for a choice, of each block that has objects, and of each `for` that declares one.
 """
+from __future__ import annotations
+
 import re
 from dataclasses import dataclass, field
 

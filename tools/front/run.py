@@ -9,6 +9,10 @@ NO_ANSWER = 127
 NOTE = "predator: this answer is not from the proved program; `./prove` makes it"
 
 
+class NoAnswer(Exception):
+    """The program ended without an answer."""
+
+
 class Program:
     """The program that runs: the proved one where it stands, else one of the same sources unproved."""
 

@@ -1,7 +1,8 @@
 """The program built from sources that are not proved: built once by the kit's `rt try`, and kept in a cache folder of the user.
 
-It is kept in `$XDG_CACHE_HOME/predator` (`~/.cache/predator` where that is not set), or in `predator-UID` in the folder for temporary files where that cannot be used, by
-the checksum of its sources and of the kit's name. `rt try` keeps no program. So the program is given a pipe to read, and while it waits there it is copied; then it is given a short text, whose answer shows that it runs.
+It is kept in `$XDG_CACHE_HOME/predator` (`~/.cache/predator` where that is not set), or in `predator-UID` in the folder for temporary files where that
+cannot be used, by the checksum of its sources and of the kit's name. `rt try` keeps no program. So the program is given a pipe to read, and while it
+waits there it is copied; then it is given a short text, whose answer shows that it runs.
 """
 import contextlib
 import errno
@@ -108,6 +109,9 @@ def built(to):
         if not any(line.startswith("run=ended ") for line in text.splitlines()) or not os.path.getsize(to):
             raise NotBuilt(f"`rt try` says:\n{text.rstrip()}")
     os.chmod(to, 0o755)
+    done = subprocess.run([to], stdin=subprocess.DEVNULL, capture_output=True)
+    if done.returncode != 4 or not done.stdout.startswith(b"usage: predator "):
+        raise NotBuilt("what was copied from `rt try` is not the program: without words it does not print the usage line")
 
 
 def drop_old(room):

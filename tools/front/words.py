@@ -1,4 +1,6 @@
 """The words behind ./predator: which are for the front script, and which for the program."""
+from __future__ import annotations
+
 from dataclasses import dataclass, field
 
 # What the program takes: its options, and whether each has a value.
