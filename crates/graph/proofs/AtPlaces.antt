@@ -74,3 +74,11 @@ object_at_place objects key =
 pub value_at_place : (values : List Value) (key : ℕ) → value_at (values_from 0 values) key ≡ slice_get values key
 value_at_place values key =
     let same : 0 + key ≡ key = omega arith in ap (value_at (values_from 0 values)) (sym same) ∙ value_from 0 values key
+
+pub length_objects : (from : ℕ) (objects : List Object) → length (objects_from from objects) ≡ length objects
+length_objects from [] = refl
+length_objects from (object ∷ rest) = ap suc (length_objects (from + 1) rest)
+
+pub length_values : (from : ℕ) (values : List Value) → length (values_from from values) ≡ length values
+length_values from [] = refl
+length_values from (value ∷ rest) = ap suc (length_values (from + 1) rest)

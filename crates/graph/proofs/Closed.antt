@@ -1,5 +1,5 @@
 -- What a well-formed graph names is there.
-use Rattle.std.proofs.Common.{◌≡◌, ℕ, suc, zero, Bool, true, false, ◌&&◌, ◌||◌, not, List, [], ◌∷◌, Option, None, Some, nat_eq, refl, sym, ◌∙◌, ap, subst}
+use Rattle.std.proofs.Common.{◌≡◌, ℕ, suc, zero, Bool, true, false, ◌&&◌, ◌||◌, not, List, [], ◌∷◌, Option, Some, nat_eq, refl, sym, ◌∙◌, ap, subst}
 use Rattle.std.specs.Prelude.{IsSome, slice_get, ℤ}
 use Rattle.std.specs.List.{list_all}
 use Rattle.std.specs.Option.{option_map_or}
@@ -10,7 +10,6 @@ use Rattle.graph.specs.declared.edges.HasValue.{HasValue}
 use Rattle.graph.specs.declared.object.Object.{Object}
 use Rattle.graph.specs.declared.object.Shape.{Shape}
 use Rattle.graph.specs.declared.object.Shape.TheVariants.{Region, Segment}
-use Rattle.graph.specs.declared.template.Node.{Node}
 use Rattle.graph.specs.declared.value.Target.{Target}
 use Rattle.graph.specs.declared.value.Value.{Value}
 use Rattle.graph.specs.declared.value.Value.TheVariants.{Address}
@@ -26,7 +25,7 @@ use Rattle.graph.specs.WellFormed.{IsWellFormed, has_value, passes_at, may_be_he
 use Rattle.graph.specs.Closed.{OnEdges, OnEnds, OnNamed, IsClosed}
 use Rattle.graph.specs.Meaning.{maps_of}
 use Rattle.graph.proofs.Tests.{and_left, and_right}
-use Rattle.graph.proofs.Found.{Holds-some, IsSome-holds, found-all}
+use Rattle.graph.proofs.Found.{Holds-some, found-all}
 use Rattle.graph.proofs.Sent.{passes-some}
 
 -- items at a place

@@ -35,7 +35,7 @@ use Rattle.graph.specs.WellFormed.{edge_has_size, target_fits, leads_to_object, 
 use Rattle.graph.proofs.Closed.{passes-at, segment_edges}
 use Rattle.graph.proofs.AlikeStates.{All-at}
 use Rattle.graph.proofs.Found.{found-all}
-use Rattle.graph.proofs.Tests.{and_left, and_right}
+use Rattle.graph.proofs.Tests.{and_left}
 
 -- items at a place
 mapped-at : {X Y : Type 0} (P : Y → Type 0) (f : X → Y) (items : List X) (place : ℕ) (item : X) → slice_get items place ≡ Some item → All P (map f items) → P (f item)

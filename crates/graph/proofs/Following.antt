@@ -1,12 +1,11 @@
 -- Following addresses through segments that may be empty: it comes to an end, or an end comes back.
-use Rattle.std.proofs.Common.{◌≡◌, ◌≢◌, ℕ, zero, suc, ◌+◌, ◌*◌, ◌<◌, ◌≤◌, Bool, true, false, List, [], ◌∷◌, length, Option, None, Some, nat_eq, refl, sym, ◌∙◌, ap, subst, eqb-true, arith}
-use Rattle.std.specs.Prelude.{IsTrue, IfSome, is_some, not, nat_lt, if◌then◌else◌}
+use Rattle.std.proofs.Common.{◌≡◌, ℕ, zero, suc, ◌+◌, ◌*◌, ◌<◌, ◌≤◌, Bool, true, false, List, [], ◌∷◌, length, Option, None, Some, nat_eq, refl, sym, ◌∙◌, ap, subst, eqb-true, arith}
+use Rattle.std.specs.Prelude.{IfSome, is_some, not, nat_lt, if◌then◌else◌}
 use Rattle.std.proofs.lemmas.Bool.{false≢true, ltb-true, lt-ltb}
 use Rattle.std.proofs.lemmas.Option.{same_Some, none-some}
 use Rattle.graph.specs.declared.ends.End.{End}
 use Rattle.graph.specs.declared.object.Links.{Links}
 use Rattle.graph.specs.declared.object.Object.{Object}
-use Rattle.graph.specs.declared.value.Target.{Target}
 use Rattle.graph.specs.declared.value.Target.TheVariants.{Region, First, Last, Each}
 use Rattle.graph.specs.declared.value.Value.{Value}
 use Rattle.graph.specs.declared.value.Value.TheVariants.{Const, Number, Any, Address}
@@ -14,8 +13,8 @@ use Rattle.graph.specs.declared.parts.KeyedObject.{KeyedObject}
 use Rattle.graph.specs.declared.parts.Parts.{Parts}
 use Rattle.graph.specs.Maps.{object_at, value_at}
 use Rattle.graph.specs.Nodes.{links_in}
-use Rattle.graph.specs.Ends.{target_end, value_end, beyond, beyond_in, end_at, next_end, followed, Stops, AllStop, Runs, SomeRuns}
-use Rattle.graph.specs.WellFormed.{Ranks, Falls, ComesToAnEnd}
+use Rattle.graph.specs.Ends.{value_end, beyond, beyond_in, end_at, next_end, followed, Stops, AllStop, Runs, SomeRuns}
+use Rattle.graph.specs.WellFormed.{Falls, ComesToAnEnd}
 
 -- how many entries have a rank below a bound
 abbrev count_below : (ℕ → ℕ) → List KeyedObject → ℕ → ℕ

@@ -15,7 +15,7 @@ use Rattle.graph.specs.declared.object.Shape.TheVariants.{Region, Segment}
 use Rattle.graph.specs.declared.template.Node.{Node}
 use Rattle.graph.specs.Nodes.{own_node}
 use Rattle.graph.specs.Closed.{OnEdges, OnEnds, OnNamed}
-use Rattle.graph.specs.Meaning.{HoldEdges, IsNode, StandsAt, IsLinked, IsGone, AreNodes, first_of, end_word, own_word, word_at, HasShape, IsDead, HasBlocksAs, HasBlocks}
+use Rattle.graph.specs.Meaning.{HoldEdges, IsNode, IsGone, AreNodes, end_word, own_word, word_at, HasShape, HasBlocksAs}
 
 -- Implications of what holds of all values that an object names.
 
@@ -77,11 +77,15 @@ module _ (word word' : ℕ → Word) (own own' : ℕ → Option ℤ) where
 
   HasShape-agree : (shape : Shape) (memory : List Block) (object : Object) (blocks : List ℕ) → OnNamed Agrees shape (own_node object) →
       HasShape shape memory object word own blocks → HasShape shape memory object word' own' blocks
-  HasShape-agree Region memory object blocks (agree, ends) (number, is, at) = (number, is, record {
-    block = at.block;
-    there = at.there;
-    node = IsNode-agree object.size object.kind (own_node object) word word' at.block (OnEdges-weaker Agrees (λ key. word key ≡ word' key) (λ key both. both.0) object.edges agree) at.node;
-  })
+  HasShape-agree Region memory object blocks (agree, ends) (number, is, at) = (
+    number,
+    is,
+    record {
+      block = at.block;
+      there = at.there;
+      node = IsNode-agree object.size object.kind (own_node object) word word' at.block (OnEdges-weaker Agrees (λ key. word key ≡ word' key) (λ key both. both.0) object.edges agree) at.node;
+    },
+  )
   HasShape-agree (Segment twofold head next prev back least next_value prev_value node) memory object blocks (agree, (after, before)) (enough, are) =
       let links : Links = record { twofold = twofold; head = head; next = next; prev = prev; back = back; least = least; next_value = next_value; prev_value = prev_value } in (
         enough,
@@ -110,11 +114,15 @@ module _ (memory memory' : List Block) (object : Object) (word : ℕ → Word) (
 
   HasShape-frame : (shape : Shape) (blocks : List ℕ) → ((place number : ℕ) → slice_get blocks place ≡ Some number → slice_get memory' number ≡ slice_get memory number) →
       HasShape shape memory object word own blocks → HasShape shape memory' object word own blocks
-  HasShape-frame Region blocks same (number, is, at) = (number, is, record {
-    block = at.block;
-    there = same 0 number (ap (λ (bs : List ℕ). slice_get bs 0) is) ∙ at.there;
-    node = at.node;
-  })
+  HasShape-frame Region blocks same (number, is, at) = (
+    number,
+    is,
+    record {
+      block = at.block;
+      there = same 0 number (ap (λ (bs : List ℕ). slice_get bs 0) is) ∙ at.there;
+      node = at.node;
+    },
+  )
   HasShape-frame (Segment twofold head next prev back least next_value prev_value node) blocks same (enough, are) =
       (enough, AreNodes-frame (record { twofold = twofold; head = head; next = next; prev = prev; back = back; least = least; next_value = next_value; prev_value = prev_value }) node _ _ blocks same are)
 

@@ -22,6 +22,7 @@ pub mod AlikeStates
 pub mod AlikeMeaning
 pub mod Chosen
 pub mod Table
+pub mod Scalars
 pub mod Rows
 pub mod Placing
 pub mod Witness

@@ -2,14 +2,8 @@
 use Rattle.std.proofs.Common.{◌≡◌, ℕ, ◌+◌, ◌<◌, ◌≤◌, true, false, List, [], ◌∷◌, ◌++◌, length, take, drop, map, get_or, refl, ap, sym, ◌∙◌, arith}
 use Rattle.std.specs.Prelude.{nat_eq}
 use Rattle.std.proofs.lemmas.List.{map_more, drop_more, drop_all}
-use Rattle.std.proofs.lemmas.List.Sums.{sum_by-cons}
 use Rattle.std.proofs.lemmas.Bool.{eq-eqb, ne_eqb}
-use Rattle.graph.specs.declared.object.Shape.{Shape}
-use Rattle.graph.specs.declared.object.Shape.TheVariants.{Region}
-use Rattle.graph.specs.declared.parts.KeyedObject.{KeyedObject}
 use Rattle.graph.specs.Renaming.{place_among}
-use Rattle.graph.specs.WellFormed.{nodes_of}
-use Rattle.std.specs.List.{sum_by}
 
 -- a key that is another is passed over
 pub place_more : (keys : List ℕ) (place key other none : ℕ) → place < length keys → other ≡ get_or keys place none → (key ≡ other → ⊥) → place + place_among (drop place keys) key ≡ (place + 1) + place_among (drop (place + 1) keys) key

@@ -22,7 +22,7 @@ use Rattle.graph.specs.Renaming.{renamed_edge, renamed_node, renamed_shape, rena
 use Rattle.graph.specs.State.{State}
 use Rattle.graph.specs.Closed.{IsClosed}
 use Rattle.graph.specs.Nodes.{own_node}
-use Rattle.graph.specs.Meaning.{HoldEdges, IsNode, IsLinked, AreNodes, word_at, HasShape, HasBlocksAs, HasBlocks, Ends, ends_in, ends_of, no_ends, address_word, HasWord, own_offset, IsRooted, Maps, Assignment, IsOwned, Meets}
+use Rattle.graph.specs.Meaning.{HoldEdges, IsNode, AreNodes, word_at, HasShape, HasBlocksAs, HasBlocks, Ends, ends_in, ends_of, no_ends, address_word, HasWord, own_offset, IsRooted, Maps, Assignment, IsOwned, Meets}
 use Rattle.graph.proofs.Found.{IsSome-holds, Holds-some}
 use Rattle.graph.proofs.Frames.{OnNamed-weaker, Agrees, HasBlocks-agree}
 

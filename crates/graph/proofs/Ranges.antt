@@ -4,13 +4,12 @@ use Rattle.std.specs.Prelude.{slice_get, ◌↔◌}
 use Rattle.std.specs.List.{list_all}
 use Rattle.std.proofs.lemmas.Option.{same_Some, none-some}
 use Rattle.graph.specs.declared.edges.HasValue.{HasValue}
-use Rattle.graph.specs.declared.object.Object.{Object}
 use Rattle.graph.specs.declared.parts.KeyedObject.{KeyedObject}
 use Rattle.graph.specs.declared.parts.Parts.{Parts}
 use Rattle.graph.specs.Maps.{value_at}
 use Rattle.graph.specs.Sizes.{value_size, is_sized, is_zero}
 use Rattle.graph.specs.Nodes.{is_region, links_in, node_of, link_edges}
-use Rattle.graph.specs.WellFormed.{IsWellFormed, ComesToAnEnd, has_value, passes_at, may_stand_in, lies_in, are_in_order, edge_has_size, edge_has_class, has_class_a_byte, says_nothing, is_segment_storage, share_no_byte, link_is_any, is_outward, back_fits, leads_to_object, registers_hold_values, ports_are_values, variables_have_storage, storage_is_distinct, variables_ascend, registers_ascend, pairs_may_be_unequal, pairs_are_different}
+use Rattle.graph.specs.WellFormed.{IsWellFormed, ComesToAnEnd, has_value, passes_at, may_stand_in, lies_in, are_in_order, edge_has_size, edge_has_class, has_class_a_byte, says_nothing, is_segment_storage, share_no_byte, link_is_any, is_outward, back_fits, leads_to_object, registers_hold_values, ports_are_values, variables_have_storage, storage_is_distinct, variables_ascend, registers_ascend, pairs_may_be_unequal}
 use Rattle.graph.specs.Points.{edge_fits, link_fits, objects_fit, values_fit, passes_all}
 use Rattle.graph.proofs.Tests.{and_left, and_right, and_both, list_all-implies}
 use Rattle.graph.proofs.Sent.{passes-some}

@@ -29,7 +29,7 @@ use Rattle.graph.specs.Sizes.{value_size, value_class, is_sized, is_zero, is_num
 use Rattle.graph.specs.Renaming.{renamed, renamed_edge, renamed_node, renamed_shape, renamed_object, renamed_value, renamed_pair}
 use Rattle.graph.specs.Nodes.{is_region, links_in, own_node, node_in, node_of, back_edges, link_edges}
 use Rattle.graph.specs.Closed.{OnEnds}
-use Rattle.graph.specs.WellFormed.{IsWellFormed, are_distinct, are_ascending, has_value, passes_at, is_at_home, may_stand_in, may_be_held, target_fits, leads_to_object, is_storage, has_class_a_byte, says_nothing, is_segment_storage, lies_in, lies_before, are_in_order, share_no_byte, link_is_any, is_outward, is_null, back_fits, Ranks, Falls, ComesToAnEnd, edge_has_size, edge_has_class, is_unequal_pair, may_be_unequal, differs_from, are_different}
+use Rattle.graph.specs.WellFormed.{IsWellFormed, are_distinct, are_ascending, has_value, passes_at, is_at_home, may_stand_in, may_be_held, target_fits, leads_to_object, is_storage, has_class_a_byte, says_nothing, is_segment_storage, lies_in, lies_before, are_in_order, share_no_byte, link_is_any, is_outward, is_null, back_fits, Ranks, Falls, edge_has_size, edge_has_class, is_unequal_pair, may_be_unequal, differs_from, are_different}
 use Rattle.graph.specs.Laws.{IsRenaming, IsOneToOne}
 use Rattle.graph.proofs.Tests.{and_left, and_right, and_both, list_all-implies}
 use Rattle.graph.proofs.Found.{Holds-some, IsSome-holds, WasFound-renamed}

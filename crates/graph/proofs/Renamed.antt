@@ -1,9 +1,8 @@
 -- Other keys, one to one, keep what a graph stands for.
-use Rattle.std.proofs.Common.{◌≡◌, ℕ, Bool, true, false, not, List, [], ◌∷◌, map, Option, None, Some, nat_eq, refl, sym, ◌∙◌, ap, subst}
+use Rattle.std.proofs.Common.{◌≡◌, ℕ, true, false, not, List, [], ◌∷◌, map, Option, None, Some, nat_eq, refl, sym, ◌∙◌, ap, subst}
 use Rattle.std.specs.Prelude.{IsSome, option_map, ◌↔◌}
 use Rattle.std.specs.List.{list_all}
 use Rattle.std.specs.Option.{option_map_or}
-use Rattle.std.proofs.lemmas.Bool.{false≢true}
 use Rattle.graph.specs.declared.edges.HasValue.{HasValue}
 use Rattle.graph.specs.declared.object.Object.{Object}
 use Rattle.graph.specs.declared.object.Shape.{Shape}
@@ -26,7 +25,7 @@ use Rattle.graph.specs.Nodes.{own_node}
 use Rattle.graph.specs.Closed.{OnEdges, OnNamed, IsClosed}
 use Rattle.graph.specs.Laws.{IsRenaming}
 use Rattle.graph.proofs.Tests.{and_left, and_right}
-use Rattle.graph.proofs.Found.{Holds-some, IsSome-holds, WasFound-renamed, found-renamed, found-changed, found-all, back_in, back_in-there, back_in-same}
+use Rattle.graph.proofs.Found.{Holds-some, IsSome-holds, WasFound-renamed, found-changed, found-all, back_in, back_in-same}
 use Rattle.graph.proofs.Sent.{passes-some, object_sent as object_goes, value_sent as value_goes, object_back as object_comes_back, object_same as object_is_same}
 use Rattle.graph.proofs.Closed.{closed_of, own_edges_there}
 use Rattle.graph.proofs.Reformed.{renaming_keeps_form}

@@ -1,6 +1,6 @@
 -- The blocks of a state that is made of a graph: first one for each object, and behind these the further nodes of its segments.
-use Rattle.std.proofs.Common.{◌≡◌, ℕ, zero, suc, ◌+◌, ◌-◌, ◌<◌, ◌≤◌, max, Bool, true, false, List, [], ◌∷◌, ◌++◌, map, length, nat_lt, Option, None, Some, refl, sym, ◌∙◌, ap, subst, ltb-true, arith}
-use Rattle.std.specs.Prelude.{slice_get, option_map, if◌then◌else◌}
+use Rattle.std.proofs.Common.{◌≡◌, ℕ, zero, suc, ◌+◌, ◌-◌, ◌<◌, ◌≤◌, Bool, true, false, List, [], ◌∷◌, ◌++◌, length, nat_lt, Some, refl, sym, ◌∙◌, ap, ltb-true, arith}
+use Rattle.std.specs.Prelude.{slice_get, if◌then◌else◌}
 use Rattle.std.proofs.lemmas.Bool.{false≢true, lt-ltb, le-ltb}
 use Rattle.std.proofs.lemmas.Option.{same_Some, none-some}
 use Rattle.graph.specs.declared.object.Object.{Object}
@@ -78,7 +78,7 @@ abbrev pub place_at : List Object → ℕ → ℕ
 place_at [] i = 0
 place_at (object ∷ rest) i = if nat_lt i (extra object) then suc i else place_at rest (i - extra object)
 
-length-copies : (count : ℕ) (object : Object) → length (copies count object) ≡ count
+pub length-copies : (count : ℕ) (object : Object) → length (copies count object) ≡ count
 length-copies zero object = refl
 length-copies (suc count) object = ap suc (length-copies count object)
 

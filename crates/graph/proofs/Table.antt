@@ -11,7 +11,7 @@ use Rattle.bytes_core.specs.Value.{word_bytes}
 use Rattle.graph.specs.declared.edges.HasValue.{HasValue}
 use Rattle.graph.specs.WellFormed.{share_no_byte, are_disjoint, lies_in}
 use Rattle.graph.specs.Meaning.{HasClass, HaveClasses, HoldEdges}
-use Rattle.graph.proofs.Tests.{and_left, and_right, and_both}
+use Rattle.graph.proofs.Tests.{and_left, and_right, and_both, list_all-implies}
 
 -- whether a place lies in the range of an edge
 abbrev pub covers : HasValue → ℕ → Bool
@@ -188,16 +188,19 @@ uncovered (link ∷ rest) edge i apart below =
 
 -- edges of the second list hold their words as well, where no edge of the first shares a byte with them
 pub HoldEdges-behind : (front : ℕ → Word) (inner : ℕ → Byte) (first : List HasValue) (word : ℕ → Word) (size : ℕ) (edges : List HasValue) →
-    list_all (λ edge. list_all (λ link. share_no_byte link edge) first) edges ≡ true → list_all (lies_in size) edges ≡ true →
+    list_all (λ link. list_all (share_no_byte link) edges) first ≡ true → list_all (lies_in size) edges ≡ true →
     HoldEdges (table inner 0 size) word edges → HoldEdges (table (byte_at front inner first) 0 size) word edges
 HoldEdges-behind front inner first word size [] apart inside hold = tt
 HoldEdges-behind front inner first word size (edge ∷ rest) apart inside hold =
     let within = leb-true _ _ (and_left (lies_in size edge) (list_all (lies_in size) rest) inside) in
-    let free = and_left (list_all (λ link. share_no_byte link edge) first) (list_all (λ edge. list_all (λ link. share_no_byte link edge) first) rest) apart in (
+    let free = list_all-implies (λ link. share_no_byte link edge && list_all (share_no_byte link) rest) (λ link. share_no_byte link edge)
+    (λ link both. and_left (share_no_byte link edge) (list_all (share_no_byte link) rest) both) first apart in (
       range-table (byte_at front inner first) size edge.at edge.size within
           ∙ same-table (byte_at front inner first) inner edge.at edge.size (λ i below. byte_outside front inner first (edge.at + i) (uncovered first edge i free below))
           ∙ sym (range-table inner size edge.at edge.size within)
           ∙ hold.0,
-      HoldEdges-behind front inner first word size rest (and_right (list_all (λ link. share_no_byte link edge) first) (list_all (λ edge. list_all (λ link. share_no_byte link edge) first) rest) apart)
+      HoldEdges-behind front inner first word size rest
+          (list_all-implies (λ link. share_no_byte link edge && list_all (share_no_byte link) rest) (λ link. list_all (share_no_byte link) rest)
+          (λ link both. and_right (share_no_byte link edge) (list_all (share_no_byte link) rest) both) first apart)
           (and_right (lies_in size edge) (list_all (lies_in size) rest) inside) hold.1,
     )

@@ -1,12 +1,14 @@
 -- What a contract sees of a graph: its parts.
-use Rattle.std.specs.Prelude.{[], map, IsTrue}
+use Rattle.std.specs.Prelude.{◌≡◌, ℕ, [], map, slice_get, Some, IsTrue}
 use Rattle.graph.specs.declared.contents.Contents.{Contents}
 use Rattle.graph.specs.declared.graph.Graph.TheInside.{Inside}
 use Rattle.graph.specs.declared.parts.Held.{Held}
+use Rattle.graph.specs.declared.parts.KeyedObject.{KeyedObject}
+use Rattle.graph.specs.declared.parts.KeyedValue.{KeyedValue}
 use Rattle.graph.specs.declared.parts.Named.{Named}
 use Rattle.graph.specs.declared.parts.Parts.{Parts}
 use Rattle.graph.specs.Renaming.{objects_from, values_from, object_place, value_place, renamed_object, renamed_value, renamed_pair}
-use Rattle.graph.specs.WellFormed.{IsWellFormed, is_within_limits}
+use Rattle.graph.specs.WellFormed.{HasAscendingKeys, IsWellFormed, is_within_limits}
 
 -- the objects and the values have the keys 0, 1 and so on
 abbrev pub entries_of : Contents → Parts
@@ -40,7 +42,14 @@ placed parts = record {
   unequal = map (renamed_pair (value_place parts)) parts.unequal;
 }
 
+-- each key is the place of its entry
+pub record HasPlaces (parts : Parts) : Type 0 where
+  pub objects : (place : ℕ) (entry : KeyedObject) → slice_get parts.objects place ≡ Some entry → entry.key ≡ place
+  pub values : (place : ℕ) (entry : KeyedValue) → slice_get parts.values place ≡ Some entry → entry.key ≡ place
+
 -- what always holds of a graph
 pub record IsGraph (parts : Parts) : Type 0 where
   pub well_formed : IsWellFormed parts
   pub within_limits : IsTrue (is_within_limits parts)
+  pub ascending : HasAscendingKeys parts
+  pub keys : HasPlaces parts

@@ -18,13 +18,7 @@ fn nodes_of(shape: &Shape) -> u32
 {
     match shape.links() {
         None => 1,
-        Some(links) => {
-            if links.least == 0 {
-                1
-            } else {
-                links.least
-            }
-        }
+        Some(links) => { if links.least == 0 { 1 } else { links.least } }
     }
 }
 

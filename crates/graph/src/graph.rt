@@ -1,4 +1,4 @@
-ghost use Rattle.std.specs.Prelude.{◌≡◌, true, IfOk, IfErr};
+ghost use Rattle.std.specs.Prelude.{◌≡◌, length, true, IfOk, IfErr};
 ghost use Rattle.std.specs.Option.{option_copied};
 ghost use Rattle.graph.specs.Maps.{object_at, value_at};
 ghost use Rattle.graph.specs.Renaming.{numbered};
@@ -8,7 +8,7 @@ ghost use Rattle.graph.specs.Whole.{IsGraph};
 use crate::contents::Contents;
 use crate::copies::{copy_contents, key_contents};
 use crate::object::Object;
-use crate::parts::{Parts, no_parts};
+use crate::parts::{Held, Named, Pair, Parts, no_parts};
 use crate::places::place_parts;
 use crate::value::Value;
 use cbase::{NoMemory, Stop};
@@ -52,11 +52,60 @@ impl Graph {
         self.contents.values.get(key)
     }
 
+    /// The variables that the graph names, in ascending order, each with the key of its object. It takes no memory.
+    pub fn variables(&self) -> &[Named]
+        ensures variables { result.now ≡ self.now.variables }
+        ensures graph { IsGraph self.now }
+    {
+        self.contents.variables.as_slice()
+    }
+
+    /// The registers that hold something, in ascending order, each with the key of its value. It takes no memory.
+    pub fn registers(&self) -> &[Held]
+        ensures registers { result.now ≡ self.now.registers }
+        ensures graph { IsGraph self.now }
+    {
+        self.contents.registers.as_slice()
+    }
+
+    /// The keys of the values of the ports, in their order. It takes no memory.
+    pub fn ports(&self) -> &[u32]
+        ensures ports { result.now ≡ self.now.ports }
+        ensures graph { IsGraph self.now }
+    {
+        self.contents.ports.as_slice()
+    }
+
+    /// The keys of values whose words differ. It takes no memory.
+    pub fn unequal(&self) -> &[Pair]
+        ensures unequal { result.now ≡ self.now.unequal }
+        ensures graph { IsGraph self.now }
+    {
+        self.contents.unequal.as_slice()
+    }
+
+    /// How many objects there are. Their keys are the numbers below this.
+    #[tactic(auto, using(crate::proofs::AtPlaces::length_objects))]
+    pub fn object_count(&self) -> u32
+        ensures count { result ≡ length self.now.objects }
+        ensures graph { IsGraph self.now }
+    {
+        self.contents.objects.len()
+    }
+
+    /// How many values there are. Their keys are the numbers below this.
+    #[tactic(auto, using(crate::proofs::AtPlaces::length_values))]
+    pub fn value_count(&self) -> u32
+        ensures count { result ≡ length self.now.values }
+        ensures graph { IsGraph self.now }
+    {
+        self.contents.values.len()
+    }
+
     /// The contents of the graph, with its own keys, which ascend in both lists.
     pub fn parts(&self, alloc: Global) -> Result<Parts, NoMemory>
         ensures ok { IfOk result (λ parts. parts ≡ self.now) }
         ensures graph { IsGraph self.now }
-        ensures ascending { HasAscendingKeys self.now }
     {
         let _ = &self.contents;
         self.entries(alloc)

@@ -84,13 +84,7 @@ fn holds_null(parts: &Parts, key: u32) -> bool
 }
 
 /// Whether a link of a node is as it should be.
-fn link_fits(
-    parts: &Parts,
-    size: u32,
-    plane: &Plane,
-    edges: &[HasValue],
-    link: &HasValue,
-) -> bool
+fn link_fits(parts: &Parts, size: u32, plane: &Plane, edges: &[HasValue], link: &HasValue) -> bool
     requires { HasAscendingKeys parts.now }
     ensures { result ≡ points.link_fits parts.now size plane.now edges.now link.now }
 {

@@ -1,4 +1,4 @@
-use Rattle.std.proofs.Common.{◌≡◌, length}
+use Rattle.std.proofs.Common.{length}
 use Rattle.graph.specs.Ends.{AllStop, AreKnown}
 use Rattle.graph.proofs.ends.all_stop.Given as goal
 

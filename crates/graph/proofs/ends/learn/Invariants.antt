@@ -1,4 +1,3 @@
-use Rattle.std.proofs.Common.{◌≡◌}
 use Rattle.graph.specs.Ends.{AreKnown, Stops}
 use Rattle.graph.proofs.ends.learn.Given as goal
 

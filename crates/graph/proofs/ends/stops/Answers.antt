@@ -1,4 +1,4 @@
-use Rattle.std.proofs.Common.{ap, sym, ◌∙◌, not}
+use Rattle.std.proofs.Common.{ap, ◌∙◌, not}
 use Rattle.graph.proofs.Following.{stops_from, last_stops, last_runs}
 use Rattle.graph.proofs.ends.stops.Goals as goal
 
