@@ -11,15 +11,18 @@ fn row_of_line(line: &str) -> Option<(Ask, &str)> {
     match kind {
         "form" => Some((Ask::Form, text)),
         "walks" => Some((Ask::Walks, text)),
-        "head" => head_of_text(text),
+        "exclusive" => Some((Ask::Exclusive, text)),
+        "head" => ask_at_point(text, false),
+        "out" => ask_at_point(text, true),
         _ => None,
     }
 }
 
-/// What a row `head` asks for.
-fn head_of_text(text: &str) -> Option<(Ask, &str)> {
+/// What a row `head` or `out` asks for, which names a point in front of its parts.
+fn ask_at_point(text: &str, out: bool) -> Option<(Ask, &str)> {
     let (point, parts) = text.split_once(' ').unwrap_or((text, ""));
     match point.parse::<u32>() {
+        Ok(point) if out => Some((Ask::Out(point), parts)),
         Ok(point) => Some((Ask::Head(point), parts)),
         Err(_) => None,
     }
