@@ -29,3 +29,8 @@ pub mod FittingLaws
 pub mod ExclusiveLaws
 pub mod OutLaws
 pub mod RangeLaws
+pub mod MemoryWords
+pub mod MemoryLaws
+pub mod MemorySteps
+pub mod MemoryRuns
+pub mod RunStateLaws

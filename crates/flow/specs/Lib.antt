@@ -20,3 +20,5 @@ pub mod Marked
 pub mod Owning
 pub mod Exclusive
 pub mod Ranges
+pub mod Memories
+pub mod RunStates

@@ -4,9 +4,11 @@ ghost use Rattle.flow.specs.Exclusive.{DoEdgesRun, DoEdgesStep, DoStepsLookOut};
 ghost use Rattle.flow.specs.Fitting.{DoRunsFit, DoStepsFit};
 ghost use Rattle.flow.specs.Hiding.{AreHiddenRightly, DoPartsFollow, DoRunsFollow, IsNoMoreLost};
 ghost use Rattle.flow.specs.Keeping.{DoReturnsLeaveNothing, DoRunsKeep, DoStartsKeep, DoStepsKeep};
+ghost use Rattle.flow.specs.Memories.{DoRunsKeepMemory, DoStepsKeepMemory};
 ghost use Rattle.flow.specs.Ranges.{DoRangesSeparate};
 ghost use Rattle.flow.specs.RenamedSteps.{DoRunsRename, DoStepsRename};
 ghost use Rattle.flow.specs.Renaming.{IsRenamingKept};
+ghost use Rattle.flow.specs.RunStates.{AreRunStates};
 
 /// A step along an edge of a flow graph keeps what stands: where the frame has the variables and registers that stand at
 /// its point, with their sizes, and each caller what stands where it goes on, but for the result, so it is behind the step.
@@ -129,4 +131,20 @@ pub fn a_run_along_edges_of_an_exclusive_graph_is_a_run()
 /// Functions that lie in ranges of points of their own, which no edge leaves, are separate.
 pub fn functions_in_ranges_are_separate()
     ensures { DoRangesSeparate }
+{}
+
+/// A step along an edge of a flow graph keeps a memory a memory, to whose blocks all that a state has leads.
+pub fn a_step_keeps_memory()
+    ensures { DoStepsKeepMemory }
+{}
+
+/// Each state of a run of a flow graph has a memory, to whose blocks all that it has leads, and the static variables of the graph.
+pub fn a_run_keeps_memory()
+    ensures { DoRunsKeepMemory }
+{}
+
+/// What always holds of the states of a run, in one: what stands, values within their sizes, and all that leads into the memory.
+#[tactic(auto, using(crate::proofs::RunStateLaws::are_run_states))]
+pub fn each_state_of_a_run_is_one()
+    ensures { AreRunStates }
 {}
