@@ -4,8 +4,8 @@
 Usage, at the project's root: bench/graph.py
 It proves and builds the program of crates/graph_rows, and gives it rows `counted`: parts are read, a graph is built from them, it is
 copied, the copy is taken apart, and its objects and values are counted. The largest graph has 10,000 objects and 50,000 edges, each with a
-value of its own, and as many registers, ports and unequal pairs together as objects; each other one has half as many of all as the next. Their
-variables, registers and edges stand in no order. For each size it prints the processor time, less that of a run on an empty row; the time
+value of its own, and as many registers, ports and unequal pairs together as objects; each other one has half as many of all as the next. Each
+third object is a segment that may have no node, and leads to the next segment. For each size it prints the processor time, less that of a run on an empty row; the time
 for each edge, and how many times that of the smallest graph it is, which is about 1 where the work is linear up to sorting; and how many times
 the time that python3 takes to read the same row, to put its objects and values into dicts, to look each key up there, and to copy the dicts.
 The same is printed of one object of 8,192 to 65,536 bytes with an edge in each 8 of them.
@@ -22,16 +22,25 @@ RUNS = 5
 
 
 def row(objects, edges):
-    """The row of a graph with so many objects and edges."""
+    """The row of a graph with so many objects and edges. A segment's first eight bytes are its link."""
     each = edges // objects
+    segments = objects if objects == 1 else (objects + 2) // 3
+    null = edges + objects // 2 + segments
     words = ["counted"]
     for key in range(objects):
-        words.append(f"object={2 * key}:{8 * each}:{('heap', 'static')[key % 2]}:live class={8 * each}:2")
-        words.extend(f"edge={8 * (at * 7 % each)}:8:{key * each + at}" for at in range(each))
-    words.extend(f"address={key}:{2 * (key * 7919 % objects)}:0" for key in range(edges))
+        is_segment = objects > 1 and key % 3 == 0
+        words.append(f"object={2 * key}:{8 * each}:{'heap' if is_segment else ('heap', 'static')[key % 2]}:live")
+        if is_segment:
+            words.append(f"singly=0:0:0:0:0:{edges + objects // 2 + key // 3 if key + 3 < objects else null}:{null}")
+        words.append(f"class={8 * each}:2")
+        words.extend(f"edge={8 * at}:8:{key * each + at}" for at in range(1 if is_segment else 0, each))
+    leads = [key * 7919 % objects for key in range(edges)]
+    words.extend(f"{'first' if objects > 1 and to % 3 == 0 else 'address'}={key}:{2 * to}:0" for key, to in enumerate(leads))
     words.extend(f"number={key}:8" for key in range(edges, edges + objects // 2))
-    words.extend(f"variable={key * 7919 % 1000003}:{2 * key}" for key in range(1, objects, 2))
-    words.extend(f"register={key * 7919 % 1000003}:{key}" for key in range(objects // 3))
+    words.extend(f"first={edges + objects // 2 + at}:{6 * (at + 1)}:0" for at in range(segments - 1))
+    words.append(f"const={null}:0:8")
+    words.extend(f"variable={key}:{2 * key}" for key in range(1, objects, 2) if key % 3)
+    words.extend(f"register={key}:{key}" for key in range(objects // 3))
     words.extend(f"port={key * 31 % edges}" for key in range(objects // 3))
     words.extend(f"unequal={edges + key}:{edges + key + 1}" for key in range(objects // 3))
     return " ".join(words) + "\n"
@@ -58,13 +67,13 @@ def in_dicts(text):
         fields = fields.split(":")
         if name == "object":
             last = objects[int(fields[0])] = [fields[1:]]
-        elif name in ("class", "edge"):
+        elif name in ("class", "edge", "singly"):
             last.append(fields)
             if name == "edge":
                 asked.append((values, int(fields[2])))
-        elif name in ("address", "number"):
+        elif name in ("address", "first", "number", "const"):
             values[int(fields[0])] = fields[1:]
-            if name == "address":
+            if name in ("address", "first"):
                 asked.append((objects, int(fields[1])))
         elif name == "variable":
             asked.append((objects, int(fields[1])))

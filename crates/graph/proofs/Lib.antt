@@ -4,6 +4,7 @@ pub mod Sent
 pub mod Closed
 pub mod Frames
 pub mod SegmentNodes
+pub mod Appended
 pub mod Pulled
 pub mod DeadObjects
 pub mod Renamed

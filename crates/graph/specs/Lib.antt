@@ -10,6 +10,7 @@ pub mod Meaning
 pub mod Closed
 pub mod Laws
 pub mod SegmentLaws
+pub mod NodeRows
 pub mod Handed
 pub mod DeadObjects
 pub mod Choices

@@ -7,6 +7,7 @@ ghost use Rattle.graph.specs.declared.parts.Parts.{Parts};
 ghost use Rattle.graph.specs.Closed.{IsClosed, OnNamed};
 ghost use Rattle.graph.specs.Handed.{RenamingHandsOn};
 ghost use Rattle.graph.specs.Meaning.{HasBlocks, maps_of};
+ghost use Rattle.graph.specs.NodeRows.{RowsAreAppended};
 ghost use Rattle.graph.specs.Nodes.{own_node};
 ghost use Rattle.graph.specs.SegmentLaws.{SegmentsHaveAddresses, SegmentsHaveNodes};
 ghost use Rattle.graph.specs.WellFormed.{IsWellFormed};
@@ -48,4 +49,10 @@ pub fn an_object_means_the_words_that_it_names()
         OnNamed (λ key. (word key ≡ word' key) × (own key ≡ own' key)) object.shape (own_node object) →
         HasBlocks memory object word own blocks →
         HasBlocks memory object word' own' blocks }
+{}
+
+/// A row of nodes is a front row and the others, each of them the nodes of a segment of its own: behind the front ones lies the first of
+/// the others, and before these the last of the front ones.
+pub fn rows_of_nodes_are_appended()
+    ensures { RowsAreAppended }
 {}
