@@ -11,7 +11,12 @@ The world. A memory has at most as many blocks as the graph has objects, and one
 static or from malloc, with zeros in it; or it lives, is static or from malloc, has 4 or 8 bytes, and each half of 4 bytes is 0, 1, or a half
 of a pointer to the first byte of a block. With three objects it has 8 bytes, and its content is the number 0, 1 or 2^32, or such a pointer.
 Variable 0 has a block or none. Register 0 is empty, or holds the number 0, 1 or 2^32, or a pointer to byte 0 or 8 of a block. There is no port and
-no root, or one port that holds what a register may hold, and the blocks of the roots are all or none.
+no root, or one port that holds what a register may hold, and the block that it leads to, if it does, is a root or is none.
+
+The world of segments. All blocks are from malloc: at most three, dead or live with 8 bytes, or, where the graph's objects have 16, at most
+two. Each 8 bytes of a live one are the number 0 or 5, or a pointer to byte 0 or 8 of a block. Register 0 is empty, or holds such a
+word, the number 4 or 2^64 - 8, or a pointer to byte 4 of a block. Most counts are sums over memories of n blocks of which k live: there are
+n! / (n - k)! lists of k of n blocks, so 4, 6, 8 and 6 lists of 0, 1, 2 and 3 of at most three blocks, and 3, 3 and 2 lists of at most two.
 """
 import itertools
 import sys
@@ -48,11 +53,61 @@ TABLE = {
     "built number=8:4 register=0:8": 6,
     "built number=8:8 const=9:0:8 register=0:8 unequal=9:8": 6,
     "built any=8 register=0:8": 13,
-    "built any=8 port=8": 23,
+    "built any=8 port=8": 17,
     "built object=4:8:static:live class=8:0 address=9:4:8 port=9": 5,
     "built object=1:8:heap:live class=8:2 edge=0:8:7 object=2:8:heap:live class=8:2 edge=0:8:8 object=3:8:heap:live class=8:2 edge=0:8:9 address=7:2:0 address=8:3:0 any=9":
         32,
     "built object=1:8:heap:live class=8:0 object=2:8:heap:live class=8:0 object=3:8:heap:dead": 7,
+}
+
+# graphs with segments, and for how many states of their world they stand
+N = "const=9:0:8"
+SEGMENTS = {
+    # lists that end with null, of at least 0, 1, 2 and 3 nodes: 4 + 6 + 8 + 6, and so on
+    f"built object=1:8:heap:live singly=0:0:0:0:0:9:9 class=8:2 {N}": 24,
+    f"built object=1:8:heap:live singly=0:0:0:0:1:9:9 class=8:2 {N}": 20,
+    f"built object=1:8:heap:live singly=0:0:0:0:2:9:9 class=8:2 {N}": 14,
+    f"built object=1:8:heap:live singly=0:0:0:0:3:9:9 class=8:2 {N}": 6,
+    # the last node holds 5
+    f"built object=1:8:heap:live singly=0:0:0:0:0:8:9 class=8:2 const=8:5:8 {N}": 24,
+    # links lead to byte 8 of the next node, so that each holds another word
+    f"built object=1:8:heap:live singly=8:0:0:0:0:9:9 class=8:2 {N}": 24,
+    # a register holds the first node's address at offset 0 or 4: 0 or 4 where there is none
+    f"built object=1:8:heap:live singly=0:0:0:0:0:9:9 class=8:2 first=8:1:0 {N} register=0:8": 24,
+    f"built object=1:8:heap:live singly=0:0:0:0:0:9:9 class=8:2 first=8:1:4 {N} register=0:8": 24,
+    # a region, and a list behind it
+    f"built object=1:8:heap:live class=8:2 edge=0:8:8 object=2:8:heap:live singly=0:0:0:0:0:9:9 class=8:2 first=8:2:0 {N}": 20,
+    # a list, and a region of zeros behind it
+    f"built object=1:8:heap:live class=8:0 object=2:8:heap:live singly=0:0:0:0:0:8:9 class=8:2 address=8:1:0 {N}": 20,
+    # two lists in a row, and where the second begins: 4 * 1 + 6 * 2 + 8 * 3 + 6 * 4
+    f"built object=1:8:heap:live singly=0:0:0:0:0:8:9 class=8:2 object=2:8:heap:live singly=0:0:0:0:0:9:9 class=8:2 first=8:2:0 {N}": 24,
+    f"built object=1:8:heap:live singly=0:0:0:0:0:8:9 class=8:2 object=2:8:heap:live singly=0:0:0:0:0:9:9 class=8:2 first=8:2:0 {N} register=0:8": 64,
+    # rings: (k - 1)! of k blocks, 6 + 3 + 1 + 2; with a node that is the first, 6 + 8 + 6
+    f"built object=1:8:heap:live singly=0:0:0:0:1:8:9 class=8:2 first=8:1:0 {N}": 12,
+    f"built object=1:8:heap:live singly=0:0:0:0:1:8:9 class=8:2 first=8:1:0 {N} register=0:8": 20,
+    # nodes with eight bytes beside the link: any of 2 + 2n words, two numbers, zeros, the node's own address, one number for all, one word for all
+    f"built object=1:16:heap:live singly=0:0:0:0:0:9:9 class=16:2 {N}": 91,
+    f"built object=1:16:heap:live singly=0:0:0:0:0:9:9 class=8:2 class=8:1 {N}": 17,
+    f"built object=1:16:heap:live singly=0:0:0:0:0:9:9 class=8:2 class=8:0 {N}": 8,
+    f"built object=1:16:heap:live singly=0:0:0:0:0:9:9 class=16:2 edge=8:8:8 each=8:1:8 {N}": 8,
+    f"built object=1:16:heap:live singly=0:0:0:0:0:9:9 class=8:2 class=8:1 edge=8:8:8 number=8:8 {N}": 13,
+    f"built object=1:16:heap:live singly=0:0:0:0:0:9:9 class=16:2 edge=8:8:8 any=8 {N}": 31,
+    f"built object=1:16:heap:live singly=0:0:0:0:0:9:9 class=16:2 edge=8:8:8 first=8:1:0 {N}": 8,
+    # linked both ways: links back lead to byte 0, or to byte 8, where the link back lies
+    f"built object=1:16:heap:live twofold=0:0:8:0:0:9:9 class=16:2 {N}": 8,
+    f"built object=1:16:heap:live twofold=0:0:8:8:0:9:9 class=16:2 {N}": 8,
+    f"built object=1:16:heap:live twofold=0:0:8:8:1:9:9 class=16:2 {N}": 5,
+    f"built object=1:16:heap:live twofold=0:0:8:8:2:9:9 class=16:2 {N}": 2,
+    # the first node's link back is 5
+    f"built object=1:16:heap:live twofold=0:0:8:8:0:9:8 class=16:2 const=8:5:8 {N}": 8,
+    # a register holds the last node's address at offset 8 or 0: 0 or 2^64 - 8 where there is none
+    f"built object=1:16:heap:live twofold=0:0:8:8:0:9:9 class=16:2 last=8:1:8 {N} register=0:8": 8,
+    f"built object=1:16:heap:live twofold=0:0:8:8:0:9:9 class=16:2 last=8:1:0 {N} register=0:8": 8,
+    # rings: 3 + 1, and with the last node in a register 3 + 2
+    "built object=1:16:heap:live twofold=0:0:8:8:1:7:8 class=16:2 first=7:1:0 last=8:1:8": 4,
+    "built object=1:16:heap:live twofold=0:0:8:8:1:7:8 class=16:2 first=7:1:0 last=8:1:8 register=0:8": 5,
+    # two lists in a row, and where the first ends: 3 * 1 + 3 * 2 + 2 * 3
+    f"built object=1:16:heap:live twofold=0:0:8:8:0:7:9 class=16:2 object=2:16:heap:live twofold=0:0:8:8:0:9:8 class=16:2 first=7:2:0 last=8:1:8 {N} register=0:8": 15,
 }
 
 
@@ -63,12 +118,14 @@ def parsed(text):
         name, fields = word.split("=")
         fields = [int(f) if f.lstrip("-").isdigit() else f for f in fields.split(":")]
         if name == "object":
-            last = g["objects"][fields[0]] = {"size": fields[1], "kind": fields[2], "live": fields[3] == "live", "classes": [], "edges": []}
+            last = g["objects"][fields[0]] = {"size": fields[1], "kind": fields[2], "live": fields[3] == "live", "classes": [], "edges": [], "links": None}
+        elif name in ("singly", "twofold"):
+            last["links"] = dict(zip(("head", "next", "prev", "back", "least", "after", "before"), fields), twofold=name == "twofold")
         elif name == "class":
             last["classes"] += [fields[1]] * fields[0]
         elif name == "edge":
             last["edges"].append(fields)
-        elif name in ("const", "number", "any", "address"):
+        elif name in ("const", "number", "any", "address", "first", "last", "each"):
             g["values"][fields[0]] = (name, *fields[1:])
         elif name in ("variable", "register"):
             g[name + "s"][fields[0]] = fields[1]
@@ -175,7 +232,7 @@ def states(g):
     for count in range(max(len(g["objects"]), min(len(g["objects"]) + 1, 2)) + 1):
         words = [0, 1, 2**32] + [("to", b, at) for b in range(count) for at in (0, 8)]
         rest = [(variable, register, ports, roots) for variable in (None, *range(count)) for register in (None, *words)
-                for ports, roots in [([], ()), *(([word], roots) for word in words for roots in {(), tuple(range(count))})]
+                for ports, roots in [([], ()), *(([word], roots) for word in words for roots in ({()} if isinstance(word, int) else {(), (word[1],)}))]
                 if names_fit(g, variable, register, ports)]
         for memory in itertools.product(blocks(count, is_wide), repeat=count):
             yield memory, rest
@@ -199,17 +256,104 @@ def counted(g):
     return found
 
 
+# Segments.
+def moved(word, by):
+    """A word moved by so many bytes, a number modulo 2^64."""
+    return (word + by) % 2**64 if isinstance(word, int) else ("to", word[1], word[2] + by)
+
+
+def lists(g, live):
+    """The blocks that objects may have, in order: a region one, a segment as many as its least number or more, and none is left."""
+    def of(keys, left):
+        if not keys:
+            if not left:
+                yield {}
+            return
+        links = g["objects"][keys[0]]["links"]
+        for count in range(links["least"], len(left) + 1) if links else (1,):
+            for chosen in itertools.permutations(left, count):
+                for others in of(keys[1:], [b for b in left if b not in chosen]):
+                    yield {keys[0]: list(chosen), **others}
+    return of(list(g["objects"]), live)
+
+
+def word_of_address(g, given, value):
+    """The word of an address that is no node's own."""
+    name, key, offset = value
+    links = g["objects"][key]["links"]
+    if given[key]:
+        return ("to", given[key][-1 if name == "last" else 0], offset)
+    beyond, place = (links["before"], links["back"]) if name == "last" else (links["after"], links["head"])
+    return moved(fixed_word(g, given, beyond), offset - place)
+
+
+def fixed_word(g, given, key):
+    value = g["values"][key]
+    return value[1] if value[0] == "const" else word_of_address(g, given, value)
+
+
+def ranges_held(g, memory, given):
+    """What each range of an edge or a link holds, and the word that it has to hold, or the key of its value where this says which."""
+    for key, thing in g["objects"].items():
+        links, blocks = thing["links"], given[key]
+        for place, block in enumerate(blocks):
+            content = memory[block]
+            for at, size, value in thing["edges"]:
+                name, *rest = g["values"][value]
+                if name == "each":
+                    yield content[at:at + size], ("to", block, rest[1])
+                elif name in ("number", "any"):
+                    yield content[at:at + size], value
+                else:
+                    yield content[at:at + size], fixed_word(g, given, value)
+            if links:
+                onward = ("to", blocks[place + 1], links["head"]) if place + 1 < len(blocks) else fixed_word(g, given, links["after"])
+                yield content[links["next"]:links["next"] + 8], onward
+                if links["twofold"]:
+                    yield content[links["prev"]:links["prev"] + 8], ("to", blocks[place - 1], links["back"]) if place else fixed_word(g, given, links["before"])
+
+
+def nodes_fit(g, memory, given, register):
+    """Whether blocks have the classes, the edges and the links that the graph says, and the register its word."""
+    for key, thing in g["objects"].items():
+        if any(not all(map(has_class, memory[block], thing["classes"])) for block in given[key]):
+            return False
+    words = {}
+    for content, wanted in ranges_held(g, memory, given):
+        word = word_in(content)
+        if isinstance(wanted, int) and wanted in g["values"] and g["values"][wanted][0] in ("number", "any"):
+            if word is None or g["values"][wanted][0] == "number" and not isinstance(word, int) or words.setdefault(wanted, word) != word:
+                return False
+        elif word != wanted:
+            return False
+    return all(fixed_word(g, given, key) == register for key in g["registers"].values())
+
+
+def counted_lists(g):
+    size = next(iter(g["objects"].values()))["size"]
+    found = 0
+    for count in range(4 if size == 8 else 3):
+        words = [0, 5, *(("to", b, at) for b in range(count) for at in (0, 8))]
+        registers = [*words, 4, 2**64 - 8, *(("to", b, 4) for b in range(count))] if g["registers"] else [None]
+        contents = [None, *(sum(map(bytes_of, row), []) for row in itertools.product(words, repeat=size // 8))]
+        for memory in itertools.product(contents, repeat=count):
+            given = list(lists(g, [b for b in range(count) if memory[b] is not None]))
+            found += sum(any(nodes_fit(g, memory, one, register) for one in given) for register in registers)
+    return found
+
+
 def main():
     answers = dict(zip((ROWS / "stdin").read_text().splitlines(), (ROWS / "stdout").read_text().splitlines()))
     failed = 0
-    for row, wanted in TABLE.items():
+    for row, wanted in {**TABLE, **SEGMENTS}.items():
+        count = counted_lists if row in SEGMENTS else counted
         answer = answers.get(row, "no such row")
-        one = counted(parsed(row))
-        other = counted(parsed(answer)) if answer.startswith("graph") else None
+        one = count(parsed(row))
+        other = count(parsed(answer)) if answer.startswith("graph") else None
         if not one == other == wanted:
             failed += 1
             print(f"{row}\n  by hand {wanted}, counted {one}, of the graph that is built {other}: {answer}")
-    print(f"{len(TABLE)} graphs counted, {failed} of them wrongly")
+    print(f"{len(TABLE) + len(SEGMENTS)} graphs counted, {failed} of them wrongly")
     return 1 if failed else 0
 
 

@@ -1,6 +1,6 @@
 -- A dead object whose address is held has its block: the word that is held names a block of the memory.
-use Rattle.std.proofs.Common.{◌≡◌, ℕ, ◌<◌, Bool, true, false, List, [], ◌∷◌, map, length, Option, Some, refl, sym, ◌∙◌, ap, subst, arith, ◌&&◌, ◌||◌, eqb-true, nat_eq, slice_get, zero, suc, inl, inr}
-use Rattle.std.specs.Prelude.{ℤ, take, drop, option_map}
+use Rattle.std.proofs.Common.{◌≡◌, ℕ, ◌<◌, Bool, true, false, List, [], ◌∷◌, map, length, Option, Some, refl, sym, ◌∙◌, ap, subst, arith, ◌&&◌, ◌||◌, eqb-true, nat_eq, slice_get, zero, suc, inl, inr, ◌≤◌, None}
+use Rattle.std.specs.Prelude.{ℤ, take, drop, option_map, pos, ◌-ℤ◌}
 use Rattle.std.specs.Option.{option_map_or}
 use Rattle.std.specs.List.{All, list_all}
 use Rattle.std.proofs.lemmas.Bool.{false≢true}
@@ -13,7 +13,7 @@ use Rattle.bytes_core.specs.declared.word.Word.TheVariants.{Plain, To}
 use Rattle.bytes_core.specs.declared.block.BlockKind.{BlockKind}
 use Rattle.bytes_core.specs.declared.block.Block.{Block}
 use Rattle.bytes_core.specs.Valid.{NamesBelow, WordNamesBelow}
-use Rattle.bytes_core.specs.Value.{word_bytes}
+use Rattle.bytes_core.specs.Value.{word_bytes, moved}
 use Rattle.graph.specs.declared.edges.HasValue.{HasValue}
 use Rattle.graph.specs.declared.object.Object.{Object}
 use Rattle.graph.specs.declared.object.Shape.{Shape}
@@ -25,11 +25,12 @@ use Rattle.graph.specs.declared.value.Value.TheVariants.{Address}
 use Rattle.graph.specs.declared.parts.KeyedObject.{KeyedObject}
 use Rattle.graph.specs.declared.parts.KeyedValue.{KeyedValue}
 use Rattle.graph.specs.declared.parts.Parts.{Parts}
-use Rattle.graph.specs.DeadObjects.{IsDeadBlock, IsHeld, InRegister, InPort, InObject, AreHeldBlocksThere}
+use Rattle.graph.specs.DeadObjects.{IsDeadBlock, IsHeld, InRegister, InPort, InObject, InNode, InLink, AreHeldBlocksThere}
 use Rattle.graph.specs.Maps.{object_at, value_at}
 use Rattle.graph.specs.State.{IsWordBelow}
 use Rattle.graph.specs.Nodes.{is_region, own_node, node_in, node_of}
-use Rattle.graph.specs.Meaning.{IsGone, HoldsWord, HoldEdges, StandsAt, HasShape, HasBlocksAs, Ends, ends_of, address_word, own_offset}
+use Rattle.graph.specs.Meaning.{IsGone, HoldsWord, HoldEdges, StandsAt, own_word, word_at, HasShape, HasBlocksAs, Ends, ends_of, address_word, own_offset}
+use Rattle.graph.proofs.SegmentNodes.{segments_have_nodes}
 use Rattle.graph.specs.Sizes.{value_size}
 use Rattle.graph.specs.WellFormed.{edge_has_size, target_fits, leads_to_object, says_nothing}
 use Rattle.graph.proofs.Closed.{passes-at, segment_edges}
@@ -71,6 +72,25 @@ dead_block memory kind number gone below = elim (slice_get_cases memory number).
   | inl found ↦ (let dead = subst (IsGone kind) found.2 gone in record { block = found.0; there = found.2; live = dead.0; kind = dead.1 })
   | inr past ↦ (let above = past.0 in absurd (omega arith))
 ]
+
+-- places of lists that are not empty
+get_first : (blocks : List ℕ) → 1 ≤ length blocks → (number : ℕ) × (slice_get blocks 0 ≡ Some number)
+get_first [] some = absurd (omega arith)
+get_first (number ∷ rest) some = (number, refl)
+
+get_last : (blocks : List ℕ) → 1 ≤ length blocks → (place : ℕ) × (number : ℕ) × (slice_get blocks place ≡ Some number) × (slice_get blocks (suc place) ≡ None)
+get_last [] some = absurd (omega arith)
+get_last (number ∷ []) some = (0, number, refl, refl)
+get_last (number ∷ (next ∷ rest)) some = let later = get_last (next ∷ rest) (omega arith) in (suc later.0, later.1, later.2, later.3)
+
+-- a pointer that eight bytes hold, and one that is moved
+link_names : (count : ℕ) (word : Word) → All (NamesBelow count) (word_bytes word) → WordNamesBelow count word
+link_names count (Plain number) all = tt
+link_names count (To block offset) all = (All-head (NamesBelow count) (Part block offset 0) (map (Part block offset) (1 ∷ 2 ∷ 3 ∷ 4 ∷ 5 ∷ 6 ∷ 7 ∷ [])) all).0
+
+moved_names : (count : ℕ) (word : Word) (bytes : ℤ) → WordNamesBelow count (moved word bytes) → WordNamesBelow count word
+moved_names count (Plain number) bytes names = tt
+moved_names count (To block offset) bytes names = names
 
 abbrev own_in : Parts → ℕ → Option ℤ
 own_in parts key = own_offset (value_at parts.values key)
@@ -131,6 +151,33 @@ held_blocks_there parts state given key value object offset target well is meets
         (found-all (λ (entry : KeyedObject). entry.key) (λ entry. entry.object) (λ (one : Object). list_all (edge_has_size parts) (node_of one).edges)
         parts.objects holds holder well.edges_have_their_sizes holder_stands)))
 
+    -- the target means one block, so the value is no node's own address
+    one_target : target ≡ Region
+    one_target = by_target target object.shape region fits
+      where
+        by_target : (target : Target) (shape : Shape) → is_region shape ≡ true → target_fits target shape ≡ true → target ≡ Region
+        by_target Region shape region fits = refl
+        by_target First RegionShape region fits = absurd (false≢true fits)
+        by_target Last RegionShape region fits = absurd (false≢true fits)
+        by_target Each RegionShape region fits = absurd (false≢true fits)
+        by_target First (Segment twofold head next prev back least next_value prev_value node) region fits = absurd (false≢true region)
+        by_target Last (Segment twofold head next prev back least next_value prev_value node) region fits = absurd (false≢true region)
+        by_target Each (Segment twofold head next prev back least next_value prev_value node) region fits = absurd (false≢true region)
+
+    plain_word : (one number : ℕ) → value_at parts.values one ≡ Some (Address key offset target) → word_at given.word (λ value. own_offset (value_at parts.values value)) number one ≡ given.word one
+    plain_word one number found =
+        ap (λ (o : Option Value). own_word (own_offset o) (given.word one) number) found
+        ∙ ap (λ (t : Target). own_word (own_offset (Some (Address key offset t))) (given.word one) number) one_target
+
+    node_size : (holds : ℕ) (holder : Object) (place : ℕ) (edge : HasValue) → object_at parts.objects holds ≡ Some holder → slice_get (node_of holder).edges place ≡ Some edge → edge.value ≡ value → 8 ≡ edge.size
+    node_size holds holder place edge holder_stands at same =
+        eqb-true 8 edge.size
+        (subst (λ (found : Option Value). option_map_or (λ one. nat_eq (value_size one) edge.size) found false ≡ true)
+        (ap (value_at parts.values) same ∙ leads)
+        (passes-at (edge_has_size parts) (node_of holder).edges place edge at
+        (found-all (λ (entry : KeyedObject). entry.key) (λ entry. entry.object) (λ (one : Object). list_all (edge_has_size parts) (node_of one).edges)
+        parts.objects holds holder well.edges_have_their_sizes holder_stands)))
+
     by_held : IsHeld parts value → WordNamesBelow (length state.memory) (given.word value)
     by_held (InRegister register there) =
         (is.registers register (given.word value) (meets.registers register ∙ ap (option_map given.word) there)).named
@@ -140,3 +187,26 @@ held_blocks_there parts state given key value object offset target well is meets
     by_held (InObject holds holder place edge holder_stands live at same) =
         by_shape holder.shape holds holder place edge holder_stands refl at same (has_size holds holder place edge holder_stands at same) (given.blocks holds)
         (subst (λ (one : Bool). HasBlocksAs one state.memory holder given.word (own_in parts) (given.blocks holds)) live (meets.objects holds holder holder_stands))
+    by_held (InNode holds holder links place edge holder_stands linked some at same) =
+        let has = segments_have_nodes parts state given holds holder links well meets holder_stands linked in
+        let first = get_first (given.blocks holds) (let enough = has.enough in omega arith) in
+        let node = has.nodes 0 first.0 first.1 in
+        let sized = node_size holds holder place edge holder_stands at same in
+        whole_below (length state.memory) edge.size (given.word value) sized
+        (subst (λ (key : ℕ). All (NamesBelow (length state.memory)) (take edge.size (word_bytes (given.word key)))) same
+        (subst (λ (word : Word). All (NamesBelow (length state.memory)) (take edge.size (word_bytes word))) (plain_word edge.value first.0 (ap (value_at parts.values) same ∙ leads))
+        (subst (All (NamesBelow (length state.memory))) (node.edges place edge at)
+        (All-take (NamesBelow (length state.memory)) edge.size (drop edge.at node.block.bytes)
+        (All-drop (NamesBelow (length state.memory)) edge.at node.block.bytes
+        (All-at (λ (block : Block). All (NamesBelow (length state.memory)) block.bytes) state.memory first.0 node.block node.there is.memory.named))))))
+    by_held (InLink holds holder links holder_stands linked some same) =
+        let has = segments_have_nodes parts state given holds holder links well meets holder_stands linked in
+        let last = get_last (given.blocks holds) (let enough = has.enough in omega arith) in
+        let node = has.nodes last.0 last.1 last.2 in
+        subst (λ (key : ℕ). WordNamesBelow (length state.memory) (given.word key)) same
+        (moved_names (length state.memory) (given.word links.next_value) (pos links.head -ℤ pos links.head)
+        (link_names (length state.memory) (moved (given.word links.next_value) (pos links.head -ℤ pos links.head))
+        (subst (All (NamesBelow (length state.memory))) (node.last last.3)
+        (All-take (NamesBelow (length state.memory)) 8 (drop links.next node.block.bytes)
+        (All-drop (NamesBelow (length state.memory)) links.next node.block.bytes
+        (All-at (λ (block : Block). All (NamesBelow (length state.memory)) block.bytes) state.memory last.1 node.block node.there is.memory.named))))))

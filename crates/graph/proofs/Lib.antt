@@ -3,6 +3,8 @@ pub mod Found
 pub mod Sent
 pub mod Closed
 pub mod Frames
+pub mod SegmentNodes
+pub mod Appended
 pub mod Pulled
 pub mod DeadObjects
 pub mod Renamed

@@ -24,12 +24,13 @@ use Rattle.graph.specs.Meaning.{maps_of, StandsFor}
 use Rattle.graph.specs.Nodes.{own_node}
 use Rattle.graph.specs.Closed.{OnEdges, OnNamed, IsClosed}
 use Rattle.graph.specs.Laws.{IsRenaming}
+use Rattle.graph.specs.Handed.{IsHandedOn, RenamingHandsOn}
 use Rattle.graph.proofs.Tests.{and_left, and_right}
 use Rattle.graph.proofs.Found.{Holds-some, IsSome-holds, WasFound-renamed, found-changed, found-all, back_in, back_in-same}
 use Rattle.graph.proofs.Sent.{passes-some, object_sent as object_goes, value_sent as value_goes, object_back as object_comes_back, object_same as object_is_same}
 use Rattle.graph.proofs.Closed.{closed_of, own_edges_there}
 use Rattle.graph.proofs.Reformed.{renaming_keeps_form}
-use Rattle.graph.proofs.Pulled.{IsSent, Meets-pulled}
+use Rattle.graph.proofs.Pulled.{IsSent, pulled, Meets-pulled}
 
 module _ (of_objects of_values : ℕ → ℕ) (parts : Parts) (renaming : IsRenaming of_objects of_values parts) where
   -- the old keys of new ones
@@ -204,6 +205,23 @@ module _ (of_objects of_values : ℕ → ℕ) (parts : Parts) (renaming : IsRena
       given = _;
       meets = Meets-pulled (maps_of other) (maps_of parts) old_object old_value of_objects sent_back state stands.given stands.meets;
     }
+
+    pub handed_on : (state : State) → IsHandedOn of_objects of_values parts state
+    handed_on state = record {
+      onward = λ given meets. (
+        pulled old_object old_value of_objects given,
+        Meets-pulled (maps_of other) (maps_of parts) old_object old_value of_objects sent_back state given meets,
+        record { words = λ key some. ap given.word (value_same key some); blocks = λ key some. ap given.blocks (object_same key some) },
+      );
+      backward = λ given meets. (
+        pulled of_objects of_values old_object given,
+        Meets-pulled (maps_of parts) (maps_of other) of_objects of_values old_object sent state given meets,
+        record { words = λ key some. refl; blocks = λ key some. refl },
+      );
+    }
+
+pub renaming_hands_on : RenamingHandsOn
+renaming_hands_on of_objects of_values parts state renaming well_formed = handed_on of_objects of_values parts renaming well_formed state
 
 -- one to one, new keys keep what a graph stands for
 pub renaming_keeps : (of_objects of_values : ℕ → ℕ) (parts : Parts) (state : State) → IsRenaming of_objects of_values parts → IsWellFormed parts →

@@ -9,6 +9,9 @@ pub mod State
 pub mod Meaning
 pub mod Closed
 pub mod Laws
+pub mod SegmentLaws
+pub mod NodeRows
+pub mod Handed
 pub mod DeadObjects
 pub mod Choices
 pub mod Alike

@@ -50,7 +50,7 @@ fn is_within_limits(parts: &Parts) -> bool
 }
 
 /// The graph with these parts, in the same order. In place of its key each object and each value has its place
-/// in its list.
+/// in its list. Planes and nodes are moved, and not copied.
 ///
 /// `Large` comes exactly where there are 2^30 nodes or more, or 2^30 unequal pairs or more.
 pub fn built(alloc: Global, parts: Parts) -> Result<Graph, Stop>
@@ -59,19 +59,8 @@ pub fn built(alloc: Global, parts: Parts) -> Result<Graph, Stop>
     ensures ok { IfOk result (λ graph. graph ≡ numbered parts) }
     ensures large { (result ≡ Err Stop.Large) ↔ (is_within_limits parts ≡ false) }
 {
-    let graph = built_of(alloc, &parts);
-    drop(parts);
-    graph
-}
-
-/// The graph with these parts.
-fn built_of(alloc: Global, parts: &Parts) -> Result<Graph, Stop>
-    requires ascending { HasAscendingKeys parts.now }
-    requires well_formed { IsWellFormed parts.now }
-    ensures ok { IfOk result (λ graph. graph ≡ numbered parts.now) }
-    ensures large { (result ≡ Err Stop.Large) ↔ (is_within_limits parts.now ≡ false) }
-{
-    if !is_within_limits(parts) {
+    if !is_within_limits(&parts) {
+        drop(parts);
         return Err(Stop::Large);
     }
     match Graph::numbered(alloc, parts) {
@@ -89,22 +78,11 @@ pub fn graph_of(alloc: Global, parts: Parts) -> Result<Option<Graph>, Stop>
     ensures none { (result ≡ Ok None) ↔ (IsWellFormed parts → ⊥) }
     ensures large { (result ≡ Err Stop.Large) ↔ (IsWellFormed parts × (is_within_limits parts ≡ false)) }
 {
-    let graph = graph_of_parts(alloc, &parts);
-    drop(parts);
-    graph
-}
-
-/// The graph with these parts, if they make one.
-fn graph_of_parts(alloc: Global, parts: &Parts) -> Result<Option<Graph>, Stop>
-    requires { HasAscendingKeys parts.now }
-    ensures some { IfOk result (λ answer. IfSome answer (λ graph. graph ≡ numbered parts.now)) }
-    ensures none { (result ≡ Ok None) ↔ (IsWellFormed parts.now → ⊥) }
-    ensures large { (result ≡ Err Stop.Large) ↔ (IsWellFormed parts.now × (is_within_limits parts.now ≡ false)) }
-{
-    if !is_well_formed(alloc, parts) {
+    if !is_well_formed(alloc, &parts) {
+        drop(parts);
         return Ok(None);
     }
-    match built_of(alloc, parts) {
+    match built(alloc, parts) {
         Ok(graph) => Ok(Some(graph)),
         Err(stop) => Err(stop),
     }

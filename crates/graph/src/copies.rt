@@ -102,7 +102,7 @@ fn copied_shape(alloc: Global, shape: &Shape) -> Result<Shape, NoMemory>
 }
 
 /// An object with the size, kind, life and plane of another, and with this shape and these edges.
-pub(crate) fn with_shape(
+fn with_shape(
     alloc: Global,
     object: &Object,
     shape: Shape,

@@ -137,11 +137,11 @@ impl Graph {
     }
 
     /// The graph of some parts, with places in place of keys.
-    pub(crate) fn numbered(alloc: Global, parts: &Parts) -> Result<Graph, NoMemory>
-        requires ascending { HasAscendingKeys parts.now }
-        requires well_formed { IsWellFormed parts.now }
-        requires within_limits { is_within_limits parts.now ≡ true }
-        ensures { IfOk result (λ graph. graph ≡ numbered parts.now) }
+    pub(crate) fn numbered(alloc: Global, parts: Parts) -> Result<Graph, NoMemory>
+        requires ascending { HasAscendingKeys parts }
+        requires well_formed { IsWellFormed parts }
+        requires within_limits { is_within_limits parts ≡ true }
+        ensures { IfOk result (λ graph. graph ≡ numbered parts) }
     {
         let mut contents = Contents::new(alloc);
         match place_parts(alloc, parts, &mut contents) {

@@ -26,6 +26,7 @@ mod parts;
 mod places;
 mod points;
 mod post;
+pub mod segment_laws;
 mod sizes;
 mod template;
 mod value;

@@ -8,6 +8,24 @@ use crate::object::Object;
 use crate::parts::Parts;
 use crate::value::Value;
 
+impl Parts {
+    /// The object with a key. None exactly where no object has it. It takes no memory.
+    pub fn object(&self, key: u32) -> Option<&Object>
+        requires { HasAscendingKeys self.now }
+        ensures { option_copied result ≡ object_at self.now.objects key }
+    {
+        object_with(self, key)
+    }
+
+    /// The value with a key. None exactly where no value has it. It takes no memory.
+    pub fn value(&self, key: u32) -> Option<Value>
+        requires { HasAscendingKeys self.now }
+        ensures { result ≡ value_at self.now.values key }
+    {
+        value_with(self, key)
+    }
+}
+
 /// The value with a key.
 pub(crate) fn value_with(parts: &Parts, key: u32) -> Option<Value>
     requires { HasAscendingKeys parts.now }

@@ -5,7 +5,6 @@ ghost use Rattle.graph.specs.WellFormed.{HasAscendingKeys};
 ghost use Rattle.graph.specs.Whole.{no_contents, placed};
 
 use crate::contents::{Contents, Objects, Values};
-use crate::copies::with_shape;
 use crate::edges::{Edges, HasValue};
 use crate::keyed::MOST_KEYS;
 use crate::object::{Object, Shape};
@@ -30,24 +29,45 @@ pub(crate) fn place_of(keys: &[u32], key: u32) -> u32
 /// Puts parts, with places in place of keys, into empty contents.
 pub(crate) fn place_parts(
     alloc: Global,
-    parts: &Parts,
+    parts: Parts,
     contents: &mut Contents,
 ) -> Result<(), NoMemory>
-    requires ascending { HasAscendingKeys parts.now }
+    requires ascending { HasAscendingKeys parts }
     requires empty { contents.old ≡ no_contents }
-    ensures { OnOk result (contents.new ≡ placed parts.now) }
+    ensures { OnOk result (contents.new ≡ placed parts) }
 {
     let mut objects = List::new(alloc);
     let mut values = List::new(alloc);
-    push_object_keys(parts, &mut objects)?;
-    push_value_keys(parts, &mut values)?;
-    place_under(
-        alloc,
-        objects.as_slice(),
-        values.as_slice(),
-        parts,
-        contents,
-    )
+    match push_keys(&parts, &mut objects, &mut values) {
+        Ok(()) => place_under(
+            alloc,
+            objects.as_slice(),
+            values.as_slice(),
+            parts,
+            contents,
+        ),
+        Err(error) => {
+            drop(parts);
+            Err(error)
+        }
+    }
+}
+
+/// Puts the keys of objects and of values, in order, into empty lists. Each place in them is a `u32`.
+fn push_keys(parts: &Parts, objects: &mut List<u32>, values: &mut List<u32>) -> Result<(), NoMemory>
+    requires ascending { HasAscendingKeys parts.now }
+    requires no_objects { objects.old ≡ [] }
+    requires no_values { values.old ≡ [] }
+    ensures objects { OnOk result (objects.new ≡ object_keys parts.now) }
+    ensures values { OnOk result (values.new ≡ value_keys parts.now) }
+    ensures few_objects { OnOk result (length objects.new < 4294967296) }
+    ensures few_values { OnOk result (length values.new < 4294967296) }
+    ensures objects_ascend { OnOk result (AllPairs (λ one other. one < other) objects.new) }
+    ensures values_ascend { OnOk result (AllPairs (λ one other. one < other) values.new) }
+{
+    push_object_keys(parts, objects)?;
+    push_value_keys(parts, values)?;
+    Ok(())
 }
 
 /// Puts the keys of objects, in order, into an empty list. Each place in it is a `u32`.
@@ -85,29 +105,32 @@ fn place_under(
     alloc: Global,
     objects: &[u32],
     values: &[u32],
-    parts: &Parts,
+    parts: Parts,
     contents: &mut Contents,
 ) -> Result<(), NoMemory>
-    requires objects { objects.now ≡ object_keys parts.now }
-    requires values { values.now ≡ value_keys parts.now }
+    requires objects { objects.now ≡ object_keys parts }
+    requires values { values.now ≡ value_keys parts }
     requires few_objects { length objects.now < 4294967296 }
     requires few_values { length values.now < 4294967296 }
     requires objects_ascend { AllPairs (λ one other. one < other) objects.now }
     requires values_ascend { AllPairs (λ one other. one < other) values.now }
     requires empty { contents.old ≡ no_contents }
-    ensures { OnOk result (contents.new ≡ placed parts.now) }
+    ensures { OnOk result (contents.new ≡ placed parts) }
 {
-    place_objects(
-        alloc,
-        values,
-        parts.objects.as_slice(),
-        &mut contents.objects,
-    )?;
-    place_values(objects, parts.values.as_slice(), &mut contents.values)?;
-    place_variables(objects, parts.variables.as_slice(), &mut contents.variables)?;
-    place_registers(values, parts.registers.as_slice(), &mut contents.registers)?;
-    place_ports(values, parts.ports.as_slice(), &mut contents.ports)?;
-    place_pairs(values, parts.unequal.as_slice(), &mut contents.unequal)?;
+    let Parts {
+        objects: entries,
+        values: others,
+        variables,
+        registers,
+        ports,
+        unequal,
+    } = parts;
+    place_objects(alloc, values, entries, &mut contents.objects)?;
+    place_values(objects, others.as_slice(), &mut contents.values)?;
+    place_variables(objects, variables.as_slice(), &mut contents.variables)?;
+    place_registers(values, registers.as_slice(), &mut contents.registers)?;
+    place_ports(values, ports.as_slice(), &mut contents.ports)?;
+    place_pairs(values, unequal.as_slice(), &mut contents.unequal)?;
     Ok(())
 }
 
@@ -129,26 +152,28 @@ fn placed_edges(alloc: Global, keys: &[u32], edges: &[HasValue]) -> Result<Edges
 }
 
 /// A node whose edges hold values by their places.
-fn placed_node(alloc: Global, keys: &[u32], node: &Node) -> Result<Node, NoMemory>
+fn placed_node(alloc: Global, keys: &[u32], node: Node) -> Result<Node, NoMemory>
     requires few { length keys.now < 4294967296 }
     requires ascending { AllPairs (λ one other. one < other) keys.now }
-    ensures { IfOk result (λ placed. placed ≡ renamed_node (place_among keys.now) node.now) }
+    ensures { IfOk result (λ placed. placed ≡ renamed_node (place_among keys.now) node) }
 {
-    let edges = placed_edges(alloc, keys, node.edges.as_slice())?;
-    match node.plane.copied(alloc) {
-        Ok(plane) => Ok(Node { edges, plane }),
+    let Node { edges, plane } = node;
+    let placed = placed_edges(alloc, keys, edges.as_slice());
+    drop(edges);
+    match placed {
+        Ok(edges) => Ok(Node { edges, plane }),
         Err(error) => {
-            drop(edges);
+            drop(plane);
             Err(error)
         }
     }
 }
 
 /// A shape that names values by their places.
-fn placed_shape(alloc: Global, keys: &[u32], shape: &Shape) -> Result<Shape, NoMemory>
+fn placed_shape(alloc: Global, keys: &[u32], shape: Shape) -> Result<Shape, NoMemory>
     requires few { length keys.now < 4294967296 }
     requires ascending { AllPairs (λ one other. one < other) keys.now }
-    ensures { IfOk result (λ placed. placed ≡ renamed_shape (place_among keys.now) shape.now) }
+    ensures { IfOk result (λ placed. placed ≡ renamed_shape (place_among keys.now) shape) }
 {
     match shape {
         Shape::Region => Ok(Shape::Region),
@@ -163,33 +188,57 @@ fn placed_shape(alloc: Global, keys: &[u32], shape: &Shape) -> Result<Shape, NoM
             prev_value,
             node,
         } => {
-            let node = placed_node(alloc, keys, node.get())?;
+            let node = placed_node(alloc, keys, node.into_node())?;
             Ok(Shape::Segment {
-                twofold: *twofold,
-                head: *head,
-                next: *next,
-                prev: *prev,
-                back: *back,
-                least: *least,
-                next_value: place_of(keys, *next_value),
-                prev_value: place_of(keys, *prev_value),
+                twofold,
+                head,
+                next,
+                prev,
+                back,
+                least,
+                next_value: place_of(keys, next_value),
+                prev_value: place_of(keys, prev_value),
                 node: Template::new(alloc, node)?,
             })
         }
     }
 }
 
-/// An object that names values by their places.
-fn placed_object(alloc: Global, keys: &[u32], object: &Object) -> Result<Object, NoMemory>
+/// An object that names values by their places. Its plane is moved.
+fn placed_object(alloc: Global, keys: &[u32], object: Object) -> Result<Object, NoMemory>
     requires few { length keys.now < 4294967296 }
     requires ascending { AllPairs (λ one other. one < other) keys.now }
-    ensures { IfOk result (λ placed. placed ≡ renamed_object (place_among keys.now) object.now) }
+    ensures { IfOk result (λ placed. placed ≡ renamed_object (place_among keys.now) object) }
 {
-    let edges = placed_edges(alloc, keys, object.edges.as_slice())?;
-    match placed_shape(alloc, keys, &object.shape) {
-        Ok(shape) => with_shape(alloc, object, shape, edges),
+    let Object {
+        size,
+        kind,
+        live,
+        shape,
+        edges,
+        plane,
+    } = object;
+    let placed = placed_edges(alloc, keys, edges.as_slice());
+    drop(edges);
+    match placed {
+        Ok(edges) => match placed_shape(alloc, keys, shape) {
+            Ok(shape) => Ok(Object {
+                size,
+                kind,
+                live,
+                shape,
+                edges,
+                plane,
+            }),
+            Err(error) => {
+                drop(edges);
+                drop(plane);
+                Err(error)
+            }
+        },
         Err(error) => {
-            drop(edges);
+            drop(shape);
+            drop(plane);
             Err(error)
         }
     }
@@ -199,16 +248,17 @@ fn placed_object(alloc: Global, keys: &[u32], object: &Object) -> Result<Object,
 fn place_objects(
     alloc: Global,
     keys: &[u32],
-    objects: &[KeyedObject],
+    objects: List<KeyedObject>,
     placed: &mut Objects,
 ) -> Result<(), NoMemory>
     requires few { length keys.now < 4294967296 }
     requires ascending { AllPairs (λ one other. one < other) keys.now }
     requires empty { placed.old ≡ [] }
-    ensures { OnOk result (placed.new ≡ map (λ entry. renamed_object (place_among keys.now) entry.object) objects.now) }
+    ensures { OnOk result (placed.new ≡ map (λ entry. renamed_object (place_among keys.now) entry.object) objects) }
 {
-    for entry in objects {
-        placed.push(placed_object(alloc, keys, &entry.object)?)?;
+    for entry in objects.into_vec() {
+        let KeyedObject { key: _, object } = entry;
+        placed.push(placed_object(alloc, keys, object)?)?;
     }
     Ok(())
 }

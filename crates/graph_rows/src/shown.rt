@@ -1,7 +1,7 @@
 //! Parts as text, in the words that spell them.
 use bytes_core::BlockKind;
 use cbase::NoMemory;
-use graph::{HasValue, KeyedObject, KeyedValue, Parts, Value};
+use graph::{Edges, HasValue, KeyedObject, KeyedValue, Parts, Shape, Target, Value};
 use planes::Plane;
 use std::alloc::Global;
 
@@ -68,11 +68,54 @@ fn show_object(alloc: Global, text: &mut String, entry: &KeyedObject) -> Result<
     let object = &entry.object;
     show_pair(alloc, text, "object", entry.key, object.size)?;
     text.push_str(storage_of(object.kind, object.live))?;
-    show_plane(alloc, text, &object.plane)?;
-    for edge in object.edges.as_slice() {
+    show_bytes(alloc, text, &object.edges, &object.plane)?;
+    show_shape(alloc, text, &object.shape)
+}
+
+/// Puts a word for each run of bytes of one class and for each edge.
+fn show_bytes(
+    alloc: Global,
+    text: &mut String,
+    edges: &Edges,
+    plane: &Plane,
+) -> Result<(), NoMemory> {
+    show_plane(alloc, text, plane)?;
+    for edge in edges.as_slice() {
         show_edge(alloc, text, *edge)?;
     }
     Ok(())
+}
+
+/// Puts a word for the links of a segment, and those of its node.
+fn show_shape(alloc: Global, text: &mut String, shape: &Shape) -> Result<(), NoMemory> {
+    match shape {
+        Shape::Region => Ok(()),
+        Shape::Segment {
+            twofold,
+            head,
+            next,
+            prev,
+            back,
+            least,
+            next_value,
+            prev_value,
+            node,
+        } => {
+            let name = if *twofold { "twofold" } else { "singly" };
+            let fields = [
+                *head as i128,
+                *next as i128,
+                *prev as i128,
+                *back as i128,
+                *least as i128,
+                *next_value as i128,
+                *prev_value as i128,
+            ];
+            show(alloc, text, name, &fields)?;
+            let node = node.get();
+            show_bytes(alloc, text, &node.edges, &node.plane)
+        }
+    }
 }
 
 fn show_edge(alloc: Global, text: &mut String, edge: HasValue) -> Result<(), NoMemory> {
@@ -120,12 +163,22 @@ fn show_value(alloc: Global, text: &mut String, entry: KeyedValue) -> Result<(),
         Value::Address {
             object,
             offset,
-            target: _,
+            target,
         } => show(
             alloc,
             text,
-            "address",
+            target_of(target),
             &[key, object as i128, offset as i128],
         ),
+    }
+}
+
+/// The name of an address with this target.
+fn target_of(target: Target) -> &'static str {
+    match target {
+        Target::Region => "address",
+        Target::First => "first",
+        Target::Last => "last",
+        Target::Each => "each",
     }
 }

@@ -6,8 +6,8 @@ use crate::word::{Name, Word, large, number, offset, small, word_of};
 use bytes_core::BlockKind;
 use cbase::{List, NoMemory};
 use graph::{
-    Edges, HasValue, Held, KeyedObject, KeyedValue, Named, Object, Pair, Parts, Shape, Target,
-    Value,
+    Edges, HasValue, Held, KeyedObject, KeyedValue, Named, Node, Object, Pair, Parts, Shape,
+    Target, Template, Value,
 };
 use planes::{ANYTHING, MOST_BYTES, Plane, ZERO};
 use std::alloc::Global;
@@ -58,12 +58,12 @@ fn take_words(alloc: Global, parts: &mut Parts, words: &[Word]) -> Result<(), Fa
     Ok(())
 }
 
-/// Takes what a word says. Classes and edges that follow no object are no row.
+/// Takes what a word says. Classes, edges and links that follow no object are no row.
 fn take_word(alloc: Global, parts: &mut Parts, word: Word, rest: &[Word]) -> Result<(), Fault> {
-    let [first, second, third, _] = word.fields;
+    let [first, second, third, ..] = word.fields;
     match word.name {
         Name::Object => take_object(alloc, parts, word, details(rest)),
-        Name::Class | Name::Edge => {
+        Name::Class | Name::Edge | Name::Singly | Name::Twofold => {
             if parts.objects.is_empty() {
                 Err(Fault::NoRow)
             } else {
@@ -86,15 +86,10 @@ fn take_word(alloc: Global, parts: &mut Parts, word: Word, rest: &[Word]) -> Res
             },
         ),
         Name::Any => take_value(parts, first, Value::Any),
-        Name::Address => take_value(
-            parts,
-            first,
-            Value::Address {
-                object: number(second),
-                offset: offset(third),
-                target: Target::Region,
-            },
-        ),
+        Name::Address => take_address(parts, word, Target::Region),
+        Name::First => take_address(parts, word, Target::First),
+        Name::Last => take_address(parts, word, Target::Last),
+        Name::Each => take_address(parts, word, Target::Each),
         Name::Variable => {
             parts.variables.push(Named {
                 variable: number(first),
@@ -132,40 +127,114 @@ fn take_value(parts: &mut Parts, key: i128, value: Value) -> Result<(), Fault> {
     Ok(())
 }
 
-/// The classes and edges before the first other word.
+/// Puts an address to the other values.
+fn take_address(parts: &mut Parts, word: Word, target: Target) -> Result<(), Fault> {
+    let [key, object, at, ..] = word.fields;
+    take_value(
+        parts,
+        key,
+        Value::Address {
+            object: number(object),
+            offset: offset(at),
+            target,
+        },
+    )
+}
+
+/// The classes, edges and links before the first other word.
 fn details(words: &[Word]) -> &[Word] {
     let mut count: usize = 0;
     for word in words {
         match word.name {
-            Name::Class | Name::Edge => count = count.wrapping_add(1),
+            Name::Class | Name::Edge | Name::Singly | Name::Twofold => {
+                count = count.wrapping_add(1);
+            }
             _ => break,
         }
     }
     words.get(..count).unwrap_or(words)
 }
 
-/// Puts an object to the others, with its classes and edges.
+/// How many classes and edges stand before the first links, or in all.
+fn own_count(details: &[Word]) -> usize {
+    let mut count: usize = 0;
+    for word in details {
+        match word.name {
+            Name::Class | Name::Edge => count = count.wrapping_add(1),
+            _ => break,
+        }
+    }
+    count
+}
+
+/// The shape that links spell, with the classes and edges behind them.
+fn shape_of(alloc: Global, links: &[Word]) -> Result<Shape, Fault> {
+    match links {
+        [] => Ok(Shape::Region),
+        [word, rest @ ..] => {
+            let node = node_of(alloc, rest)?;
+            let twofold = matches!(word.name, Name::Twofold);
+            let [head, next, prev, back, least, next_value, prev_value] = word.fields;
+            Ok(Shape::Segment {
+                twofold,
+                head: number(head),
+                next: number(next),
+                prev: number(prev),
+                back: number(back),
+                least: number(least),
+                next_value: number(next_value),
+                prev_value: number(prev_value),
+                node: Template::new(alloc, node)?,
+            })
+        }
+    }
+}
+
+/// The node that classes and edges spell.
+fn node_of(alloc: Global, details: &[Word]) -> Result<Node, Fault> {
+    let edges = edges_of(alloc, details)?;
+    match plane_of(alloc, details) {
+        Ok(plane) => Ok(Node { edges, plane }),
+        Err(fault) => {
+            drop(edges);
+            Err(fault)
+        }
+    }
+}
+
+/// Puts an object to the others, with its classes, edges and links.
 fn take_object(
     alloc: Global,
     parts: &mut Parts,
     word: Word,
     details: &[Word],
 ) -> Result<(), Fault> {
-    let [key, size, kind, life] = word.fields;
-    let edges = edges_of(alloc, details)?;
-    let plane = plane_of(alloc, details)?;
-    parts.objects.push(KeyedObject {
-        key: number(key),
-        object: Object {
-            size: number(size),
-            kind: kind_of(kind),
-            live: life == 4,
-            shape: Shape::Region,
-            edges,
-            plane,
-        },
-    })?;
-    Ok(())
+    let [key, size, kind, life, ..] = word.fields;
+    let count = own_count(details);
+    let own = details.get(..count).unwrap_or(details);
+    let links = details.get(count..).unwrap_or(details);
+    let Node { edges, plane } = node_of(alloc, own)?;
+    match shape_of(alloc, links) {
+        Ok(shape) => {
+            parts.objects.push(KeyedObject {
+                key: number(key),
+                object: Object {
+                    size: number(size),
+                    kind: kind_of(kind),
+                    live: life == 4,
+                    shape,
+                    edges,
+                    plane,
+                },
+            })?;
+            Ok(())
+        }
+        Err(fault) => {
+            drop(edges);
+            drop(plane);
+            Err(fault)
+        }
+    }
 }
 
 /// The kind that a field spells.
@@ -182,7 +251,7 @@ fn edges_of(alloc: Global, details: &[Word]) -> Result<Edges, NoMemory> {
     let mut edges = List::new(alloc);
     for word in details {
         if let Name::Edge = word.name {
-            let [at, size, value, _] = word.fields;
+            let [at, size, value, ..] = word.fields;
             edges.push(HasValue {
                 at: number(at),
                 size: small(size),

@@ -15,8 +15,19 @@ pub enum Name {
     Number,
     /// `any=KEY`.
     Any,
-    /// `address=KEY:OBJECT:OFFSET`.
+    /// `address=KEY:OBJECT:OFFSET`, of a region.
     Address,
+    /// `first=KEY:OBJECT:OFFSET`, of the first node of a segment.
+    First,
+    /// `last=KEY:OBJECT:OFFSET`, of the last node of a segment.
+    Last,
+    /// `each=KEY:OBJECT:OFFSET`, of each node itself.
+    Each,
+    /// `singly=HEAD:NEXT:PREV:BACK:LEAST:NEXTVALUE:PREVVALUE`: the object before is a segment with such links, and the words `class` and
+    /// `edge` behind this are of its node.
+    Singly,
+    /// `twofold=HEAD:NEXT:PREV:BACK:LEAST:NEXTVALUE:PREVVALUE`: so it is, and its nodes are linked both ways.
+    Twofold,
     /// `variable=VARIABLE:OBJECT`.
     Variable,
     /// `register=REGISTER:VALUE`.
@@ -32,13 +43,13 @@ pub enum Name {
 pub struct Word {
     pub name: Name,
     /// Its fields, and zeros behind them.
-    pub fields: [i128; 4],
+    pub fields: [i128; 7],
 }
 
 /// The names of words.
-const NAMES: [&'static str; 11] = [
+const NAMES: [&'static str; 16] = [
     "object", "class", "edge", "const", "number", "any", "address", "variable", "register", "port",
-    "unequal",
+    "first", "last", "each", "singly", "twofold", "unequal",
 ];
 
 /// Fields that are no numbers. Each stands for its place here.
@@ -48,10 +59,10 @@ const FIELDS: [&'static str; 5] = ["static", "local", "heap", "dead", "live"];
 pub fn word_of(text: &str) -> Option<Word> {
     let (name, rest) = text.split_once('=')?;
     let name = name_at(place_of(&NAMES, name)?);
-    let mut fields = [0; 4];
+    let mut fields = [0; 7];
     let mut count: usize = 0;
     for field in rest.split(':') {
-        if count >= 4 {
+        if count >= 7 {
             return None;
         }
         fields[count] = field_of(field)?;
@@ -89,6 +100,11 @@ fn name_at(place: usize) -> Name {
         7 => Name::Variable,
         8 => Name::Register,
         9 => Name::Port,
+        10 => Name::First,
+        11 => Name::Last,
+        12 => Name::Each,
+        13 => Name::Singly,
+        14 => Name::Twofold,
         _ => Name::Unequal,
     }
 }
@@ -98,8 +114,9 @@ fn fields_of(name: Name) -> usize {
     match name {
         Name::Any | Name::Port => 1,
         Name::Class | Name::Number | Name::Variable | Name::Register | Name::Unequal => 2,
-        Name::Edge | Name::Const | Name::Address => 3,
+        Name::Edge | Name::Const | Name::Address | Name::First | Name::Last | Name::Each => 3,
         Name::Object => 4,
+        Name::Singly | Name::Twofold => 7,
     }
 }
 

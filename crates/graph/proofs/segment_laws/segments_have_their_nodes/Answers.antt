@@ -1,0 +1,5 @@
+use Rattle.graph.proofs.SegmentNodes.{segments_have_nodes}
+use Rattle.graph.proofs.segment_laws.segments_have_their_nodes.Goals as goal
+
+pub returns : goal.returns
+returns c = segments_have_nodes
