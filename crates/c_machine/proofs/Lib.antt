@@ -1,16 +1,6 @@
-pub mod ExamplesOfAccesses
-pub mod ExamplesOfBuiltIns
-pub mod ExamplesOfExpressions
-pub mod ExamplesOfInitialisers
-pub mod ExamplesOfLosses
-pub mod ExamplesOfStatements
 pub mod OneChoice
 pub mod TreesRead
 pub mod MoreChoices
-pub mod ExamplesOfSteps
 pub mod MoreOfRuns
-pub mod ExamplesOfRows
-pub mod ExamplesOfTrees
-pub mod ExamplesOfStatics
 pub mod Parts
 pub mod OwnTypes

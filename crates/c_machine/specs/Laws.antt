@@ -4,7 +4,7 @@ use Rattle.choices.specs.declared.choice.Choice.{Choice}
 use Rattle.typing.specs.declared.ctypes.kind.IntegerType.{IntegerType}
 use Rattle.typing.specs.values.Values.{as_type}
 use Rattle.c_machine.specs.Program.{Program}
-use Rattle.c_machine.specs.State.{StateIn, Outcome, Went, Waits, Ended, Faulted, NotYet, Stuck}
+use Rattle.c_machine.specs.State.{StateIn, Outcome, Went, Waits, Ended, Faulted, Stuck}
 use Rattle.c_machine.specs.Run.{run, run_of}
 use Rattle.c_machine.specs.Step.{step}
 use Rattle.c_machine.specs.Trees.{text_of}
@@ -16,7 +16,6 @@ TakesOne choices (Went next rest) = (rest ≡ choices) ⊎ ((first : Choice) × 
 TakesOne choices Waits = choices ≡ []
 TakesOne choices Ended = Unit {0}
 TakesOne choices (Faulted kind place) = Unit {0}
-TakesOne choices NotYet = Unit {0}
 TakesOne choices Stuck = Unit {0}
 
 -- a step takes at most one choice, and waits only where there is none
@@ -29,7 +28,6 @@ LeavesMore more (Went next rest) after = after ≡ Went next (rest ++ more)
 LeavesMore more Waits after = Unit {0}
 LeavesMore more Ended after = after ≡ Ended
 LeavesMore more (Faulted kind place) after = after ≡ Faulted kind place
-LeavesMore more NotYet after = after ≡ NotYet
 LeavesMore more Stuck after = after ≡ Stuck
 
 abbrev pub DoStepsLeaveMore : Type 0

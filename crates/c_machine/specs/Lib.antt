@@ -1,15 +1,6 @@
 pub mod Blocks
+pub mod Calls
 pub mod Choosing
-pub mod ExamplesOfTrees
-pub mod ExamplesOfStatics
-pub mod ExamplesOfAccesses
-pub mod ExamplesOfBuiltIns
-pub mod ExamplesOfExpressions
-pub mod ExamplesOfInitialisers
-pub mod ExamplesOfLosses
-pub mod ExamplesOfRows
-pub mod ExamplesOfStatements
-pub mod ExamplesOfSteps
 pub mod Expressions
 pub mod Laws
 pub mod Program

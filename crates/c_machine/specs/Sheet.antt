@@ -1,6 +1,6 @@
 -- Programs as tables, for worked examples: an expression, a statement and an initialiser is the line of its number. What the machine asks of a program
 -- stands there as it is.
-use Rattle.std.specs.Prelude.{◌≡◌, ℕ, Bool, true, false, List, [], ◌∷◌, replicate, nat_eq, ◌&&◌, Option, None, Some, slice_get, if◌then◌else◌}
+use Rattle.std.specs.Prelude.{◌≡◌, ℕ, Bool, true, false, List, [], ◌∷◌, map, replicate, nat_eq, ◌&&◌, Option, None, Some, slice_get, if◌then◌else◌}
 use Rattle.std.specs.Option.{option_map_or}
 use Rattle.choices.specs.declared.choice.Choice.{Choice}
 use Rattle.typing.specs.ctypes.Integers.{integer, truth}
@@ -59,6 +59,9 @@ abbrev pub stored : List StoreLine → ℕ → ℕ → Option Store
 stored [] name value = None
 stored (line ∷ rest) name value = if nat_eq line.name name && nat_eq line.value value then Some line.store else stored rest name value
 
+abbrev pub an_int : Kind
+an_int = Integer (integer 4 true)
+
 abbrev pub text_in : Sheet → Text
 text_in sheet = record {
   Expr = ℕ;
@@ -78,7 +81,14 @@ text_in sheet = record {
   statics = sheet.statics;
   sets = sheet.sets;
   enough = 100;
-  main = Some (record { params = sheet.params; body = sheet.body; close = token sheet.close });
+  functions = [];
+  main = Some (record {
+    is_main = true;
+    params = map (λ param. record { object = param; kind = an_int }) sheet.params;
+    result = an_int;
+    body = sheet.body;
+    close = token sheet.close;
+  });
   strict = sheet.strict;
 }
 
@@ -105,9 +115,6 @@ abbrev pub written : ℕ → ℕ → Set ℕ
 written name init = record { place = token name; init = init }
 
 -- the types of C
-abbrev pub an_int : Kind
-an_int = Integer (integer 4 true)
-
 abbrev pub an_unsigned : Kind
 an_unsigned = Integer (integer 4 false)
 
