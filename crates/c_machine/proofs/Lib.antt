@@ -4,3 +4,4 @@ pub mod MoreChoices
 pub mod MoreOfRuns
 pub mod Parts
 pub mod OwnTypes
+pub mod Losses
