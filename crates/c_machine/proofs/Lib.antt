@@ -5,3 +5,4 @@ pub mod MoreOfRuns
 pub mod Parts
 pub mod OwnTypes
 pub mod Losses
+pub mod WorkedOut

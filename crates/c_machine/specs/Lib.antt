@@ -1,12 +1,13 @@
 pub mod Blocks
 pub mod Calls
 pub mod Choosing
+pub mod Examples
 pub mod Expressions
 pub mod Laws
 pub mod Program
 pub mod Reading
 pub mod Run
-pub mod Sheet
+pub mod Script
 pub mod State
 pub mod Statements
 pub mod Statics

@@ -6,6 +6,7 @@
 #![tactic(auto)]
 
 mod built_in;
+pub mod examples;
 mod kind;
 pub mod laws;
 mod object;
