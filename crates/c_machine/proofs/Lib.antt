@@ -6,3 +6,8 @@ pub mod Parts
 pub mod OwnTypes
 pub mod Losses
 pub mod WorkedOut
+pub mod KeptMemory
+pub mod KeptWords
+pub mod KeptStates
+pub mod KeptSteps
+pub mod KeptRuns

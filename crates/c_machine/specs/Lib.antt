@@ -3,6 +3,7 @@ pub mod Calls
 pub mod Choosing
 pub mod Examples
 pub mod Expressions
+pub mod Keeping
 pub mod Laws
 pub mod Program
 pub mod Reading
