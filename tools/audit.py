@@ -21,7 +21,7 @@ NO_CLAIMS = ("*_rows", "*_tests", "predator")
 # Laws that are rows worked out by hand: their files of code, and their names.
 WORKED = ("*/rows", "*/tables", "flow/laws"), ("*rows_hold", "*examples*", "edges_of_*")
 # Files of texts or trees with what was worked out by hand, and the words in which these are written.
-TABLES = ("*/Examples*", "*/Sample*", "*/Edges", "*/*Rows", "*/RowWords", "*/Sheet", "*/TextItems")
+TABLES = ("*/Examples*", "*/Sample*", "*/Edges", "*/*Rows", "*/RowWords", "*/Script", "*/TextItems")
 # Files that say how code finds or keeps something, or what the numbers mean that it keeps.
 MODELS = ("*/Kept*", "*/SymbolRows", "*/CodeTables", "cbuild/*", "cconstructs/*Finding", "ccheck/Steps", "cevents/*", "cgrammar/Closers",
           "cgrammar/ConstantParts", "cgrammar/FrontReadings", "cgrammar/Outcomes", "cgrammar/Read[A-Z]*", "cgrammar/Reader", "cgrammar/TokenReadings",

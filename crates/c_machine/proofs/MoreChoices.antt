@@ -1,13 +1,13 @@
 -- Choices behind those that a step takes change nothing, and are left.
 use Rattle.std.proofs.Common.{ℕ, Bool, true, false, List, [], ◌∷◌, ◌++◌, Option, Some, None as Nothing, refl}
-use Rattle.std.specs.Prelude.{if◌then◌else◌, pos, not, ◌&&◌, ◌||◌, nat_eq, nat_lt, length, ◌*◌}
+use Rattle.std.specs.Prelude.{if◌then◌else◌, pos, not, ◌&&◌, ◌||◌, nat_eq, nat_lt, length, ◌*◌, slice_get}
 use Rattle.std.specs.List.{list_all}
 use Rattle.cbase.specs.declared.place.Place.{Place}
 use Rattle.bytes_core.specs.declared.block.BlockKind.{BlockKind}
 use Rattle.bytes_core.specs.declared.block.BlockKind.TheVariants as storage
 use Rattle.bytes_core.specs.declared.word.Word.{Word}
 use Rattle.bytes_core.specs.declared.word.Word.TheVariants.{Plain, To}
-use Rattle.bytes_core.specs.Access.{access_fault, range_fault, loaded}
+use Rattle.bytes_core.specs.Access.{access_fault, range_fault, loaded, stored}
 use Rattle.bytes_core.specs.Copying.{copy_fault}
 use Rattle.bytes_core.specs.Loss.{is_lost}
 use Rattle.bytes_core.specs.Placement.{is_new_block}
@@ -15,20 +15,21 @@ use Rattle.bytes_core.specs.Release.{free_fault}
 use Rattle.bytes_core.specs.Value.{address_number}
 use Rattle.choices.specs.declared.choice.Choice.{Choice}
 use Rattle.choices.specs.declared.choice.Choice.TheVariants.{None, Block as NewBlock, Input}
+use Rattle.c_machine.specs.Calls.{called}
 use Rattle.c_machine.specs.Choosing.{with_block, allocated, received, count_of, with_object, with_static}
 use Rattle.c_machine.specs.Laws.{LeavesMore, DoStepsLeaveMore}
 use Rattle.c_machine.specs.declared.built_in.BuiltIn.TheVariants.{Malloc, Calloc, Free, Memset, Memcpy, Memmove, EndsRun, Assume, Expect, GivesInput}
 use Rattle.c_machine.specs.declared.built_in.BuiltIn.{BuiltIn}
 use Rattle.c_machine.specs.declared.task.Task.{Task}
-use Rattle.c_machine.specs.declared.task.Task.TheVariants.{ValueOf, AddressOf, Push, ObjectAt, Shift, Load, Convert, Apply, Operate, Answer, AndThen, OrElse, Pick, Drop, Store, Update, CountBy, CopyStruct, RunBuiltIn, CallDefined, EndRun, Finish, Keep, Execute, Branch, Test, Again, OpenBlock, MakeObject, MakeStatic, LeaveBlock, Zero, Initialise, BreakAt, ContinueAt, GiveBack, LeaveFunction, EndOfBody, Unknown}
-use Rattle.c_machine.specs.State.{TaskIn, Frame, State, StateIn, Outcome, Went, doing, with_operand, popped_of, unless_fault, block_of, blocks_of, objects_of, roots}
-use Rattle.c_machine.specs.Statements.{LoopLeft, loop_left, after_break, after_continue, BodyLeft, body_left, oldest, branch_place, branch_tasks}
+use Rattle.c_machine.specs.declared.task.Task.TheVariants.{ValueOf, AddressOf, Push, ObjectAt, Shift, Load, Convert, Apply, Operate, Answer, AndThen, OrElse, Pick, Drop, Store, Update, CountBy, CopyStruct, RunBuiltIn, CallDefined, EndRun, Finish, Keep, Execute, Branch, Test, Again, OpenBlock, MakeObject, MakeParameter, MakeStatic, LeaveBlock, Zero, Initialise, BreakAt, ContinueAt, GiveBack, LeaveFunction, EndOfBody, Unknown}
+use Rattle.c_machine.specs.State.{TaskIn, Frame, State, StateIn, Outcome, Went, doing, with_operand, with_memory, popped_of, unless_fault, block_of, blocks_of, objects_of, roots}
+use Rattle.c_machine.specs.Statements.{LoopLeft, loop_left, after_break, after_continue, BodyLeft, body_left, branch_place, branch_tasks}
 use Rattle.c_machine.specs.Step.{unless_lost, or_ended, or_stuck, object_at, load_step, store_step, stored_result, updated, and_then, or_else, assumed, built_in_step, leave_block, leave_loop, give_back, end_of_body, returned, leave_function, without_objects, counting, counted, step_of, step_on}
 use Rattle.c_machine.specs.declared.kind.Kind.TheVariants.{Integer, Pointer, Array, Struct, Void}
 use Rattle.c_machine.specs.declared.kind.Kind.{Kind}
-use Rattle.c_machine.specs.Text.{Text}
+use Rattle.c_machine.specs.Text.{Function, Text}
 use Rattle.c_machine.specs.Trees.{text_of}
-use Rattle.c_machine.specs.Words.{is_true, as_kind, applied, operated, kind_after, scalar_bytes, is_pointer}
+use Rattle.c_machine.specs.Words.{is_true, applied, operated, kind_after, scalar_bytes, is_pointer}
 use Rattle.typing.specs.ctypes.Integers.{int}
 
 -- whatever a step tests
@@ -123,18 +124,23 @@ built_in_steps Assume place result state choices more = popping state.operands s
 built_in_steps Expect place result state choices more = popping state.operands state choices more _ _ (λ expected after. refl)
 built_in_steps GivesInput place result state choices more = receives result state choices more
 
+-- calls
+calls : (t : Text) (function : Option (Function t.Stmt)) (state : StateIn t) (choices more : List Choice) → LeavesMore more (called t function state choices) (called t function state (choices ++ more))
+calls t Nothing state choices more = refl
+calls t (Some function) state choices more = refl
+
 -- ways out
 leaves_block : {E S I : Type 0} (frame : Frame) (place : Place) (state : State E S I) (choices more : List Choice) → LeavesMore more (leave_block frame place state choices) (leave_block frame place state (choices ++ more))
 leaves_block [] place state choices more = refl
 leaves_block (scope ∷ scopes) place state choices more = lost_or place (record state { frame = scopes; memory = without_objects (blocks_of scope) state.memory }) choices more
 
-leaves_loop : {E S I : Type 0} (left : Option (LoopLeft E S I)) (onward : LoopLeft E S I → List (Task E S I)) (word : Place) (state : State E S I) (choices more : List Choice) → LeavesMore more (leave_loop left onward word state choices) (leave_loop left onward word state (choices ++ more))
-leaves_loop Nothing onward word state choices more = refl
-leaves_loop (Some left) onward word state choices more = lost_or word (record state { tasks = onward left; operands = oldest left.held state.operands }) choices more
+leaves_loop : {E S I : Type 0} (left : Option (LoopLeft E S I)) (onward : LoopLeft E S I → List (Task E S I)) (state : State E S I) (choices more : List Choice) → LeavesMore more (leave_loop left onward state choices) (leave_loop left onward state (choices ++ more))
+leaves_loop Nothing onward state choices more = refl
+leaves_loop (Some left) onward state choices more = refl
 
 gives_back : {E S I : Type 0} (left : Option (BodyLeft E S I)) (word : Place) (from : Kind) (value : Word) (state : State E S I) (choices more : List Choice) → LeavesMore more (give_back left word from value state choices) (give_back left word from value state (choices ++ more))
 gives_back Nothing word from value state choices more = refl
-gives_back (Some left) word from value state choices more = lost_or word (record state { tasks = LeaveFunction word ∷ left.rest; operands = as_kind state.memory from left.result value ∷ oldest left.held state.operands }) choices more
+gives_back (Some left) word from value state choices more = refl
 
 ends_body : {E S I : Type 0} (is_main : Bool) (result : Kind) (close : Place) (state : State E S I) (choices more : List Choice) → LeavesMore more (end_of_body is_main result close state choices) (end_of_body is_main result close state (choices ++ more))
 ends_body true result close state choices more = refl
@@ -174,7 +180,7 @@ leaves t (Update op place kind right) state choices more = popping state.operand
 leaves t (CountBy up behind place kind) state choices more = popping state.operands state choices more _ _ (λ at after. updates (counting up) place kind (scalar_bytes kind) (Integer int) at (Plain 1) (counted behind) after choices more)
 leaves t (CopyStruct place count) state choices more = popping state.operands state choices more _ _ (λ from before. popping before.operands before choices more _ _ (λ to after. fault_or _ _ choices more (copy_fault state.memory to from count false) place refl))
 leaves t (RunBuiltIn what place result) state choices more = built_in_steps what place result state choices more
-leaves t CallDefined state choices more = refl
+leaves t (CallDefined number) state choices more = calls t (slice_get t.functions number) state choices more
 leaves t EndRun state choices more = refl
 leaves t (Finish place) state choices more = popping state.operands state choices more _ _ (λ word after. lost_or place after choices more)
 leaves t (Keep place) state choices more = lost_or place state choices more
@@ -184,12 +190,14 @@ leaves t (Test stmt) state choices more = refl
 leaves t (Again stmt held) state choices more = refl
 leaves t OpenBlock state choices more = refl
 leaves t (MakeObject object) state choices more = blocks storage.Local object.bytes false state choices more (λ next block. with_object object.token next block)
+leaves t (MakeParameter object) state choices more = popping state.operands state choices more _ _ (λ word after.
+    blocks storage.Local object.bytes false after choices more (λ next block. with_object object.token (with_memory (stored next.memory (To block (pos 0)) object.bytes word) next) block))
 leaves t (MakeStatic object) state choices more = blocks storage.Static object.bytes true state choices more (λ next block. with_static object.token next block)
 leaves t (LeaveBlock place) state choices more = leaves_block state.frame place state choices more
 leaves t (Zero place count) state choices more = popping state.operands state choices more _ _ (λ at after. fault_or _ _ choices more (range_fault state.memory at count) place refl)
 leaves t (Initialise place init) state choices more = refl
-leaves t (BreakAt word) state choices more = leaves_loop (loop_left state.tasks) (after_break t word) word state choices more
-leaves t (ContinueAt word) state choices more = leaves_loop (loop_left state.tasks) (after_continue word) word state choices more
+leaves t (BreakAt word) state choices more = leaves_loop (loop_left state.tasks) (after_break t word) state choices more
+leaves t (ContinueAt word) state choices more = leaves_loop (loop_left state.tasks) (after_continue word) state choices more
 leaves t (GiveBack word from) state choices more = popping state.operands state choices more _ _ (λ value after. gives_back (body_left after.tasks) word from value after choices more)
 leaves t (LeaveFunction place) state choices more = leaves_function t.strict place (record state { frame = []; memory = without_objects (blocks_of (objects_of state.frame)) state.memory }) choices more
 leaves t (EndOfBody is_main result close held) state choices more = ends_body is_main result close state choices more

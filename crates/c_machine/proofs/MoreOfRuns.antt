@@ -4,9 +4,9 @@ use Rattle.choices.specs.declared.choice.Choice.{Choice}
 use Rattle.c_machine.specs.Laws.{LeavesMore, DoRunsLeaveMore, DoProgramsLeaveMore}
 use Rattle.c_machine.specs.Run.{then_go, run, blank, static_tasks, main_tasks, finished, done_within, start_main}
 use Rattle.c_machine.specs.declared.task.Task.{Task}
-use Rattle.c_machine.specs.State.{State, StateIn, Outcome, Went, Waits, Ended, Faulted, NotYet, Stuck}
+use Rattle.c_machine.specs.State.{State, StateIn, Outcome, Went, Waits, Ended, Faulted, Stuck}
 use Rattle.c_machine.specs.Step.{step}
-use Rattle.c_machine.specs.Text.{Main, Text}
+use Rattle.c_machine.specs.Text.{Function, Text}
 use Rattle.c_machine.specs.Trees.{text_of}
 use Rattle.c_machine.proofs.MoreChoices.{leaves_on}
 
@@ -19,7 +19,6 @@ then_leaves more (Went next rest) after onward is each =
 then_leaves more Waits after onward is each = tt
 then_leaves more Ended after onward is each = subst (λ (o : _). then_go o onward ≡ Ended) (sym is) refl
 then_leaves more (Faulted kind place) after onward is each = subst (λ (o : _). then_go o onward ≡ Faulted kind place) (sym is) refl
-then_leaves more NotYet after onward is each = subst (λ (o : _). then_go o onward ≡ NotYet) (sym is) refl
 then_leaves more Stuck after onward is each = subst (λ (o : _). then_go o onward ≡ Stuck) (sym is) refl
 
 step_leaves : (t : Text) (state : StateIn t) (choices more : List Choice) → LeavesMore more (step t state choices) (step t state (choices ++ more))
@@ -40,7 +39,7 @@ done_leaves t (suc steps) more state choices =
     finish_leaves state.tasks more state choices (λ after rest. then_go (step t after rest) (done_within steps t))
     (then_leaves more _ _ (done_within steps t) (step_leaves t state choices more) (done_leaves t steps more))
 
-start_leaves : (t : Text) (main : Option (Main t.Stmt)) (more choices : List Choice) → LeavesMore more (start_main t t.enough main choices) (start_main t t.enough main (choices ++ more))
+start_leaves : (t : Text) (main : Option (Function t.Stmt)) (more choices : List Choice) → LeavesMore more (start_main t t.enough main choices) (start_main t t.enough main (choices ++ more))
 start_leaves t None more choices = refl
 start_leaves t (Some main) more choices =
     then_leaves more _ _ (λ state rest. Went (record state { tasks = main_tasks t main }) rest)

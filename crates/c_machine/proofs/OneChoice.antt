@@ -1,13 +1,13 @@
 -- A step takes at most one choice.
 use Rattle.std.proofs.Common.{ℕ, Bool, true, false, List, [], ◌∷◌, Option, Some, None as Nothing, inl, inr, refl}
-use Rattle.std.specs.Prelude.{if◌then◌else◌, pos, not, ◌&&◌, ◌||◌, nat_eq, nat_lt, length, ◌*◌}
+use Rattle.std.specs.Prelude.{if◌then◌else◌, pos, not, ◌&&◌, ◌||◌, nat_eq, nat_lt, length, ◌*◌, slice_get}
 use Rattle.std.specs.List.{list_all}
 use Rattle.cbase.specs.declared.place.Place.{Place}
 use Rattle.bytes_core.specs.declared.block.BlockKind.{BlockKind}
 use Rattle.bytes_core.specs.declared.block.BlockKind.TheVariants as storage
 use Rattle.bytes_core.specs.declared.word.Word.{Word}
 use Rattle.bytes_core.specs.declared.word.Word.TheVariants.{Plain, To}
-use Rattle.bytes_core.specs.Access.{access_fault, range_fault, loaded}
+use Rattle.bytes_core.specs.Access.{access_fault, range_fault, loaded, stored}
 use Rattle.bytes_core.specs.Copying.{copy_fault}
 use Rattle.bytes_core.specs.Loss.{is_lost}
 use Rattle.bytes_core.specs.Placement.{is_new_block}
@@ -15,20 +15,21 @@ use Rattle.bytes_core.specs.Release.{free_fault}
 use Rattle.bytes_core.specs.Value.{address_number}
 use Rattle.choices.specs.declared.choice.Choice.{Choice}
 use Rattle.choices.specs.declared.choice.Choice.TheVariants.{None, Block as NewBlock, Input}
+use Rattle.c_machine.specs.Calls.{called}
 use Rattle.c_machine.specs.Choosing.{with_block, allocated, received, count_of, with_object, with_static}
 use Rattle.c_machine.specs.Laws.{TakesOne, DoStepsTakeOne}
 use Rattle.c_machine.specs.declared.built_in.BuiltIn.TheVariants.{Malloc, Calloc, Free, Memset, Memcpy, Memmove, EndsRun, Assume, Expect, GivesInput}
 use Rattle.c_machine.specs.declared.built_in.BuiltIn.{BuiltIn}
 use Rattle.c_machine.specs.declared.task.Task.{Task}
-use Rattle.c_machine.specs.declared.task.Task.TheVariants.{ValueOf, AddressOf, Push, ObjectAt, Shift, Load, Convert, Apply, Operate, Answer, AndThen, OrElse, Pick, Drop, Store, Update, CountBy, CopyStruct, RunBuiltIn, CallDefined, EndRun, Finish, Keep, Execute, Branch, Test, Again, OpenBlock, MakeObject, MakeStatic, LeaveBlock, Zero, Initialise, BreakAt, ContinueAt, GiveBack, LeaveFunction, EndOfBody, Unknown}
-use Rattle.c_machine.specs.State.{TaskIn, Frame, State, StateIn, Outcome, Went, doing, with_operand, popped_of, unless_fault, block_of, blocks_of, objects_of, roots}
-use Rattle.c_machine.specs.Statements.{LoopLeft, loop_left, after_break, after_continue, BodyLeft, body_left, oldest, branch_place, branch_tasks}
+use Rattle.c_machine.specs.declared.task.Task.TheVariants.{ValueOf, AddressOf, Push, ObjectAt, Shift, Load, Convert, Apply, Operate, Answer, AndThen, OrElse, Pick, Drop, Store, Update, CountBy, CopyStruct, RunBuiltIn, CallDefined, EndRun, Finish, Keep, Execute, Branch, Test, Again, OpenBlock, MakeObject, MakeParameter, MakeStatic, LeaveBlock, Zero, Initialise, BreakAt, ContinueAt, GiveBack, LeaveFunction, EndOfBody, Unknown}
+use Rattle.c_machine.specs.State.{TaskIn, Frame, State, StateIn, Outcome, Went, doing, with_operand, with_memory, popped_of, unless_fault, block_of, blocks_of, objects_of, roots}
+use Rattle.c_machine.specs.Statements.{LoopLeft, loop_left, after_break, after_continue, BodyLeft, body_left, branch_place, branch_tasks}
 use Rattle.c_machine.specs.Step.{unless_lost, or_ended, or_stuck, object_at, load_step, store_step, stored_result, updated, and_then, or_else, assumed, built_in_step, leave_block, leave_loop, give_back, end_of_body, returned, leave_function, without_objects, counting, counted, step_of, step_on}
 use Rattle.c_machine.specs.declared.kind.Kind.TheVariants.{Integer, Pointer, Array, Struct, Void}
 use Rattle.c_machine.specs.declared.kind.Kind.{Kind}
-use Rattle.c_machine.specs.Text.{Text}
+use Rattle.c_machine.specs.Text.{Function, Text}
 use Rattle.c_machine.specs.Trees.{text_of}
-use Rattle.c_machine.specs.Words.{is_true, as_kind, applied, operated, kind_after, scalar_bytes, is_pointer}
+use Rattle.c_machine.specs.Words.{is_true, applied, operated, kind_after, scalar_bytes, is_pointer}
 use Rattle.typing.specs.ctypes.Integers.{int}
 
 -- whatever a step tests
@@ -131,26 +132,26 @@ built_in_steps Assume place result state choices = popping state.operands state 
 built_in_steps Expect place result state choices = popping state.operands state choices _ (λ expected after. inl refl)
 built_in_steps GivesInput place result state choices = receives result state choices
 
+-- calls
+calls : (t : Text) (function : Option (Function t.Stmt)) (state : StateIn t) (choices : List Choice) → TakesOne choices (called t function state choices)
+calls t Nothing state choices = tt
+calls t (Some function) state choices = inl refl
+
 -- ways out
 leaves_block : {E S I : Type 0} (frame : Frame) (place : Place) (state : State E S I) (choices : List Choice) → TakesOne choices (leave_block frame place state choices)
 leaves_block [] place state choices = tt
 leaves_block (scope ∷ scopes) place state choices =
     lost_or place (record state { frame = scopes; memory = without_objects (blocks_of scope) state.memory }) choices
 
-leaves_loop : {E S I : Type 0} (left : Option (LoopLeft E S I)) (onward : LoopLeft E S I → List (Task E S I)) (word : Place) (state : State E S I) (choices : List Choice) →
-    TakesOne choices (leave_loop left onward word state choices)
-leaves_loop Nothing onward word state choices = tt
-leaves_loop (Some left) onward word state choices =
-    lost_or word (record state { tasks = onward left; operands = oldest left.held state.operands }) choices
+leaves_loop : {E S I : Type 0} (left : Option (LoopLeft E S I)) (onward : LoopLeft E S I → List (Task E S I)) (state : State E S I) (choices : List Choice) →
+    TakesOne choices (leave_loop left onward state choices)
+leaves_loop Nothing onward state choices = tt
+leaves_loop (Some left) onward state choices = inl refl
 
 gives_back : {E S I : Type 0} (left : Option (BodyLeft E S I)) (word : Place) (from : Kind) (value : Word) (state : State E S I) (choices : List Choice) →
     TakesOne choices (give_back left word from value state choices)
 gives_back Nothing word from value state choices = tt
-gives_back (Some left) word from value state choices =
-    lost_or word (record state {
-      tasks = LeaveFunction word ∷ left.rest;
-      operands = as_kind state.memory from left.result value ∷ oldest left.held state.operands;
-    }) choices
+gives_back (Some left) word from value state choices = inl refl
 
 ends_body : {E S I : Type 0} (is_main : Bool) (result : Kind) (close : Place) (state : State E S I) (choices : List Choice) → TakesOne choices (end_of_body is_main result close state choices)
 ends_body true result close state choices = inl refl
@@ -192,7 +193,7 @@ takes t (CountBy up behind place kind) state choices = popping state.operands st
 takes t (CopyStruct place count) state choices =
     popping state.operands state choices _ (λ from before. popping before.operands before choices _ (λ to after. fault_or _ choices (copy_fault state.memory to from count false) place (inl refl)))
 takes t (RunBuiltIn what place result) state choices = built_in_steps what place result state choices
-takes t CallDefined state choices = tt
+takes t (CallDefined number) state choices = calls t (slice_get t.functions number) state choices
 takes t EndRun state choices = tt
 takes t (Finish place) state choices = popping state.operands state choices _ (λ word after. lost_or place after choices)
 takes t (Keep place) state choices = lost_or place state choices
@@ -203,12 +204,14 @@ takes t (Test stmt) state choices = inl refl
 takes t (Again stmt held) state choices = inl refl
 takes t OpenBlock state choices = inl refl
 takes t (MakeObject object) state choices = blocks storage.Local object.bytes false state choices (λ next block. with_object object.token next block)
+takes t (MakeParameter object) state choices = popping state.operands state choices _ (λ word after.
+    blocks storage.Local object.bytes false after choices (λ next block. with_object object.token (with_memory (stored next.memory (To block (pos 0)) object.bytes word) next) block))
 takes t (MakeStatic object) state choices = blocks storage.Static object.bytes true state choices (λ next block. with_static object.token next block)
 takes t (LeaveBlock place) state choices = leaves_block state.frame place state choices
 takes t (Zero place count) state choices = popping state.operands state choices _ (λ at after. fault_or _ choices (range_fault state.memory at count) place (inl refl))
 takes t (Initialise place init) state choices = inl refl
-takes t (BreakAt word) state choices = leaves_loop (loop_left state.tasks) (after_break t word) word state choices
-takes t (ContinueAt word) state choices = leaves_loop (loop_left state.tasks) (after_continue word) word state choices
+takes t (BreakAt word) state choices = leaves_loop (loop_left state.tasks) (after_break t word) state choices
+takes t (ContinueAt word) state choices = leaves_loop (loop_left state.tasks) (after_continue word) state choices
 takes t (GiveBack word from) state choices = popping state.operands state choices _ (λ value after. gives_back (body_left after.tasks) word from value after choices)
 takes t (LeaveFunction place) state choices = leaves_function t.strict place (record state { frame = []; memory = without_objects (blocks_of (objects_of state.frame)) state.memory }) choices
 takes t (EndOfBody is_main result close held) state choices = ends_body is_main result close state choices

@@ -3,7 +3,9 @@ use Rattle.std.specs.Prelude.{ℕ, ◌^◌, Bool, true, false, not, ◌&&◌, �
 use Rattle.std.specs.List.{list_all}
 use Rattle.bytes_core.specs.declared.block.BlockKind.{BlockKind}
 use Rattle.bytes_core.specs.declared.block.BlockKind.TheVariants as storage
+use Rattle.bytes_core.specs.declared.word.Word.{Word}
 use Rattle.bytes_core.specs.declared.word.Word.TheVariants.{Plain, To}
+use Rattle.bytes_core.specs.Access.{stored}
 use Rattle.bytes_core.specs.Placement.{new_block, is_new_block, placed}
 use Rattle.choices.specs.declared.choice.Choice.{Choice}
 use Rattle.choices.specs.declared.choice.Choice.TheVariants.{None, Block as NewBlock, Input}
@@ -38,6 +40,12 @@ with_static token state block = record state { statics = state.statics ++ record
 abbrev pub object_made : {E S I : Type 0} → Object → State E S I → List Choice → Outcome E S I
 object_made object state choices =
     with_block storage.Local object.bytes false state choices (λ after block more. Went (with_object object.token after block) more)
+
+-- a parameter is made as an object of the innermost block, and gets its argument, a value of its own type (6.9.1p9, p10)
+abbrev pub parameter_made : {E S I : Type 0} → Object → Word → State E S I → List Choice → Outcome E S I
+parameter_made object word state choices =
+    with_block storage.Local object.bytes false state choices (λ after block more.
+    Went (with_object object.token (with_memory (stored after.memory (To block (pos 0)) object.bytes word) after) block) more)
 
 abbrev pub static_made : {E S I : Type 0} → Object → State E S I → List Choice → Outcome E S I
 static_made object state choices =

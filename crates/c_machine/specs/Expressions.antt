@@ -1,5 +1,5 @@
 -- What expressions are made of, in the order in which it is done: from left to right (C11 6.5 leaves that open).
-use Rattle.std.specs.Prelude.{ℕ, Bool, true, false, ◌||◌, List, [], ◌∷◌, ◌++◌, codes, Option, None, Some, if◌then◌else◌}
+use Rattle.std.specs.Prelude.{ℕ, Bool, true, false, ◌||◌, List, [], ◌∷◌, ◌++◌, map, codes, Option, None, Some, slice_get, if◌then◌else◌}
 use Rattle.std.specs.Str.{bytes_eq}
 use Rattle.cbase.specs.declared.place.Place.{Place}
 use Rattle.cbase.specs.declared.tree.operators.BinaryOp.{BinaryOp}
@@ -7,7 +7,7 @@ use Rattle.cbase.specs.declared.tree.operators.BinaryOp.TheVariants.{Add, Both, 
 use Rattle.cbase.specs.declared.tree.operators.UnaryOp.TheVariants.{Address, Follow, Not}
 use Rattle.c_machine.specs.declared.kind.Kind.TheVariants.{Struct}
 use Rattle.c_machine.specs.declared.kind.Kind.{Kind}
-use Rattle.c_machine.specs.Text.{Standing, ObjectStands, ConstantStands, BuiltInStands, BodyStands, Form, Name, Known, Unary, Binary, Assign, Count, Choose, Cast, Index, Member, Call, Inner, AssertFail, Text}
+use Rattle.c_machine.specs.Text.{Standing, ObjectStands, ConstantStands, BuiltInStands, BodyStands, Form, Name, Known, Unary, Binary, Assign, Count, Choose, Cast, Index, Member, Call, Inner, AssertFail, Function, Text}
 use Rattle.c_machine.specs.declared.built_in.BuiltIn.TheVariants.{Malloc, Calloc, Free, Memset, Memcpy, Memmove, EndsRun, Assume, Expect, GivesInput}
 use Rattle.c_machine.specs.declared.built_in.BuiltIn.{BuiltIn}
 use Rattle.c_machine.specs.declared.task.Task.TheVariants.{ValueOf, AddressOf, Push, ObjectAt, Shift, Load, Convert, Apply, Operate, Answer, AndThen, OrElse, Pick, Drop, Store, Update, CountBy, CopyStruct, RunBuiltIn, CallDefined, EndRun, Unknown}
@@ -80,11 +80,16 @@ argument_tasks t [] params = []
 argument_tasks t (arg ∷ args) [] = Unknown ∷ []
 argument_tasks t (arg ∷ args) (param ∷ params) = ValueOf arg ∷ Convert (value_kind t arg) param ∷ argument_tasks t args params
 
+-- a function that has a body is called behind its arguments
+abbrev pub body_call : (t : Text) → List t.Expr → ℕ → Option (Function t.Stmt) → List (TaskIn t)
+body_call t args number None = Unknown ∷ []
+body_call t args number (Some function) = argument_tasks t args (map (λ param. param.kind) function.params) ++ CallDefined number ∷ []
+
 -- what is called is built in, or has a body in the text (6.5.2.2)
 abbrev pub call_parts : (t : Text) → t.Expr → List t.Expr → Standing → List (TaskIn t)
 call_parts t callee args (BuiltInStands name params result) =
     argument_tasks t args params ++ RunBuiltIn (built_in name) (t.place callee) result ∷ []
-call_parts t callee args BodyStands = CallDefined ∷ []
+call_parts t callee args (BodyStands number) = body_call t args number (slice_get t.functions number)
 call_parts t callee args other = Unknown ∷ []
 
 -- the value of an expression

@@ -1,12 +1,15 @@
 -- Laws of the machine.
-use Rattle.std.specs.Prelude.{◌≡◌, ℕ, ◌^◌, ◌<◌, false, ◌⊎◌, List, [], ◌∷◌, ◌++◌}
+use Rattle.std.specs.Prelude.{◌≡◌, ℕ, ◌^◌, ◌<◌, true, false, ◌⊎◌, List, [], ◌∷◌, ◌++◌, slice_get, Contains}
+use Rattle.bytes_core.specs.declared.block.Block.{Block}
+use Rattle.bytes_core.specs.Loss.{is_lost}
+use Rattle.bytes_core.specs.Marking.{is_heap_block}
 use Rattle.choices.specs.declared.choice.Choice.{Choice}
 use Rattle.typing.specs.declared.ctypes.kind.IntegerType.{IntegerType}
 use Rattle.typing.specs.values.Values.{as_type}
 use Rattle.c_machine.specs.Program.{Program}
-use Rattle.c_machine.specs.State.{StateIn, Outcome, Went, Waits, Ended, Faulted, NotYet, Stuck}
+use Rattle.c_machine.specs.State.{StateIn, Outcome, Went, Waits, Ended, Faulted, Stuck}
 use Rattle.c_machine.specs.Run.{run, run_of}
-use Rattle.c_machine.specs.Step.{step}
+use Rattle.c_machine.specs.Step.{step, without_objects}
 use Rattle.c_machine.specs.Trees.{text_of}
 use Rattle.c_machine.specs.Words.{integer_as}
 
@@ -16,7 +19,6 @@ TakesOne choices (Went next rest) = (rest ≡ choices) ⊎ ((first : Choice) × 
 TakesOne choices Waits = choices ≡ []
 TakesOne choices Ended = Unit {0}
 TakesOne choices (Faulted kind place) = Unit {0}
-TakesOne choices NotYet = Unit {0}
 TakesOne choices Stuck = Unit {0}
 
 -- a step takes at most one choice, and waits only where there is none
@@ -29,7 +31,6 @@ LeavesMore more (Went next rest) after = after ≡ Went next (rest ++ more)
 LeavesMore more Waits after = Unit {0}
 LeavesMore more Ended after = after ≡ Ended
 LeavesMore more (Faulted kind place) after = after ≡ Faulted kind place
-LeavesMore more NotYet after = after ≡ NotYet
 LeavesMore more Stuck after = after ≡ Stuck
 
 abbrev pub DoStepsLeaveMore : Type 0
@@ -51,3 +52,14 @@ DoProgramsLeaveMore =
 -- where integers become ones of another type than `_Bool`, that a type is its own makes no difference to the rules between types (C11 6.3p2, 6.3.1.3)
 abbrev pub DoConversionsAgree : Type 0
 DoConversionsAgree = (from to : IntegerType) (bits : ℕ) → to.truth ≡ false → bits < 256 ^ from.bytes → integer_as from to bits ≡ as_type from to bits
+
+-- what is lost before roots go and objects die is lost after it, where these are no heap blocks. So `break`, `continue` and `return` need no look of their
+-- own: what is lost at their word, when what unfinished expressions hold has gone, is found as the first block is left, at the same word
+abbrev pub AreObjects : List Block → List ℕ → Type 0
+AreObjects memory [] = Unit {0}
+AreObjects memory (number ∷ rest) = (is_heap_block (slice_get memory number) ≡ false) × AreObjects memory rest
+
+abbrev pub DoesLossStay : Type 0
+DoesLossStay =
+    (memory : List Block) (roots fewer dying : List ℕ) → ((number : ℕ) → Contains fewer number → Contains roots number) → AreObjects memory dying
+    → is_lost memory roots ≡ true → is_lost (without_objects dying memory) fewer ≡ true

@@ -1,7 +1,8 @@
 -- Programs of C: the items of a text that typing passes, and what typing hands on of them, with what is found there.
 --
 -- An expression leads to its row by its number, and an object is known by how many tokens stand before the name that declared it first.
-use Rattle.std.specs.Prelude.{ℕ, Bool, false, not, ◌&&◌, ◌||◌, List, [], ◌∷◌, nat_eq, nat_lt, Option, None, Some, option_and_then, if◌then◌else◌}
+use Rattle.std.specs.Prelude.{ℕ, suc, Bool, false, not, ◌&&◌, ◌||◌, List, [], ◌∷◌, nat_eq, nat_lt, Option, None, Some, option_and_then, option_map, if◌then◌else◌}
+use Rattle.std.specs.Str.{bytes_eq}
 use Rattle.std.specs.Option.{option_map_or}
 use Rattle.cbase.specs.declared.abi.Abi.{Abi}
 use Rattle.cbase.specs.declared.ctype.CType.{CType}
@@ -108,21 +109,34 @@ parameters_in [] token = []
 parameters_in (FunctionHanded row ∷ rest) token = if nat_eq row.token token then leading_parameters rest else parameters_in rest token
 parameters_in (other ∷ rest) token = parameters_in rest token
 
--- main: how many tokens stand before its name, its body, and the place of the `}` behind that (5.1.2.2.1)
-pub record MainItem : Type 0 where
+-- the result of the function that a name defines
+abbrev pub result_in : List Handed → ℕ → CType
+result_in [] token = VoidType
+result_in (FunctionHanded row ∷ rest) token = if nat_eq row.token token then row.result else result_in rest token
+result_in (other ∷ rest) token = result_in rest token
+
+-- the definition of a function: its name, how many tokens stand before that, its body, and the place of the `}` behind that (6.9.1)
+pub record FunctionItem : Type 0 where
+  pub name : List ℕ
   pub token : ℕ
   pub body : List Stmt
   pub close : Place
 
-abbrev pub or_else : {A : Type 0} → Option A → Option A → Option A
-or_else None other = other
-or_else (Some first) other = Some first
+abbrev pub function_of : DeclaratorParts → List Stmt → Place → FunctionItem
+function_of parts body close = record { name = parts.name; token = parts.place.at; body = body; close = close }
 
-abbrev pub main_of : DeclaratorParts → List Stmt → Place → Option MainItem
-main_of parts body close = if is_main parts.name then Some (record { token = parts.place.at; body = body; close = close }) else None
+-- those of the items, in the order of the text
+abbrev pub functions_in : List Item → List FunctionItem
+functions_in [] = []
+functions_in (Empty ∷ rest) = functions_in rest
+functions_in (Declare decl ∷ rest) = functions_in rest
+functions_in (Function spec storage head body close ∷ rest) = function_of (out-Declared head) body close ∷ functions_in rest
 
-abbrev pub main_in : List Item → Option MainItem
+-- the number of the function of a name, of which a text has at most one (6.9p3, p5), and the function with which a program begins (5.1.2.2.1)
+abbrev pub number_in : List FunctionItem → List ℕ → Option ℕ
+number_in [] name = None
+number_in (function ∷ rest) name = if bytes_eq function.name name then Some 0 else option_map suc (number_in rest name)
+
+abbrev pub main_in : List FunctionItem → Option FunctionItem
 main_in [] = None
-main_in (Empty ∷ rest) = main_in rest
-main_in (Declare decl ∷ rest) = main_in rest
-main_in (Function spec storage head body close ∷ rest) = or_else (main_of (out-Declared head) body close) (main_in rest)
+main_in (function ∷ rest) = if is_main function.name then Some function else main_in rest

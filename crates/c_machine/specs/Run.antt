@@ -1,14 +1,12 @@
 -- Runs: how a program starts, what stands after so many steps, and which faults are met.
-use Rattle.std.specs.Prelude.{◌≡◌, ℕ, zero, suc, true, List, [], ◌∷◌, ◌++◌, map, Option, None, Some}
+use Rattle.std.specs.Prelude.{◌≡◌, ℕ, zero, suc, List, [], ◌∷◌, ◌++◌, map, Option, None, Some}
 use Rattle.cbase.specs.declared.place.Place.{Place}
 use Rattle.choices.specs.declared.choice.Choice.{Choice}
-use Rattle.typing.specs.ctypes.Integers.{int}
-use Rattle.c_machine.specs.declared.kind.Kind.TheVariants.{Integer}
-use Rattle.c_machine.specs.Text.{Main, Text}
+use Rattle.c_machine.specs.Text.{Function, Text}
 use Rattle.c_machine.specs.declared.task.Task.{Task}
-use Rattle.c_machine.specs.declared.task.Task.TheVariants.{Execute, OpenBlock, MakeObject, MakeStatic, Initialise, EndOfBody}
-use Rattle.c_machine.specs.State.{TaskIn, State, StateIn, Outcome, OutcomeIn, Went, Waits, Ended, Faulted, NotYet, Stuck}
-use Rattle.c_machine.specs.Blocks.{entered}
+use Rattle.c_machine.specs.declared.task.Task.TheVariants.{OpenBlock, MakeObject, MakeStatic, Initialise}
+use Rattle.c_machine.specs.State.{TaskIn, State, StateIn, Outcome, OutcomeIn, Went, Waits, Ended, Faulted, Stuck}
+use Rattle.c_machine.specs.Calls.{body_tasks}
 use Rattle.c_machine.specs.Step.{step}
 
 -- goes on from what a step left
@@ -17,7 +15,6 @@ then_go (Went state choices) onward = onward state choices
 then_go Waits onward = Waits
 then_go Ended onward = Ended
 then_go (Faulted kind place) onward = Faulted kind place
-then_go NotYet onward = NotYet
 then_go Stuck onward = Stuck
 
 -- what stands after at most so many steps, with the choices taken in order
@@ -34,10 +31,9 @@ blank t tasks = record { tasks = tasks; operands = []; frame = []; callers = [];
 abbrev pub static_tasks : (t : Text) → List (TaskIn t)
 static_tasks t = map MakeStatic t.statics ++ map (λ set. Initialise set.place set.init) t.sets
 
--- then main is called: its parameters and its body's outermost block are one block (6.2.1p4, 6.9.1p9)
-abbrev pub main_tasks : (t : Text) → Main t.Stmt → List (TaskIn t)
-main_tasks t main =
-    OpenBlock ∷ (map MakeObject main.params ++ (entered t main.body ++ (map Execute main.body ++ EndOfBody true (Integer int) main.close 0 ∷ [])))
+-- then main is called, whose parameters have any values (5.1.2.2.1)
+abbrev pub main_tasks : (t : Text) → Function t.Stmt → List (TaskIn t)
+main_tasks t main = OpenBlock ∷ (map (λ param. MakeObject param.object) main.params ++ body_tasks t main 0)
 
 -- what is to be done is done to its end. An initialiser is as deep as it is: so many steps are enough, or it is never done
 abbrev pub finished : {E S I : Type 0} → List (Task E S I) → State E S I → List Choice → (State E S I → List Choice → Outcome E S I) → Outcome E S I
@@ -49,7 +45,7 @@ done_within zero t state choices = finished state.tasks state choices (λ after 
 done_within (suc steps) t state choices = finished state.tasks state choices (λ after more. then_go (step t after more) (done_within steps t))
 
 -- the start of a run, where the initialisers of static objects are written in so many steps
-abbrev pub start_main : (t : Text) → ℕ → Option (Main t.Stmt) → List Choice → OutcomeIn t
+abbrev pub start_main : (t : Text) → ℕ → Option (Function t.Stmt) → List Choice → OutcomeIn t
 start_main t steps None choices = Stuck
 start_main t steps (Some main) choices =
     then_go (done_within steps t (blank t (static_tasks t)) choices) (λ state more. Went (record state { tasks = main_tasks t main }) more)
@@ -68,9 +64,6 @@ Comes t choices outcome = (steps : ℕ) × (run_of t choices steps ≡ outcome)
 abbrev pub Leads : Text → List Choice → ℕ → Place → Type 0
 Leads t choices kind place = Comes t choices (Faulted kind place)
 
--- a program is sound where no choices lead to a fault, to a call of a function that it defines, behind which nothing is described yet, or to what no
--- program of C does
-pub record IsSound (t : Text) : Type 0 where
-  pub meets_no_fault : (choices : List Choice) (kind : ℕ) (place : Place) → Leads t choices kind place → ⊥
-  pub calls_no_body : (choices : List Choice) → Comes t choices NotYet → ⊥
-  pub stays_in_c : (choices : List Choice) → Comes t choices Stuck → ⊥
+-- a program is sound where no choices lead to a fault
+abbrev pub IsSound : Text → Type 0
+IsSound t = (choices : List Choice) (kind : ℕ) (place : Place) → Leads t choices kind place → ⊥

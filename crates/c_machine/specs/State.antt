@@ -45,8 +45,6 @@ pub data Outcome (E S I : Type 0) : Type 0 where
   Ended : Outcome E S I
   -- the run is over with a fault of this kind
   Faulted : (kind : ℕ) (place : Place) → Outcome E S I
-  -- a function of the program is called, which is not described yet
-  NotYet : Outcome E S I
   -- no program of C comes there
   Stuck : Outcome E S I
 

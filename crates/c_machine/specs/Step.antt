@@ -20,13 +20,14 @@ use Rattle.c_machine.specs.Text.{Text}
 use Rattle.c_machine.specs.declared.built_in.BuiltIn.TheVariants.{Malloc, Calloc, Free, Memset, Memcpy, Memmove, EndsRun, Assume, Expect, GivesInput}
 use Rattle.c_machine.specs.declared.built_in.BuiltIn.{BuiltIn}
 use Rattle.c_machine.specs.declared.task.Task.{Task}
-use Rattle.c_machine.specs.declared.task.Task.TheVariants.{ValueOf, AddressOf, Push, ObjectAt, Shift, Load, Convert, Apply, Operate, Answer, AndThen, OrElse, Pick, Drop, Store, Update, CountBy, CopyStruct, RunBuiltIn, CallDefined, EndRun, Finish, Keep, Execute, Branch, Test, Again, OpenBlock, MakeObject, MakeStatic, LeaveBlock, Zero, Initialise, BreakAt, ContinueAt, GiveBack, LeaveFunction, EndOfBody, Unknown}
-use Rattle.c_machine.specs.State.{TaskIn, Frame, State, StateIn, Outcome, OutcomeIn, Went, Ended, Faulted, NotYet, Stuck, doing, with_operand, with_memory, popped, unless_fault, block_of, blocks_of, objects_of, roots}
+use Rattle.c_machine.specs.declared.task.Task.TheVariants.{ValueOf, AddressOf, Push, ObjectAt, Shift, Load, Convert, Apply, Operate, Answer, AndThen, OrElse, Pick, Drop, Store, Update, CountBy, CopyStruct, RunBuiltIn, CallDefined, EndRun, Finish, Keep, Execute, Branch, Test, Again, OpenBlock, MakeObject, MakeParameter, MakeStatic, LeaveBlock, Zero, Initialise, BreakAt, ContinueAt, GiveBack, LeaveFunction, EndOfBody, Unknown}
+use Rattle.c_machine.specs.State.{TaskIn, Frame, State, StateIn, Outcome, OutcomeIn, Went, Ended, Faulted, Stuck, doing, with_operand, with_memory, popped, unless_fault, block_of, blocks_of, objects_of, roots}
 use Rattle.c_machine.specs.Words.{is_true, told, as_kind, applied, operated, kind_after, scalar_bytes, is_pointer}
 use Rattle.c_machine.specs.Blocks.{initialiser_tasks}
+use Rattle.c_machine.specs.Calls.{called}
 use Rattle.c_machine.specs.Expressions.{value_kind, address_tasks, value_tasks}
 use Rattle.c_machine.specs.Statements.{statement_tasks, test_tasks, again_tasks, branch_place, branch_tasks, LoopLeft, loop_left, after_break, after_continue, BodyLeft, body_left, oldest}
-use Rattle.c_machine.specs.Choosing.{object_made, static_made, allocated, received}
+use Rattle.c_machine.specs.Choosing.{object_made, parameter_made, static_made, allocated, received}
 
 -- goes on, unless memory is lost
 abbrev pub unless_lost : {E S I : Type 0} → Place → State E S I → List Choice → Outcome E S I
@@ -149,20 +150,20 @@ leave_block [] place state choices = Stuck
 leave_block (scope ∷ scopes) place state choices =
     unless_lost place (record state { frame = scopes; memory = without_objects (blocks_of scope) state.memory }) choices
 
--- `break` and `continue`: what the unfinished expressions hold that are left goes first, and loss is looked for; then the blocks are left (6.8.6.2,
+-- `break` and `continue`: what the unfinished expressions hold that are left goes first, then the blocks are left, each with its look for loss (6.8.6.2,
 -- 6.8.6.3)
 abbrev pub leave_loop : {E S I : Type 0} → Option (LoopLeft E S I) → (LoopLeft E S I → List (Task E S I)) →
-    Place → State E S I → List Choice → Outcome E S I
-leave_loop None onward word state choices = Stuck
-leave_loop (Some left) onward word state choices =
-    unless_lost word (record state { tasks = onward left; operands = oldest left.held state.operands }) choices
+    State E S I → List Choice → Outcome E S I
+leave_loop None onward state choices = Stuck
+leave_loop (Some left) onward state choices =
+    Went (record state { tasks = onward left; operands = oldest left.held state.operands }) choices
 
--- `return`: its value is converted and kept, what the unfinished expressions hold that are left goes, and loss is looked for; then all blocks of the
--- function are left at once (6.8.6.4)
+-- `return`: its value is converted and kept, and what the unfinished expressions hold that are left goes; then all blocks of the function are left at once
+-- (6.8.6.4)
 abbrev pub give_back : {E S I : Type 0} → Option (BodyLeft E S I) → Place → Kind → Word → State E S I → List Choice → Outcome E S I
 give_back None word from value state choices = Stuck
 give_back (Some left) word from value state choices =
-    unless_lost word (record state {
+    Went (record state {
       tasks = LeaveFunction word ∷ left.rest;
       operands = as_kind state.memory from left.result value ∷ oldest left.held state.operands;
     }) choices
@@ -216,7 +217,7 @@ step_of t (CopyStruct place count) state choices =
     unless_fault (copy_fault state.memory to from count false) place
     (Went (with_operand (Plain 0) (with_memory (copied state.memory to from count) after)) choices)))
 step_of t (RunBuiltIn what place result) state choices = built_in_step what place result state choices
-step_of t CallDefined state choices = NotYet
+step_of t (CallDefined number) state choices = called t (slice_get t.functions number) state choices
 step_of t EndRun state choices = Ended
 step_of t (Finish place) state choices = popped state (λ word after. unless_lost place after choices)
 step_of t (Keep place) state choices = unless_lost place state choices
@@ -228,14 +229,15 @@ step_of t (Test stmt) state choices = Went (doing (test_tasks t stmt (length sta
 step_of t (Again stmt held) state choices = Went (doing (again_tasks t stmt) state) choices
 step_of t OpenBlock state choices = Went (record state { frame = [] ∷ state.frame }) choices
 step_of t (MakeObject object) state choices = object_made object state choices
+step_of t (MakeParameter object) state choices = popped state (λ word after. parameter_made object word after choices)
 step_of t (MakeStatic object) state choices = static_made object state choices
 step_of t (LeaveBlock place) state choices = leave_block state.frame place state choices
 step_of t (Zero place count) state choices =
     popped state (λ at after.
     unless_fault (range_fault state.memory at count) place (Went (with_memory (filled state.memory at 0 count) after) choices))
 step_of t (Initialise place init) state choices = Went (doing (initialiser_tasks t place init) state) choices
-step_of t (BreakAt word) state choices = leave_loop (loop_left state.tasks) (after_break t word) word state choices
-step_of t (ContinueAt word) state choices = leave_loop (loop_left state.tasks) (after_continue word) word state choices
+step_of t (BreakAt word) state choices = leave_loop (loop_left state.tasks) (after_break t word) state choices
+step_of t (ContinueAt word) state choices = leave_loop (loop_left state.tasks) (after_continue word) state choices
 step_of t (GiveBack word from) state choices = popped state (λ value after. give_back (body_left after.tasks) word from value after choices)
 step_of t (LeaveFunction place) state choices =
     leave_function t.strict place (record state { frame = []; memory = without_objects (blocks_of (objects_of state.frame)) state.memory }) choices

@@ -10,12 +10,12 @@ use Rattle.c_machine.specs.declared.kind.Kind.{Kind}
 use Rattle.c_machine.specs.declared.object.Object.{Object}
 
 -- what a name stands for: an object, a constant of an enum with its bits, a function that is built in, with its name, its parameters and its result, or one
--- that has a body in the text
+-- that has a body in the text, by its number there
 pub data Standing : Type 0 where
   ObjectStands : ℕ → Standing
   ConstantStands : ℕ → Standing
   BuiltInStands : List ℕ → List Kind → Kind → Standing
-  BodyStands : Standing
+  BodyStands : ℕ → Standing
   NothingStands : Standing
 
 -- an expression (6.5). Constants, `sizeof` and `__builtin_offsetof` have the bits of their value; a member has how many bytes stand before it, and is reached
@@ -67,9 +67,17 @@ pub record Set (I : Type 0) : Type 0 where
   pub place : Place
   pub init : I
 
--- main: its parameters, its body, and the place of the `}` behind that (5.1.2.2.1)
-pub record Main (S : Type 0) : Type 0 where
-  pub params : List Object
+-- a parameter: its object, and its type (6.9.1p7)
+pub record Parameter : Type 0 where
+  pub object : Object
+  pub kind : Kind
+
+-- a function with a body: whether it is main (5.1.2.2.1), its parameters in order, the type of its result, its body, and the place of the `}` behind that
+-- (6.9.1)
+pub record Function (S : Type 0) : Type 0 where
+  pub is_main : Bool
+  pub params : List Parameter
+  pub result : Kind
   pub body : List S
   pub close : Place
 
@@ -97,6 +105,8 @@ pub record Text : Type 1 where
   pub sets : List (Set Init)
   -- a number of steps in which all these are made and written
   pub enough : ℕ
-  pub main : Option (Main Stmt)
+  -- the functions that have a body, by their numbers, and the one with which the program begins
+  pub functions : List (Function Stmt)
+  pub main : Option (Function Stmt)
   -- whether main may not return while an allocated block lives
   pub strict : Bool

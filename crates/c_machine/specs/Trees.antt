@@ -18,13 +18,14 @@ use Rattle.typing.specs.Entities.{Entity, FunctionEntity, ObjectIs, FunctionIs, 
 use Rattle.typing.specs.Forms.{Form as Layer, Clause as StatementLayer, Initialiser as InitialiserLayer, name_in}
 use Rattle.typing.specs.Idiom.{member_offset}
 use Rattle.typing.specs.Nodes.{pointed_offset}
-use Rattle.typing.specs.Outcomes.{Store as StoreRow, ObjectRow}
-use Rattle.c_machine.specs.Program.{Program, type_of, entity_of, constant_of, size_of, first_token, automatic, fixed_in, store_in, parameters_in, MainItem, main_in}
+use Rattle.typing.specs.Heads.{is_main}
+use Rattle.typing.specs.Outcomes.{Store as StoreRow, ObjectRow, ParameterRow}
+use Rattle.c_machine.specs.Program.{Program, type_of, entity_of, constant_of, size_of, first_token, automatic, fixed_in, store_in, parameters_in, result_in, FunctionItem, functions_in, number_in, main_in}
 use Rattle.c_machine.specs.Statics.{nodes_of, sets_of, static_sets}
 use Rattle.c_machine.specs.declared.kind.Kind.TheVariants.{Integer, Pointer, Array, Struct, Void}
 use Rattle.c_machine.specs.declared.kind.Kind.{Kind}
 use Rattle.c_machine.specs.declared.object.Object.{Object}
-use Rattle.c_machine.specs.Text.{Standing, ObjectStands, ConstantStands, BuiltInStands, BodyStands, NothingStands, Form, Name, Known, Unary, Binary, Assign, Count, Choose, Cast, Index, Member, Call, Inner, AssertFail, Declared as DeclaredName, Initialiser, Value, Braces, Clause, Declare, Eval, Block, If, While, Do, For, Break, Continue, Return, Store, Main, Text}
+use Rattle.c_machine.specs.Text.{Standing, ObjectStands, ConstantStands, BuiltInStands, BodyStands, NothingStands, Form, Name, Known, Unary, Binary, Assign, Count, Choose, Cast, Index, Member, Call, Inner, AssertFail, Declared as DeclaredName, Initialiser, Value, Braces, Clause, Declare, Eval, Block, If, While, Do, For, Break, Continue, Return, Store, Parameter, Function, Text}
 
 -- a type, by what the machine asks of it
 abbrev pub step_of : Program → CType → Target → ℕ
@@ -42,11 +43,15 @@ abbrev pub kind_in : Program → CType → Kind
 kind_in p t = kind_as p t (kind_of p.structs t)
 
 -- what a name stands for. A function that is built in has no body in the text, also where an object of its name is passed over there
+abbrev pub body_stands : Option ℕ → Standing
+body_stands None = NothingStands
+body_stands (Some number) = BodyStands number
+
 abbrev pub function_stands : Program → Option (List ℕ) → FunctionEntity → Standing
 function_stands p None function = NothingStands
 function_stands p (Some name) function =
     if function.built_in then BuiltInStands name (map (kind_in p) function.params) (kind_in p function.result)
-    else (if function.defined then BodyStands else NothingStands)
+    else (if function.defined then body_stands (number_in (functions_in p.items) name) else NothingStands)
 
 abbrev pub standing : Program → Option (List ℕ) → Option Entity → Standing
 standing p name (Some (ObjectIs object)) = ObjectStands object.token
@@ -105,11 +110,17 @@ object_of p row = record { token = Some (first_token p row.token); bytes = size_
 abbrev pub store_of : Program → StoreRow → Store
 store_of p row = record { offset = row.offset; kind = kind_in p row.ctype }
 
-abbrev pub main_as : Program → MainItem → Main Stmt
-main_as p main = record {
-  params = map (λ param. record { token = param.token; bytes = size_of p param.ctype }) (parameters_in p.handed main.token);
-  body = main.body;
-  close = main.close;
+-- functions
+abbrev pub parameter_of : Program → ParameterRow → Parameter
+parameter_of p row = record { object = record { token = row.token; bytes = size_of p row.ctype }; kind = kind_in p row.ctype }
+
+abbrev pub function_as : Program → FunctionItem → Function Stmt
+function_as p function = record {
+  is_main = is_main function.name;
+  params = map (parameter_of p) (parameters_in p.handed function.token);
+  result = kind_in p (result_in p.handed function.token);
+  body = function.body;
+  close = function.close;
 }
 
 -- no initialiser takes more steps than eight for each part of it
@@ -139,6 +150,7 @@ text_of p = record {
   statics = map (object_of p) (static_rows p);
   sets = static_sets p (flat_map sets_of p.items);
   enough = length (static_rows p) + 8 * nodes_in p.items;
-  main = option_map (main_as p) (main_in p.items);
+  functions = map (function_as p) (functions_in p.items);
+  main = option_map (function_as p) (main_in (functions_in p.items));
   strict = p.strict;
 }

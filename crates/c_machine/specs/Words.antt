@@ -60,6 +60,11 @@ abbrev pub moved_by : List Block → ℕ → Word → IntegerType → Word → B
 moved_by memory bytes pointer t number true = moved pointer (value t.bytes t.signed (address_number memory number) *ℤ pos bytes)
 moved_by memory bytes pointer t number false = moved pointer (neg_ℤ (value t.bytes t.signed (address_number memory number) *ℤ pos bytes))
 
+-- a value beside a pointer that it is compared with: a null pointer constant becomes a pointer, by the sign of its own type (6.5.9p5)
+abbrev pub as_address : List Block → Kind → Word → Word
+as_address memory (Integer t) word = Plain (converted t.bytes t.signed 8 (address_number memory word))
+as_address memory kind word = word
+
 -- a binary operator on two values (6.5.5 to 6.5.12); pointers are compared by their address numbers (6.5.9). There is no value for a zero divisor, and for a
 -- shift by a negative amount or by the width or more
 abbrev pub operated : List Block → BinaryOp → Kind → Kind → Word → Word → Option Word
@@ -68,8 +73,8 @@ operated memory op (Integer left) (Integer right) one other =
 operated memory Add (Pointer bytes) (Integer right) one other = Some (moved_by memory bytes one right other true)
 operated memory Add (Integer left) (Pointer bytes) one other = Some (moved_by memory bytes other left one true)
 operated memory Sub (Pointer bytes) (Integer right) one other = Some (moved_by memory bytes one right other false)
-operated memory Equal left right one other = Some (told true (is_same_address memory one other))
-operated memory NotEqual left right one other = Some (told false (is_same_address memory one other))
+operated memory Equal left right one other = Some (told true (is_same_address memory (as_address memory left one) (as_address memory right other)))
+operated memory NotEqual left right one other = Some (told false (is_same_address memory (as_address memory left one) (as_address memory right other)))
 operated memory op left right one other = None
 
 -- of which kind that is, where it is stored: two integers in their common type, a shift in the promoted left one (6.3.1.8, 6.5.7p3)

@@ -1,5 +1,6 @@
 //! Laws of the machine. Each is the contract of a function that does nothing.
-ghost use Rattle.c_machine.specs.Laws.{DoConversionsAgree, DoProgramsLeaveMore, DoRunsLeaveMore, DoStepsLeaveMore, DoStepsTakeOne};
+ghost use Rattle.c_machine.specs.Keeping.{DoRunsKeep, DoStepsKeep};
+ghost use Rattle.c_machine.specs.Laws.{DoConversionsAgree, DoesLossStay, DoProgramsLeaveMore, DoRunsLeaveMore, DoStepsLeaveMore, DoStepsTakeOne};
 ghost use Rattle.c_machine.specs.Reading.{AreRead};
 
 /// A step takes at most one choice, and waits only where there is none.
@@ -30,4 +31,20 @@ pub fn trees_are_read_form_by_form()
 #[tactic(auto, using(crate::proofs::OwnTypes::conversions_agree))]
 pub fn only_bool_tells_its_own_type_from_others()
     ensures { DoConversionsAgree }
+{}
+
+/// What is lost before roots go and objects die is lost after it: `break`, `continue` and `return` need no look of their own.
+#[tactic(auto, using(crate::proofs::Losses::loss_stays))]
+pub fn what_is_lost_stays_lost()
+    ensures { DoesLossStay }
+{}
+
+/// A step keeps what holds of a state: the memory is one, operands and parts of pointers have offsets of 64 bits with a sign, and objects live.
+pub fn a_step_keeps_a_state()
+    ensures { DoStepsKeep }
+{}
+
+/// Each state of a run has what a step keeps.
+pub fn each_state_of_a_run_is_kept()
+    ensures { DoRunsKeep }
 {}

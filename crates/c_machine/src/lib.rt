@@ -6,10 +6,10 @@
 #![tactic(auto)]
 
 mod built_in;
+pub mod examples;
 mod kind;
 pub mod laws;
 mod object;
-mod rows;
 mod task;
 mod variable;
 mod whole_type;
@@ -17,11 +17,6 @@ mod whole_type;
 pub use built_in::BuiltIn;
 pub use kind::Kind;
 pub use object::Object;
-pub use rows::{
-    accesses_come_out, built_in_functions_come_out, expressions_come_out, initialisers_come_out,
-    losses_come_out, programs_with_static_objects_come_out, rows_are_found, statements_come_out,
-    steps_come_out, whole_programs_come_out,
-};
 pub use task::Task;
 pub use variable::Variable;
 pub use whole_type::WholeType;

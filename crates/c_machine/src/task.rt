@@ -110,8 +110,8 @@ pub enum Task<E, S, I> {
         /// The type of its result.
         result: Kind,
     },
-    /// A function that the program defines.
-    CallDefined,
+    /// The call of a function that the program defines, by its number, behind its arguments (C11 6.5.2.2).
+    CallDefined(u32),
     /// The run ends.
     EndRun,
     /// The end of a full expression, whose value goes (C11 6.8p4).
@@ -135,6 +135,8 @@ pub enum Task<E, S, I> {
     OpenBlock,
     /// An object of the block is made (C11 6.2.4p6).
     MakeObject(Object),
+    /// A parameter is made, and gets its argument (C11 6.9.1p9, p10).
+    MakeParameter(Object),
     /// An object is made that lives as long as the program runs (C11 6.2.4p3).
     MakeStatic(Object),
     /// The block ends.

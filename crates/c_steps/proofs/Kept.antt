@@ -1,6 +1,6 @@
 -- Each block that a state names stays one of its memory.
-use Rattle.std.proofs.Common.{◌≡◌, ℕ, zero, suc, ◌<◌, List, [], ◌∷◌, ◌++◌, length, drop, Option, None, Some, Bool, true, false, sym, ap, ◌∙◌, subst, ◌≤◌, arith}
-use Rattle.std.proofs.lemmas.List.{length-append}
+use Rattle.std.proofs.Common.{◌≡◌, ℕ, zero, suc, ◌<◌, List, [], ◌∷◌, ◌++◌, length, drop, take, reverse, Option, None, Some, Bool, true, false, sym, ap, ◌∙◌, subst, ◌≤◌, arith}
+use Rattle.std.proofs.lemmas.List.{length-append, reverse-append}
 use Rattle.std.specs.Prelude.{if◌then◌else◌, Result, Ok, Err, IfOk, IfSome, OnOk, OnErr}
 use Rattle.cbase.specs.declared.no_memory.NoMemory.{NoMemory}
 use Rattle.bytes_core.specs.declared.block.Block.{Block}
@@ -188,5 +188,37 @@ after_return count operands frame next callers statics valid = record {
   operands_named = valid.operands_named;
   frame_named = valid.callers_named.0;
   callers_named = valid.callers_named.1;
+  statics_named = valid.statics_named;
+}
+
+-- operands that are turned round
+named_words : (count : ℕ) (one other : List Word) → AreBelow count (led_to one) → AreBelow count (led_to other) → AreBelow count (led_to (one ++ other))
+named_words count [] other first second = second
+named_words count (Plain number ∷ one) other first second = named_words count one other first second
+named_words count (To block offset ∷ one) other first second = (first.0, named_words count one other first.1 second)
+
+first_operands : (count taken : ℕ) (operands : List Word) → AreBelow count (led_to operands) → AreBelow count (led_to (take taken operands))
+first_operands count zero operands named = tt
+first_operands count (suc taken) [] named = tt
+first_operands count (suc taken) (Plain number ∷ operands) named = first_operands count taken operands named
+first_operands count (suc taken) (To block offset ∷ operands) named = (named.0, first_operands count taken operands named.1)
+
+reversed_operands : (count : ℕ) (operands : List Word) → AreBelow count (led_to operands) → AreBelow count (led_to (reverse operands))
+reversed_operands count [] named = tt
+reversed_operands count (Plain number ∷ operands) named =
+    subst (λ (all : List Word). AreBelow count (led_to all)) (sym (reverse-append (Plain number ∷ []) operands))
+    (named_words count (reverse operands) (Plain number ∷ []) (reversed_operands count operands named) tt)
+reversed_operands count (To block offset ∷ operands) named =
+    subst (λ (all : List Word). AreBelow count (led_to all)) (sym (reverse-append (To block offset ∷ []) operands))
+    (named_words count (reverse operands) (To block offset ∷ []) (reversed_operands count operands named.1) (named.0, tt))
+
+pub after_call : (count arguments : ℕ) (operands : List Word) (frame : Frame) (callers : List Frame) (statics : Scope) →
+    NamesBlocks count operands frame callers statics → NamesBlocks count (reverse (take arguments operands) ++ drop arguments operands) [] (frame ∷ callers) statics
+after_call count arguments operands frame callers statics valid = record {
+  operands_named = named_words count (reverse (take arguments operands)) (drop arguments operands)
+      (reversed_operands count (take arguments operands) (first_operands count arguments operands valid.operands_named))
+      (fewer_operands count arguments operands valid.operands_named);
+  frame_named = tt;
+  callers_named = (valid.frame_named, valid.callers_named);
   statics_named = valid.statics_named;
 }

@@ -14,7 +14,7 @@ use Rattle.typing.specs.values.Values.{of_unary, of_binary}
 use Rattle.c_machine.specs.declared.kind.Kind.{Kind}
 use Rattle.c_machine.specs.declared.kind.Kind.TheVariants.{Integer, Pointer, Array, Struct, Void}
 use Rattle.c_machine.specs.Step.{counted}
-use Rattle.c_machine.specs.Words.{as_kind, applied, operated, told, moved_by}
+use Rattle.c_machine.specs.Words.{as_address, as_kind, applied, operated, told, moved_by}
 
 pub names_of_moved : (count : ℕ) (word : Word) (bytes : ℤ) → WordNamesBelow count word → WordNamesBelow count (moved word bytes)
 names_of_moved count (Plain number) bytes names = tt
@@ -87,8 +87,10 @@ operated_names count memory what (Integer left) (Integer right) one other first 
 operated_names count memory op.Add (Pointer bytes) (Integer right) one other first second = names_of_step count memory bytes one right other true first
 operated_names count memory op.Add (Integer left) (Pointer bytes) one other first second = names_of_step count memory bytes other left one true second
 operated_names count memory op.Sub (Pointer bytes) (Integer right) one other first second = names_of_step count memory bytes one right other false first
-operated_names count memory op.Equal left right one other first second = told_names count true (is_same_address memory one other)
-operated_names count memory op.NotEqual left right one other first second = told_names count false (is_same_address memory one other)
+operated_names count memory op.Equal left right one other first second =
+    told_names count true (is_same_address memory (as_address memory left one) (as_address memory right other))
+operated_names count memory op.NotEqual left right one other first second =
+    told_names count false (is_same_address memory (as_address memory left one) (as_address memory right other))
 operated_names count memory what left right one other first second = tt
 
 pub names_of_operated : (count : ℕ) (memory : List Block) (what : BinaryOp) (left right : Kind) (one other value : Word) → WordNamesBelow count one → WordNamesBelow count other →

@@ -2,7 +2,7 @@
 use Rattle.std.proofs.Common.{◌≡◌, List, refl}
 use Rattle.std.specs.Prelude.{IfSome}
 use Rattle.choices.specs.declared.choice.Choice.{Choice}
-use Rattle.c_machine.specs.declared.task.Task.TheVariants.{ValueOf, AddressOf, Push, ObjectAt, Shift, Load, Convert, Apply, Operate, Answer, AndThen, OrElse, Drop, Store, Update, CountBy, CopyStruct, RunBuiltIn, CallDefined, EndRun, Finish, Keep, OpenBlock, MakeObject, MakeStatic, LeaveBlock, Zero, LeaveFunction, EndOfBody, Unknown, Pick, Execute, Branch, Test, Again, Initialise, BreakAt, ContinueAt, GiveBack}
+use Rattle.c_machine.specs.declared.task.Task.TheVariants.{ValueOf, AddressOf, Push, ObjectAt, Shift, Load, Convert, Apply, Operate, Answer, AndThen, OrElse, Drop, Store, Update, CountBy, CopyStruct, RunBuiltIn, CallDefined, EndRun, Finish, Keep, OpenBlock, MakeObject, MakeParameter, MakeStatic, LeaveBlock, Zero, LeaveFunction, EndOfBody, Unknown, Pick, Execute, Branch, Test, Again, Initialise, BreakAt, ContinueAt, GiveBack}
 use Rattle.c_machine.specs.State.{TaskIn, StateIn}
 use Rattle.c_machine.specs.Step.{step_of}
 use Rattle.c_machine.specs.Text.{Text}
@@ -28,12 +28,13 @@ plain_in t (Update op place kind right) state choices = refl
 plain_in t (CountBy up behind place kind) state choices = refl
 plain_in t (CopyStruct place count) state choices = refl
 plain_in t (RunBuiltIn what place result) state choices = refl
-plain_in t CallDefined state choices = refl
+plain_in t (CallDefined number) state choices = tt
 plain_in t EndRun state choices = refl
 plain_in t (Finish place) state choices = refl
 plain_in t (Keep place) state choices = refl
 plain_in t OpenBlock state choices = refl
 plain_in t (MakeObject object) state choices = refl
+plain_in t (MakeParameter object) state choices = refl
 plain_in t (MakeStatic object) state choices = refl
 plain_in t (LeaveBlock place) state choices = refl
 plain_in t (Zero place count) state choices = refl

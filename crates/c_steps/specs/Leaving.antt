@@ -3,6 +3,7 @@ use Rattle.std.specs.Prelude.{ℕ, Bool, true, false, List, [], ◌∷◌, ◌++
 use Rattle.cbase.specs.declared.place.Place.{Place}
 use Rattle.c_machine.specs.declared.task.Task.{Task}
 use Rattle.c_machine.specs.State.{State, Frame, blocks_of, objects_of}
+use Rattle.c_machine.specs.Calls.{turned}
 use Rattle.c_machine.specs.Statements.{behind_for, leaves, oldest}
 use Rattle.c_machine.specs.Step.{without_objects}
 
@@ -18,6 +19,10 @@ block_left (scope ∷ scopes) state = Some (record state { frame = scopes; memor
 -- without the blocks of the function that runs, whose objects are dead
 abbrev pub function_left : {E S I : Type 0} → State E S I → State E S I
 function_left state = record state { frame = []; memory = without_objects (blocks_of (objects_of state.frame)) state.memory }
+
+-- in a function that is called: it has no object yet, and so many operands, its arguments, are turned round
+abbrev pub in_call : {E S I : Type 0} → ℕ → State E S I → State E S I
+in_call count state = record state { operands = turned count state.operands; frame = []; callers = state.frame ∷ state.callers }
 
 -- back in the latest caller
 abbrev pub resumed : {E S I : Type 0} → List Frame → State E S I → Option (State E S I)

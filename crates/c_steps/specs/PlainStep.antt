@@ -8,11 +8,11 @@ use Rattle.choices.specs.declared.choice.Choice.{Choice}
 use Rattle.typing.specs.ctypes.Integers.{int}
 use Rattle.c_machine.specs.declared.kind.Kind.TheVariants.{Integer}
 use Rattle.c_machine.specs.declared.task.Task.{Task}
-use Rattle.c_machine.specs.declared.task.Task.TheVariants.{ValueOf, Push, ObjectAt, Shift, Load, Convert, Apply, Operate, Answer, AndThen, OrElse, Drop, Store, Update, CountBy, CopyStruct, RunBuiltIn, CallDefined, EndRun, Finish, Keep, OpenBlock, MakeObject, MakeStatic, LeaveBlock, Zero, LeaveFunction, EndOfBody, Unknown}
-use Rattle.c_machine.specs.State.{State, Outcome, Went, Ended, NotYet, Stuck, with_operand, with_memory, popped, unless_fault, block_of}
+use Rattle.c_machine.specs.declared.task.Task.TheVariants.{ValueOf, Push, ObjectAt, Shift, Load, Convert, Apply, Operate, Answer, AndThen, OrElse, Drop, Store, Update, CountBy, CopyStruct, RunBuiltIn, EndRun, Finish, Keep, OpenBlock, MakeObject, MakeParameter, MakeStatic, LeaveBlock, Zero, LeaveFunction, EndOfBody, Unknown}
+use Rattle.c_machine.specs.State.{State, Outcome, Went, Ended, Stuck, with_operand, with_memory, popped, unless_fault, block_of}
 use Rattle.c_machine.specs.Step.{unless_lost, or_ended, or_stuck, object_at, load_step, store_step, updated, counting, counted, and_then, or_else, built_in_step, leave_block, end_of_body, leave_function}
 use Rattle.c_machine.specs.Words.{is_true, told, as_kind, applied, operated, scalar_bytes}
-use Rattle.c_machine.specs.Choosing.{object_made, static_made}
+use Rattle.c_machine.specs.Choosing.{object_made, parameter_made, static_made}
 use Rattle.c_steps.specs.Leaving.{in_new_block, function_left}
 
 -- what a step comes to that looks at no tree and at nothing else that is to be done, where `strict` says whether main may not return while an allocated
@@ -46,12 +46,12 @@ plain_step strict (CopyStruct place count) state choices =
     unless_fault (copy_fault state.memory to from count false) place
     (Went (with_operand (Plain 0) (with_memory (copied state.memory to from count) after)) choices))))
 plain_step strict (RunBuiltIn what place result) state choices = Some (built_in_step what place result state choices)
-plain_step strict CallDefined state choices = Some NotYet
 plain_step strict EndRun state choices = Some Ended
 plain_step strict (Finish place) state choices = Some (popped state (λ word after. unless_lost place after choices))
 plain_step strict (Keep place) state choices = Some (unless_lost place state choices)
 plain_step strict OpenBlock state choices = Some (Went (in_new_block state) choices)
 plain_step strict (MakeObject object) state choices = Some (object_made object state choices)
+plain_step strict (MakeParameter object) state choices = Some (popped state (λ word after. parameter_made object word after choices))
 plain_step strict (MakeStatic object) state choices = Some (static_made object state choices)
 plain_step strict (LeaveBlock place) state choices = Some (leave_block state.frame place state choices)
 plain_step strict (Zero place count) state choices =

@@ -1,5 +1,5 @@
 //! Functions that are built in, behind their arguments (C11 7.22.3, 7.24).
-ghost use Rattle.std.specs.Prelude.{◌≡◌, ◌∷◌, ◌*◌, List as Items, IfOk, pos};
+ghost use Rattle.std.specs.Prelude.{◌≡◌, ◌∷◌, ◌*◌, List as Items, IfOk, OnErr, pos};
 ghost use Rattle.bytes_core.specs.declared.block.BlockKind.TheVariants as storage;
 ghost use Rattle.bytes_core.specs.declared.word.Word.TheVariants.{To};
 ghost use Rattle.choices.specs.declared.choice.Choice.{Choice};
@@ -30,12 +30,17 @@ fn make_heap_block<E: Drop, S: Drop, I: Drop>(
     size: u128,
     zeroed: bool,
 ) -> Result<Outcome, NoMemory>
-    ensures { IfOk result (λ outcome. comes_to outcome state.new choices.new
+    ensures ok { IfOk result (λ outcome. comes_to outcome state.new choices.new
         ≡ with_block storage.Heap size zeroed state.old choices.old (λ after block more. Went (with_operand (To block (pos 0)) after) more)) }
+    ensures err { OnErr result (choices.new ≡ choices.old) }
 {
     match with_block(alloc, state, choices, BlockKind::Heap, size, zeroed)? {
         Err(outcome) => Ok(outcome),
-        Ok(block) => go_on_with(state, Word::To { block, offset: 0 }),
+        Ok(block) => {
+            state.push(Word::To { block, offset: 0 })?;
+            choices.take();
+            Ok(Outcome::Went)
+        }
     }
 }
 
@@ -47,15 +52,17 @@ fn allocate<E: Drop, S: Drop, I: Drop>(
     size: u128,
     zeroed: bool,
 ) -> Result<Outcome, NoMemory>
-    ensures { IfOk result (λ outcome. comes_to outcome state.new choices.new ≡ allocated size zeroed state.old choices.old) }
+    ensures ok { IfOk result (λ outcome. comes_to outcome state.new choices.new ≡ allocated size zeroed state.old choices.old) }
+    ensures err { OnErr result (choices.new ≡ choices.old) }
 {
     let Some(first) = choices.first() else {
         return Ok(Outcome::Waits);
     };
     match first {
         Choice::None => {
+            state.push(Word::Plain(0))?;
             choices.take();
-            go_on_with(state, Word::Plain(0))
+            Ok(Outcome::Went)
         }
         Choice::Input(_) => Ok(Outcome::Ended),
         Choice::Block { .. } => make_heap_block(alloc, state, choices, size, zeroed),
@@ -68,7 +75,8 @@ fn malloc<E: Drop, S: Drop, I: Drop>(
     state: &mut State<E, S, I>,
     choices: &mut Choices,
 ) -> Result<Outcome, NoMemory>
-    ensures { IfOk result (λ outcome. comes_to outcome state.new choices.new ≡ malloc_step state.old choices.old) }
+    ensures ok { IfOk result (λ outcome. comes_to outcome state.new choices.new ≡ malloc_step state.old choices.old) }
+    ensures err { OnErr result (choices.new ≡ choices.old) }
 {
     let Some(size) = state.pop() else {
         return Ok(Outcome::Stuck);
@@ -83,7 +91,8 @@ fn calloc<E: Drop, S: Drop, I: Drop>(
     state: &mut State<E, S, I>,
     choices: &mut Choices,
 ) -> Result<Outcome, NoMemory>
-    ensures { IfOk result (λ outcome. comes_to outcome state.new choices.new ≡ calloc_step state.old choices.old) }
+    ensures ok { IfOk result (λ outcome. comes_to outcome state.new choices.new ≡ calloc_step state.old choices.old) }
+    ensures err { OnErr result (choices.new ≡ choices.old) }
 {
     let Some(size) = state.pop() else {
         return Ok(Outcome::Stuck);
@@ -185,7 +194,8 @@ pub fn run_built_in<E: Drop, S: Drop, I: Drop>(
     place: Place,
     result_kind: Kind,
 ) -> Result<Outcome, NoMemory>
-    ensures { IfOk result (λ outcome. comes_to outcome state.new choices.new ≡ built_in_step what place result_kind state.old choices.old) }
+    ensures ok { IfOk result (λ outcome. comes_to outcome state.new choices.new ≡ built_in_step what place result_kind state.old choices.old) }
+    ensures err { OnErr result (choices.new ≡ choices.old) }
 {
     match what {
         BuiltIn::Malloc => malloc(alloc, state, choices),

@@ -1,5 +1,5 @@
 //! The ends of functions and of runs (C11 5.1.2.2.3, 6.8.6.4, 6.9.1p12).
-ghost use Rattle.std.specs.Prelude.{◌≡◌, [], ◌∷◌, List as Items, IfOk, MatchBool};
+ghost use Rattle.std.specs.Prelude.{◌≡◌, [], ◌∷◌, List as Items, IfOk, MatchBool, OnErr};
 ghost use Rattle.choices.specs.declared.choice.Choice.{Choice};
 ghost use Rattle.c_machine.specs.declared.kind.Kind.TheVariants.{Void};
 ghost use Rattle.c_machine.specs.declared.task.Task.TheVariants.{LeaveFunction};
@@ -110,7 +110,8 @@ pub fn end_of_body<E: Drop, S: Drop, I: Drop>(
     kind: Kind,
     close: Place,
 ) -> Result<Outcome, NoMemory>
-    ensures { IfOk result (λ outcome. comes_to outcome state.new choices.new ≡ end_of_body main kind close state.old choices.old) }
+    ensures ok { IfOk result (λ outcome. comes_to outcome state.new choices.new ≡ end_of_body main kind close state.old choices.old) }
+    ensures err { OnErr result (choices.new ≡ choices.old) }
 {
     if main || is_void(&kind) {
         return answer_zero(state, close);
@@ -135,8 +136,9 @@ fn receive_result<E: Drop, S: Drop, I: Drop>(
     kind: Kind,
     close: Place,
 ) -> Result<Outcome, NoMemory>
-    ensures { IfOk result (λ outcome. comes_to outcome state.new choices.new
+    ensures ok { IfOk result (λ outcome. comes_to outcome state.new choices.new
         ≡ received kind (doing (LeaveFunction close ∷ []) state.old) choices.old) }
+    ensures err { OnErr result (choices.new ≡ choices.old) }
 {
     state.do_first(Task::LeaveFunction(close))?;
     receive(state, choices, kind)

@@ -16,8 +16,6 @@ pub enum Outcome {
         /// Its place.
         place: Place,
     },
-    /// A function of the program is called, which is not described yet.
-    NotYet,
     /// No program of C comes there.
     Stuck,
 }

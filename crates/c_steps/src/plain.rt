@@ -1,4 +1,4 @@
-ghost use Rattle.std.specs.Prelude.{◌≡◌, IfNone, IfOk, IfSome, Ok};
+ghost use Rattle.std.specs.Prelude.{◌≡◌, IfNone, IfOk, IfSome, Ok, OnErr};
 ghost use Rattle.c_steps.specs.declared.outcome.Outcome.TheVariants.{Stuck};
 ghost use Rattle.c_steps.specs.ComesTo.{comes_to};
 ghost use Rattle.c_steps.specs.PlainStep.{plain_step};
@@ -6,7 +6,7 @@ ghost use Rattle.c_steps.specs.PlainStep.{plain_step};
 use crate::accesses::{copy_struct, load, store, zero};
 use crate::branches::{and_then, or_else};
 use crate::built_ins::run_built_in;
-use crate::choosing::{make_object, make_static};
+use crate::choosing::{make_object, make_parameter, make_static};
 use crate::functions::{end_of_body, leave_function, open_block};
 use crate::losses::{finish, keep, leave_block};
 use crate::operands::{answer, apply, convert, let_go, object_at, operate, push, shift};
@@ -31,6 +31,7 @@ pub fn plain_step<E: Drop, S: Drop, I: Drop>(
     task: Task<E, S, I>,
 ) -> Result<Outcome, NoMemory>
     ensures plain { IfOk result (λ outcome. IfSome (plain_step strict task state.old choices.old) (λ comes. comes_to outcome state.new choices.new ≡ comes)) }
+    ensures err { OnErr result (choices.new ≡ choices.old) }
     ensures other { IfNone (plain_step strict task state.old choices.old) ((result ≡ Ok Stuck) × ((state.new ≡ state.old) × (choices.new ≡ choices.old))) }
 {
     match task {
@@ -64,12 +65,12 @@ pub fn plain_step<E: Drop, S: Drop, I: Drop>(
             place,
             result,
         } => run_built_in(alloc, state, choices, what, place, result),
-        Task::CallDefined => Ok(Outcome::NotYet),
         Task::EndRun => Ok(Outcome::Ended),
         Task::Finish(place) => finish(alloc, state, place),
         Task::Keep(place) => keep(alloc, state, place),
         Task::OpenBlock => open_block(alloc, state),
         Task::MakeObject(object) => make_object(alloc, state, choices, object),
+        Task::MakeParameter(object) => make_parameter(alloc, state, choices, object),
         Task::MakeStatic(object) => make_static(alloc, state, choices, object),
         Task::LeaveBlock(place) => leave_block(alloc, state, place),
         Task::Zero { place, bytes } => Ok(zero(state, place, bytes)),
@@ -83,6 +84,7 @@ pub fn plain_step<E: Drop, S: Drop, I: Drop>(
         Task::ValueOf(_)
         | Task::AddressOf(_)
         | Task::Pick { .. }
+        | Task::CallDefined(_)
         | Task::Execute(_)
         | Task::Branch(_)
         | Task::Test(_)

@@ -1,4 +1,4 @@
-ghost use Rattle.std.specs.Prelude.{◌≡◌, ◌+◌, ◌-◌, ◌<◌, [], ◌∷◌, drop, length, IfSome, IfNone, OnOk, OnErr};
+ghost use Rattle.std.specs.Prelude.{◌≡◌, ◌+◌, ◌-◌, ◌<◌, ◌++◌, [], ◌∷◌, drop, length, reverse, take, IfErr, IfSome, IfNone, OnOk, OnErr};
 
 use cbase::NoMemory;
 use std::alloc::Global;
@@ -66,6 +66,27 @@ impl<T: Drop> Stack<T> {
     {
         self.items.push(item)?;
         Ok(())
+    }
+
+    /// Pushes an item. Where memory is wanting the item is given back, and the stack stays as it was.
+    pub fn push_or_return(&mut self, item: T) -> Result<(), T>
+        ensures ok { OnOk result (self.new ≡ item ∷ self.old) }
+        ensures err { OnErr result (self.new ≡ self.old) }
+        ensures back { IfErr result (λ back. back ≡ item) }
+    {
+        match self.items.push(item) {
+            Ok(()) => Ok(()),
+            Err(refused) => Err(refused.value),
+        }
+    }
+
+    /// Turns so many items round that were pushed last. It takes no memory.
+    #[tactic(auto, using(crate::proofs::Stacks::turned_round))]
+    pub fn turn(&mut self, count: usize)
+        ensures { self.new ≡ reverse (take count self.old) ++ drop count self.old }
+    {
+        let from = self.items.len().saturating_sub(count);
+        self.items.as_mut_slice()[from..].reverse();
     }
 
     /// Keeps so many items, those that were pushed first. It takes no memory.

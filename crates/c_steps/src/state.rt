@@ -10,7 +10,7 @@ ghost use Rattle.bytes_core.specs.Valid.{NamesBelow, WordNamesBelow};
 ghost use Rattle.c_machine.specs.Choosing.{with_object, with_static};
 ghost use Rattle.c_machine.specs.State.{block_of, doing, roots, with_memory, with_operand};
 ghost use Rattle.c_machine.specs.Statements.{behind_for, body_left, loop_left, oldest};
-ghost use Rattle.c_steps.specs.Leaving.{in_new_block, block_left, function_left, resumed};
+ghost use Rattle.c_steps.specs.Leaving.{in_new_block, in_call, block_left, function_left, resumed};
 
 use crate::ends::{BodyEnd, LoopEnd, behind_for, to_body, to_loop};
 use crate::frames::{Frame, block_in_frame, declare, end_frame, end_scope};
@@ -22,6 +22,7 @@ use c_machine::{Task, Variable};
 use cbase::{List, NoMemory, Place};
 use std::alloc::Global;
 use std::marker::Model;
+use std::mem::replace;
 
 /// What stands between two steps of a run: what is to be done, the operands that unfinished expressions hold, the objects of the function that runs and
 /// of its callers, those that live as long as the program runs, and the memory (C11 5.1.2.3).
@@ -292,6 +293,26 @@ impl<E: Drop, S: Drop, I: Drop> State<E, S, I> {
         ensures { self.new ≡ function_left self.old }
     {
         end_frame(&mut self.memory, &mut self.frame);
+    }
+
+    /// A function is called: the objects of the one that calls stay, and it has none yet (C11 6.2.4p6). So many operands that were computed last, its
+    /// arguments, are turned round, so that the first of them is taken first. Where memory is wanting all stays as it was.
+    #[tactic(auto, using(crate::proofs::Kept::after_call))]
+    pub fn call(&mut self, alloc: Global, arguments: usize) -> Result<(), NoMemory>
+        ensures ok { OnOk result (self.new ≡ in_call arguments self.old) }
+        ensures err { OnErr result (self.new ≡ self.old) }
+    {
+        let caller = replace(&mut self.frame, Stack::new(alloc));
+        match self.callers.push_or_return(caller) {
+            Err(caller) => {
+                self.frame = caller;
+                Err(NoMemory)
+            }
+            Ok(()) => {
+                self.operands.turn(arguments);
+                Ok(())
+            }
+        }
     }
 
     /// The latest caller goes on: it says whether there is one.

@@ -2,9 +2,10 @@
 ghost use Rattle.std.specs.Prelude.{◌≡◌};
 ghost use Rattle.bytes_core.specs.Value.{is_same_address};
 ghost use Rattle.typing.specs.values.Values.{of_binary};
-ghost use Rattle.c_machine.specs.Words.{operated};
+ghost use Rattle.c_machine.specs.Words.{as_address, operated};
 ghost use Rattle.c_steps.specs.words.Compared.{compared};
 
+use crate::words::conversion::as_number;
 use crate::words::moving::moved_by;
 use crate::words::truth::told;
 use bytes_core::{Memory, Word};
@@ -29,8 +30,27 @@ pub fn operated(
     match left {
         Kind::Integer(left) => behind_integer(memory, op, left, right, one, other),
         Kind::Pointer(bytes) => behind_pointer(memory, op, bytes, right, one, other),
-        Kind::Array(_) | Kind::Struct(_) | Kind::Void => compared(memory, op, one, other),
+        Kind::Array(_) | Kind::Struct(_) | Kind::Void => {
+            compared(memory, op, one, as_address(memory, right, other))
+        }
     }
+}
+
+/// A value beside a pointer that it is compared with: an integer becomes an address, by its own sign (C11 6.5.9p5).
+fn as_address(memory: &Memory, kind: Kind, word: Word) -> Word
+    ensures { result ≡ as_address memory.now kind word }
+{
+    match kind {
+        Kind::Integer(of) => number_as_address(memory, of, word),
+        Kind::Pointer(_) | Kind::Array(_) | Kind::Struct(_) | Kind::Void => word,
+    }
+}
+
+/// An integer of a type as an address.
+fn number_as_address(memory: &Memory, of: WholeType, word: Word) -> Word
+    ensures { result ≡ as_address memory.now (Kind.Integer of) word }
+{
+    Word::Plain(as_number(of, memory.address(word)))
 }
 
 /// What a binary operator makes of an integer and of a value.
@@ -51,9 +71,11 @@ fn behind_integer(
         }
         Kind::Pointer(bytes) => match op {
             BinaryOp::Add => Some(moved_by(memory, bytes, other, left, one, true)),
-            _ => compared(memory, op, one, other),
+            _ => compared(memory, op, number_as_address(memory, left, one), other),
         },
-        Kind::Array(_) | Kind::Struct(_) | Kind::Void => compared(memory, op, one, other),
+        Kind::Array(_) | Kind::Struct(_) | Kind::Void => {
+            compared(memory, op, number_as_address(memory, left, one), other)
+        }
     }
 }
 
@@ -72,7 +94,7 @@ fn behind_pointer(
         Kind::Integer(right) => match op {
             BinaryOp::Add => Some(moved_by(memory, bytes, one, right, other, true)),
             BinaryOp::Sub => Some(moved_by(memory, bytes, one, right, other, false)),
-            _ => compared(memory, op, one, other),
+            _ => compared(memory, op, one, number_as_address(memory, right, other)),
         },
         Kind::Pointer(_) | Kind::Array(_) | Kind::Struct(_) | Kind::Void => {
             compared(memory, op, one, other)

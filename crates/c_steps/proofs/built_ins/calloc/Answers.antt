@@ -9,8 +9,8 @@ use Rattle.c_steps.specs.ComesTo.{comes_to}
 use Rattle.c_steps.proofs.Popping.{of_two}
 use Rattle.c_steps.proofs.built_ins.calloc.Goals as goal
 
-pub returns : goal.returns
-returns g c =
+pub returns-clause-ok : goal.returns-clause-ok
+returns-clause-ok g c =
     let Comes : Outcome g.row.E.Denot g.row.S.Denot g.row.I.Denot → Type 0 =
     λ comes. IfOk c.allocate.result (λ outcome. comes_to outcome c.allocate.new.state c.allocate.new.choices ≡ comes) in
     of_two Comes c.in-Some.size c.in-Some-pop.count c.args.state.now c.pop.new.self c.pop-2.new.self
@@ -21,4 +21,4 @@ returns g c =
     (c.address-count.ensures ∙ ap (λ (blocks : List Block). address_number blocks c.in-Some-pop.count) c.memory-2.ensures)
     ∙ ap (λ (n : ℕ). address_number c.pop-2.new.self.memory c.in-Some-pop.count * n)
     (c.address-size.ensures ∙ ap (λ (blocks : List Block). address_number blocks c.in-Some.size) c.memory.ensures)))
-    c.allocate.ensures)
+    c.allocate.ensures.ok)

@@ -1,5 +1,6 @@
 -- The block that is made is that of the object.
-use Rattle.std.proofs.Common.{◌∙◌, sym, ap}
+use Rattle.std.proofs.Common.{◌∙◌, List, sym, ap}
+use Rattle.choices.specs.declared.choice.Choice.{Choice}
 use Rattle.std.specs.Prelude.{true}
 use Rattle.c_machine.specs.Choosing.{with_static}
 use Rattle.c_machine.specs.State.{State, Went}
@@ -10,14 +11,15 @@ use Rattle.c_steps.proofs.choosing.make_static.Goals as goal
 pub declare_static-requires : goal.declare_static-requires
 declare_static-requires g c = if_ok _ c.in_ok-outcome.field-0 c.in-Ok.block c.in-Ok.is c.in_ok-outcome.ensures.below
 
-pub returns-in-Err : goal.returns-in-Err
-returns-in-Err g c =
-    none_is_made c.in-Err.outcome storage.Static c.args.object.bytes true c.args.state.now c.with_block.new.state c.args.choices.now c.with_block.new.choices
+pub returns-in-Err-clause-ok : goal.returns-in-Err-clause-ok
+returns-in-Err-clause-ok g c =
+    none_is_made c.in-Err.outcome storage.Static c.args.object.bytes true c.args.state.now c.with_block.new.state c.args.choices.now c.args.choices.now
     (λ after block more. Went (with_static c.args.object.token after block) more)
     (match_err _ _ c.in_ok-outcome.field-0 c.in-Err.outcome c.in-Err.is c.in_ok-outcome.ensures.made)
 
-pub returns-in_ok-declare_static-in-Ok : goal.returns-in_ok-declare_static-in-Ok
-returns-in_ok-declare_static-in-Ok g c =
-    ap (λ (state : State g.row.E.Denot g.row.S.Denot g.row.I.Denot). Went state c.with_block.new.choices) c.in_ok-declare_static-in-Ok.ensures
+pub returns-in_ok-declare_static-in-Ok-clause-ok : goal.returns-in_ok-declare_static-in-Ok-clause-ok
+returns-in_ok-declare_static-in-Ok-clause-ok g c =
+    ap (λ (state : State g.row.E.Denot g.row.S.Denot g.row.I.Denot). Went state c.take.new.self) c.in_ok-declare_static-in-Ok.ensures
+    ∙ ap (λ (left : List Choice). Went (with_static c.args.object.token c.with_block.new.state c.in-Ok.block) left) c.take.ensures
     ∙ sym (match_ok _ _ c.in_ok-outcome.field-0 c.in-Ok.block c.in-Ok.is c.in_ok-outcome.ensures.made
     (λ after block more. Went (with_static c.args.object.token after block) more))

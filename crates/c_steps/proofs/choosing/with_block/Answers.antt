@@ -1,11 +1,11 @@
 -- The first choice makes the block that is placed.
-use Rattle.std.proofs.Common.{◌∙◌, ◌+◌, List, length, All, sym, ap, subst}
+use Rattle.std.proofs.Common.{◌∙◌, ◌+◌, List, length, All, refl, sym, ap, subst}
 use Rattle.std.specs.Prelude.{IsTrue}
 use Rattle.bytes_core.specs.declared.block.Block.{Block}
 use Rattle.bytes_core.specs.Placement.{can_be_placed}
 use Rattle.bytes_core.specs.Valid.{NamesBelow}
 use Rattle.choices.specs.declared.choice.Choice.TheVariants.{Block as NewBlock}
-use Rattle.c_steps.proofs.Making.{places_block, places_none, placed_below, if_some, if_none}
+use Rattle.c_steps.proofs.Making.{places_block, places_none, placed_below, placed_longer, placed_whole, if_some, if_none}
 use Rattle.c_steps.proofs.choosing.with_block.Goals as goal
 
 pub place-requires-clause-apart : goal.place-requires-clause-apart
@@ -21,10 +21,20 @@ place-requires-clause-names g c =
 pub returns-clause-made : goal.returns-clause-made
 returns-clause-made g c =
     places_block c.args.kind c.args.size c.args.zeroed c.in-Block.base c.as_slice.result.now c.in-Some.first.now c.in-Some-made.block c.memory.result.now
-    c.in_ok-place.field-0 c.args.state.now c.place.new.self c.args.choices.now c.take.new.self c.in-Some.ensures.some
-    (c.in-Block.is ∙ ap (NewBlock c.in-Block.base) (sym c.as_slice.ensures)) c.take.ensures c.memory.ensures
+    c.in_ok-place.field-0 c.args.state.now c.place.new.self c.args.choices.now _ c.in-Some.ensures.some
+    (c.in-Block.is ∙ ap (NewBlock c.in-Block.base) (sym c.as_slice.ensures)) refl c.memory.ensures
     (if_some _ c.in_ok-made.made c.in-Some-made.block c.in-Some-made.is c.in_ok-made.ensures.some)
     (if_some _ c.in_ok-made.made c.in-Some-made.block c.in-Some-made.is c.in_ok-made.ensures.block) c.in_ok-place.ensures.placed c.in_ok-place.ensures.number
+
+pub returns-clause-whole : goal.returns-clause-whole
+returns-clause-whole g c =
+    placed_whole c.args.kind c.args.size c.args.zeroed c.in-Block.base c.as_slice.result.now c.in-Some-made.block c.memory.result.now c.in_ok-place.field-0
+    c.args.state.now c.place.new.self c.memory.ensures (if_some _ c.in_ok-made.made c.in-Some-made.block c.in-Some-made.is c.in_ok-made.ensures.some)
+    (if_some _ c.in_ok-made.made c.in-Some-made.block c.in-Some-made.is c.in_ok-made.ensures.block) c.in_ok-place.ensures.placed c.in_ok-place.ensures.number
+
+pub returns-clause-longer : goal.returns-clause-longer
+returns-clause-longer g c word names =
+    placed_longer word c.in-Some-made.block c.args.state.now c.place.new.self c.in_ok-place.ensures.placed names
 
 pub returns-clause-below : goal.returns-clause-below
 returns-clause-below g c =

@@ -65,7 +65,7 @@ returns-in-CopyStruct g c =
 
 pub returns-in-RunBuiltIn : goal.returns-in-RunBuiltIn
 returns-in-RunBuiltIn g c =
-    with_choices c.args.strict c.args.task _ c.args.state.now c.run_built_in.new.state c.args.choices.now c.run_built_in.new.choices c.run_built_in.result _ c.in-RunBuiltIn.is c.run_built_in.ensures refl
+    with_choices c.args.strict c.args.task _ c.args.state.now c.run_built_in.new.state c.args.choices.now c.run_built_in.new.choices c.run_built_in.result _ c.in-RunBuiltIn.is c.run_built_in.ensures.ok c.run_built_in.ensures.err refl
 
 pub returns-in-Finish : goal.returns-in-Finish
 returns-in-Finish g c =
@@ -81,11 +81,11 @@ returns-in-OpenBlock g c =
 
 pub returns-in-MakeObject : goal.returns-in-MakeObject
 returns-in-MakeObject g c =
-    with_choices c.args.strict c.args.task _ c.args.state.now c.make_object.new.state c.args.choices.now c.make_object.new.choices c.make_object.result _ c.in-MakeObject.is c.make_object.ensures refl
+    with_choices c.args.strict c.args.task _ c.args.state.now c.make_object.new.state c.args.choices.now c.make_object.new.choices c.make_object.result _ c.in-MakeObject.is c.make_object.ensures.ok c.make_object.ensures.err refl
 
 pub returns-in-MakeStatic : goal.returns-in-MakeStatic
 returns-in-MakeStatic g c =
-    with_choices c.args.strict c.args.task _ c.args.state.now c.make_static.new.state c.args.choices.now c.make_static.new.choices c.make_static.result _ c.in-MakeStatic.is c.make_static.ensures refl
+    with_choices c.args.strict c.args.task _ c.args.state.now c.make_static.new.state c.args.choices.now c.make_static.new.choices c.make_static.result _ c.in-MakeStatic.is c.make_static.ensures.ok c.make_static.ensures.err refl
 
 pub returns-in-LeaveBlock : goal.returns-in-LeaveBlock
 returns-in-LeaveBlock g c =
@@ -101,4 +101,8 @@ returns-in-LeaveFunction g c =
 
 pub returns-in-EndOfBody : goal.returns-in-EndOfBody
 returns-in-EndOfBody g c =
-    with_choices c.args.strict c.args.task _ c.args.state.now c.end_of_body.new.state c.args.choices.now c.end_of_body.new.choices c.end_of_body.result _ c.in-EndOfBody.is c.end_of_body.ensures refl
+    with_choices c.args.strict c.args.task _ c.args.state.now c.end_of_body.new.state c.args.choices.now c.end_of_body.new.choices c.end_of_body.result _ c.in-EndOfBody.is c.end_of_body.ensures.ok c.end_of_body.ensures.err refl
+
+pub returns-in-MakeParameter : goal.returns-in-MakeParameter
+returns-in-MakeParameter g c =
+    with_choices c.args.strict c.args.task _ c.args.state.now c.make_parameter.new.state c.args.choices.now c.make_parameter.new.choices c.make_parameter.result _ c.in-MakeParameter.is c.make_parameter.ensures.ok c.make_parameter.ensures.err refl
