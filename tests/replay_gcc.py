@@ -6,7 +6,8 @@ A program either ends, or meets one fault. Its inputs stand below; those that it
 `replay` are made of them: each allocation succeeds, as it did in that run, and each new block is put behind those before it, whatever
 address it had there, with contents of zeros. Which choice is asked for next is found by trying: a run that is given another kind of
 choice, or contents of another size, is over at once. It prints a line for each program on which the two differ: one ends and the other
-does not, or their faults stand on two lines. The status is 1 where there is one.
+does not, or their faults stand on two lines. Where no NAME is given it goes on with 300 random programs with functions and recursion, of the seeds 0 to 299
+(replay_calls.py writes them), and prints each on which the two differ. The status is 1 where there is one.
 """
 import re
 import subprocess
@@ -14,10 +15,13 @@ import sys
 import tempfile
 from pathlib import Path
 
+from replay_calls import differs
+
 HOME = Path(__file__).resolve().parent
 PROGRAM = HOME.parent / "predator"
 MOST_BYTES = 128  # of an object or a block of these programs
 MOST_CHOICES = 200
+CALLS = 300  # how many random programs with functions there are
 INPUTS = {
     "list_built_and_freed": (1, 5, 1, -7, 1, 40, 0),
     "zeros_by_calloc": (3, 0, 9, 3, -1),
@@ -84,6 +88,19 @@ def run_by_replay(file, inputs, folder):
     return said
 
 
+def calls_unlike():
+    """How many of the random programs with functions do otherwise than by gcc."""
+    unlike = 0
+    with tempfile.TemporaryDirectory() as folder:
+        for seed in range(CALLS):
+            found = differs(seed, replayed, folder)
+            if found:
+                unlike += 1
+                print(f"seed {seed}: replay says {found[0]!r} of\n{found[1]}")
+    print(f"calls: {CALLS - unlike} of {CALLS} random programs as gcc runs them")
+    return unlike
+
+
 def main():
     names = sys.argv[1:] or sorted(file.stem for file in (HOME / "replay").glob("*.c"))
     differing = 0
@@ -98,7 +115,8 @@ def main():
                 differing += 1
                 print(f"{name}: gcc finds {'no fault' if line is None else f'a fault in line {line}'}, replay says {said!r}")
     print(f"replay: {len(names) - differing} of {len(names)} programs as gcc runs them")
-    return 1 if differing or not names else 0
+    unlike = 0 if sys.argv[1:] else calls_unlike()
+    return 1 if differing or unlike or not names else 0
 
 
 sys.exit(main())
