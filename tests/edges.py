@@ -17,7 +17,6 @@ HOME = Path(__file__).resolve().parent.parent
 PROGRAM = str(Path(sys.argv[1]).resolve() if len(sys.argv) == 2 else HOME / "predator")
 SAFE = b"int main(void) {\n  void *p = malloc(8);\n  free(p);\n  return 0;\n}\n"
 USAGE = b"usage: predator [--budget N] [--int-limit K] FILE\n"
-REPLAY_USAGE = b"usage: predator replay [--model M] [--strict] [--steps N] FILE CHOICES\n"
 MOST = 4_194_304
 # How many brackets may be open, and how many levels a tree may have (docs/language.md).
 BRACKETS = 256
@@ -276,15 +275,15 @@ def replayed(folder, choices, *options):
 
 
 def replay_of_no_words(folder):
-    return ran(["replay"], folder), (4, REPLAY_USAGE)
+    return ran(["replay"], folder), (4, USAGE)
 
 
 def replay_without_choices(folder):
-    return ran(["replay", "safe.c"], folder), (4, REPLAY_USAGE)
+    return ran(["replay", "safe.c"], folder), (4, USAGE)
 
 
 def replay_of_three_files(folder):
-    return ran(["replay", "safe.c", "safe.c", "safe.c"], folder), (4, REPLAY_USAGE)
+    return ran(["replay", "safe.c", "safe.c", "safe.c"], folder), (4, USAGE)
 
 
 def replay_of_a_file_called_replay(folder):

@@ -6,7 +6,8 @@ A program either ends, or meets one fault. Its inputs stand below; those that it
 `replay` are made of them: each allocation succeeds, as it did in that run, and each new block is put behind those before it, whatever
 address it had there, with contents of zeros. Which choice is asked for next is found as `predator choices` finds it, with the program that
 ./predator takes. It prints a line for each program on which the two differ: one ends and the other does not, or their faults stand on two
-lines. The status is 1 where there is one.
+lines. Where no NAME is given it goes on with 300 random programs with functions and recursion, of the seeds 0 to 299
+(replay_calls.py writes them), and prints each on which the two differ. The status is 1 where there is one.
 """
 import re
 import subprocess
@@ -14,10 +15,14 @@ import sys
 import tempfile
 from pathlib import Path
 
+from replay_calls import differs
+
 HOME = Path(__file__).resolve().parent
 sys.path.insert(0, str(HOME.parent / "tools"))
 from front import choices, run  # noqa: E402
 
+PROGRAM = HOME.parent / "predator"
+CALLS = 300  # how many random programs with functions there are
 INPUTS = {
     "list_built_and_freed": (1, 5, 1, -7, 1, 40, 0),
     "zeros_by_calloc": (3, 0, 9, 3, -1),
@@ -66,6 +71,27 @@ def run_by_replay(program, file, inputs):
     return said.decode()
 
 
+def replayed(file, choices, folder):
+    """What `replay` prints of a program with these choices."""
+    text = Path(folder, "choices")
+    text.write_text("".join(choice + "\n" for choice in choices))
+    done = subprocess.run([PROGRAM, "replay", file.name, text], cwd=file.parent, stdin=subprocess.DEVNULL, capture_output=True, text=True)
+    return done.stdout
+
+
+def calls_unlike():
+    """How many of the random programs with functions do otherwise than by gcc."""
+    unlike = 0
+    with tempfile.TemporaryDirectory() as folder:
+        for seed in range(CALLS):
+            found = differs(seed, replayed, folder)
+            if found:
+                unlike += 1
+                print(f"seed {seed}: replay says {found[0]!r} of\n{found[1]}")
+    print(f"calls: {CALLS - unlike} of {CALLS} random programs as gcc runs them")
+    return unlike
+
+
 def main():
     names = sys.argv[1:] or sorted(file.stem for file in (HOME / "replay").glob("*.c"))
     program, differing = run.Program(), 0
@@ -79,7 +105,8 @@ def main():
                 differing += 1
                 print(f"{name}: gcc finds {'no fault' if line is None else f'a fault in line {line}'}, replay says {said!r}")
     print(f"replay: {len(names) - differing} of {len(names)} programs as gcc runs them")
-    return 1 if differing or not names else 0
+    unlike = 0 if sys.argv[1:] else calls_unlike()
+    return 1 if differing or unlike or not names else 0
 
 
 if __name__ == "__main__":

@@ -1,4 +1,6 @@
 mod ByCondition
+mod CallsMade
+pub mod DefinedFunctions
 mod Leaving
 mod MakingSteps
 mod PlainSteps

@@ -5,7 +5,7 @@ use Rattle.cbase.specs.declared.place.Place.{Place}
 use Rattle.choices.specs.declared.choice.Choice.{Choice}
 use Rattle.c_machine.specs.declared.kind.Kind.{Kind}
 use Rattle.c_machine.specs.declared.task.Task.{Task}
-use Rattle.c_machine.specs.declared.task.Task.TheVariants.{Push, ObjectAt, Shift, Load, Convert, Apply, Operate, Answer, AndThen, OrElse, Drop, Store, Update, CountBy, CopyStruct, RunBuiltIn, CallDefined, EndRun, Finish, Keep, OpenBlock, MakeObject, MakeStatic, LeaveBlock, Zero, LeaveFunction, EndOfBody, Unknown, ValueOf, AddressOf, Pick, Execute, Branch, Test, Again, Initialise, BreakAt, ContinueAt, GiveBack}
+use Rattle.c_machine.specs.declared.task.Task.TheVariants.{Push, ObjectAt, Shift, Load, Convert, Apply, Operate, Answer, AndThen, OrElse, Drop, Store, Update, CountBy, CopyStruct, RunBuiltIn, CallDefined, EndRun, Finish, Keep, OpenBlock, MakeObject, MakeParameter, MakeStatic, LeaveBlock, Zero, LeaveFunction, EndOfBody, Unknown, ValueOf, AddressOf, Pick, Execute, Branch, Test, Again, Initialise, BreakAt, ContinueAt, GiveBack}
 use Rattle.c_machine.specs.State.{TaskIn, State, StateIn}
 use Rattle.c_machine.specs.Text.{Text}
 use Rattle.c_steps.specs.declared.outcome.Outcome.{Outcome as Answered}
@@ -33,12 +33,13 @@ plain_in t (Update op place kind right) outcome before after choices rest came =
 plain_in t (CountBy up behind place kind) outcome before after choices rest came = (came, refl)
 plain_in t (CopyStruct place count) outcome before after choices rest came = (came, refl)
 plain_in t (RunBuiltIn what place result) outcome before after choices rest came = (came, refl)
-plain_in t CallDefined outcome before after choices rest came = (came, refl)
+plain_in t (CallDefined number) outcome before after choices rest came = tt
 plain_in t EndRun outcome before after choices rest came = (came, refl)
 plain_in t (Finish place) outcome before after choices rest came = (came, refl)
 plain_in t (Keep place) outcome before after choices rest came = (came, refl)
 plain_in t OpenBlock outcome before after choices rest came = (came, refl)
 plain_in t (MakeObject object) outcome before after choices rest came = (came, refl)
+plain_in t (MakeParameter object) outcome before after choices rest came = (came, refl)
 plain_in t (MakeStatic object) outcome before after choices rest came = (came, refl)
 plain_in t (LeaveBlock place) outcome before after choices rest came = (came, refl)
 plain_in t (Zero place count) outcome before after choices rest came = (came, refl)
@@ -79,43 +80,45 @@ pub other_task : {E S I : Type 0} (P : Type 0) (strict : Bool) (task : Task E S 
     ((place : Place) → task ≡ BreakAt place → ⊥) →
     ((place : Place) → task ≡ ContinueAt place → ⊥) →
     ((place : Place) (kind : Kind) → task ≡ GiveBack place kind → ⊥) →
+    ((number : ℕ) → task ≡ CallDefined number → ⊥) →
     IfSome (plain_step strict task state choices) (λ comes. P) → P
-other_task P strict (Push number) state choices value address pick execute branch test again set breaks continues gives is = is
-other_task P strict (ObjectAt token) state choices value address pick execute branch test again set breaks continues gives is = is
-other_task P strict (Shift bytes) state choices value address pick execute branch test again set breaks continues gives is = is
-other_task P strict (Load place kind) state choices value address pick execute branch test again set breaks continues gives is = is
-other_task P strict (Convert from to) state choices value address pick execute branch test again set breaks continues gives is = is
-other_task P strict (Apply op kind) state choices value address pick execute branch test again set breaks continues gives is = is
-other_task P strict (Operate op left right) state choices value address pick execute branch test again set breaks continues gives is = is
-other_task P strict (Answer holds) state choices value address pick execute branch test again set breaks continues gives is = is
-other_task P strict (AndThen right) state choices value address pick execute branch test again set breaks continues gives is = is
-other_task P strict (OrElse right) state choices value address pick execute branch test again set breaks continues gives is = is
-other_task P strict Drop state choices value address pick execute branch test again set breaks continues gives is = is
-other_task P strict (Store place kind) state choices value address pick execute branch test again set breaks continues gives is = is
-other_task P strict (Update op place kind right) state choices value address pick execute branch test again set breaks continues gives is = is
-other_task P strict (CountBy up behind place kind) state choices value address pick execute branch test again set breaks continues gives is = is
-other_task P strict (CopyStruct place count) state choices value address pick execute branch test again set breaks continues gives is = is
-other_task P strict (RunBuiltIn what place result) state choices value address pick execute branch test again set breaks continues gives is = is
-other_task P strict CallDefined state choices value address pick execute branch test again set breaks continues gives is = is
-other_task P strict EndRun state choices value address pick execute branch test again set breaks continues gives is = is
-other_task P strict (Finish place) state choices value address pick execute branch test again set breaks continues gives is = is
-other_task P strict (Keep place) state choices value address pick execute branch test again set breaks continues gives is = is
-other_task P strict OpenBlock state choices value address pick execute branch test again set breaks continues gives is = is
-other_task P strict (MakeObject object) state choices value address pick execute branch test again set breaks continues gives is = is
-other_task P strict (MakeStatic object) state choices value address pick execute branch test again set breaks continues gives is = is
-other_task P strict (LeaveBlock place) state choices value address pick execute branch test again set breaks continues gives is = is
-other_task P strict (Zero place count) state choices value address pick execute branch test again set breaks continues gives is = is
-other_task P strict (LeaveFunction place) state choices value address pick execute branch test again set breaks continues gives is = is
-other_task P strict (EndOfBody is_main result close held) state choices value address pick execute branch test again set breaks continues gives is = is
-other_task P strict Unknown state choices value address pick execute branch test again set breaks continues gives is = is
-other_task P strict (ValueOf expr) state choices value address pick execute branch test again set breaks continues gives is = absurd (value expr refl)
-other_task P strict (AddressOf expr) state choices value address pick execute branch test again set breaks continues gives is = absurd (address expr refl)
-other_task P strict (Pick kind one other) state choices value address pick execute branch test again set breaks continues gives is = absurd (pick kind one other refl)
-other_task P strict (Execute stmt) state choices value address pick execute branch test again set breaks continues gives is = absurd (execute stmt refl)
-other_task P strict (Branch stmt) state choices value address pick execute branch test again set breaks continues gives is = absurd (branch stmt refl)
-other_task P strict (Test stmt) state choices value address pick execute branch test again set breaks continues gives is = absurd (test stmt refl)
-other_task P strict (Again stmt held) state choices value address pick execute branch test again set breaks continues gives is = absurd (again stmt held refl)
-other_task P strict (Initialise place init) state choices value address pick execute branch test again set breaks continues gives is = absurd (set place init refl)
-other_task P strict (BreakAt place) state choices value address pick execute branch test again set breaks continues gives is = absurd (breaks place refl)
-other_task P strict (ContinueAt place) state choices value address pick execute branch test again set breaks continues gives is = absurd (continues place refl)
-other_task P strict (GiveBack place kind) state choices value address pick execute branch test again set breaks continues gives is = absurd (gives place kind refl)
+other_task P strict (Push number) state choices value address pick execute branch test again set breaks continues gives calls is = is
+other_task P strict (ObjectAt token) state choices value address pick execute branch test again set breaks continues gives calls is = is
+other_task P strict (Shift bytes) state choices value address pick execute branch test again set breaks continues gives calls is = is
+other_task P strict (Load place kind) state choices value address pick execute branch test again set breaks continues gives calls is = is
+other_task P strict (Convert from to) state choices value address pick execute branch test again set breaks continues gives calls is = is
+other_task P strict (Apply op kind) state choices value address pick execute branch test again set breaks continues gives calls is = is
+other_task P strict (Operate op left right) state choices value address pick execute branch test again set breaks continues gives calls is = is
+other_task P strict (Answer holds) state choices value address pick execute branch test again set breaks continues gives calls is = is
+other_task P strict (AndThen right) state choices value address pick execute branch test again set breaks continues gives calls is = is
+other_task P strict (OrElse right) state choices value address pick execute branch test again set breaks continues gives calls is = is
+other_task P strict Drop state choices value address pick execute branch test again set breaks continues gives calls is = is
+other_task P strict (Store place kind) state choices value address pick execute branch test again set breaks continues gives calls is = is
+other_task P strict (Update op place kind right) state choices value address pick execute branch test again set breaks continues gives calls is = is
+other_task P strict (CountBy up behind place kind) state choices value address pick execute branch test again set breaks continues gives calls is = is
+other_task P strict (CopyStruct place count) state choices value address pick execute branch test again set breaks continues gives calls is = is
+other_task P strict (RunBuiltIn what place result) state choices value address pick execute branch test again set breaks continues gives calls is = is
+other_task P strict (CallDefined number) state choices value address pick execute branch test again set breaks continues gives calls is = absurd (calls number refl)
+other_task P strict EndRun state choices value address pick execute branch test again set breaks continues gives calls is = is
+other_task P strict (Finish place) state choices value address pick execute branch test again set breaks continues gives calls is = is
+other_task P strict (Keep place) state choices value address pick execute branch test again set breaks continues gives calls is = is
+other_task P strict OpenBlock state choices value address pick execute branch test again set breaks continues gives calls is = is
+other_task P strict (MakeObject object) state choices value address pick execute branch test again set breaks continues gives calls is = is
+other_task P strict (MakeParameter object) state choices value address pick execute branch test again set breaks continues gives calls is = is
+other_task P strict (MakeStatic object) state choices value address pick execute branch test again set breaks continues gives calls is = is
+other_task P strict (LeaveBlock place) state choices value address pick execute branch test again set breaks continues gives calls is = is
+other_task P strict (Zero place count) state choices value address pick execute branch test again set breaks continues gives calls is = is
+other_task P strict (LeaveFunction place) state choices value address pick execute branch test again set breaks continues gives calls is = is
+other_task P strict (EndOfBody is_main result close held) state choices value address pick execute branch test again set breaks continues gives calls is = is
+other_task P strict Unknown state choices value address pick execute branch test again set breaks continues gives calls is = is
+other_task P strict (ValueOf expr) state choices value address pick execute branch test again set breaks continues gives calls is = absurd (value expr refl)
+other_task P strict (AddressOf expr) state choices value address pick execute branch test again set breaks continues gives calls is = absurd (address expr refl)
+other_task P strict (Pick kind one other) state choices value address pick execute branch test again set breaks continues gives calls is = absurd (pick kind one other refl)
+other_task P strict (Execute stmt) state choices value address pick execute branch test again set breaks continues gives calls is = absurd (execute stmt refl)
+other_task P strict (Branch stmt) state choices value address pick execute branch test again set breaks continues gives calls is = absurd (branch stmt refl)
+other_task P strict (Test stmt) state choices value address pick execute branch test again set breaks continues gives calls is = absurd (test stmt refl)
+other_task P strict (Again stmt held) state choices value address pick execute branch test again set breaks continues gives calls is = absurd (again stmt held refl)
+other_task P strict (Initialise place init) state choices value address pick execute branch test again set breaks continues gives calls is = absurd (set place init refl)
+other_task P strict (BreakAt place) state choices value address pick execute branch test again set breaks continues gives calls is = absurd (breaks place refl)
+other_task P strict (ContinueAt place) state choices value address pick execute branch test again set breaks continues gives calls is = absurd (continues place refl)
+other_task P strict (GiveBack place kind) state choices value address pick execute branch test again set breaks continues gives calls is = absurd (gives place kind refl)

@@ -4,9 +4,9 @@ use Rattle.std.proofs.lemmas.List.{append-nil}
 use Rattle.choices.specs.declared.choice.Choice.{Choice}
 use Rattle.c_machine.specs.Run.{blank, done_within, main_tasks, start_main, static_tasks, then_go}
 use Rattle.c_machine.specs.State.{TaskIn, StateIn, OutcomeIn, doing, Went as WentThere}
-use Rattle.c_machine.specs.Text.{Main, Text}
+use Rattle.c_machine.specs.Text.{Function, Text}
 use Rattle.c_steps.specs.declared.outcome.Outcome.{Outcome as Answer}
-use Rattle.c_steps.specs.declared.outcome.Outcome.TheVariants.{Went, Waits, Ended, Faulted, NotYet, Stuck}
+use Rattle.c_steps.specs.declared.outcome.Outcome.TheVariants.{Went, Waits, Ended, Faulted, Stuck}
 use Rattle.c_steps.specs.ComesTo.{comes_to}
 use Rattle.c_run.specs.declared.stepped.Stepped.{Stepped}
 use Rattle.c_run.specs.declared.stepped.Stepped.TheVariants.{Came, NotKept}
@@ -14,11 +14,11 @@ use Rattle.c_run.specs.Started.{Calls, IsDone, IsStartOf, MakesStatics, keeps_ki
 use Rattle.c_run.specs.Stepped.{goes_on, keeps_on}
 use Rattle.c_run.specs.tasks.Room.{are_kept, kinds_in}
 
-pub same_start : (t : Text) (main other : Option (Main t.Stmt)) (stepped : Stepped) (choices : List Choice) (after : StateIn t) (left : List Choice) → main ≡ other
+pub same_start : (t : Text) (main other : Option (Function t.Stmt)) (stepped : Stepped) (choices : List Choice) (after : StateIn t) (left : List Choice) → main ≡ other
     → IsStartOf t main stepped choices after left → IsStartOf t other stepped choices after left
-same_start t main other stepped choices after left is starts = subst (λ (this : Option (Main t.Stmt)). IsStartOf t this stepped choices after left) is starts
+same_start t main other stepped choices after left is starts = subst (λ (this : Option (Function t.Stmt)). IsStartOf t this stepped choices after left) is starts
 
-pub no_main : (t : Text) (main : Option (Main t.Stmt)) (choices : List Choice) (after : StateIn t) (left : List Choice) → main ≡ None → IsStartOf t main (Came Stuck) choices after left
+pub no_main : (t : Text) (main : Option (Function t.Stmt)) (choices : List Choice) (after : StateIn t) (left : List Choice) → main ≡ None → IsStartOf t main (Came Stuck) choices after left
 no_main t main choices after left is = same_start t None main (Came Stuck) choices after left (sym is) (refl, refl)
 
 -- nothing is made before
@@ -26,7 +26,7 @@ pub at_blank : (t : Text) (before mid : StateIn t) → before ≡ blank t [] →
 at_blank t before mid is made =
     made ∙ ap (doing (static_tasks t)) is ∙ ap (λ (tasks : List (TaskIn t)). blank t tasks) (append-nil (static_tasks t))
 
-module _ (t : Text) (main : Main t.Stmt) (choices : List Choice) where
+module _ (t : Text) (main : Function t.Stmt) (choices : List Choice) where
   abbrev first : StateIn t
   first = blank t (static_tasks t)
 
@@ -53,7 +53,6 @@ module _ (t : Text) (main : Main t.Stmt) (choices : List Choice) where
   stops (Came Waits) after left fit done goes = (ap (λ (came : OutcomeIn t). then_go came onward) done.0, all_kept (comes_to Waits after left) done.0 fit done.1)
   stops (Came Ended) after left fit done goes = (ap (λ (came : OutcomeIn t). then_go came onward) done.0, all_kept (comes_to Ended after left) done.0 fit done.1)
   stops (Came (Faulted kind place)) after left fit done goes = (ap (λ (came : OutcomeIn t). then_go came onward) done.0, all_kept (comes_to (Faulted kind place) after left) done.0 fit done.1)
-  stops (Came NotYet) after left fit done goes = (ap (λ (came : OutcomeIn t). then_go came onward) done.0, all_kept (comes_to NotYet after left) done.0 fit done.1)
   stops (Came Stuck) after left fit done goes = (ap (λ (came : OutcomeIn t). then_go came onward) done.0, all_kept (comes_to Stuck after left) done.0 fit done.1)
   stops NotKept after left fit done goes =
       ap (λ (fit : Bool). fit && (keeps_kinds_until t.enough t first choices && keeps_on (done_within t.enough t first choices) calls_kept)) fit
@@ -73,7 +72,6 @@ module _ (t : Text) (main : Main t.Stmt) (choices : List Choice) where
   calls_by (Came Waits) mid after left fit done until none made = absurd made
   calls_by (Came Ended) mid after left fit done until none made = absurd made
   calls_by (Came (Faulted kind place)) mid after left fit done until none made = absurd made
-  calls_by (Came NotYet) mid after left fit done until none made = absurd made
   calls_by (Came Stuck) mid after left fit done until none made = absurd made
   calls_by NotKept mid after left fit done until none not = all_kept (WentThere mid left) done fit until ∙ not
 
@@ -83,7 +81,6 @@ module _ (t : Text) (main : Main t.Stmt) (choices : List Choice) where
   calls (Came Waits) stepped mid after left fit done goes none made = absurd cc
   calls (Came Ended) stepped mid after left fit done goes none made = absurd cc
   calls (Came (Faulted kind place)) stepped mid after left fit done goes none made = absurd cc
-  calls (Came NotYet) stepped mid after left fit done goes none made = absurd cc
   calls (Came Stuck) stepped mid after left fit done goes none made = absurd cc
   calls NotKept stepped mid after left fit done goes none made = absurd cc
 

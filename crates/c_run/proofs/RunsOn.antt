@@ -6,7 +6,7 @@ use Rattle.c_machine.specs.State.{StateIn, OutcomeIn}
 use Rattle.c_machine.specs.Step.{step}
 use Rattle.c_machine.specs.Text.{Text}
 use Rattle.c_steps.specs.declared.outcome.Outcome.{Outcome as Answer}
-use Rattle.c_steps.specs.declared.outcome.Outcome.TheVariants.{Went, Waits, Ended, Faulted, NotYet, Stuck}
+use Rattle.c_steps.specs.declared.outcome.Outcome.TheVariants.{Went, Waits, Ended, Faulted, Stuck}
 use Rattle.c_steps.specs.ComesTo.{comes_to}
 use Rattle.c_run.specs.declared.stepped.Stepped.{Stepped}
 use Rattle.c_run.specs.declared.stepped.Stepped.TheVariants.{Came, NotKept}
@@ -41,7 +41,6 @@ one_step_on t steps left (Came Went) before middle after choices more rest on go
 one_step_on t steps left (Came Waits) before middle after choices more rest on goes is = absurd cc
 one_step_on t steps left (Came Ended) before middle after choices more rest on goes is = absurd cc
 one_step_on t steps left (Came (Faulted kind place)) before middle after choices more rest on goes is = absurd cc
-one_step_on t steps left (Came NotYet) before middle after choices more rest on goes is = absurd cc
 one_step_on t steps left (Came Stuck) before middle after choices more rest on goes is = absurd cc
 one_step_on t steps left NotKept before middle after choices more rest on goes is = absurd cc
 
@@ -55,8 +54,6 @@ last_step t steps left (Came Ended) before middle after choices more rest on goe
     (sym (on.run_on ∙ runs t left Ended middle after more rest is.0), on.kept_on ∙ keeps t left Ended middle after more rest is.0 is.1)
 last_step t steps left (Came (Faulted kind place)) before middle after choices more rest on goes is =
     (sym (on.run_on ∙ runs t left (Faulted kind place) middle after more rest is.0), on.kept_on ∙ keeps t left (Faulted kind place) middle after more rest is.0 is.1)
-last_step t steps left (Came NotYet) before middle after choices more rest on goes is =
-    (sym (on.run_on ∙ runs t left NotYet middle after more rest is.0), on.kept_on ∙ keeps t left NotYet middle after more rest is.0 is.1)
 last_step t steps left (Came Stuck) before middle after choices more rest on goes is =
     (sym (on.run_on ∙ runs t left Stuck middle after more rest is.0), on.kept_on ∙ keeps t left Stuck middle after more rest is.0 is.1)
 last_step t steps left NotKept before middle after choices more rest on goes is =

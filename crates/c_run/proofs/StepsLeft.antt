@@ -7,7 +7,7 @@ use Rattle.c_machine.specs.State.{TaskIn, StateIn, OutcomeIn, Stuck as StuckTher
 use Rattle.c_machine.specs.Step.{step}
 use Rattle.c_machine.specs.Text.{Text}
 use Rattle.c_steps.specs.declared.outcome.Outcome.{Outcome as Answer}
-use Rattle.c_steps.specs.declared.outcome.Outcome.TheVariants.{Went, Waits, Ended, Faulted, NotYet, Stuck}
+use Rattle.c_steps.specs.declared.outcome.Outcome.TheVariants.{Went, Waits, Ended, Faulted, Stuck}
 use Rattle.c_steps.specs.ComesTo.{comes_to}
 use Rattle.c_run.specs.declared.stepped.Stepped.{Stepped}
 use Rattle.c_run.specs.declared.stepped.Stepped.TheVariants.{Came, NotKept}
@@ -79,7 +79,6 @@ one_step_on t steps left (Came Went) before middle after choices more rest on so
 one_step_on t steps left (Came Waits) before middle after choices more rest on some goes is = absurd cc
 one_step_on t steps left (Came Ended) before middle after choices more rest on some goes is = absurd cc
 one_step_on t steps left (Came (Faulted kind place)) before middle after choices more rest on some goes is = absurd cc
-one_step_on t steps left (Came NotYet) before middle after choices more rest on some goes is = absurd cc
 one_step_on t steps left (Came Stuck) before middle after choices more rest on some goes is = absurd cc
 one_step_on t steps left NotKept before middle after choices more rest on some goes is = absurd cc
 
@@ -93,8 +92,6 @@ last_step t steps left (Came Ended) before middle after choices more rest on som
     (sym (on.done ∙ runs t left Ended middle after more rest some is.0), on.kept ∙ keeps t left Ended middle after more rest some is.0 is.1)
 last_step t steps left (Came (Faulted kind place)) before middle after choices more rest on some goes is =
     (sym (on.done ∙ runs t left (Faulted kind place) middle after more rest some is.0), on.kept ∙ keeps t left (Faulted kind place) middle after more rest some is.0 is.1)
-last_step t steps left (Came NotYet) before middle after choices more rest on some goes is =
-    (sym (on.done ∙ runs t left NotYet middle after more rest some is.0), on.kept ∙ keeps t left NotYet middle after more rest some is.0 is.1)
 last_step t steps left (Came Stuck) before middle after choices more rest on some goes is =
     (sym (on.done ∙ runs t left Stuck middle after more rest some is.0), on.kept ∙ keeps t left Stuck middle after more rest some is.0 is.1)
 last_step t steps left NotKept before middle after choices more rest on some goes is = on.kept ∙ not_kept t left middle more some is

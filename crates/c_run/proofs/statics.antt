@@ -1,6 +1,5 @@
 pub mod ByForm
 pub mod EachNoted
-pub mod Firsts
 pub mod InFront
 pub mod Static
 pub mod Walking

@@ -2,10 +2,13 @@ pub mod FirstRows
 pub mod FixedInOrder
 pub mod Following
 pub mod FunctionsFound
+pub mod FunctionsNumbered
 pub mod LinksFound
 pub mod NamesStand
 pub mod ObjectsFound
+pub mod ParametersFound
 pub mod PushedObjects
+pub mod ResultsFound
 pub mod RowsFound
 pub mod StoresFound
 pub mod TypeKinds

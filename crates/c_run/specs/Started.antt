@@ -4,7 +4,7 @@ use Rattle.choices.specs.declared.choice.Choice.{Choice}
 use Rattle.c_machine.specs.Run.{blank, done_within, main_tasks, start_main, static_tasks}
 use Rattle.c_machine.specs.State.{TaskIn, StateIn}
 use Rattle.c_machine.specs.Step.{step}
-use Rattle.c_machine.specs.Text.{Main, Text}
+use Rattle.c_machine.specs.Text.{Function, Text}
 use Rattle.c_steps.specs.declared.outcome.Outcome.TheVariants as outcome
 use Rattle.c_steps.specs.ComesTo.{comes_to}
 use Rattle.c_run.specs.declared.stepped.Stepped.{Stepped}
@@ -35,7 +35,7 @@ IsDone t steps (Came outcome) before choices after left =
 IsDone t steps NotKept before choices after left = keeps_kinds_until steps t before choices ≡ false
 
 -- whether the types are kept at the start of a run
-abbrev pub keeps_kinds_at : (t : Text) → Option (Main t.Stmt) → List Choice → Bool
+abbrev pub keeps_kinds_at : (t : Text) → Option (Function t.Stmt) → List Choice → Bool
 keeps_kinds_at t None choices = true
 keeps_kinds_at t (Some main) choices =
     are_kept (kinds_in (static_tasks t))
@@ -43,7 +43,7 @@ keeps_kinds_at t (Some main) choices =
     && keeps_on (done_within t.enough t (blank t (static_tasks t)) choices) (λ state more. are_kept (kinds_in (main_tasks t main))))
 
 -- what the start of a run comes to, where main is that one
-abbrev pub IsStartOf : (t : Text) → Option (Main t.Stmt) → Stepped → List Choice → StateIn t → List Choice → Type 0
+abbrev pub IsStartOf : (t : Text) → Option (Function t.Stmt) → Stepped → List Choice → StateIn t → List Choice → Type 0
 IsStartOf t main (Came outcome) choices after left =
     (comes_to outcome after left ≡ start_main t t.enough main choices) × (keeps_kinds_at t main choices ≡ true)
 IsStartOf t main NotKept choices after left = keeps_kinds_at t main choices ≡ false
@@ -52,7 +52,7 @@ abbrev pub IsStart : (t : Text) → Stepped → List Choice → StateIn t → Li
 IsStart t stepped choices after left = IsStartOf t t.main stepped choices after left
 
 -- main is to be called next, where the sizes of its objects are kept
-abbrev pub Calls : (t : Text) → Main t.Stmt → Stepped → StateIn t → StateIn t → Type 0
+abbrev pub Calls : (t : Text) → Function t.Stmt → Stepped → StateIn t → StateIn t → Type 0
 Calls t main (Came outcome.Went) before after = MakesRoom (main_tasks t main) room.Made before after
 Calls t main (Came other) before after = ⊥
 Calls t main NotKept before after = MakesRoom (main_tasks t main) room.NotKept before after

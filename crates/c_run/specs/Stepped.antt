@@ -1,15 +1,16 @@
 -- What a step and a run come to, where the types of which they speak are kept.
-use Rattle.std.specs.Prelude.{◌≡◌, ℕ, zero, suc, Bool, true, false, ◌&&◌, List, [], ◌∷◌, length}
+use Rattle.std.specs.Prelude.{◌≡◌, ℕ, zero, suc, Bool, true, false, ◌&&◌, List, [], ◌∷◌, length, Option, None, Some, slice_get}
 use Rattle.choices.specs.declared.choice.Choice.{Choice}
 use Rattle.c_machine.specs.declared.kind.Kind.{Kind}
-use Rattle.c_machine.specs.declared.task.Task.TheVariants.{ValueOf, AddressOf, Pick, Execute, Initialise}
+use Rattle.c_machine.specs.declared.task.Task.TheVariants.{ValueOf, AddressOf, Pick, Execute, Initialise, CallDefined}
 use Rattle.c_machine.specs.Blocks.{initialiser_tasks}
+use Rattle.c_machine.specs.Calls.{called, function_tasks}
 use Rattle.c_machine.specs.Expressions.{address_tasks, value_kind, value_tasks}
 use Rattle.c_machine.specs.Run.{run}
 use Rattle.c_machine.specs.State.{TaskIn, State, StateIn, Outcome, Went}
 use Rattle.c_machine.specs.Statements.{statement_tasks}
 use Rattle.c_machine.specs.Step.{step, step_of}
-use Rattle.c_machine.specs.Text.{Text}
+use Rattle.c_machine.specs.Text.{Function, Text}
 use Rattle.c_steps.specs.declared.outcome.Outcome.TheVariants as outcome
 use Rattle.c_steps.specs.ComesTo.{comes_to}
 use Rattle.c_run.specs.declared.tasks.room.Room.{Room}
@@ -24,13 +25,18 @@ stepped_by room.Made = Came outcome.Went
 stepped_by room.NotKept = NotKept
 
 -- the types of which a step speaks beyond those of its thing to do, where unfinished expressions hold so many operands: what a tree makes room for speaks of
--- them, and `?:` of those of both arms
+-- them, `?:` of those of both arms, and a call of those of the function
+abbrev pub kinds_called : (t : Text) → Option (Function t.Stmt) → List Kind
+kinds_called t None = []
+kinds_called t (Some function) = kinds_in (function_tasks t function 0)
+
 abbrev pub kinds_at : (t : Text) → TaskIn t → ℕ → List Kind
 kinds_at t (ValueOf expr) held = kinds_in (value_tasks t expr)
 kinds_at t (AddressOf expr) held = kinds_in (address_tasks t expr)
 kinds_at t (Pick kind one other) held = value_kind t one ∷ value_kind t other ∷ []
 kinds_at t (Execute stmt) held = kinds_in (statement_tasks t stmt held)
 kinds_at t (Initialise place init) held = kinds_in (initialiser_tasks t place init)
+kinds_at t (CallDefined number) held = kinds_called t (slice_get t.functions number)
 kinds_at t other held = []
 
 abbrev pub kinds_first : (t : Text) → List (TaskIn t) → ℕ → List Kind
@@ -46,6 +52,12 @@ abbrev pub IsStepOf : (t : Text) → TaskIn t → Stepped → StateIn t → List
 IsStepOf t task (Came outcome) before choices after left =
     (comes_to outcome after left ≡ step_of t task before choices) × (are_kept (kinds_at t task (length before.operands)) ≡ true)
 IsStepOf t task NotKept before choices after left = are_kept (kinds_at t task (length before.operands)) ≡ false
+
+-- the same of the step that calls a function
+abbrev pub IsCallOf : (t : Text) → Option (Function t.Stmt) → Stepped → StateIn t → List Choice → StateIn t → List Choice → Type 0
+IsCallOf t function (Came outcome) before choices after left =
+    (comes_to outcome after left ≡ called t function before choices) × (are_kept (kinds_called t function) ≡ true)
+IsCallOf t function NotKept before choices after left = are_kept (kinds_called t function) ≡ false
 
 abbrev pub IsStep : (t : Text) → Stepped → StateIn t → List Choice → StateIn t → List Choice → Type 0
 IsStep t (Came outcome) before choices after left = (comes_to outcome after left ≡ step t before choices) × (keeps_kinds t before ≡ true)

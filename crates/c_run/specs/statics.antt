@@ -1,5 +1,2 @@
-pub mod Callees
-pub mod Calls
-pub mod MainHere
 pub mod Nodes
 pub mod Weights

@@ -1,6 +1,9 @@
 pub mod FirstRows
 pub mod Fixed
 pub mod Functions
+pub mod Numbered
+pub mod Parameters
+pub mod Results
 pub mod Kept
 pub mod Links
 pub mod Objects

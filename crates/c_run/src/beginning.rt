@@ -1,18 +1,18 @@
 //! How a run starts (C11 5.1.2).
 ghost use Rattle.std.specs.Prelude.{◌≡◌, ◌+◌, ◌*◌, [], Some, IfOk};
 ghost use Rattle.expressions.specs.Numbers.{Numbering};
-ghost use Rattle.c_machine.specs.Program.{Program};
+ghost use Rattle.c_machine.specs.Program.{Program, functions_in};
 ghost use Rattle.c_machine.specs.Run.{blank};
-ghost use Rattle.c_machine.specs.Trees.{main_as, nodes_in, text_of};
+ghost use Rattle.c_machine.specs.Trees.{function_as, nodes_in, text_of};
 ghost use Rattle.c_run.specs.text.Stands.{StandsFor};
 ghost use Rattle.c_run.specs.Started.{Calls, IsStart, IsStartOf};
 
 use crate::finishing::{finish, goes_on};
 use crate::starting::{main_tasks, static_tasks};
-use crate::statics::{MainFunction, StaticSets, main_item, static_sets};
+use crate::statics::{StaticSets, static_sets};
 use crate::stepped::Stepped;
 use crate::tasks::{Room, TreeState};
-use crate::text::TypedText;
+use crate::text::{FunctionItem, Functions, TypedText};
 use c_steps::{Choices, Outcome, State};
 use cbase::{Item, NoMemory};
 use std::alloc::Global;
@@ -28,19 +28,20 @@ pub struct Started<'a> {
 
 /// The start of a run (C11 5.1.2p1): the objects that live as long as it are made and initialised, and main is called, where there is one.
 ///
-/// `strict` says whether main may not return while an allocated block lives.
+/// `functions` are those of the items that have a body. `strict` says whether main may not return while an allocated block lives.
 pub fn start<'a>(
     alloc: Global,
     text: &TypedText,
+    functions: &Functions<'a>,
     strict: bool,
     items: &'a [Item],
     choices: &mut Choices,
 ) -> Result<Started<'a>, NoMemory>
-    ensures { IfOk result (λ started. (n : Numbering) (p : Program) → StandsFor n text.now p → p.strict ≡ strict → p.items ≡ items.now
+    ensures { IfOk result (λ started. (n : Numbering) (p : Program) → StandsFor n text.now p → p.strict ≡ strict → functions.now ≡ functions_in p.items → p.items ≡ items.now
         → IsStart (text_of p) started.stepped choices.old started.state choices.new) }
 {
     let mut state = State::blank(alloc);
-    match start_from(alloc, text, strict, items, &mut state, choices) {
+    match start_from(alloc, text, functions, strict, items, &mut state, choices) {
         Ok(stepped) => Ok(Started { stepped, state }),
         Err(error) => Err(error),
     }
@@ -50,19 +51,20 @@ pub fn start<'a>(
 pub(crate) fn start_from<'a>(
     alloc: Global,
     text: &TypedText,
+    functions: &Functions<'a>,
     strict: bool,
     items: &'a [Item],
     state: &mut TreeState<'a>,
     choices: &mut Choices,
 ) -> Result<Stepped, NoMemory>
-    ensures { IfOk result (λ stepped. (n : Numbering) (p : Program) → StandsFor n text.now p → p.strict ≡ strict → p.items ≡ items.now → state.old ≡ blank (text_of p) []
+    ensures { IfOk result (λ stepped. (n : Numbering) (p : Program) → StandsFor n text.now p → p.strict ≡ strict → functions.now ≡ functions_in p.items → p.items ≡ items.now → state.old ≡ blank (text_of p) []
         → IsStart (text_of p) stepped choices.old state.new choices.new) }
 {
-    match main_item(items) {
+    match functions.main() {
         None => Ok(Stepped::Came(Outcome::Stuck)),
         Some(main) => {
             let found = static_sets(alloc, text, items)?;
-            start_main(alloc, text, strict, &found, &main, state, choices)
+            start_main(alloc, text, functions, strict, &found, main, state, choices)
         }
     }
 }
@@ -71,21 +73,22 @@ pub(crate) fn start_from<'a>(
 fn start_main<'a>(
     alloc: Global,
     text: &TypedText,
+    functions: &Functions<'a>,
     strict: bool,
     found: &StaticSets<'a>,
-    main: &MainFunction<'a>,
+    main: &FunctionItem<'a>,
     state: &mut TreeState<'a>,
     choices: &mut Choices,
 ) -> Result<Stepped, NoMemory>
-    ensures { IfOk result (λ stepped. (n : Numbering) (p : Program) → StandsFor n text.now p → p.strict ≡ strict
+    ensures { IfOk result (λ stepped. (n : Numbering) (p : Program) → StandsFor n text.now p → p.strict ≡ strict → functions.now ≡ functions_in p.items
         → found.now.sets ≡ (text_of p).sets → found.now.nodes ≡ nodes_in p.items → state.old ≡ blank (text_of p) []
-        → IsStartOf (text_of p) (Some (main_as p main.now)) stepped choices.old state.new choices.new) }
+        → IsStartOf (text_of p) (Some (function_as p main.now)) stepped choices.old state.new choices.new) }
 {
     match static_tasks(alloc, text, state, found.sets.as_slice())? {
         None => Ok(Stepped::NotKept),
         Some(count) => {
             let steps = enough(count, found.nodes)?;
-            let stepped = finish(alloc, text, strict, state, choices, steps)?;
+            let stepped = finish(alloc, text, functions, strict, state, choices, steps)?;
             if !goes_on(stepped) {
                 return Ok(stepped);
             }
@@ -112,10 +115,10 @@ fn call_main<'a>(
     alloc: Global,
     text: &TypedText,
     state: &mut TreeState<'a>,
-    main: &MainFunction<'a>,
+    main: &FunctionItem<'a>,
 ) -> Result<Stepped, NoMemory>
     ensures { IfOk result (λ stepped. (n : Numbering) (p : Program) → StandsFor n text.now p
-        → Calls (text_of p) (main_as p main.now) stepped state.old state.new) }
+        → Calls (text_of p) (function_as p main.now) stepped state.old state.new) }
 {
     match main_tasks(alloc, text, state, main)? {
         Room::Made => Ok(Stepped::Came(Outcome::Went)),

@@ -1,6 +1,6 @@
 //! Several things to do of one kind, put in front of all else that is to be done, in order.
 ghost use Rattle.std.specs.Prelude.{◌≡◌, map, OnOk};
-ghost use Rattle.c_machine.specs.declared.task.Task.TheVariants.{Execute, Initialise, MakeObject, MakeStatic};
+ghost use Rattle.c_machine.specs.declared.task.Task.TheVariants.{Execute, Initialise, MakeObject, MakeParameter, MakeStatic};
 ghost use Rattle.c_machine.specs.State.{doing};
 
 use crate::statics::StaticSet;
@@ -17,6 +17,18 @@ pub fn make_objects(state: &mut TreeState, objects: &[Object]) -> Result<(), NoM
     while left > 0 {
         left -= 1;
         state.do_first(Task::MakeObject(objects[left]))?;
+    }
+    Ok(())
+}
+
+/// Parameters are made, and get their arguments (C11 6.9.1p9, p10).
+pub fn make_parameters(state: &mut TreeState, objects: &[Object]) -> Result<(), NoMemory>
+    ensures { OnOk result (state.new ≡ doing (map MakeParameter objects.now) state.old) }
+{
+    let mut left = objects.len();
+    while left > 0 {
+        left -= 1;
+        state.do_first(Task::MakeParameter(objects[left]))?;
     }
     Ok(())
 }

@@ -1,7 +1,7 @@
 //! Steps until nothing is left to do.
 ghost use Rattle.std.specs.Prelude.{◌≡◌, ◌↔◌, [], true, IfOk, IsTrue};
 ghost use Rattle.expressions.specs.Numbers.{Numbering};
-ghost use Rattle.c_machine.specs.Program.{Program};
+ghost use Rattle.c_machine.specs.Program.{Program, functions_in};
 ghost use Rattle.c_machine.specs.Trees.{text_of};
 ghost use Rattle.c_run.specs.text.Stands.{StandsFor};
 ghost use Rattle.c_run.specs.Started.{IsDone};
@@ -10,7 +10,7 @@ ghost use Rattle.c_run.specs.Stepped.{goes_on};
 use crate::stepped::Stepped;
 use crate::stepping::step;
 use crate::tasks::TreeState;
-use crate::text::TypedText;
+use crate::text::{Functions, TypedText};
 use c_steps::{Choices, Outcome};
 use cbase::NoMemory;
 use std::alloc::Global;
@@ -36,12 +36,13 @@ fn is_done(state: &TreeState) -> bool
 pub fn finish<'a>(
     alloc: Global,
     text: &TypedText,
+    functions: &Functions<'a>,
     strict: bool,
     state: &mut TreeState<'a>,
     choices: &mut Choices,
     steps: u64,
 ) -> Result<Stepped, NoMemory>
-    ensures done { IfOk result (λ stepped. (n : Numbering) (p : Program) → StandsFor n text.now p → p.strict ≡ strict
+    ensures done { IfOk result (λ stepped. (n : Numbering) (p : Program) → StandsFor n text.now p → p.strict ≡ strict → functions.now ≡ functions_in p.items
         → IsDone (text_of p) steps stepped state.old choices.old state.new choices.new) }
     ensures nothing { IfOk result (λ stepped. goes_on stepped ≡ true → state.new.tasks ≡ []) }
 {
@@ -50,7 +51,7 @@ pub fn finish<'a>(
         if left == 0 {
             return Ok(Stepped::Came(Outcome::Stuck));
         }
-        let stepped = step(alloc, text, strict, state, choices)?;
+        let stepped = step(alloc, text, functions, strict, state, choices)?;
         if !goes_on(stepped) {
             return Ok(stepped);
         }

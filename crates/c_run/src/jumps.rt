@@ -15,47 +15,43 @@ use c_machine::Kind;
 use c_steps::Outcome;
 use c_steps::leaving::{break_at, continue_at, give_back};
 use cbase::{NoMemory, Place};
-use std::alloc::Global;
 
 /// `break`: the innermost loop is left, and its block where it is a `for` (C11 6.8.6.3).
-fn broken_off(alloc: Global, state: &mut TreeState, word: Place) -> Result<Outcome, NoMemory>
+fn broken_off(state: &mut TreeState, word: Place) -> Result<Outcome, NoMemory>
     ensures { IfOk result (λ outcome. (p : Program) (choices : Items Choice) →
-        comes_to outcome state.new choices ≡ leave_loop (loop_left state.old.tasks) (after_break (text_of p) word) word state.old choices) }
+        comes_to outcome state.new choices ≡ leave_loop (loop_left state.old.tasks) (after_break (text_of p) word) state.old choices) }
 {
     let Some(left) = state.leave_to_loop() else {
         return Ok(Outcome::Stuck);
     };
     let has_block = is_for(left.stmt.get());
-    break_at(alloc, state, &left, has_block, word)
+    break_at(state, &left, has_block, word)
 }
 
 /// `break`.
 pub(crate) fn break_step(
-    alloc: Global,
     state: &mut TreeState,
     word: Place,
 ) -> Result<Stepped, NoMemory>
     ensures { IfOk result (λ stepped. (p : Program) (choices : Items Choice) →
         IsStepOf (text_of p) (BreakAt word) stepped state.old choices state.new choices) }
 {
-    came(broken_off(alloc, state, word))
+    came(broken_off(state, word))
 }
 
 /// `continue`.
 pub(crate) fn continue_step(
-    alloc: Global,
     state: &mut TreeState,
     word: Place,
 ) -> Result<Stepped, NoMemory>
     ensures { IfOk result (λ stepped. (p : Program) (choices : Items Choice) →
         IsStepOf (text_of p) (ContinueAt word) stepped state.old choices state.new choices) }
 {
-    came(continue_at(alloc, state, word))
+    came(continue_at(state, word))
 }
 
 /// `return` behind its value.
 pub(crate) fn return_step(
-    alloc: Global,
     state: &mut TreeState,
     word: Place,
     kind: Kind,
@@ -63,5 +59,5 @@ pub(crate) fn return_step(
     ensures { IfOk result (λ stepped. (p : Program) (choices : Items Choice) →
         IsStepOf (text_of p) (GiveBack word kind) stepped state.old choices state.new choices) }
 {
-    came(give_back(alloc, state, word, kind))
+    came(give_back(state, word, kind))
 }

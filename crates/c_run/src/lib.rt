@@ -7,6 +7,8 @@
 #![tactic(auto)]
 
 mod beginning;
+mod bodies;
+mod calling;
 mod conditions;
 mod doing;
 mod finishing;
@@ -25,7 +27,6 @@ pub use beginning::{Started, start};
 pub use program_run::run_program;
 pub use running::run;
 pub use starting::{main_tasks, static_tasks};
-pub use statics::first_callee;
 pub use stepped::Stepped;
 pub use stepping::step;
-pub use text::TypedText;
+pub use text::{FunctionItem, Functions, TypedText};

@@ -1,7 +1,7 @@
 //! Runs of programs from their start, with given choices (C11 5.1.2).
 ghost use Rattle.std.specs.Prelude.{◌≡◌, [], IfOk, List as Items, Ok};
 ghost use Rattle.choices.specs.declared.choice.Choice.{Choice};
-ghost use Rattle.c_machine.specs.Program.{Program};
+ghost use Rattle.c_machine.specs.Program.{Program, functions_in};
 ghost use Rattle.c_machine.specs.Run.{blank, run_of};
 ghost use Rattle.c_machine.specs.State.{StateIn};
 ghost use Rattle.c_machine.specs.Trees.{text_of};
@@ -16,7 +16,7 @@ use crate::finishing::goes_on;
 use crate::running::run;
 use crate::stepped::Stepped;
 use crate::tasks::TreeState;
-use crate::text::TypedText;
+use crate::text::{Functions, TypedText};
 use c_steps::{Choices, Outcome, State};
 use cbase::{Item, NoMemory};
 use choices::Choice;
@@ -38,8 +38,11 @@ pub fn run_program(
     ensures { IfOk result (λ outcome. (n : Numbering) (p : Program) → StandsFor n text.now p → p.items ≡ items.now → p.strict ≡ strict
         → (state : StateIn (text_of p)) × (rest : Items Choice) × (run_of (text_of p) choices.now steps ≡ comes_to outcome state rest)) }
 {
+    let functions = Functions::of(alloc, items)?;
     let mut state = State::blank(alloc);
-    let came = run_from(alloc, items, text, strict, &mut state, choices, steps);
+    let came = run_from(
+        alloc, items, text, &functions, strict, &mut state, choices, steps,
+    );
     kept(came)
 }
 
@@ -48,20 +51,29 @@ fn run_from<'a>(
     alloc: Global,
     items: &'a [Item],
     text: &TypedText,
+    functions: &Functions<'a>,
     strict: bool,
     state: &mut TreeState<'a>,
     choices: &[Choice],
     steps: u32,
 ) -> Result<Stepped, NoMemory>
-    ensures { IfOk result (λ stepped. (n : Numbering) (p : Program) → StandsFor n text.now p → p.items ≡ items.now → p.strict ≡ strict → state.old ≡ blank (text_of p) []
+    ensures { IfOk result (λ stepped. (n : Numbering) (p : Program) → StandsFor n text.now p → p.items ≡ items.now → p.strict ≡ strict → functions.now ≡ functions_in p.items → state.old ≡ blank (text_of p) []
         → (outcome : Answer) → stepped ≡ Came outcome → (rest : Items Choice) × (run_of (text_of p) choices.now steps ≡ comes_to outcome state.new rest)) }
 {
     let mut left = Choices::of(choices);
-    let stepped = start_from(alloc, text, strict, items, state, &mut left)?;
+    let stepped = start_from(alloc, text, functions, strict, items, state, &mut left)?;
     if !goes_on(stepped) {
         return Ok(stepped);
     }
-    run(alloc, text, strict, state, &mut left, u64::from(steps))
+    run(
+        alloc,
+        text,
+        functions,
+        strict,
+        state,
+        &mut left,
+        u64::from(steps),
+    )
 }
 
 /// What a step or a run came to. Where it speaks of a type that is not kept, memory is wanting.

@@ -62,7 +62,7 @@ fn each_run_has_its_line(rt: HostRuntime) -> Result<(), Fail> {
 #[test]
 fn an_answer_without_a_run_has_its_line(rt: HostRuntime) -> Result<(), Fail> {
     let alloc = rt.alloc();
-    let usage = b"usage: predator replay [--model M] [--strict] [--steps N] FILE CHOICES\n";
+    let usage = b"usage: predator [--budget N] [--int-limit K] FILE\n";
     let no_main = ReplayAnswer::NotRead { why: Why::NoMain };
     let first = ReplayAnswer::TooLong {
         taken: 4_194_305,
@@ -125,22 +125,6 @@ fn a_fault_has_its_place_and_kind(rt: HostRuntime) -> Result<(), Fail> {
     let copy = faults(rt.alloc(), 8, b"a.h:7:280: overlapping copy [8]\n")?;
     let never = faults(rt.alloc(), 9, b"a.h:7:280: block never freed [9]\n")?;
     assert_eq!(rt; (null, copy, never), (true, true, true));
-    Ok(())
-}
-
-#[test]
-fn a_call_has_the_place_of_its_name(rt: HostRuntime) -> Result<(), Fail> {
-    let alloc = rt.alloc();
-    let place = place_behind(3, 12);
-    let status = replay_status(&ReplayAnswer::NotYet { place });
-    let text = b"t.c: not read: not yet at a.h:3:12\n";
-    let told = tells_with(
-        alloc,
-        two_names(alloc)?,
-        ReplayAnswer::NotYet { place },
-        text,
-    )?;
-    assert_eq!(rt; (told, status), (true, 3));
     Ok(())
 }
 

@@ -13,7 +13,7 @@ use Rattle.report.specs.declared.replay_answer.ReplayAnswer.TheVariants.{ReadFau
 use Rattle.replay.specs.declared.judging.Answered.{Answered}
 use Rattle.replay.specs.Answered.{AreBytesOf, HasTaken}
 use Rattle.replay.specs.Around.{Around, IsAnswerOf, IsOutcomeOf, OpensFor}
-use Rattle.replay.specs.Told.{HoldsRunnable, IsAboutBoth, IsAboutFile, IsTold}
+use Rattle.replay.specs.Told.{HoldsProgramOf, IsAboutBoth, IsAboutFile, IsTold}
 use Rattle.replay.proofs.Files.{both_about, both_answered, both_no_fault, file_about, file_answered, file_no_fault, long_answered}
 use Rattle.replay.proofs.Opened.{both_opened, choices_opened, fault_opened, file_alone, file_opened, opened_behind}
 
@@ -56,15 +56,15 @@ about_file around command bytes answered same last about told = record {
   judged = λ content are. file_answered around.tells content around.choices command bytes answered are about told;
 }
 
--- where runs of FILE's program can be made, CHOICES was opened behind FILE, and memory is wanting
+-- where FILE holds a program, CHOICES was opened behind FILE, and memory is wanting
 pub choices_wanting : (tells : Bool) (first behind : Openings) (command : ReplayCommand) (t : Tokens) (items : List Item) (text : Context) (strict : Bool)
-    → behind ≡ opened first command.choices → HoldsRunnable command t items text strict → OpensFor tells first behind command t.text OutOfMemory
+    → behind ≡ opened first command.choices → HoldsProgramOf command t items text strict → OpensFor tells first behind command t.text OutOfMemory
 choices_wanting tells first behind command t items text strict two held = λ before content one are.
     inr (inr (opened_behind tells content command before behind first t items text strict one two are held))
 
 -- or an answer is given
 module _ (around : Around) (command : ReplayCommand) (t : Tokens) (items : List Item) (text : Context) (strict : Bool)
-    (two : around.openings_behind ≡ opened around.openings command.choices) (held : HoldsRunnable command t items text strict) where
+    (two : around.openings_behind ≡ opened around.openings command.choices) (held : HoldsProgramOf command t items text strict) where
   last : around.openings_behind.last ≡ command.choices
   last = ap (λ (o : Openings). o.last) two
 

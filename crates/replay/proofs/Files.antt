@@ -14,16 +14,16 @@ use Rattle.outside.specs.declared.reading.Reading.{Reading}
 use Rattle.outside.specs.declared.reading.Reading.TheVariants.{Whole, Long}
 use Rattle.report.specs.declared.replay_answer.ReplayShown.{ReplayShown}
 use Rattle.report.specs.declared.replay_answer.ReplayAnswer.{ReplayAnswer}
-use Rattle.report.specs.declared.replay_answer.ReplayAnswer.TheVariants.{Played, BadChoices, NotRead, Construct, NotYet, TooLong, Usage, ReadFault, OutOfMemory}
+use Rattle.report.specs.declared.replay_answer.ReplayAnswer.TheVariants.{Played, BadChoices, NotRead, Construct, TooLong, Usage, ReadFault, OutOfMemory}
 use Rattle.replay.specs.declared.top.Plan.{Plan}
 use Rattle.replay.specs.declared.judging.Answered.{Answered}
 use Rattle.replay.specs.declared.judging.JudgedFile.{JudgedFile}
 use Rattle.replay.specs.declared.judging.JudgedFile.TheVariants.{Holds, Refused}
 use Rattle.replay.specs.Answered.{AreBytesOf, HasTaken, IsAnswered}
-use Rattle.replay.specs.Judged.{HasRunnable, IsVerdict, Judges}
+use Rattle.replay.specs.Judged.{HasProgram, IsVerdict, Judges}
 use Rattle.replay.specs.Shown.{AreNames, choices_in, file_in, unless_nothing}
-use Rattle.replay.proofs.Told.{has_runnable}
-use Rattle.replay.specs.Told.{HoldsRunnable, HoldsTyped, IsAboutBoth, IsAboutFile, IsAboutFiles, IsJudged, IsTold}
+use Rattle.replay.proofs.Told.{has_program}
+use Rattle.replay.specs.Told.{HoldsProgramOf, HoldsTyped, IsAboutBoth, IsAboutFile, IsAboutFiles, IsJudged, IsTold}
 
 -- the answers but these three are verdicts
 pub is_verdict : (answer : ReplayAnswer) → (answer ≡ Usage → ⊥) → (answer ≡ ReadFault → ⊥) → (answer ≡ OutOfMemory → ⊥) → IsVerdict answer
@@ -31,7 +31,6 @@ is_verdict (Played what) usage fault memory = tt
 is_verdict BadChoices usage fault memory = tt
 is_verdict (NotRead why) usage fault memory = tt
 is_verdict (Construct number place) usage fault memory = tt
-is_verdict (NotYet place) usage fault memory = tt
 is_verdict (TooLong taken second) usage fault memory = tt
 is_verdict Usage usage fault memory = usage refl
 is_verdict ReadFault usage fault memory = fault refl
@@ -43,7 +42,6 @@ file_about (Played what) about = absurd about
 file_about BadChoices about = absurd about
 file_about (NotRead why) about = tt
 file_about (Construct number place) about = tt
-file_about (NotYet place) about = tt
 file_about (TooLong taken second) about = absurd about
 file_about Usage about = absurd about
 file_about ReadFault about = absurd about
@@ -54,7 +52,6 @@ both_about (Played what) about = tt
 both_about BadChoices about = tt
 both_about (NotRead why) about = absurd about
 both_about (Construct number place) about = absurd about
-both_about (NotYet place) about = absurd about
 both_about (TooLong taken second) about = absurd about
 both_about Usage about = absurd about
 both_about ReadFault about = absurd about
@@ -99,7 +96,6 @@ module _ (tells : Bool) (content other : Option (List ℕ)) (command : ReplayCom
       of_file BadChoices names about judged named = absurd about
       of_file (NotRead why) names about judged named = (bytes, are, judged, named)
       of_file (Construct number place) names about judged named = (bytes, are, judged, named)
-      of_file (NotYet place) names about judged named = (bytes, are, judged, named)
       of_file (TooLong taken second) names about judged named = absurd about
       of_file Usage names about judged named = absurd about
       of_file ReadFault names about judged named = absurd about
@@ -116,7 +112,6 @@ module _ (tells : Bool) (content other : Option (List ℕ)) (command : ReplayCom
       of_both BadChoices names about judged named = (bytes, second, are, those, judged, named)
       of_both (NotRead why) names about judged named = absurd about
       of_both (Construct number place) names about judged named = absurd about
-      of_both (NotYet place) names about judged named = absurd about
       of_both (TooLong taken also) names about judged named = absurd about
       of_both Usage names about judged named = absurd about
       of_both ReadFault names about judged named = absurd about
@@ -139,11 +134,9 @@ module _ (tells : Bool) (content other : Option (List ℕ)) (command : ReplayCom
       subst (λ (bs : List ℕ). Judges command bs second (NotRead why)) (same_bytes front bytes (sym (are told) ∙ one)) (judged second)
   judged_of bytes second names (Construct number place) told one two verdict (front, are, judged, named) =
       subst (λ (bs : List ℕ). Judges command bs second (Construct number place)) (same_bytes front bytes (sym (are told) ∙ one)) (judged second)
-  judged_of bytes second names (NotYet place) told one two verdict (front, are, judged, named) =
-      subst (λ (bs : List ℕ). Judges command bs second (NotYet place)) (same_bytes front bytes (sym (are told) ∙ one)) (judged second)
   judged_of bytes second names (TooLong taken false) told one two verdict (is, has, none) = (is, taken_of tells content bytes taken told one has)
   judged_of bytes second names (TooLong taken true) told one two verdict (is, has, (front, are, holds, named)) =
-      (is, taken_of tells other second taken told two has, subst (HasRunnable command) (same_bytes front bytes (sym (are told) ∙ one)) holds)
+      (is, taken_of tells other second taken told two has, subst (HasProgram command) (same_bytes front bytes (sym (are told) ∙ one)) holds)
   judged_of bytes second names Usage told one two verdict answered = absurd verdict
   judged_of bytes second names ReadFault told one two verdict answered = absurd verdict
   judged_of bytes second names OutOfMemory told one two verdict answered = absurd verdict
@@ -198,9 +191,9 @@ same_command found words first other is some also =
 
 -- what is answered where CHOICES is too long
 pub long_answered : (tells : Bool) (content other : Option (List ℕ)) (command : ReplayCommand) (t : Tokens) (items : List Item) (text : Context) (strict : Bool)
-    → HoldsRunnable command t items text strict → HasTaken tells other 4194305 → AreBytesOf tells content t.text → IsAnswered tells content other command t.names (TooLong 4194305 true)
+    → HoldsProgramOf command t items text strict → HasTaken tells other 4194305 → AreBytesOf tells content t.text → IsAnswered tells content other command t.names (TooLong 4194305 true)
 long_answered tells content other command t items text strict held taken are =
-    (refl, taken, (t.text, are, has_runnable command t items text strict held, (t, held.is_program.holds.is_read.are_tokens, refl)))
+    (refl, taken, (t.text, are, has_program command t items text strict held, (t, held.holds.is_read.are_tokens, refl)))
 
 -- the names of the two files are shown
 shown_name : (name : List ℕ) (answer : ReplayAnswer) → IsAboutFiles answer → name ≡ unless_nothing name answer
@@ -208,7 +201,6 @@ shown_name name (Played what) about = refl
 shown_name name BadChoices about = refl
 shown_name name (NotRead why) about = refl
 shown_name name (Construct number place) about = refl
-shown_name name (NotYet place) about = refl
 shown_name name (TooLong taken second) about = refl
 shown_name name Usage about = absurd about
 shown_name name ReadFault about = refl

@@ -23,17 +23,16 @@ use Rattle.ccheck.specs.Checked.{IsRefused, at_beginning}
 use Rattle.ccheck.specs.Needed.{spans_of}
 use Rattle.ccheck.specs.Refusals.{place_at}
 use Rattle.ccheck.specs.Walk.{HaveOneAnswer}
-use Rattle.c_run.specs.statics.Calls.{IsFirstCallee}
 use Rattle.c_machine.specs.Program.{Program}
 use Rattle.c_machine.specs.Run.{run_of}
 use Rattle.c_machine.specs.Trees.{text_of}
 use Rattle.report.specs.declared.answer.Why.TheVariants as why
 use Rattle.report.specs.declared.replay_answer.ReplayAnswer.{ReplayAnswer}
-use Rattle.report.specs.declared.replay_answer.ReplayAnswer.TheVariants.{Played, BadChoices, NotRead, Construct, NotYet, TooLong, Usage, ReadFault, OutOfMemory}
+use Rattle.report.specs.declared.replay_answer.ReplayAnswer.TheVariants.{Played, BadChoices, NotRead, Construct, TooLong, Usage, ReadFault, OutOfMemory}
 use Rattle.verdicts.proofs.OneVerdict.{Stage, AtLexical, AtDeep, AtNoMain, AtRead, AtLong, IsStage, one_stage}
 use Rattle.replay.specs.Answered.{IsAnswered}
 use Rattle.replay.proofs.Files.{judged_of, same_bytes}
-use Rattle.replay.specs.Judged.{HasRunnable, IsExact, IsVerdict, Judges}
+use Rattle.replay.specs.Judged.{HasProgram, IsExact, IsVerdict, Judges}
 use Rattle.replay.specs.Opened.{IsOfFileAlone, IsOpenedLast}
 use Rattle.replay.specs.Program.{IsProgram, what_of}
 use Rattle.replay.specs.Told.{answer_of}
@@ -59,16 +58,13 @@ abbrev IsRefusedSo : ReplayCommand → Tokens → List ItemSpan → List ℕ →
 IsRefusedSo command t items numbers answer =
     (reason : Refusal) × IsRefused t items numbers command.model command.strict reason × (answer ≡ answer_of reason)
 
--- where a body calls a function that the program defines, that is answered, and else what is found of CHOICES and of the run
-abbrev CallsSo : Tokens → Program → ReplayAnswer → Type 0
-CallsSo t p answer = (callee : Place) × IsFirstCallee p (Some callee) × (answer ≡ NotYet (place_at t callee.at))
-
+-- what is found of CHOICES and of the run is answered of a program
 abbrev RunsSo : ReplayCommand → List ℕ → Tokens → Program → ReplayAnswer → Type 0
-RunsSo command second t p answer = (heard : Heard) × IsFirstCallee p None × IsHeard second heard × (answer ≡ answer_to t p command.steps heard)
+RunsSo command second t p answer = (heard : Heard) × IsHeard second heard × (answer ≡ answer_to t p command.steps heard)
 
 abbrev PassesSo : ReplayCommand → List ℕ → Tokens → List ItemSpan → List ℕ → ReplayAnswer → Type 0
 PassesSo command second t items numbers answer =
-    (p : Program) × IsProgram t items numbers command.model command.strict p × (CallsSo t p answer ⊎ RunsSo command second t p answer)
+    (p : Program) × IsProgram t items numbers command.model command.strict p × RunsSo command second t p answer
 
 -- what is answered at a stage of FILE
 abbrev Fits : ReplayCommand → List ℕ → Stage → ReplayAnswer → Type 0
@@ -81,13 +77,13 @@ Fits command second AtLong answer = answer ≡ TooLong 4194305 false
 -- each answer that says something of the files is given at some stage
 stage_of : (command : ReplayCommand) (bytes second : List ℕ) (answer : ReplayAnswer) → IsVerdict answer → Judges command bytes second answer
     → (stage : Stage) × IsStage command.file bytes stage × Fits command second stage answer
-stage_of command bytes second (Played what) verdict (short, (t, p, choices, holds, calls, spells, is)) = (
+stage_of command bytes second (Played what) verdict (short, (t, p, choices, holds, spells, is)) = (
   AtRead t holds.items holds.numbers,
   (holds.is_short, holds.is_read),
-  inr (p, holds.is_program, inr (Spelled choices, calls, (short, spells), ap Played (sym is))),
+  inr (p, holds.is_program, (Spelled choices, (short, spells), ap Played (sym is))),
 )
-stage_of command bytes second BadChoices verdict (short, (t, p, holds, calls), none) =
-    (AtRead t holds.items holds.numbers, (holds.is_short, holds.is_read), inr (p, holds.is_program, inr (NotSpelled, calls, (short, none), refl)))
+stage_of command bytes second BadChoices verdict (short, (t, p, holds), none) =
+    (AtRead t holds.items holds.numbers, (holds.is_short, holds.is_read), inr (p, holds.is_program, (NotSpelled, (short, none), refl)))
 stage_of command bytes second (NotRead (why.Lexical place)) verdict judged = (AtLexical place, judged, refl)
 stage_of command bytes second (NotRead (why.Deep place)) verdict judged = (AtDeep place, judged, refl)
 stage_of command bytes second (NotRead why.NoMain) verdict judged = (AtNoMain, judged, refl)
@@ -97,13 +93,11 @@ stage_of command bytes second (NotRead (why.Rule number place)) verdict (short, 
     (AtRead t items numbers, (short, read), inl (refusal.Rule number place, first, refl))
 stage_of command bytes second (Construct number place) verdict (short, (t, items, numbers, read, first)) =
     (AtRead t items numbers, (short, read), inl (refusal.Construct number place, first, refl))
-stage_of command bytes second (NotYet place) verdict (short, (t, p, callee, holds, first, is)) =
-    (AtRead t holds.items holds.numbers, (short, holds.is_read), inr (p, holds.is_program, inl (callee, first, ap NotYet (sym is))))
 stage_of command bytes second (TooLong taken false) verdict (is, inside) = (AtLong, omega (arith, is, inside), ap (λ (n : ℕ). TooLong n false) is)
-stage_of command bytes second (TooLong taken true) verdict (is, inside, (t, p, holds, calls)) = (
+stage_of command bytes second (TooLong taken true) verdict (is, inside, (t, p, holds)) = (
   AtRead t holds.items holds.numbers,
   (holds.is_short, holds.is_read),
-  inr (p, holds.is_program, inr (TooMany, calls, omega (arith, is, inside), ap (λ (n : ℕ). TooLong n true) is)),
+  inr (p, holds.is_program, (TooMany, omega (arith, is, inside), ap (λ (n : ℕ). TooLong n true) is)),
 )
 stage_of command bytes second Usage verdict judged = absurd verdict
 stage_of command bytes second ReadFault verdict judged = absurd verdict
@@ -115,7 +109,6 @@ alone_verdict (Played what) alone = absurd alone
 alone_verdict BadChoices alone = absurd alone
 alone_verdict (NotRead reason) alone = tt
 alone_verdict (Construct number place) alone = tt
-alone_verdict (NotYet place) alone = tt
 alone_verdict (TooLong taken second) alone = tt
 alone_verdict Usage alone = absurd alone
 alone_verdict ReadFault alone = absurd alone
@@ -179,16 +172,8 @@ module _ (one_list : (file text : List ℕ) (tokens others : Tokens) → AreToke
   one_heard TooMany TooMany long also = refl
 
   -- and of a program
-  one_way : (t : Tokens) (p : Program) (answer other : ReplayAnswer) → CallsSo t p answer ⊎ RunsSo command second t p answer
-      → CallsSo t p other ⊎ RunsSo command second t p other → answer ≡ other
-  one_way t p answer other (inl (callee, (calls, least), is)) (inl (callee2, (calls2, least2), is2)) =
-      let before = least callee2 calls2 in
-      let behind = least2 callee calls in
-      let same : callee.at ≡ callee2.at = omega (arith, before, behind) in
-      is ∙ (ap (λ (number : ℕ). NotYet (place_at t number)) same ∙ sym is2)
-  one_way t p answer other (inl (callee, (calls, least), is)) (inr (heard, none, hears, is2)) = absurd (none callee calls)
-  one_way t p answer other (inr (heard, none, hears, is)) (inl (callee, (calls, least), is2)) = absurd (none callee calls)
-  one_way t p answer other (inr (heard, none, hears, is)) (inr (heard2, none2, hears2, is2)) =
+  one_way : (t : Tokens) (p : Program) (answer other : ReplayAnswer) → RunsSo command second t p answer → RunsSo command second t p other → answer ≡ other
+  one_way t p answer other (heard, hears, is) (heard2, hears2, is2) =
       is ∙ (ap (answer_to t p command.steps) (one_heard heard heard2 hears hears2) ∙ sym is2)
 
   one_fit : (stage : Stage) (answer other : ReplayAnswer) → Fits command second stage answer → Fits command second stage other → answer ≡ other
@@ -202,7 +187,7 @@ module _ (one_list : (file text : List ℕ) (tokens others : Tokens) → AreToke
   one_fit (AtRead t items numbers) answer other (inr (p, passes, ways)) (inl (reason, by, is2)) = absurd (pass_or_refused t items numbers reason p passes by)
   one_fit (AtRead t items numbers) answer other (inr (p, passes, ways)) (inr (q, passes2, ways2)) =
       one_way t q answer other
-      (subst (λ (x : Program). CallsSo t x answer ⊎ RunsSo command second t x answer) (one_program t items numbers p q passes passes2) ways) ways2
+      (subst (λ (x : Program). RunsSo command second t x answer) (one_program t items numbers p q passes passes2) ways) ways2
 
   one_verdict : (answer other : ReplayAnswer) → IsVerdict answer → IsVerdict other → Judges command bytes second answer → Judges command bytes second other
       → answer ≡ other
@@ -212,32 +197,28 @@ module _ (one_list : (file text : List ℕ) (tokens others : Tokens) → AreToke
       let same : stage ≡ stage2 = one_stage one_list one_place never_both one_items one_answer command.file bytes stage stage2 is is2 in
       one_fit stage2 answer other (subst (λ (s : Stage). Fits command second s answer) same fits) fits2
 
-  -- where FILE holds a program of which runs can be made, no answer about FILE alone is true
-  way_alone : (t : Tokens) (p : Program) (answer : ReplayAnswer) → IsFirstCallee p None → CallsSo t p answer ⊎ RunsSo command second t p answer
-      → IsOfFileAlone answer → ⊥
-  way_alone t p answer none (inl (callee, (calls, least), is)) alone = none callee calls
-  way_alone t p answer none (inr (heard, also, hears, is)) alone = run_alone t p command.steps heard (subst IsOfFileAlone is alone)
+  -- where FILE holds a program, no answer about FILE alone is true
+  way_alone : (t : Tokens) (p : Program) (answer : ReplayAnswer) → RunsSo command second t p answer → IsOfFileAlone answer → ⊥
+  way_alone t p answer (heard, hears, is) alone = run_alone t p command.steps heard (subst IsOfFileAlone is alone)
 
   fit_alone : (t : Tokens) (items : List ItemSpan) (numbers : List ℕ) (p : Program) (answer : ReplayAnswer)
-      → IsProgram t items numbers command.model command.strict p → IsFirstCallee p None → Fits command second (AtRead t items numbers) answer
-      → IsOfFileAlone answer → ⊥
-  fit_alone t items numbers p answer passes none (inl (reason, by, is)) alone = pass_or_refused t items numbers reason p passes by
-  fit_alone t items numbers p answer passes none (inr (q, passes2, ways)) alone =
-      way_alone t q answer (subst (λ (x : Program). IsFirstCallee x None) (one_program t items numbers p q passes passes2) none) ways alone
+      → IsProgram t items numbers command.model command.strict p → Fits command second (AtRead t items numbers) answer → IsOfFileAlone answer → ⊥
+  fit_alone t items numbers p answer passes (inl (reason, by, is)) alone = pass_or_refused t items numbers reason p passes by
+  fit_alone t items numbers p answer passes (inr (q, passes2, ways)) alone = way_alone t q answer ways alone
 
-  never_alone : (answer : ReplayAnswer) → HasRunnable command bytes → IsOfFileAlone answer → Judges command bytes second answer → ⊥
-  never_alone answer (t, p, holds, none) alone judged =
+  never_alone : (answer : ReplayAnswer) → HasProgram command bytes → IsOfFileAlone answer → Judges command bytes second answer → ⊥
+  never_alone answer (t, p, holds) alone judged =
       let (stage, is, fits) = stage_of command bytes second answer (alone_verdict answer alone) judged in
       let same : stage ≡ AtRead t holds.items holds.numbers =
       one_stage one_list one_place never_both one_items one_answer command.file bytes stage (AtRead t holds.items holds.numbers) is
       (holds.is_short, holds.is_read) in
-      fit_alone t holds.items holds.numbers p answer holds.is_program none (subst (λ (s : Stage). Fits command second s answer) same fits) alone
+      fit_alone t holds.items holds.numbers p answer holds.is_program (subst (λ (s : Stage). Fits command second s answer) same fits) alone
 
   fault_at : (tells : Bool) (content : Option (List ℕ)) (name : List ℕ) (other : ReplayAnswer) → IsTrue tells → content ≡ Some bytes → IsOfFileAlone other
       → Judges command bytes second other → IsOpenedLast tells content command name ReadFault → name ≡ command.file
   fault_at tells content name other told one alone judged (inl is) = is
   fault_at tells content name other told one alone judged (inr (is, (front, are, holds))) =
-      absurd (never_alone other (subst (HasRunnable command) (same_bytes front bytes (sym (are told) ∙ one)) holds) alone judged)
+      absurd (never_alone other (subst (HasProgram command) (same_bytes front bytes (sym (are told) ∙ one)) holds) alone judged)
 
   -- so a fault is one of FILE
   pub fault_of_file : (tells : Bool) (content : Option (List ℕ)) (name : List ℕ) (answer other : ReplayAnswer) → IsTrue tells → content ≡ Some bytes

@@ -10,13 +10,13 @@ use Rattle.outside.specs.declared.reading.Reading.{Reading}
 use Rattle.outside.specs.declared.reading.Reading.TheVariants.{Whole}
 use Rattle.report.specs.declared.replay_answer.ReplayShown.{ReplayShown}
 use Rattle.report.specs.declared.replay_answer.ReplayAnswer.{ReplayAnswer}
-use Rattle.report.specs.declared.replay_answer.ReplayAnswer.TheVariants.{Played, BadChoices, NotRead, Construct, NotYet, TooLong, Usage, ReadFault, OutOfMemory}
+use Rattle.report.specs.declared.replay_answer.ReplayAnswer.TheVariants.{Played, BadChoices, NotRead, Construct, TooLong, Usage, ReadFault, OutOfMemory}
 use Rattle.replay.specs.declared.top.Plan.{Plan}
 use Rattle.replay.specs.declared.judging.Answered.{Answered}
 use Rattle.replay.specs.Answered.{AreBytesOf}
 use Rattle.replay.specs.Opened.{AreBothOpened, AreOpened, IsOpenedLast}
-use Rattle.replay.specs.Told.{HoldsRunnable, IsAboutBoth, IsAboutFile}
-use Rattle.replay.proofs.Told.{has_runnable}
+use Rattle.replay.specs.Told.{HoldsProgramOf, IsAboutBoth, IsAboutFile}
+use Rattle.replay.proofs.Told.{has_program}
 
 module _ (tells : Bool) (content : Option (List ℕ)) (command : ReplayCommand) (name : List ℕ) where
   -- FILE was, and the answer is about it alone
@@ -25,7 +25,6 @@ module _ (tells : Bool) (content : Option (List ℕ)) (command : ReplayCommand) 
   file_opened BadChoices is about = absurd about
   file_opened (NotRead reason) is about = is
   file_opened (Construct number place) is about = is
-  file_opened (NotYet place) is about = is
   file_opened (TooLong taken second) is about = absurd about
   file_opened Usage is about = absurd about
   file_opened ReadFault is about = absurd about
@@ -37,7 +36,6 @@ module _ (tells : Bool) (content : Option (List ℕ)) (command : ReplayCommand) 
   choices_opened BadChoices is about = is
   choices_opened (NotRead reason) is about = absurd about
   choices_opened (Construct number place) is about = absurd about
-  choices_opened (NotYet place) is about = absurd about
   choices_opened (TooLong taken second) is about = absurd about
   choices_opened Usage is about = absurd about
   choices_opened ReadFault is about = absurd about
@@ -45,8 +43,8 @@ module _ (tells : Bool) (content : Option (List ℕ)) (command : ReplayCommand) 
 
   -- CHOICES was, and cannot be read
   pub fault_opened : (t : Tokens) (items : List Item) (text : Context) (strict : Bool) → name ≡ command.choices → AreBytesOf tells content t.text
-      → HoldsRunnable command t items text strict → IsOpenedLast tells content command name ReadFault
-  fault_opened t items text strict is are held = inr (is, (t.text, are, has_runnable command t items text strict held))
+      → HoldsProgramOf command t items text strict → IsOpenedLast tells content command name ReadFault
+  fault_opened t items text strict is are held = inr (is, (t.text, are, has_program command t items text strict held))
 
   -- what is said of an answer is said of it with its report
   pub plan_opened : {E : Type 0} (result : Result Plan E) (shown : ReplayShown) → IsOpenedLast tells content command name shown.answer
@@ -71,7 +69,6 @@ module _ (tells : Bool) (content : Option (List ℕ)) (command : ReplayCommand) 
   file_alone BadChoices is about = absurd about
   file_alone (NotRead reason) is about = is
   file_alone (Construct number place) is about = is
-  file_alone (NotYet place) is about = is
   file_alone (TooLong taken second) is about = absurd about
   file_alone Usage is about = absurd about
   file_alone ReadFault is about = absurd about
@@ -83,18 +80,17 @@ module _ (tells : Bool) (content : Option (List ℕ)) (command : ReplayCommand) 
   both_opened BadChoices are about = are
   both_opened (NotRead reason) are about = absurd about
   both_opened (Construct number place) are about = absurd about
-  both_opened (NotYet place) are about = absurd about
   both_opened (TooLong taken second) are about = absurd about
   both_opened Usage are about = absurd about
   both_opened ReadFault are about = absurd about
   both_opened OutOfMemory are about = absurd about
 
-  -- CHOICES was opened behind FILE, which holds a program of which runs can be made
+  -- CHOICES was opened behind FILE, which holds a program
   pub opened_behind : (first : Openings) (t : Tokens) (items : List Item) (text : Context) (strict : Bool) → first ≡ opened before command.file
-      → after ≡ opened first command.choices → AreBytesOf tells content t.text → HoldsRunnable command t items text strict
+      → after ≡ opened first command.choices → AreBytesOf tells content t.text → HoldsProgramOf command t items text strict
       → AreBothOpened tells content command before after
   opened_behind first t items text strict one two are held =
-      (two ∙ ap (λ (o : Openings). opened o command.choices) one, (t.text, are, has_runnable command t items text strict held))
+      (two ∙ ap (λ (o : Openings). opened o command.choices) one, (t.text, are, has_program command t items text strict held))
 
   -- no more is opened for any answer than where memory is wanting
   at_most_opened : (answer : ReplayAnswer) → AreOpened tells content command before after answer → AreOpened tells content command before after OutOfMemory
@@ -102,7 +98,6 @@ module _ (tells : Bool) (content : Option (List ℕ)) (command : ReplayCommand) 
   at_most_opened BadChoices are = inr (inr are)
   at_most_opened (NotRead reason) are = inr (inl are)
   at_most_opened (Construct number place) are = inr (inl are)
-  at_most_opened (NotYet place) are = inr (inl are)
   at_most_opened (TooLong taken false) are = inr (inl are)
   at_most_opened (TooLong taken true) are = inr (inr are)
   at_most_opened Usage are = inl are

@@ -33,7 +33,6 @@ use Rattle.ccheck.specs.declared.checking.Checked.TheVariants.{Typed as TypedAns
 use Rattle.ccheck.specs.declared.program.TypedProgram.{TypedProgram}
 use Rattle.ccheck.specs.declared.refusal.Refusal.{Refusal}
 use Rattle.ccheck.specs.declared.refusal.Refusal.TheVariants as refusal
-use Rattle.c_run.specs.statics.Calls.{IsFirstCallee}
 use Rattle.c_machine.specs.Program.{Program}
 use Rattle.c_machine.specs.Run.{run_of}
 use Rattle.c_machine.specs.Trees.{text_of}
@@ -42,14 +41,14 @@ use Rattle.report.specs.ReplayReport.{HasPrintableRun}
 use Rattle.report.specs.declared.answer.Why.{Why}
 use Rattle.report.specs.declared.answer.Why.TheVariants as why
 use Rattle.report.specs.declared.replay_answer.Replayed.{Replayed}
-use Rattle.report.specs.declared.replay_answer.ReplayAnswer.TheVariants.{Played, BadChoices, NotRead, NotYet}
+use Rattle.report.specs.declared.replay_answer.ReplayAnswer.TheVariants.{Played, BadChoices, NotRead}
 use Rattle.replay.specs.declared.judging.JudgedFile.{JudgedFile}
 use Rattle.replay.specs.declared.judging.JudgedFile.TheVariants.{Refused}
 use Rattle.replay.specs.declared.judging.Needed.{Needed}
 use Rattle.replay.specs.declared.judging.Needed.TheVariants.{None as NoItems}
-use Rattle.replay.specs.Judged.{HasRunnable, HoldsProgram}
+use Rattle.replay.specs.Judged.{HasProgram, HoldsProgram}
 use Rattle.replay.specs.Program.{what_of}
-use Rattle.replay.specs.Told.{AreNeeded, CallsNone, HoldsProgramOf, HoldsRunnable, HoldsTyped, IsJudged, IsTold, answer_of}
+use Rattle.replay.specs.Told.{AreNeeded, HoldsProgramOf, HoldsTyped, IsJudged, IsTold, answer_of}
 
 -- a token of a text has a name for its file, and so has the place of none
 token_named : (t : Tokens) (found : Option Lexeme) (number : ℕ) → HasNamedFiles t → slice_get t.list number ≡ found
@@ -234,54 +233,15 @@ module _ (command : ReplayCommand) (t : Tokens) (items : List Item) (text : Cont
   unfolding program
   strict_program = sym held.strict_is
 
-  -- what is found of its first callee
-  module _ (found : Option Place) (first : (n : Numbering) (p : Program) → StandsFor n text p → p.items ≡ items → IsFirstCallee p found) where
-    -- a body calls a function that the program defines
-    pub callee_told : (callee : Place) → found ≡ Some callee → HasNamedFiles t → (second : List ℕ)
-        → IsTold command t.text second (record { answer = NotYet (place_at t callee.at); names = t.names })
-    callee_told callee is named second = record {
-      judged = (
-        held.holds.is_short,
-        (
-          t,
-          program,
-          callee,
-          program_holds,
-          subst (IsFirstCallee program) is (first held.holds.numbering program program_stands items_of_program),
-          refl,
-        ),
-      );
-      named = (t, held.holds.is_read.are_tokens, refl);
-      printable = place_named t callee.at named;
-    }
-
-    -- none does: runs can be made
-    pub runnable_held : found ≡ None → HoldsRunnable command t items text strict
-    unfolding CallsNone
-    runnable_held is = record { is_program = held; calls_none = λ n p stands whole. subst (IsFirstCallee p) is (first n p stands whole) }
-
-module _ (command : ReplayCommand) (t : Tokens) (items : List Item) (text : Context) (strict : Bool) (held : HoldsRunnable command t items text strict) where
-  runnable : Program
-  runnable = program command t items text strict held.is_program
-
-  runnable_holds : HoldsProgram command t.text t runnable
-  unfolding runnable
-  runnable_holds = program_holds command t items text strict held.is_program
-
-  calls_none : IsFirstCallee runnable None
-  unfolding runnable CallsNone
-  calls_none = held.calls_none held.is_program.holds.numbering runnable (program_stands command t items text strict held.is_program)
-      (items_of_program command t items text strict held.is_program)
-
-  pub has_runnable : HasRunnable command t.text
-  has_runnable = (t, runnable, runnable_holds, calls_none)
+  pub has_program : HasProgram command t.text
+  has_program = (t, program, program_holds)
 
   -- CHOICES spells no choices
   pub bad_told : (second : List ℕ) → length second ≤ most_bytes → ((choices : List Choice) → SpellsChoices second choices → ⊥)
       → IsTold command t.text second (record { answer = BadChoices; names = t.names })
   bad_told second short none = record {
-    judged = (short, has_runnable, none);
-    named = (t, held.is_program.holds.is_read.are_tokens, refl);
+    judged = (short, has_program, none);
+    named = (t, held.holds.is_read.are_tokens, refl);
     printable = tt;
   }
 
@@ -289,21 +249,19 @@ module _ (command : ReplayCommand) (t : Tokens) (items : List Item) (text : Cont
   pub played_told : (second : List ℕ) (choices : List Choice) (what : Replayed) → length second ≤ most_bytes → SpellsChoices second choices
       → ((n : Numbering) (p : Program) → StandsFor n text p → p.items ≡ items → p.strict ≡ strict → what_of t (run_of (text_of p) choices command.steps) ≡ what)
       → HasPrintableRun t.names what → IsTold command t.text second (record { answer = Played what; names = t.names })
-  unfolding runnable
+  unfolding program
   played_told second choices what short spells plays printable = record {
     judged = (
       short,
       (
         t,
-        runnable,
+        program,
         choices,
-        runnable_holds,
-        calls_none,
+        program_holds,
         spells,
-        plays held.is_program.holds.numbering runnable (program_stands command t items text strict held.is_program)
-            (items_of_program command t items text strict held.is_program) (strict_program command t items text strict held.is_program),
+        plays held.holds.numbering program program_stands items_of_program strict_program,
       ),
     );
-    named = (t, held.is_program.holds.is_read.are_tokens, refl);
+    named = (t, held.holds.is_read.are_tokens, refl);
     printable = printable;
   }

@@ -3,8 +3,8 @@ use Rattle.std.specs.Prelude.{◌≡◌, ℕ, ◌+◌, Bool, true, false, IsTrue
 use Rattle.command_line.specs.declared.replay.ReplayCommand.{ReplayCommand}
 use Rattle.ctokens.specs.InText.{most_bytes}
 use Rattle.report.specs.declared.replay_answer.ReplayAnswer.{ReplayAnswer}
-use Rattle.report.specs.declared.replay_answer.ReplayAnswer.TheVariants.{Played, BadChoices, NotRead, Construct, NotYet, TooLong, Usage, ReadFault, OutOfMemory}
-use Rattle.replay.specs.Judged.{HasRunnable, Judges}
+use Rattle.report.specs.declared.replay_answer.ReplayAnswer.TheVariants.{Played, BadChoices, NotRead, Construct, TooLong, Usage, ReadFault, OutOfMemory}
+use Rattle.replay.specs.Judged.{HasProgram, Judges}
 use Rattle.replay.specs.Shown.{AreNames}
 
 -- the bytes are those of a file with this content, where `tells` says that its content is told
@@ -31,11 +31,10 @@ IsAnswered tells content other command names (Played what) = IsOfBoth tells cont
 IsAnswered tells content other command names BadChoices = IsOfBoth tells content other command names BadChoices
 IsAnswered tells content other command names (NotRead why) = IsOfFile tells content command names (NotRead why)
 IsAnswered tells content other command names (Construct number place) = IsOfFile tells content command names (Construct number place)
-IsAnswered tells content other command names (NotYet place) = IsOfFile tells content command names (NotYet place)
 IsAnswered tells content other command names (TooLong taken false) = (taken ≡ most_bytes + 1) × HasTaken tells content taken × (names ≡ [])
 IsAnswered tells content other command names (TooLong taken true) =
     (taken ≡ most_bytes + 1) × HasTaken tells other taken
-    × ((bytes : List ℕ) × AreBytesOf tells content bytes × HasRunnable command bytes × AreNames command.file bytes (TooLong taken true) names)
+    × ((bytes : List ℕ) × AreBytesOf tells content bytes × HasProgram command bytes × AreNames command.file bytes (TooLong taken true) names)
 IsAnswered tells content other command names Usage = names ≡ []
 IsAnswered tells content other command names ReadFault = names ≡ []
 IsAnswered tells content other command names OutOfMemory = names ≡ []

@@ -11,7 +11,7 @@ use Rattle.ccheck.specs.Needed.{spans_of}
 use Rattle.ccheck.specs.Refusals.{place_at}
 use Rattle.ccheck.specs.Walk.{ArePassing}
 use Rattle.c_machine.specs.Program.{Program}
-use Rattle.c_machine.specs.State.{Outcome, Went, Waits, Ended, Faulted, NotYet, Stuck}
+use Rattle.c_machine.specs.State.{Outcome, Went, Waits, Ended, Faulted, Stuck}
 use Rattle.report.specs.declared.replay_answer.Replayed.{Replayed}
 use Rattle.report.specs.declared.replay_answer.Replayed.TheVariants as replayed
 
@@ -24,12 +24,10 @@ pub record IsProgram (t : Tokens) (items : List ItemSpan) (numbers : List ℕ) (
   pub abi_is : p.abi ≡ abi
   pub strict_is : p.strict ≡ strict
 
--- what is answered of what a run comes to. Trees keep with each place how many tokens stand before it. A run is made only where no body calls a function that the
--- program defines; one that comes to such a call all the same goes where none is described
+-- what is answered of what a run comes to. Trees keep with each place how many tokens stand before it
 abbrev pub what_of : {E S I : Type 0} → Tokens → Outcome E S I → Replayed
 what_of t (Went state choices) = replayed.Running
 what_of t Waits = replayed.Waits
 what_of t Ended = replayed.Ended
 what_of t (Faulted kind place) = replayed.Fault kind (place_at t place.at)
-what_of t NotYet = replayed.Stuck
 what_of t Stuck = replayed.Stuck

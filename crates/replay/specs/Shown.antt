@@ -5,7 +5,7 @@ use Rattle.ctokens.specs.declared.token.Lexical.{Lexical}
 use Rattle.ctokens.specs.TokenList.{IsLexical}
 use Rattle.report.specs.declared.answer.Why.TheVariants as why
 use Rattle.report.specs.declared.replay_answer.ReplayAnswer.{ReplayAnswer}
-use Rattle.report.specs.declared.replay_answer.ReplayAnswer.TheVariants.{Played, BadChoices, NotRead, Construct, NotYet, TooLong, Usage, ReadFault, OutOfMemory}
+use Rattle.report.specs.declared.replay_answer.ReplayAnswer.TheVariants.{Played, BadChoices, NotRead, Construct, TooLong, Usage, ReadFault, OutOfMemory}
 use Rattle.verdicts.specs.Shown.{AreTextNames}
 
 -- the names of the files of the whole text, or those up to the first place without a token; none where FILE was not read to its end
@@ -15,7 +15,6 @@ AreNames file bytes BadChoices names = AreTextNames file bytes names
 AreNames file bytes (NotRead (why.Lexical place)) names = (lexical : Lexical) × IsLexical file bytes lexical × (names ≡ lexical.names)
 AreNames file bytes (NotRead other) names = AreTextNames file bytes names
 AreNames file bytes (Construct number place) names = AreTextNames file bytes names
-AreNames file bytes (NotYet place) names = AreTextNames file bytes names
 AreNames file bytes (TooLong taken false) names = names ≡ []
 AreNames file bytes (TooLong taken true) names = AreTextNames file bytes names
 AreNames file bytes Usage names = names ≡ []

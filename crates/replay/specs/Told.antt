@@ -17,13 +17,10 @@ use Rattle.ccheck.specs.Checked.{IsTyped}
 use Rattle.ccheck.specs.declared.program.TypedProgram.{TypedProgram}
 use Rattle.ccheck.specs.declared.refusal.Refusal.{Refusal}
 use Rattle.ccheck.specs.declared.refusal.Refusal.TheVariants as refusal
-use Rattle.c_run.specs.statics.Calls.{IsFirstCallee}
-use Rattle.c_machine.specs.Program.{Program}
-use Rattle.c_run.specs.text.Stands.{StandsFor}
 use Rattle.report.specs.ReplayReport.{HasPrintableReplay}
 use Rattle.report.specs.declared.answer.Why.TheVariants as why
 use Rattle.report.specs.declared.replay_answer.ReplayAnswer.{ReplayAnswer}
-use Rattle.report.specs.declared.replay_answer.ReplayAnswer.TheVariants.{Played, BadChoices, NotRead, Construct, NotYet, TooLong, Usage, ReadFault, OutOfMemory}
+use Rattle.report.specs.declared.replay_answer.ReplayAnswer.TheVariants.{Played, BadChoices, NotRead, Construct, TooLong, Usage, ReadFault, OutOfMemory}
 use Rattle.verdicts.specs.Verdict.{IsRead}
 use Rattle.replay.specs.declared.judging.Answered.{Answered}
 use Rattle.replay.specs.declared.judging.JudgedFile.{JudgedFile}
@@ -53,16 +50,6 @@ pub record HoldsProgramOf (command : ReplayCommand) (t : Tokens) (items : List I
   pub text_is : text ≡ typed.context
   pub strict_is : strict ≡ typed.strict
 
--- no body of a program that these stand for calls a function that the program defines. It is a name that nothing unfolds by itself, so that no search goes
--- through all calls of all programs
-unfoldable pub CallsNone : List Item → Context → Type 0
-CallsNone items text = (n : Numbering) (p : Program) → StandsFor n text p → p.items ≡ items → IsFirstCallee p None
-
--- and runs of it can be made
-pub record HoldsRunnable (command : ReplayCommand) (t : Tokens) (items : List Item) (text : Context) (strict : Bool) : Type 0 where
-  pub is_program : HoldsProgramOf command t items text strict
-  pub calls_none : CallsNone items text
-
 -- the answer is true of the bytes of both files, its names are those of FILE's text, and it can be printed
 pub record IsTold (command : ReplayCommand) (bytes second : List ℕ) (answered : Answered) : Type 0 where
   pub judged : Judges command bytes second answered.answer
@@ -75,7 +62,6 @@ IsAboutFile (Played what) = ⊥
 IsAboutFile BadChoices = ⊥
 IsAboutFile (NotRead reason) = Unit {0}
 IsAboutFile (Construct number place) = Unit {0}
-IsAboutFile (NotYet place) = Unit {0}
 IsAboutFile (TooLong taken second) = ⊥
 IsAboutFile Usage = ⊥
 IsAboutFile ReadFault = ⊥
@@ -87,7 +73,6 @@ IsAboutBoth (Played what) = Unit {0}
 IsAboutBoth BadChoices = Unit {0}
 IsAboutBoth (NotRead reason) = ⊥
 IsAboutBoth (Construct number place) = ⊥
-IsAboutBoth (NotYet place) = ⊥
 IsAboutBoth (TooLong taken second) = ⊥
 IsAboutBoth Usage = ⊥
 IsAboutBoth ReadFault = ⊥
@@ -99,7 +84,6 @@ IsAboutFiles (Played what) = Unit {0}
 IsAboutFiles BadChoices = Unit {0}
 IsAboutFiles (NotRead reason) = Unit {0}
 IsAboutFiles (Construct number place) = Unit {0}
-IsAboutFiles (NotYet place) = Unit {0}
 IsAboutFiles (TooLong taken second) = Unit {0}
 IsAboutFiles Usage = ⊥
 IsAboutFiles ReadFault = Unit {0}

@@ -2,18 +2,16 @@ ghost use Rattle.std.specs.Prelude.{◌≡◌, ◌≤◌, true, false, [], lengt
 ghost use Rattle.outside.specs.Faults.{Rose};
 ghost use Rattle.ctokens.specs.InText.{most_bytes};
 ghost use Rattle.ctokens.specs.TokenList.{HasNamedFiles};
-ghost use Rattle.ccheck.specs.Refusals.{place_at};
 ghost use Rattle.report.specs.ReplayReport.{HasPrintableReplay};
 ghost use Rattle.replay.specs.Answered.{IsAnswered};
 ghost use Rattle.replay.specs.Around.{IsOutcomeOf};
 ghost use Rattle.replay.specs.Opened.{AreOpened, IsOpenedLast};
-ghost use Rattle.replay.specs.Told.{HoldsProgramOf, HoldsRunnable, HoldsTyped, IsAboutBoth, IsAboutFiles, IsTold};
+ghost use Rattle.replay.specs.Told.{HoldsProgramOf, HoldsTyped, IsAboutBoth, IsAboutFiles, IsTold};
 
 use crate::judging::{Answered, JudgedFile, judge, with_names};
-use crate::places::place_at;
 use crate::playing::play;
-use c_run::{TypedText, first_callee};
-use cbase::{Item, List, NoMemory, Place, Text};
+use c_run::TypedText;
+use cbase::{Item, List, NoMemory, Text};
 use cbuild::let_go_of_items;
 use ccheck::TypedProgram;
 use choices::{ReadChoices, read_choices};
@@ -27,7 +25,7 @@ use std::alloc::Global;
 /// How many bytes a file has at most, if it is to be read to its end.
 const MOST_BYTES: u32 = 4_194_304;
 
-/// The answer to a command: FILE is read and judged, and where runs of its program can be made CHOICES is.
+/// The answer to a command: FILE is read and judged, and where it holds a program CHOICES is.
 pub(crate) fn answer_of_command<F: Files>(
     alloc: Global,
     command: &ReplayCommand,
@@ -112,7 +110,6 @@ fn answer_of_typed<F: Files>(
 ) -> Result<Answered, NoMemory>
     requires named { HasNamedFiles t }
     requires holds { HoldsTyped command.now t typed }
-    requires opened { F.begun files.old ≡ command.now.file }
     ensures { IsOutcomeOf (record {
       tells = F.tells files.old;
       choices = F.bytes_of files.old command.now.choices;
@@ -156,7 +153,6 @@ fn answer_of_context<F: Files>(
 ) -> Result<Answered, NoMemory>
     requires named { HasNamedFiles t }
     requires holds { HoldsProgramOf command.now t program.now context strict }
-    requires opened { F.begun files.old ≡ command.now.file }
     ensures { IsOutcomeOf (record {
       tells = F.tells files.old;
       choices = F.bytes_of files.old command.now.choices;
@@ -187,44 +183,6 @@ fn answer_of_program<F: Files>(
 ) -> Result<Answered, NoMemory>
     requires named { HasNamedFiles t }
     requires holds { HoldsProgramOf command.now t program.now text.now strict }
-    requires opened { F.begun files.old ≡ command.now.file }
-    ensures { IsOutcomeOf (record {
-      tells = F.tells files.old;
-      choices = F.bytes_of files.old command.now.choices;
-      faults = F.faults files.old;
-      faults_behind = F.faults files.new;
-      failed = F.failed files.new;
-      openings = record { count = F.openings files.old; last = F.begun files.old };
-      openings_behind = record { count = F.openings files.new; last = F.begun files.new };
-    }) command.now t.text result }
-{
-    match first_callee(alloc, program, text)? {
-        Some(callee) => Ok(not_yet(t, callee)),
-        None => answer_of_runnable(alloc, command, t, program, text, strict, files),
-    }
-}
-
-/// The answer where this is the first name by which a body calls a function that the program defines.
-fn not_yet(t: Tokens, callee: Place) -> Answered
-    requires { HasNamedFiles t }
-    ensures { result ≡ record { answer = ReplayAnswer.NotYet (place_at t callee.at); names = t.names } }
-{
-    let place = place_at(&t, callee.at);
-    with_names(ReplayAnswer::NotYet { place }, t)
-}
-
-/// The answer where FILE holds this program, and no body in it calls a function that it defines.
-fn answer_of_runnable<F: Files>(
-    alloc: Global,
-    command: &ReplayCommand,
-    t: Tokens,
-    program: &[Item],
-    text: &TypedText,
-    strict: bool,
-    files: &mut F,
-) -> Result<Answered, NoMemory>
-    requires named { HasNamedFiles t }
-    requires holds { HoldsRunnable command.now t program.now text.now strict }
     ensures { IsOutcomeOf (record {
       tells = F.tells files.old;
       choices = F.bytes_of files.old command.now.choices;
@@ -262,7 +220,7 @@ fn answer_of_both(
     second: &[u8],
 ) -> Result<Answered, NoMemory>
     requires named { HasNamedFiles t }
-    requires holds { HoldsRunnable command.now t program.now text.now strict }
+    requires holds { HoldsProgramOf command.now t program.now text.now strict }
     requires short { length second.now ≤ most_bytes }
     ensures about { IfOk result (λ a. IsAboutBoth a.answer) }
     ensures told { IfOk result (IsTold command.now t.text second.now) }

@@ -57,6 +57,6 @@ fn replayed(t: &Tokens, outcome: Outcome) -> Replayed
             kind,
             place: place_at(t, place.at),
         },
-        Outcome::NotYet | Outcome::Stuck => Replayed::Stuck,
+        Outcome::Stuck => Replayed::Stuck,
     }
 }

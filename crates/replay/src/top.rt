@@ -48,8 +48,7 @@ struct Plan {
 
 /// Reads the program and the choices of the two files that the words give, says what a run of the program does with them, and writes the report.
 ///
-/// The words are those behind the word `replay`. CHOICES is read only where FILE holds a program in which no body calls a function
-/// that it defines. Where memory is wanting the answer is `OutOfMemory`, and nothing is written.
+/// The words are those behind the word `replay`. CHOICES is read only where FILE holds a program. Where memory is wanting the answer is `OutOfMemory`, and nothing is written.
 #[tactic(auto, using(crate::proofs::Files::is_verdict))]
 pub fn replay<F: Files, K: Sink>(
     alloc: Global,
@@ -72,7 +71,7 @@ pub fn replay<F: Files, K: Sink>(
     ensures no_names { replay_command_of (map string_bytes words.now) ≡ None → result.shown.names ≡ [] }
 
     // ReadFault comes only where the last call, on one of the two files, failed. The last file that is opened is FILE where the answer is about
-    // FILE alone, so also where it is refused; and a fault at CHOICES comes only where FILE holds a program of which runs can be made.
+    // FILE alone, so also where it is refused; and a fault at CHOICES comes only where FILE holds a program.
     ensures rose { result.shown.answer ≡ ReplayAnswer.ReadFault → Rose (F.faults files.old) (F.faults files.new) }
     ensures failed { result.shown.answer ≡ ReplayAnswer.ReadFault → F.failed files.new ≡ true }
     ensures begun { (command : ReplayCommand) → replay_command_of (map string_bytes words.now) ≡ Some command
@@ -83,7 +82,7 @@ pub fn replay<F: Files, K: Sink>(
         → result.shown.answer ≡ ReplayAnswer.ReadFault → F.begun files.new ≡ command.file }
 
     // Before each answer FILE is opened once, or FILE and then CHOICES, each once, and no other file is. Where memory is wanting no more than these
-    // are, and CHOICES only where FILE holds such a program.
+    // are, and CHOICES only where FILE holds a program.
     ensures opened { (command : ReplayCommand) → replay_command_of (map string_bytes words.now) ≡ Some command
         → AreOpened (F.tells files.old) (F.bytes_of files.old command.file) command
         (record { count = F.openings files.old; last = F.begun files.old }) (record { count = F.openings files.new; last = F.begun files.new }) result.shown.answer }

@@ -5,9 +5,9 @@ use Rattle.cbase.specs.Refused.{IsConstruct}
 use Rattle.report.specs.declared.replay_answer.Replayed.{Replayed}
 use Rattle.report.specs.declared.replay_answer.Replayed.TheVariants.{Fault, Ended, Waits, Running, Stuck}
 use Rattle.report.specs.declared.replay_answer.ReplayAnswer.{ReplayAnswer}
-use Rattle.report.specs.declared.replay_answer.ReplayAnswer.TheVariants.{Played, BadChoices, NotRead, Construct, NotYet, TooLong, Usage, ReadFault, OutOfMemory}
+use Rattle.report.specs.declared.replay_answer.ReplayAnswer.TheVariants.{Played, BadChoices, NotRead, Construct, TooLong, Usage, ReadFault, OutOfMemory}
 use Rattle.report.specs.declared.replay_answer.ReplayShown.{ReplayShown}
-use Rattle.report.specs.Report.{HasPlace, construct_line, kind_phrase, lines_text, place_text, why_line}
+use Rattle.report.specs.Report.{HasPlace, construct_line, kind_phrase, lines_text, place_text, usage_line, why_line}
 
 -- `file:line:column: TEXT [k]`
 abbrev pub fault_line : List (List ℕ) → ℕ → Place → List ℕ
@@ -21,10 +21,6 @@ replayed_line file names Waits = file ++ codes ": waits"
 replayed_line file names Running = file ++ codes ": still running"
 replayed_line file names Stuck = file ++ codes ": gave up: no step"
 
--- `FILE: not read: not yet at file:line:column`
-abbrev pub not_yet_line : List ℕ → List (List ℕ) → Place → List ℕ
-not_yet_line file names place = file ++ (codes ": not read: not yet at " ++ place_text names place)
-
 -- `FILE: not read: over 4194304 bytes`, of the file that is too long
 abbrev pub too_long_line : List ℕ → List ℕ → Bool → List ℕ
 too_long_line file choices second = (if second then choices else file) ++ codes ": not read: over 4194304 bytes"
@@ -35,9 +31,8 @@ replay_lines file choices names (Played what) = replayed_line file names what �
 replay_lines file choices names BadChoices = (choices ++ codes ": no choices") ∷ []
 replay_lines file choices names (NotRead why) = why_line file names why ∷ []
 replay_lines file choices names (Construct number place) = construct_line file names number place ∷ []
-replay_lines file choices names (NotYet place) = not_yet_line file names place ∷ []
 replay_lines file choices names (TooLong taken second) = too_long_line file choices second ∷ []
-replay_lines file choices names Usage = codes "usage: predator replay [--model M] [--strict] [--steps N] FILE CHOICES" ∷ []
+replay_lines file choices names Usage = usage_line ∷ []
 replay_lines file choices names ReadFault = []
 replay_lines file choices names OutOfMemory = []
 
@@ -59,7 +54,6 @@ HasPrintableReplay names (Played what) = HasPrintableRun names what
 HasPrintableReplay names BadChoices = Unit {0}
 HasPrintableReplay names (NotRead why) = HasPlace names why
 HasPrintableReplay names (Construct number place) = IsConstruct number × (place.file < length names)
-HasPrintableReplay names (NotYet place) = place.file < length names
 HasPrintableReplay names (TooLong taken second) = Unit {0}
 HasPrintableReplay names Usage = Unit {0}
 HasPrintableReplay names ReadFault = Unit {0}
@@ -79,7 +73,6 @@ replay_status_of (Played what) = status_of_run what
 replay_status_of BadChoices = 3
 replay_status_of (NotRead why) = 3
 replay_status_of (Construct number place) = 2
-replay_status_of (NotYet place) = 3
 replay_status_of (TooLong taken second) = 3
 replay_status_of Usage = 4
 replay_status_of ReadFault = 5

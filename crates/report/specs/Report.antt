@@ -47,6 +47,10 @@ why_line file names (Rule number place) = rule_line file names number place
 abbrev pub construct_line : List ℕ → List (List ℕ) → ℕ → Place → List ℕ
 construct_line file names number place = file ++ (codes ": gave up: " ++ (construct_name number ++ (codes " at " ++ place_text names place)))
 
+-- what is answered to words of another form, whatever command they begin with
+abbrev pub usage_line : List ℕ
+usage_line = codes "usage: predator [--budget N] [--int-limit K] FILE"
+
 -- the lines of an answer about a file
 abbrev pub answer_lines : List ℕ → List (List ℕ) → Answer → List (List ℕ)
 answer_lines file names Safe = (file ++ codes ": safe") ∷ []
@@ -55,7 +59,7 @@ answer_lines file names (NotRead why) = why_line file names why ∷ []
 answer_lines file names (Construct number place) = construct_line file names number place ∷ []
 answer_lines file names NotYet = (file ++ codes ": not read: not yet") ∷ []
 answer_lines file names (TooLong taken) = (file ++ codes ": not read: over 4194304 bytes") ∷ []
-answer_lines file names Usage = codes "usage: predator [--budget N] [--int-limit K] FILE" ∷ []
+answer_lines file names Usage = usage_line ∷ []
 answer_lines file names ReadFault = []
 answer_lines file names OutOfMemory = []
 

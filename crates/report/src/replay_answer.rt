@@ -43,11 +43,6 @@ pub enum ReplayAnswer {
         /// That of the token that shows the construct.
         place: Place,
     },
-    /// The body of a function calls one that the program defines (C11 6.5.2.2), which is not described yet.
-    NotYet {
-        /// That of the first name in the text that is called so.
-        place: Place,
-    },
     /// One of the two files has more bytes than are read.
     TooLong {
         /// How many bytes of it were taken.

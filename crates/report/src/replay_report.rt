@@ -4,7 +4,7 @@ ghost use Rattle.report.specs.ReplayReport.{HasPrintableReplay, HasPrintableRun,
 
 use crate::lines::{push_kind, push_place};
 use crate::replay_answer::{ReplayAnswer, ReplayShown, Replayed};
-use crate::text::{construct_text, line_at, why_text};
+use crate::text::{construct_text, usage_text, why_text};
 use cbase::{NoMemory, Place, Text};
 use std::alloc::Global;
 
@@ -33,19 +33,10 @@ pub fn replay_text(alloc: Global, shown: &ReplayShown) -> Result<Text, NoMemory>
             *number,
             *place,
         ),
-        ReplayAnswer::NotYet { place } => {
-            let between = b": not read: not yet at ";
-            line_at(alloc, &shown.file, between, shown.names.as_slice(), *place)
-        }
         ReplayAnswer::TooLong { second, .. } => {
             too_long_text(alloc, &shown.file, &shown.choices, *second)
         }
-        ReplayAnswer::Usage => {
-            Text::from_slice(
-                alloc,
-                b"usage: predator replay [--model M] [--strict] [--steps N] FILE CHOICES\n",
-            )
-        }
+        ReplayAnswer::Usage => usage_text(alloc),
         ReplayAnswer::ReadFault | ReplayAnswer::OutOfMemory => Ok(Text::new(alloc)),
     }
 }
@@ -108,10 +99,7 @@ pub fn replay_status(answer: &ReplayAnswer) -> u8
     match answer {
         ReplayAnswer::Played { what } => status_of_run(what),
         ReplayAnswer::Construct { .. } => 2,
-        ReplayAnswer::BadChoices
-        | ReplayAnswer::NotRead { .. }
-        | ReplayAnswer::NotYet { .. }
-        | ReplayAnswer::TooLong { .. } => 3,
+        ReplayAnswer::BadChoices | ReplayAnswer::NotRead { .. } | ReplayAnswer::TooLong { .. } => 3,
         ReplayAnswer::Usage => 4,
         ReplayAnswer::ReadFault => 5,
         ReplayAnswer::OutOfMemory => 7,

@@ -1,7 +1,7 @@
 ghost use Rattle.std.specs.Prelude.{◌≡◌, ◌∷◌, [], ◌++◌, ◌<◌, IfOk, OnOk, length, map, codes};
 ghost use Rattle.std.specs.List.{All};
 ghost use Rattle.cbase.specs.Refused.{IsConstruct};
-ghost use Rattle.report.specs.Report.{HasPlace, HasPrintable, IsPrintable, construct_line, lines_text, place_text, report_bytes, rule_line, warning_line, why_line};
+ghost use Rattle.report.specs.Report.{HasPlace, HasPrintable, IsPrintable, construct_line, lines_text, place_text, report_bytes, rule_line, usage_line, warning_line, why_line};
 
 use crate::answer::{Answer, Shown, Why};
 use crate::construct::name_of_construct;
@@ -39,14 +39,19 @@ pub fn report_text(alloc: Global, shown: &Shown) -> Result<Text, NoMemory>
         Answer::TooLong { .. } => {
             file_line(alloc, &shown.file, b": not read: over 4194304 bytes\n")
         }
-        Answer::Usage => {
-            Text::from_slice(
-                alloc,
-                b"usage: predator [--budget N] [--int-limit K] FILE\n",
-            )
-        }
+        Answer::Usage => usage_text(alloc),
         Answer::ReadFault | Answer::OutOfMemory => Ok(Text::new(alloc)),
     }
+}
+
+/// The line that answers words of another form, whatever command they begin with, with its newline.
+pub(crate) fn usage_text(alloc: Global) -> Result<Text, NoMemory>
+    ensures { IfOk result (λ text. text ≡ lines_text (usage_line ∷ [])) }
+{
+    Text::from_slice(
+        alloc,
+        b"usage: predator [--budget N] [--int-limit K] FILE\n",
+    )
 }
 
 /// A line that begins with the file, given the rest with its newline.
@@ -103,7 +108,7 @@ fn rule_text(
 
 /// A line that begins with the file and ends with a place, given what stands between the two.
 #[tactic(auto, using(std::proofs::Common::append_assoc))]
-pub(crate) fn line_at(
+fn line_at(
     alloc: Global,
     file: &Text,
     between: &[u8],

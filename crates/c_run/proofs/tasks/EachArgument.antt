@@ -16,9 +16,9 @@ use Rattle.c_run.specs.tasks.Room.{are_kept, kinds_in, MakesRoom}
 use Rattle.c_run.proofs.tasks.MakingRoom.{Tasks, Running, same_room}
 use Rattle.c_run.proofs.tasks.RoomBehind.{in_front, lacks_behind}
 
--- the parameters of a function by the numbers of their types
-abbrev pub params_by : Numbering → Program → List ℕ → List Kind
-params_by n p numbers = map (kind_in p) (map n.ctype numbers)
+-- the parameters of a function by their types
+abbrev pub params_by : Program → List CType → List Kind
+params_by p types = map (kind_in p) types
 
 module _ (p : Program) where
   abbrev here : Expr → Kind → Tasks
@@ -47,53 +47,53 @@ module _ (p : Program) where
   surplus_argument (arg ∷ args) [] many = refl
   surplus_argument (arg ∷ args) (param ∷ params) many = ap (λ (tasks : Tasks). here arg param ++ tasks) (surplus_argument args params (omega (arith, many)))
 
-  module _ (n : Numbering) where
-    param_there : (numbers : List ℕ) (index : ℕ) → index < length numbers → slice_get (map n.ctype numbers) index ≡ Some (n.ctype (get_or numbers index 0))
-    param_there numbers index within = slice_get-map n.ctype numbers index ∙ ap (option_map n.ctype) (slice_get-get_or numbers index 0 within)
+  param_there : (types : List CType) (index : ℕ) → index < length types → (param : CType) × (slice_get types index ≡ Some param)
+  param_there [] index within = absurd (omega (arith, within))
+  param_there (param ∷ types) zero within = (param, refl)
+  param_there (other ∷ types) (suc index) within = param_there types index (omega (arith, within))
 
-    pub argument_in_front : (args : List Expr) (numbers : List ℕ) (place : ℕ) (arg : Expr) (room : Room) (before between after : Running)
-        → place < length args → length args ≤ length numbers → arg ≡ get_or args place arg
-        → ((param : CType) → slice_get (map n.ctype numbers) place ≡ Some param → MakesRoom (here arg (kind_in p param)) room between after)
-        → MakesRoom (argument_tasks (text_of p) (drop (suc place) args) (drop (suc place) (params_by n p numbers))) Made before between
-        → MakesRoom (argument_tasks (text_of p) (drop place args) (drop place (params_by n p numbers))) room before after
-    argument_in_front args numbers place arg room before between after within few is first rest =
-        let param : CType = n.ctype (get_or numbers place 0) in
-        let there : slice_get (map n.ctype numbers) place ≡ Some param = param_there numbers place (omega (arith, within, few)) in
-        let kind_there : slice_get (params_by n p numbers) place ≡ Some (kind_in p param) =
-        slice_get-map (kind_in p) (map n.ctype numbers) place ∙ ap (option_map (kind_in p)) there in
-        same_room _ _ room before after
-        (next_argument args (params_by n p numbers) place arg (kind_in p param) (slice_get_read args (length args) place arg refl within is) kind_there)
-        (in_front (here arg (kind_in p param)) (argument_tasks (text_of p) (drop (suc place) args) (drop (suc place) (params_by n p numbers))) room before between after rest (first param there))
+  pub argument_in_front : (args : List Expr) (types : List CType) (place : ℕ) (arg : Expr) (room : Room) (before between after : Running)
+      → place < length args → length args ≤ length types → arg ≡ get_or args place arg
+      → ((param : CType) → slice_get types place ≡ Some param → MakesRoom (here arg (kind_in p param)) room between after)
+      → MakesRoom (argument_tasks (text_of p) (drop (suc place) args) (drop (suc place) (params_by p types))) Made before between
+      → MakesRoom (argument_tasks (text_of p) (drop place args) (drop place (params_by p types))) room before after
+  argument_in_front args types place arg room before between after within few is first rest =
+      let (param, there) = param_there types place (omega (arith, within, few)) in
+      let kind_there : slice_get (params_by p types) place ≡ Some (kind_in p param) =
+      slice_get-map (kind_in p) types place ∙ ap (option_map (kind_in p)) there in
+      same_room _ _ room before after
+      (next_argument args (params_by p types) place arg (kind_in p param) (slice_get_read args (length args) place arg refl within is) kind_there)
+      (in_front (here arg (kind_in p param)) (argument_tasks (text_of p) (drop (suc place) args) (drop (suc place) (params_by p types))) room before between after rest (first param there))
 
-    -- as a loop comes to it, from behind
-    pub argument_before : (args : List Expr) (numbers : List ℕ) (left : ℕ) (arg : Expr) (room : Room) (before between after : Running)
-        → 0 < left → left ≤ length args → length args ≤ length numbers → arg ≡ get_or args (left - 1) arg
-        → ((param : CType) → slice_get (map n.ctype numbers) (left - 1) ≡ Some param → MakesRoom (here arg (kind_in p param)) room between after)
-        → MakesRoom (argument_tasks (text_of p) (drop left args) (drop left (params_by n p numbers))) Made before between
-        → MakesRoom (argument_tasks (text_of p) (drop (left - 1) args) (drop (left - 1) (params_by n p numbers))) room before after
-    argument_before args numbers left arg room before between after some inside few is first rest =
-        let same : suc (left - 1) ≡ left = omega (arith, some) in
-        argument_in_front args numbers (left - 1) arg room before between after (omega (arith, some, inside)) few is first
-        (subst (λ (k : ℕ). MakesRoom (argument_tasks (text_of p) (drop k args) (drop k (params_by n p numbers))) Made before between) (sym same) rest)
+  -- as a loop comes to it, from behind
+  pub argument_before : (args : List Expr) (types : List CType) (left : ℕ) (arg : Expr) (room : Room) (before between after : Running)
+      → 0 < left → left ≤ length args → length args ≤ length types → arg ≡ get_or args (left - 1) arg
+      → ((param : CType) → slice_get types (left - 1) ≡ Some param → MakesRoom (here arg (kind_in p param)) room between after)
+      → MakesRoom (argument_tasks (text_of p) (drop left args) (drop left (params_by p types))) Made before between
+      → MakesRoom (argument_tasks (text_of p) (drop (left - 1) args) (drop (left - 1) (params_by p types))) room before after
+  argument_before args types left arg room before between after some inside few is first rest =
+      let same : suc (left - 1) ≡ left = omega (arith, some) in
+      argument_in_front args types (left - 1) arg room before between after (omega (arith, some, inside)) few is first
+      (subst (λ (k : ℕ). MakesRoom (argument_tasks (text_of p) (drop k args) (drop k (params_by p types))) Made before between) (sym same) rest)
 
-    params_length : (numbers : List ℕ) → length (params_by n p numbers) ≡ length numbers
-    params_length numbers = length-map (map n.ctype numbers) (kind_in p) ∙ length-map numbers n.ctype
+  params_length : (types : List CType) → length (params_by p types) ≡ length types
+  params_length types = length-map types (kind_in p)
 
-    pub argument_lacks : (args : List Expr) (numbers : List ℕ) (left : ℕ) → length args ≤ length numbers
-        → are_kept (kinds_in (argument_tasks (text_of p) (drop left args) (drop left (params_by n p numbers)))) ≡ false
-        → are_kept (kinds_in (argument_tasks (text_of p) args (params_by n p numbers))) ≡ false
-    argument_lacks args numbers left few =
-        lacks_argument args (params_by n p numbers) left (subst (λ (count : ℕ). length args ≤ count) (sym (params_length numbers)) few)
+  pub argument_lacks : (args : List Expr) (types : List CType) (left : ℕ) → length args ≤ length types
+      → are_kept (kinds_in (argument_tasks (text_of p) (drop left args) (drop left (params_by p types)))) ≡ false
+      → are_kept (kinds_in (argument_tasks (text_of p) args (params_by p types))) ≡ false
+  argument_lacks args types left few =
+      lacks_argument args (params_by p types) left (subst (λ (count : ℕ). length args ≤ count) (sym (params_length types)) few)
 
-    -- more arguments than parameters
-    pub behind_params : (args : List Expr) (numbers : List ℕ) (count : ℕ) (room : Room) (before between after : Running) → count ≡ length numbers → count < length args
-        → MakesRoom (Unknown ∷ []) Made before between
-        → (length (take count args) ≤ length numbers → MakesRoom (argument_tasks (text_of p) (take count args) (params_by n p numbers)) room between after)
-        → MakesRoom (argument_tasks (text_of p) args (params_by n p numbers)) room before after
-    behind_params args numbers count room before between after told many rest first =
-        let same : count ≡ length (params_by n p numbers) = told ∙ sym (params_length numbers) in
-        same_room _ _ room before after
-        (surplus_argument args (params_by n p numbers) (subst (λ (k : ℕ). k < length args) same many)
-        ∙ ap (λ (k : ℕ). argument_tasks (text_of p) (take k args) (params_by n p numbers) ++ Unknown ∷ []) (sym same))
-        (in_front (argument_tasks (text_of p) (take count args) (params_by n p numbers)) (Unknown ∷ []) room before between after rest
-        (first (omega (arith, length-take {A = Expr} count args, told))))
+  -- more arguments than parameters
+  pub behind_params : (args : List Expr) (types : List CType) (count : ℕ) (room : Room) (before between after : Running) → count ≡ length types → count < length args
+      → MakesRoom (Unknown ∷ []) Made before between
+      → (length (take count args) ≤ length types → MakesRoom (argument_tasks (text_of p) (take count args) (params_by p types)) room between after)
+      → MakesRoom (argument_tasks (text_of p) args (params_by p types)) room before after
+  behind_params args types count room before between after told many rest first =
+      let same : count ≡ length (params_by p types) = told ∙ sym (params_length types) in
+      same_room _ _ room before after
+      (surplus_argument args (params_by p types) (subst (λ (k : ℕ). k < length args) same many)
+      ∙ ap (λ (k : ℕ). argument_tasks (text_of p) (take k args) (params_by p types) ++ Unknown ∷ []) (sym same))
+      (in_front (argument_tasks (text_of p) (take count args) (params_by p types)) (Unknown ∷ []) room before between after rest
+      (first (omega (arith, length-take {A = Expr} count args, told))))

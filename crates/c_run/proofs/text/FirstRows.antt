@@ -8,8 +8,8 @@ use Rattle.typing.specs.Outcomes.{Handed}
 use Rattle.expressions.specs.declared.handed_row.HandedRow.{HandedRow}
 use Rattle.expressions.specs.Context.{Context}
 use Rattle.expressions.specs.Numbers.{Numbering, handed_at}
-use Rattle.c_machine.specs.Program.{Program, or_else}
-use Rattle.c_run.specs.text.FirstRows.{first_in}
+use Rattle.c_machine.specs.Program.{Program}
+use Rattle.c_run.specs.text.FirstRows.{or_else, first_in}
 use Rattle.c_run.specs.text.Rows.{is_known, are_known}
 use Rattle.c_run.specs.text.Stands.{StandsFor}
 

@@ -7,7 +7,8 @@ use Rattle.expressions.specs.declared.handed_row.HandedRow.{HandedRow}
 use Rattle.expressions.specs.declared.handed_row.HandedRow.TheVariants.{Expression, Store, Object, Link, Function, Parameter}
 use Rattle.expressions.specs.Context.{Context}
 use Rattle.expressions.specs.Numbers.{Numbering, handed_at}
-use Rattle.c_machine.specs.Program.{Program, or_else, parameters_in, leading_parameters}
+use Rattle.c_machine.specs.Program.{Program, parameters_in, leading_parameters}
+use Rattle.c_run.specs.text.FirstRows.{or_else}
 use Rattle.c_run.specs.text.Functions.{function_here, behind_here, behind_in}
 use Rattle.c_run.specs.text.Stands.{StandsFor}
 use Rattle.c_run.proofs.text.FirstRows.{or_mapped, or_or}

@@ -6,8 +6,8 @@ use Rattle.expressions.specs.declared.handed_row.HandedRow.{HandedRow}
 use Rattle.expressions.specs.declared.handed_row.HandedRow.TheVariants.{Expression, Store, Object, Link, Function, Parameter}
 use Rattle.expressions.specs.Context.{Context}
 use Rattle.expressions.specs.Numbers.{Numbering, handed_at}
-use Rattle.c_machine.specs.Program.{Program, or_else, first_in as token_in, first_token, is_linked_in}
-use Rattle.c_run.specs.text.FirstRows.{first_in}
+use Rattle.c_machine.specs.Program.{Program, first_in as token_in, first_token, is_linked_in}
+use Rattle.c_run.specs.text.FirstRows.{or_else, first_in}
 use Rattle.c_run.specs.text.Links.{link_here}
 use Rattle.c_run.specs.text.Stands.{StandsFor}
 

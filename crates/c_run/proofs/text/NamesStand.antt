@@ -18,7 +18,7 @@ built_in_is n p (Some name) signature defined true is = refl
 built_in_is n p (Some name) signature defined false is = absurd cc
 
 pub body_is : (n : Numbering) (p : Program) (name : Option (List ℕ)) (signature : Signature) (defined built_in : Bool) → built_in ≡ false → defined ≡ true →
-    body_by name ≡ function_stands p name (function_at n signature defined built_in)
+    body_by p name ≡ function_stands p name (function_at n signature defined built_in)
 body_is n p None signature defined built_in other is = refl
 body_is n p (Some name) signature true false other is = refl
 body_is n p (Some name) signature false built_in other is = absurd cc

@@ -6,9 +6,9 @@ use Rattle.expressions.specs.declared.handed_row.HandedRow.{HandedRow}
 use Rattle.expressions.specs.declared.handed_row.HandedRow.TheVariants.{Expression, Store, Object, Link, Function, Parameter}
 use Rattle.expressions.specs.Context.{Context}
 use Rattle.expressions.specs.Numbers.{Numbering, handed_at}
-use Rattle.c_machine.specs.Program.{Program, or_else, object_in}
+use Rattle.c_machine.specs.Program.{Program, object_in}
 use Rattle.c_run.specs.declared.text.object_row.ObjectRow.{ObjectRow}
-use Rattle.c_run.specs.text.FirstRows.{first_in}
+use Rattle.c_run.specs.text.FirstRows.{or_else, first_in}
 use Rattle.c_run.specs.text.Objects.{object_here, object_by}
 use Rattle.c_run.specs.text.Rows.{is_known, are_known}
 use Rattle.c_run.specs.text.Stands.{StandsFor}

@@ -8,10 +8,10 @@ use Rattle.expressions.specs.declared.handed_row.HandedRow.{HandedRow}
 use Rattle.expressions.specs.declared.handed_row.HandedRow.TheVariants.{Expression, Store, Object, Link, Function, Parameter}
 use Rattle.expressions.specs.Context.{Context}
 use Rattle.expressions.specs.Numbers.{Numbering, handed_at}
-use Rattle.c_machine.specs.Program.{Program, or_else, store_in}
+use Rattle.c_machine.specs.Program.{Program, store_in}
 use Rattle.c_run.specs.declared.text.store_row.StoreKey.{StoreKey}
 use Rattle.c_run.specs.declared.text.store_row.StoreRow.{StoreRow}
-use Rattle.c_run.specs.text.FirstRows.{first_in}
+use Rattle.c_run.specs.text.FirstRows.{or_else, first_in}
 use Rattle.c_run.specs.text.Stores.{is_key, store_here}
 use Rattle.c_run.specs.text.Rows.{is_known, are_known}
 use Rattle.c_run.specs.text.Stands.{StandsFor}

@@ -3,7 +3,7 @@ use Rattle.std.specs.Prelude.{◌≡◌, Bool, true, false, ◌&&◌, List, [], 
 use Rattle.c_machine.specs.declared.kind.Kind.{Kind}
 use Rattle.c_machine.specs.declared.kind.Kind.TheVariants.{Struct}
 use Rattle.c_machine.specs.declared.task.Task.{Task}
-use Rattle.c_machine.specs.declared.task.Task.TheVariants.{Load, Convert, Apply, Operate, Pick, Store, Update, CountBy, CopyStruct, RunBuiltIn, MakeObject, MakeStatic, Zero, GiveBack}
+use Rattle.c_machine.specs.declared.task.Task.TheVariants.{Load, Convert, Apply, Operate, Pick, Store, Update, CountBy, CopyStruct, RunBuiltIn, MakeObject, MakeParameter, MakeStatic, Zero, GiveBack, EndOfBody}
 use Rattle.c_machine.specs.State.{State, doing}
 use Rattle.c_run.specs.declared.tasks.room.Room.{Room}
 use Rattle.c_run.specs.declared.tasks.room.Room.TheVariants.{Made, NotKept}
@@ -22,9 +22,11 @@ kinds_of (CountBy up after place kind) = kind ∷ []
 kinds_of (CopyStruct place bytes) = Struct bytes ∷ []
 kinds_of (RunBuiltIn what place result) = result ∷ []
 kinds_of (MakeObject object) = Struct object.bytes ∷ []
+kinds_of (MakeParameter object) = Struct object.bytes ∷ []
 kinds_of (MakeStatic object) = Struct object.bytes ∷ []
 kinds_of (Zero place bytes) = Struct bytes ∷ []
 kinds_of (GiveBack place kind) = kind ∷ []
+kinds_of (EndOfBody is_main result close held) = result ∷ []
 kinds_of other = []
 
 abbrev pub kinds_in : {E S I : Type 0} → List (Task E S I) → List Kind

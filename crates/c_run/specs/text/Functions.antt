@@ -5,7 +5,8 @@ use Rattle.expressions.specs.declared.handed_row.HandedRow.{HandedRow}
 use Rattle.expressions.specs.declared.handed_row.HandedRow.TheVariants.{Expression, Store, Object, Link, Function, Parameter}
 use Rattle.typing.specs.Outcomes.{ParameterRow}
 use Rattle.c_machine.specs.declared.object.Object.{Object as Made}
-use Rattle.c_machine.specs.Program.{Program, or_else, size_of}
+use Rattle.c_machine.specs.Program.{Program, size_of}
+use Rattle.c_run.specs.text.FirstRows.{or_else}
 
 -- where the rows behind a row begin, if this is that of a function
 abbrev pub function_here : ℕ → ℕ → HandedRow → Option ℕ
@@ -29,5 +30,5 @@ abbrev pub AreFunctions : List HandedRow → List (ℕ × ℕ) → Type 0
 AreFunctions handed functions = (token : ℕ) → option_map (λ behind. drop behind handed) (lookup (nat_eq token) functions) ≡ behind_in token handed
 
 -- the object of a parameter
-abbrev pub parameter_of : Program → ParameterRow → Made
-parameter_of p param = record { token = param.token; bytes = size_of p param.ctype }
+abbrev pub parameter_object : Program → ParameterRow → Made
+parameter_object p param = record { token = param.token; bytes = size_of p param.ctype }

@@ -8,6 +8,7 @@ use Rattle.c_run.specs.text.Links.{AreLinks}
 use Rattle.c_run.specs.text.Objects.{AreObjects}
 use Rattle.c_run.specs.text.Stores.{AreStores}
 use Rattle.c_run.specs.text.Functions.{AreFunctions}
+use Rattle.c_run.specs.text.Results.{AreResults}
 
 pub record AreEmpty (tables : Tables) : Type 0 where
   pub rows : tables.rows.items ≡ []
@@ -15,6 +16,7 @@ pub record AreEmpty (tables : Tables) : Type 0 where
   pub objects : tables.objects.entries ≡ []
   pub stores : tables.stores.entries ≡ []
   pub functions : tables.functions.entries ≡ []
+  pub results : tables.results.entries ≡ []
 
 -- the tables of what is handed on
 pub record AreGathered (handed : List HandedRow) (tables : Tables) : Type 0 where
@@ -23,6 +25,7 @@ pub record AreGathered (handed : List HandedRow) (tables : Tables) : Type 0 wher
   pub objects : AreObjects handed tables.objects.entries
   pub stores : AreStores handed tables.stores.entries
   pub functions : AreFunctions handed tables.functions.entries
+  pub results : AreResults handed tables.results.entries
 
 -- the tables of a context, which has the types and signatures that they name
 pub record AreTables (context : Context) (tables : Tables) : Type 0 where

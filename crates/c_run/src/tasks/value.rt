@@ -1,8 +1,8 @@
 //! The values of expressions (C11 6.5).
-ghost use Rattle.std.specs.Prelude.{IfOk};
+ghost use Rattle.std.specs.Prelude.{◌≡◌, IfOk};
 ghost use Rattle.c_machine.specs.Expressions.{value_tasks};
 ghost use Rattle.expressions.specs.Numbers.{Numbering};
-ghost use Rattle.c_machine.specs.Program.{Program};
+ghost use Rattle.c_machine.specs.Program.{Program, functions_in};
 ghost use Rattle.c_machine.specs.Trees.{text_of};
 ghost use Rattle.c_run.specs.text.Stands.{StandsFor};
 ghost use Rattle.c_run.specs.tasks.Room.{MakesRoom};
@@ -17,7 +17,7 @@ use crate::tasks::operations::{binary, unary};
 use crate::tasks::pushes::alone;
 use crate::tasks::room::Room;
 use crate::tasks::state::TreeState;
-use crate::text::TypedText;
+use crate::text::{Functions, TypedText};
 use c_machine::Task;
 use cbase::{Expr, ExprForm, NoMemory};
 
@@ -26,10 +26,12 @@ use cbase::{Expr, ExprForm, NoMemory};
 /// It takes one step, at a member one look-up in the names of the members, at a call time for the arguments, and at a block in brackets for its statements.
 pub fn value_tasks<'a>(
     text: &TypedText,
+    functions: &Functions,
     state: &mut TreeState<'a>,
     expr: &'a Expr,
 ) -> Result<Room, NoMemory>
-    ensures { IfOk result (λ room. (n : Numbering) (p : Program) → StandsFor n text.now p → MakesRoom (value_tasks (text_of p) expr.now) room state.old state.new) }
+    ensures { IfOk result (λ room. (n : Numbering) (p : Program) → StandsFor n text.now p → functions.now ≡ functions_in p.items
+        → MakesRoom (value_tasks (text_of p) expr.now) room state.old state.new) }
 {
     match &expr.form {
         ExprForm::Name(_) => named_value(text, state, expr),
@@ -51,7 +53,7 @@ pub fn value_tasks<'a>(
         ExprForm::OffsetOf { .. } => known_value(text, state, expr),
         ExprForm::Index { .. } => loaded(text, state, expr),
         ExprForm::Member { .. } => loaded(text, state, expr),
-        ExprForm::Call { callee, args } => called(text, state, callee.get(), args.as_slice()),
+        ExprForm::Call { callee, args } => called(text, functions, state, callee.get(), args.as_slice()),
         ExprForm::Inner { body, close } => in_inner_block(text, state, body.as_slice(), *close),
         ExprForm::AssertFail => alone(state, Task::EndRun),
     }

@@ -1,7 +1,7 @@
 //! Maps in which the first row of a token counts.
 ghost use Rattle.std.specs.Prelude.{◌≡◌, ℕ, None, Some, nat_eq, OnOk, if◌then◌else◌};
 ghost use Rattle.std.specs.Map.{lookup};
-ghost use Rattle.c_machine.specs.Program.{or_else};
+ghost use Rattle.c_run.specs.text.FirstRows.{or_else};
 
 use cbase::NoMemory;
 use indexmap::IndexMap;

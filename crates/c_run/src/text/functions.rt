@@ -1,7 +1,7 @@
 //! The definitions of functions, each with how many rows stand in front of those of its parameters (C11 6.9.1).
 ghost use Rattle.std.specs.Prelude.{◌≡◌, ℕ, [], nat_eq, OnOk};
 ghost use Rattle.std.specs.Map.{lookup};
-ghost use Rattle.c_machine.specs.Program.{or_else};
+ghost use Rattle.c_run.specs.text.FirstRows.{or_else};
 ghost use Rattle.c_run.specs.text.Functions.{function_here, AreFunctions};
 
 use crate::text::first_rows::put_first;

@@ -1,7 +1,7 @@
 //! The names of objects that have linkage, each with the one that declared it first (C11 6.2.2p2).
 ghost use Rattle.std.specs.Prelude.{◌≡◌, ℕ, [], nat_eq, OnOk};
 ghost use Rattle.std.specs.Map.{lookup};
-ghost use Rattle.c_machine.specs.Program.{or_else};
+ghost use Rattle.c_run.specs.text.FirstRows.{or_else};
 ghost use Rattle.c_run.specs.text.Links.{link_here, AreLinks};
 
 use crate::text::first_rows::put_first;

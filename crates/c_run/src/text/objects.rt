@@ -1,7 +1,7 @@
 //! The rows of objects that declarations make, each by the token of its name (C11 6.2.4).
 ghost use Rattle.std.specs.Prelude.{◌≡◌, ℕ, [], nat_eq, OnOk};
 ghost use Rattle.std.specs.Map.{lookup};
-ghost use Rattle.c_machine.specs.Program.{or_else};
+ghost use Rattle.c_run.specs.text.FirstRows.{or_else};
 ghost use Rattle.c_run.specs.text.Objects.{object_here, AreObjects};
 
 use crate::text::first_rows::put_first;

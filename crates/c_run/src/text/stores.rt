@@ -1,7 +1,7 @@
 //! The rows of stores of initialisers, each by its object and its expression (C11 6.7.9).
 ghost use Rattle.std.specs.Prelude.{◌≡◌, ℕ, [], None, Some, ◌&&◌, nat_eq, OnOk, if◌then◌else◌};
 ghost use Rattle.std.specs.Map.{lookup};
-ghost use Rattle.c_machine.specs.Program.{or_else};
+ghost use Rattle.c_run.specs.text.FirstRows.{or_else};
 ghost use Rattle.c_run.specs.text.Stores.{is_key, store_here, AreStores};
 
 use crate::text::store_row::{StoreKey, StoreRow};

@@ -8,6 +8,7 @@ use crate::text::functions::gather_functions;
 use crate::text::links::gather_links;
 use crate::text::object_row::ObjectRow;
 use crate::text::objects::gather_objects;
+use crate::text::results::gather_results;
 use crate::text::rows::gather_rows;
 use crate::text::store_row::{StoreKey, StoreRow};
 use crate::text::stores::gather_stores;
@@ -29,6 +30,8 @@ pub(crate) struct Tables {
     pub stores: IndexMap<StoreKey, StoreRow>,
     /// How many rows stand in front of the parameters of the function that a name defines.
     pub functions: IndexMap<u32, usize>,
+    /// The number of the type of the result of the function that a name defines.
+    pub results: IndexMap<u32, u32>,
 }
 
 impl Tables {
@@ -42,6 +45,7 @@ impl Tables {
             objects: IndexMap::new(alloc),
             stores: IndexMap::new(alloc),
             functions: IndexMap::new(alloc),
+            results: IndexMap::new(alloc),
         }
     }
 }
@@ -55,5 +59,6 @@ pub(crate) fn gather(tables: &mut Tables, handed: &[HandedRow]) -> Result<(), No
     gather_links(&mut tables.links, handed)?;
     gather_objects(&mut tables.objects, handed)?;
     gather_stores(&mut tables.stores, handed)?;
-    gather_functions(&mut tables.functions, handed)
+    gather_functions(&mut tables.functions, handed)?;
+    gather_results(&mut tables.results, handed)
 }

@@ -11,6 +11,7 @@ ghost use Rattle.c_run.specs.text.Rows.{row_in, stands_known, is_known, are_know
 ghost use Rattle.c_run.specs.text.Stands.{StandsFor};
 ghost use Rattle.c_run.specs.text.Tables.{AreEmpty, AreGathered};
 
+mod definitions;
 mod objects;
 mod parameters;
 mod signatures;

@@ -1,6 +1,6 @@
 -- The steps that are done and those that are left.
 use Rattle.std.proofs.Common.{◌≡◌, ◌≤◌}
-use Rattle.c_machine.specs.Program.{Program}
+use Rattle.c_machine.specs.Program.{Program, functions_in}
 use Rattle.c_machine.specs.Trees.{text_of}
 use Rattle.expressions.specs.Numbers.{Numbering}
 use Rattle.c_run.specs.text.Stands.{StandsFor}
@@ -10,7 +10,7 @@ use Rattle.c_run.proofs.finishing.finish.Given as goal
 abbrev pub invariant-turns : goal.invariant-turns
 invariant-turns l = record {
   count : l.left ≤ l.steps;
-  goes : (n : Numbering) (p : Program) → StandsFor n l.text p → p.strict ≡ l.strict →
+  goes : (n : Numbering) (p : Program) → StandsFor n l.text p → p.strict ≡ l.strict → l.functions ≡ functions_in p.items →
       Finishes (text_of p) l.steps l.left l.initial.state l.initial.choices l.state l.choices;
 }
 

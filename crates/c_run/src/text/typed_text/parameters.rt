@@ -2,7 +2,7 @@ ghost use Rattle.std.specs.Prelude.{◌≡◌, ◌+◌, ◌^◌, ◌<◌, true, 
 ghost use Rattle.expressions.specs.Numbers.{Numbering, handed_at};
 ghost use Rattle.typing.specs.Outcomes.{Handed};
 ghost use Rattle.c_machine.specs.Program.{Program, parameters_in, leading_parameters};
-ghost use Rattle.c_run.specs.text.Functions.{behind_in, parameter_of};
+ghost use Rattle.c_run.specs.text.Functions.{behind_in, parameter_object};
 ghost use Rattle.c_run.specs.text.Kept.{kept_objects, sized, IsPushed};
 ghost use Rattle.c_run.specs.text.Rows.{is_known};
 ghost use Rattle.c_run.specs.text.Stands.{StandsFor};
@@ -26,7 +26,7 @@ impl TypedText {
         token: u32,
     ) -> Result<Option<Vec<Object>>, NoMemory>
         ensures { IfOk result (λ found. (n : Numbering) (p : Program) → StandsFor n self.now p
-            → option_map (λ objects. objects.items) found ≡ kept_objects (map (parameter_of p) (parameters_in p.handed token))) }
+            → option_map (λ objects. objects.items) found ≡ kept_objects (map (parameter_object p) (parameters_in p.handed token))) }
     {
         let mut objects = Vec::new(alloc);
         if self.push_parameters_of(&mut objects, token)? {
@@ -40,7 +40,7 @@ impl TypedText {
     fn push_parameters_of(&self, objects: &mut Vec<Object>, token: u32) -> Result<bool, NoMemory>
         requires { objects.old.items ≡ [] }
         ensures { IfOk result (λ whole. (n : Numbering) (p : Program) → StandsFor n self.now p
-            → IsPushed [] (map (λ param. sized (parameter_of p param)) (parameters_in p.handed token)) whole objects.new.items) }
+            → IsPushed [] (map (λ param. sized (parameter_object p param)) (parameters_in p.handed token)) whole objects.new.items) }
     {
         match self.behind_function(token) {
             None => Ok(true),
@@ -51,7 +51,7 @@ impl TypedText {
     /// Pushes the objects of the parameters that stand one behind the other from a row on.
     fn push_parameters(&self, objects: &mut Vec<Object>, start: usize) -> Result<bool, NoMemory>
         ensures { IfOk result (λ whole. (n : Numbering) (p : Program) → StandsFor n self.now p
-            → IsPushed objects.old.items (map (λ param. sized (parameter_of p param)) (leading_parameters (drop start p.handed))) whole objects.new.items) }
+            → IsPushed objects.old.items (map (λ param. sized (parameter_object p param)) (leading_parameters (drop start p.handed))) whole objects.new.items) }
     {
         let mut at = start;
         while let Some(object) = self.parameter_at(at) {
@@ -67,8 +67,8 @@ impl TypedText {
     /// The object of the parameter whose row is that one, if it is the row of a parameter, where its size is kept.
     fn parameter_at(&self, at: usize) -> Option<Option<Object>>
         ensures some { IfSome result (λ object. (n : Numbering) (p : Program) → StandsFor n self.now p
-            → map (λ param. sized (parameter_of p param)) (leading_parameters (drop at p.handed))
-            ≡ object ∷ map (λ param. sized (parameter_of p param)) (leading_parameters (drop (at + 1) p.handed))) }
+            → map (λ param. sized (parameter_object p param)) (leading_parameters (drop at p.handed))
+            ≡ object ∷ map (λ param. sized (parameter_object p param)) (leading_parameters (drop (at + 1) p.handed))) }
         ensures none { IfNone result ((n : Numbering) (p : Program) → StandsFor n self.now p → leading_parameters (drop at p.handed) ≡ []) }
         ensures inside { IfSome result (λ object. at < length self.now.handed) }
         ensures fits { IfSome result (λ object. at + 1 < 2 ^ 64) }
@@ -83,12 +83,12 @@ impl TypedText {
     fn parameter_alone(&self, row: HandedRow) -> Option<Option<Object>>
         requires { is_known (length self.now.types) (length self.now.environment.signatures) row ≡ true }
         ensures some { IfSome result (λ object. (n : Numbering) (p : Program) (rest : List Handed) → StandsFor n self.now p
-            → map (λ param. sized (parameter_of p param)) (leading_parameters (handed_at n row ∷ rest))
-            ≡ object ∷ map (λ param. sized (parameter_of p param)) (leading_parameters rest)) }
+            → map (λ param. sized (parameter_object p param)) (leading_parameters (handed_at n row ∷ rest))
+            ≡ object ∷ map (λ param. sized (parameter_object p param)) (leading_parameters rest)) }
         ensures none { IfNone result ((n : Numbering) (rest : List Handed) → leading_parameters (handed_at n row ∷ rest) ≡ []) }
     {
         match row {
-            HandedRow::Parameter { token, ctype } => Some(self.parameter_object(token, ctype)),
+            HandedRow::Parameter { token, ctype } => Some(self.object_of_parameter(token, ctype)),
             HandedRow::Expression { .. }
             | HandedRow::Store { .. }
             | HandedRow::Object { .. }
@@ -98,9 +98,9 @@ impl TypedText {
     }
 
     /// The object of a parameter, where its size is kept.
-    fn parameter_object(&self, token: Option<u32>, ctype: u32) -> Option<Object>
+    fn object_of_parameter(&self, token: Option<u32>, ctype: u32) -> Option<Object>
         requires { ctype < length self.now.types }
-        ensures { (n : Numbering) (p : Program) → StandsFor n self.now p → result ≡ sized (parameter_of p (record { token = token; ctype = n.ctype ctype })) }
+        ensures { (n : Numbering) (p : Program) → StandsFor n self.now p → result ≡ sized (parameter_object p (record { token = token; ctype = n.ctype ctype })) }
     {
         match bytes_of(self.context.types(), ctype) {
             None => None,
@@ -109,7 +109,7 @@ impl TypedText {
     }
 
     /// How many rows stand in front of the parameters of a function.
-    fn behind_function(&self, token: u32) -> Option<usize>
+    pub(crate) fn behind_function(&self, token: u32) -> Option<usize>
         ensures { option_map (λ behind. drop behind self.now.handed) result ≡ behind_in token self.now.handed }
     {
         found(&self.tables.functions, token)

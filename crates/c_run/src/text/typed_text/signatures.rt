@@ -13,7 +13,7 @@ use c_machine::Kind;
 
 impl TypedText {
     /// How many parameters a function has that has the signature of that number (C11 6.7.6.3). It takes one step.
-    pub fn parameter_count(&self, signature: u32) -> usize
+    pub(crate) fn signature_count(&self, signature: u32) -> usize
         requires { signature < length self.now.environment.signatures }
         ensures { (n : Numbering) (p : Program) → StandsFor n self.now p → result ≡ length (n.signature signature).parameters }
     {
@@ -21,9 +21,7 @@ impl TypedText {
     }
 
     /// What an access and an operator ask of the type of the parameter at an index, of a function that has the signature of that number.
-    ///
-    /// It is `None` where there is no such parameter, and where the type is not kept, as [`type_kind`] says. It takes one step.
-    pub fn parameter_kind(&self, signature: u32, index: usize) -> Option<Kind>
+    pub(crate) fn signature_kind(&self, signature: u32, index: usize) -> Option<Kind>
         requires { signature < length self.now.environment.signatures }
         ensures { (n : Numbering) (p : Program) → StandsFor n self.now p
             → result ≡ option_and_then (λ t. kept (kind_in p t)) (slice_get (map n.ctype (n.signature signature).parameters) index) }

@@ -2,6 +2,7 @@
 use Rattle.std.proofs.Common.{ℕ, ◌≤◌, length, refl, subst}
 use Rattle.c_run.proofs.tasks.MakingRoom.{on_ok}
 use Rattle.c_run.proofs.tasks.EachArgument.{behind_params}
+use Rattle.c_run.specs.text.Parameters.{types_by}
 use Rattle.c_run.proofs.tasks.arguments.arguments.Goals as goal
 
 pub returns-then-args-count : goal.returns-then-args-count
@@ -13,6 +14,6 @@ returns-then-args-count c = on_ok _ _ c.converted.result
 pub returns : goal.returns
 returns c = on_ok _ _ c.converted-2.result
     (λ room made. λ n p stands.
-    behind_params p n c.args.args.now (n.signature c.args.signature).parameters c.parameter_count-count.result room c.args.state.now c.do_first.new.self c.converted-2.new.state
+    behind_params p c.args.args.now (types_by n p c.args.params) c.parameter_count-count.result room c.args.state.now c.do_first.new.self c.converted-2.new.state
     (c.parameter_count-count.ensures n p stands) c.if-args-count.false (c.in_ok-do_first.ensures.ok, refl) (made n p stands))
     c.converted-2.ensures

@@ -3,7 +3,8 @@ use Rattle.std.proofs.Common.{List, ℕ, Option, Some, length, refl, sym, ap, su
 use Rattle.cbase.specs.declared.tree.expr.ExprForm.TheViews.{out-ExprForm, outs-Name}
 use Rattle.typing.specs.Forms.{name_in}
 use Rattle.c_machine.specs.Expressions.{call_parts}
-use Rattle.c_machine.specs.Trees.{text_of}
+use Rattle.c_machine.specs.Program.{FunctionItem, functions_in, number_in}
+use Rattle.c_machine.specs.Trees.{body_stands, text_of}
 use Rattle.c_run.specs.declared.text.standing.Standing.{Standing as Told}
 use Rattle.c_run.specs.text.Standing.{body_by, built_in_by, standing_by, StandingBelow}
 use Rattle.c_run.proofs.tasks.MakingRoom.{on_ok, same_room}
@@ -15,7 +16,7 @@ built_in_call-requires c =
 
 pub returns-in-BuiltIn : goal.returns-in-BuiltIn
 returns-in-BuiltIn c = on_ok _ _ c.built_in_call.result
-    (λ room made. λ n p expr stands. same_room _ _ room c.args.state.now c.built_in_call.new.state
+    (λ room made. λ n p expr stands defined. same_room _ _ room c.args.state.now c.built_in_call.new.state
     (ap (call_parts (text_of p) c.args.callee.now c.args.args.now)
     (sym (c.standing.ensures.is n p c.args.callee.now (name_in (out-ExprForm c.args.callee.now.form)) stands refl) ∙ ap (standing_by n p (name_in (out-ExprForm c.args.callee.now.form))) c.in-BuiltIn.is
     ∙ ap (λ (name : Option (List ℕ)). built_in_by n p name (n.signature c.in-BuiltIn.signature)) (ap name_in (ap out-ExprForm c.in-Name.is ∙ outs-Name c.in-Name.name) ∙ ap Some (sym c.as_slice.ensures))))
@@ -23,17 +24,19 @@ returns-in-BuiltIn c = on_ok _ _ c.built_in_call.result
     c.built_in_call.ensures
 
 pub returns-in-Body : goal.returns-in-Body
-returns-in-Body c = on_ok _ _ c.alone.result
-    (λ room made. λ n p expr stands. same_room _ _ room c.args.state.now c.alone.new.state
+returns-in-Body c = on_ok _ _ c.named_call.result
+    (λ room made. λ n p expr stands defined. same_room _ _ room c.args.state.now c.named_call.new.state
     (ap (call_parts (text_of p) c.args.callee.now c.args.args.now)
     (sym (c.standing.ensures.is n p c.args.callee.now (name_in (out-ExprForm c.args.callee.now.form)) stands refl) ∙ ap (standing_by n p (name_in (out-ExprForm c.args.callee.now.form))) c.in-Body.is
-    ∙ ap body_by (ap name_in (ap out-ExprForm c.in-Name.is ∙ outs-Name c.in-Name.name))))
-    (made refl))
-    c.alone.ensures
+    ∙ ap (body_by p) (ap name_in (ap out-ExprForm c.in-Name.is ∙ outs-Name c.in-Name.name))
+    ∙ ap (λ (name : List ℕ). body_stands (number_in (functions_in p.items) name)) (sym c.as_slice-in-Body.ensures)
+    ∙ ap (λ (functions : List FunctionItem). body_stands (number_in functions c.as_slice-in-Body.result.now)) (sym defined)))
+    (made n p c.args.callee.now stands defined))
+    c.named_call.ensures
 
 pub returns-in-Object : goal.returns-in-Object
 returns-in-Object c = on_ok _ _ c.unknown.result
-    (λ room made. λ n p expr stands. same_room _ _ room c.args.state.now c.unknown.new.state
+    (λ room made. λ n p expr stands defined. same_room _ _ room c.args.state.now c.unknown.new.state
     (ap (call_parts (text_of p) c.args.callee.now c.args.args.now)
     (sym (c.standing.ensures.is n p c.args.callee.now (name_in (out-ExprForm c.args.callee.now.form)) stands refl) ∙ ap (standing_by n p (name_in (out-ExprForm c.args.callee.now.form))) c.in-Object.is))
     made)
@@ -41,7 +44,7 @@ returns-in-Object c = on_ok _ _ c.unknown.result
 
 pub returns-in-Constant : goal.returns-in-Constant
 returns-in-Constant c = on_ok _ _ c.unknown-in-Constant.result
-    (λ room made. λ n p expr stands. same_room _ _ room c.args.state.now c.unknown-in-Constant.new.state
+    (λ room made. λ n p expr stands defined. same_room _ _ room c.args.state.now c.unknown-in-Constant.new.state
     (ap (call_parts (text_of p) c.args.callee.now c.args.args.now)
     (sym (c.standing.ensures.is n p c.args.callee.now (name_in (out-ExprForm c.args.callee.now.form)) stands refl) ∙ ap (standing_by n p (name_in (out-ExprForm c.args.callee.now.form))) c.in-Constant.is))
     made)
@@ -49,7 +52,7 @@ returns-in-Constant c = on_ok _ _ c.unknown-in-Constant.result
 
 pub returns-in-Nothing : goal.returns-in-Nothing
 returns-in-Nothing c = on_ok _ _ c.unknown-in-Nothing.result
-    (λ room made. λ n p expr stands. same_room _ _ room c.args.state.now c.unknown-in-Nothing.new.state
+    (λ room made. λ n p expr stands defined. same_room _ _ room c.args.state.now c.unknown-in-Nothing.new.state
     (ap (call_parts (text_of p) c.args.callee.now c.args.args.now)
     (sym (c.standing.ensures.is n p c.args.callee.now (name_in (out-ExprForm c.args.callee.now.form)) stands refl) ∙ ap (standing_by n p (name_in (out-ExprForm c.args.callee.now.form))) c.in-Nothing.is))
     made)

@@ -1,7 +1,7 @@
 -- What is gathered, and what is handed on behind it.
 use Rattle.std.proofs.Common.{◌≡◌, ℕ, ◌-◌, drop, length, nat_eq, option_map}
 use Rattle.std.specs.Map.{lookup}
-use Rattle.c_machine.specs.Program.{or_else}
+use Rattle.c_run.specs.text.FirstRows.{or_else}
 use Rattle.c_run.specs.text.Functions.{behind_in}
 use Rattle.c_run.proofs.text.functions.gather_functions.Given as goal
 

@@ -1,8 +1,7 @@
 -- What is gathered, and what is handed on behind it.
 use Rattle.std.proofs.Common.{◌≡◌, ℕ, nat_eq, drop}
 use Rattle.std.specs.Map.{lookup}
-use Rattle.c_machine.specs.Program.{or_else}
-use Rattle.c_run.specs.text.FirstRows.{first_in}
+use Rattle.c_run.specs.text.FirstRows.{or_else, first_in}
 use Rattle.c_run.specs.text.Objects.{object_here}
 use Rattle.c_run.proofs.text.objects.gather_objects.Given as goal
 

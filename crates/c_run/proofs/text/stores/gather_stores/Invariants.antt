@@ -1,8 +1,7 @@
 -- What is gathered, and what is handed on behind it.
 use Rattle.std.proofs.Common.{◌≡◌, ℕ, drop}
 use Rattle.std.specs.Map.{lookup}
-use Rattle.c_machine.specs.Program.{or_else}
-use Rattle.c_run.specs.text.FirstRows.{first_in}
+use Rattle.c_run.specs.text.FirstRows.{or_else, first_in}
 use Rattle.c_run.specs.text.Stores.{is_key, store_here}
 use Rattle.c_run.proofs.text.stores.gather_stores.Given as goal
 

@@ -2,7 +2,7 @@
 use Rattle.std.proofs.Common.{◌+◌, List, map, drop, ap, ◌∙◌}
 use Rattle.typing.specs.Outcomes.{Handed, ParameterRow}
 use Rattle.c_machine.specs.Program.{leading_parameters}
-use Rattle.c_run.specs.text.Functions.{parameter_of}
+use Rattle.c_run.specs.text.Functions.{parameter_object}
 use Rattle.c_run.specs.text.Kept.{sized}
 use Rattle.c_run.proofs.text.FirstRows.{rows_at}
 use Rattle.c_run.proofs.text.Following.{on_none, on_some}
@@ -11,7 +11,7 @@ use Rattle.c_run.proofs.text.typed_text.TypedText.parameter_at.Goals as goal
 pub returns-clause-some : goal.returns-clause-some
 returns-clause-some c = on_some _ _ c.parameter_alone.result
     (λ object is. λ n p stands.
-    ap (λ (rows : List Handed). map (λ (param : ParameterRow). sized (parameter_of p param)) (leading_parameters rows))
+    ap (λ (rows : List Handed). map (λ (param : ParameterRow). sized (parameter_object p param)) (leading_parameters rows))
     (rows_at n c.args.self.now p c.args.at c.handed_row.result stands c.handed_row.ensures.is)
     ∙ is n p (drop (c.args.at + 1) p.handed) stands)
     c.parameter_alone.ensures.some

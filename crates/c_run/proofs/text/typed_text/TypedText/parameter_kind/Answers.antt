@@ -1,20 +1,25 @@
--- The kind of a parameter is that of the type whose number stands in the signature.
-use Rattle.std.proofs.Common.{List, ℕ, Option, sym, ap, ◌∙◌, subst}
-use Rattle.std.specs.Prelude.{option_map, option_and_then}
+-- The kind of one stands in the signature, or in its row.
+use Rattle.std.proofs.Common.{slice_get, sym, ap, ◌∙◌, subst}
+use Rattle.std.specs.Prelude.{option_and_then}
 use Rattle.cbase.specs.declared.ctype.CType.{CType}
-use Rattle.typing.specs.ctypes.Table.{type_at}
-use Rattle.expressions.specs.Context.{Context}
-use Rattle.expressions.proofs.Growth.{agrees_at}
 use Rattle.c_machine.specs.Trees.{kind_in}
+use Rattle.c_run.specs.declared.text.parameters.Parameters.{Parameters}
 use Rattle.c_run.specs.text.Kept.{kept}
-use Rattle.c_run.specs.text.Stands.{StandsFor}
+use Rattle.c_run.specs.text.Parameters.{AreParameters, types_by}
 use Rattle.c_run.proofs.text.typed_text.TypedText.parameter_kind.Goals as goal
 
-pub returns-in-Some : goal.returns-in-Some
-returns-in-Some c = λ n p stands.
-    let inside = subst (λ (context : Context). StandsFor n context p) (sym c.self.view_is) stands in
-    c.type_kind.ensures p (inside.structs ∙ sym c.types.ensures.structs)
-    ∙ ap (λ (types : List CType). kept (kind_in p (type_at types c.in-Some.ctype))) (c.types.ensures.types ∙ ap (λ (context : Context). context.types) c.self.view_is)
-    ∙ ap (λ (t : CType). kept (kind_in p t)) (sym (agrees_at n c.args.self.now c.in-Some.ctype stands.agrees c.in-Some.ensures.below))
-    ∙ ap (λ (found : Option ℕ). option_and_then (λ (t : CType). kept (kind_in p t)) (option_map n.ctype found)) (sym c.in-Some.is)
-    ∙ ap (option_and_then (λ (t : CType). kept (kind_in p t))) (c.parameter.ensures.is n stands.agrees)
+pub signature_kind-requires : goal.signature_kind-requires
+signature_kind-requires c = subst (AreParameters c.args.self.now) c.in-OfSignature.is c.requires
+
+pub row_kind-requires : goal.row_kind-requires
+row_kind-requires c = subst (AreParameters c.args.self.now) c.in-OfRows.is c.requires
+
+pub returns-in-OfSignature : goal.returns-in-OfSignature
+returns-in-OfSignature c = λ n p stands.
+    c.signature_kind.ensures n p stands
+    ∙ ap (λ (params : Parameters). option_and_then (λ (t : CType). kept (kind_in p t)) (slice_get (types_by n p params) c.args.index)) (sym c.in-OfSignature.is)
+
+pub returns-in-OfRows : goal.returns-in-OfRows
+returns-in-OfRows c = λ n p stands.
+    c.row_kind.ensures n p stands
+    ∙ ap (λ (params : Parameters). option_and_then (λ (t : CType). kept (kind_in p t)) (slice_get (types_by n p params) c.args.index)) (sym c.in-OfRows.is)

@@ -2,7 +2,7 @@
 use Rattle.std.proofs.Common.{Bool, List, [], ◌∷◌, ◌++◌, map, Option, option_map, Some, ap, ◌∙◌, append-nil, subst}
 use Rattle.typing.specs.Outcomes.{ParameterRow}
 use Rattle.c_machine.specs.declared.object.Object.{Object}
-use Rattle.c_run.specs.text.Functions.{parameter_of}
+use Rattle.c_run.specs.text.Functions.{parameter_object}
 use Rattle.c_run.specs.text.Kept.{all_there, sized, IsPushed}
 use Rattle.c_run.proofs.text.PushedObjects.{one_lacks, one_more}
 use Rattle.c_run.proofs.text.typed_text.TypedText.push_parameters.Goals as goal
@@ -29,6 +29,6 @@ pub returns : goal.returns
 returns c = λ n p stands.
     c.loop-object.invariant n p stands
     ∙ ap (λ (params : List ParameterRow).
-    option_map (λ (more : List Object). c.loop-object.objects.items ++ more) (all_there (map (λ (param : ParameterRow). sized (parameter_of p param)) params)))
+    option_map (λ (more : List Object). c.loop-object.objects.items ++ more) (all_there (map (λ (param : ParameterRow). sized (parameter_object p param)) params)))
     (c.in_default.ensures.none n p stands)
     ∙ ap Some (append-nil c.loop-object.objects.items)

@@ -1,0 +1,17 @@
+-- The rows behind that of the function, if it has one.
+use Rattle.std.proofs.Common.{ℕ, drop, option_map, sym, ap, ◌∙◌}
+use Rattle.c_run.proofs.text.ParametersFound.{no_types, none_leading, types_are}
+use Rattle.c_run.proofs.text.typed_text.TypedText.defined_parameters.Goals as goal
+
+pub returns-in-None-clause-are : goal.returns-in-None-clause-are
+returns-in-None-clause-are c = none_leading c.args.self.now c.len.result (c.len.ensures)
+
+pub returns-in-None-clause-types : goal.returns-in-None-clause-types
+returns-in-None-clause-types c = λ n p stands.
+    no_types n c.args.self.now p c.args.token c.len.result stands c.len.ensures
+    (sym c.behind_function.ensures ∙ ap (option_map (λ (k : ℕ). drop k c.args.self.now.handed)) c.in-None.is)
+
+pub returns-in-Some-clause-types : goal.returns-in-Some-clause-types
+returns-in-Some-clause-types c = λ n p stands.
+    types_are n c.args.self.now p c.args.token c.in-Some.start stands
+    (sym c.behind_function.ensures ∙ ap (option_map (λ (k : ℕ). drop k c.args.self.now.handed)) c.in-Some.is)
