@@ -24,7 +24,7 @@ use Rattle.claims.specs.ReadFault.{MeansReadFault}
 -- what an answer that is true of a whole file says of its bytes
 of_file : (tells : Bool) (content : Option (List ℕ)) (left file : List ℕ) (names : List (List ℕ)) (answer : Answer) (Means : List ℕ → Type 0)
     → ((bytes : List ℕ) → Judges file bytes answer → Means bytes) → IsJudged tells content left file names answer → OfFile tells content Means
-of_file tells content left file names answer Means means (bytes, whole, judged, named) = (bytes, (λ told. (whole told).1), means bytes judged)
+of_file tells content left file names answer Means means (bytes, whole, judged, named) = (bytes, (λ told. (whole told).0), means bytes judged)
 
 above : (most whole front rest taken : ℕ) → whole ≡ front + rest → front ≡ taken → taken ≡ most + 1 → most < whole
 above most whole front rest taken whole_is front_is taken_is = omega arith
@@ -32,7 +32,7 @@ above most whole front rest taken whole_is front_is taken_is = omega arith
 module _ (tells : Bool) (content : Option (List ℕ)) (left file : List ℕ) (names : List (List ℕ)) where
   pub safe : IsAnswered tells content left file names Safe → OfFile tells content (MeansSafe file)
   safe answered = of_file tells content left file names Safe (MeansSafe file)
-      (λ bytes judged. let (t, items, numbers, read, checked, row, program, formed, sound) = judged.2 in (t, items, numbers, row, program, read, formed, sound)) answered
+      (λ bytes judged. let (t, items, numbers, read, checked, row, program, formed, sound) = judged.1 in (t, items, numbers, row, program, read, formed, sound)) answered
 
   pub warned : (warnings : List Warning) → IsAnswered tells content left file names (Warned warnings)
       → OfFile tells content (λ bytes. MeansWarned file bytes warnings)
@@ -41,29 +41,29 @@ module _ (tells : Bool) (content : Option (List ℕ)) (left file : List ℕ) (na
 
   pub gave_up : (number : ℕ) (place : Place) → IsAnswered tells content left file names (Construct number place)
       → OfFile tells content (λ bytes. MeansGaveUp file bytes number place)
-  gave_up number place answered = of_file tells content left file names (Construct number place) (λ bytes. MeansGaveUp file bytes number place) (λ bytes judged. judged.2) answered
+  gave_up number place answered = of_file tells content left file names (Construct number place) (λ bytes. MeansGaveUp file bytes number place) (λ bytes judged. judged.1) answered
 
   pub no_token : (place : Place) → IsAnswered tells content left file names (NotRead (why.Lexical place))
       → OfFile tells content (λ bytes. MeansNoToken file bytes place)
-  no_token place answered = of_file tells content left file names (NotRead (why.Lexical place)) (λ bytes. MeansNoToken file bytes place) (λ bytes judged. judged.2) answered
+  no_token place answered = of_file tells content left file names (NotRead (why.Lexical place)) (λ bytes. MeansNoToken file bytes place) (λ bytes judged. judged.1) answered
 
   pub too_deep : (place : Place) → IsAnswered tells content left file names (NotRead (why.Deep place))
       → OfFile tells content (λ bytes. MeansTooDeep file bytes place)
-  too_deep place answered = of_file tells content left file names (NotRead (why.Deep place)) (λ bytes. MeansTooDeep file bytes place) (λ bytes judged. judged.2) answered
+  too_deep place answered = of_file tells content left file names (NotRead (why.Deep place)) (λ bytes. MeansTooDeep file bytes place) (λ bytes judged. judged.1) answered
 
   pub no_main : IsAnswered tells content left file names (NotRead why.NoMain) → OfFile tells content (MeansNoMain file)
-  no_main answered = of_file tells content left file names (NotRead why.NoMain) (MeansNoMain file) (λ bytes judged. judged.2) answered
+  no_main answered = of_file tells content left file names (NotRead why.NoMain) (MeansNoMain file) (λ bytes judged. judged.1) answered
 
   pub syntax : (place : Place) → IsAnswered tells content left file names (NotRead (why.Syntax place))
       → OfFile tells content (λ bytes. MeansSyntax file bytes place)
-  syntax place answered = of_file tells content left file names (NotRead (why.Syntax place)) (λ bytes. MeansSyntax file bytes place) (λ bytes judged. judged.2) answered
+  syntax place answered = of_file tells content left file names (NotRead (why.Syntax place)) (λ bytes. MeansSyntax file bytes place) (λ bytes judged. judged.1) answered
 
   pub rule : (number : ℕ) (place : Place) → IsAnswered tells content left file names (NotRead (why.Rule number place))
       → OfFile tells content (λ bytes. MeansRule file bytes number place)
-  rule number place answered = of_file tells content left file names (NotRead (why.Rule number place)) (λ bytes. MeansRule file bytes number place) (λ bytes judged. judged.2) answered
+  rule number place answered = of_file tells content left file names (NotRead (why.Rule number place)) (λ bytes. MeansRule file bytes number place) (λ bytes judged. judged.1) answered
 
   pub not_yet : IsAnswered tells content left file names NotYet → OfFile tells content (MeansNotYet file)
-  not_yet answered = of_file tells content left file names NotYet (MeansNotYet file) (λ bytes judged. judged.2) answered
+  not_yet answered = of_file tells content left file names NotYet (MeansNotYet file) (λ bytes judged. judged.1) answered
 
   pub too_long : (taken : ℕ) → IsAnswered tells content left file names (TooLong taken) → MeansTooLong tells content
   too_long taken (is, given, none) told =
