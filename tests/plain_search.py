@@ -121,7 +121,7 @@ def main():
         if sys.argv[1:] == ["rows"]:
             print("found 0 int main(void) { " + body + " return 0; }")
         else:
-            print("found" + "".join(f" {at}:{kind}" for at, kind in met))
+            print("found" + "".join(f" {at} {kind}" for at, kind in met))
     assert several >= 30, several
 
 

@@ -2,11 +2,15 @@
 """Says on which definitions each claim of the repository rests, with their lines, and lays out the lists of docs/audit.md.
 
 Usage: tools/audit.py [--write | --check] [CRATE ..]
+       tools/audit.py --answer NAME
 A claim is what the contracts of a crate's public calls say, or those of its laws, which are public functions that do nothing, or of the laws
 that are rows worked out by hand; the first one is that of the top call, `predator` of `verdicts`. It rests on each definition that its clauses name, on those that these name, and so
 on, and on the types of Rust among them, as contracts see them (tools/definitions.py). Without an option the lists are printed, of the
 crates that are named or, with no name, of the top call; with --write they are laid out in docs/audit.md; with --check nothing is written,
 and the status is 1 where that page is out of date.
+
+With --answer what one answer means is counted alone: the law `NAME_means` of the crate `claims`, as `safe`. A law there goes from a clause of the call that gives the answer to what the answer
+means, and is proved; so who trusts the answer reads what stands in its conclusion, which is what `claims` itself defines, and compares its premise with the clause, word for word.
 """
 import re
 import sys
@@ -17,6 +21,8 @@ from definitions import HOME, Sources, SpecSource, closure
 PAGE = HOME / "docs" / "audit.md"
 BEGIN, END = "<!-- audit.py: begin -->\n", "<!-- audit.py: end -->\n"
 TOP_CRATE, TOP_FILE, TOP = "verdicts", "top.rt", "predator"
+# What answers mean: the crate of these laws, and by each of its files the call that gives the answers.
+MEANINGS, CALLS = "claims", {"judging": ("verdicts", "predator"), "replaying": ("replay", "replay")}
 NO_CLAIMS = ("*_rows", "*_tests", "predator")
 # Laws that are rows worked out by hand: their files of code, and their names.
 WORKED = ("*/rows", "*/tables", "flow/laws"), ("*rows_hold", "*examples*", "edges_of_*")
@@ -66,6 +72,10 @@ class Claim:
         named = set()
         for source, _, head in functions:
             named |= source.named_in_function(head)
+        self.take(named)
+
+    def take(self, named):
+        """Takes all on which these rest."""
         found, self.kit = closure(named)
         self.definitions = {one for one in found if isinstance(one.source, SpecSource)}
         self.types = found - self.definitions
@@ -243,6 +253,68 @@ def page(sources):
     return text + rest_list(sources, claims)
 
 
+class Meaning(Claim):
+    """What an answer means: the conclusion of its law, which is what the law names of its own crate's definitions."""
+
+    def __init__(self, source, name, head):
+        super().__init__(MEANINGS, name, [(source, name, head)])
+        named = source.named_in_function(head)
+        self.take({one for one in named if not isinstance(one, tuple) and one.source.path.startswith(f"crates/{MEANINGS}/specs/")})
+        self.clause = " ".join(" ".join(source.clauses(head)).split())
+        self.call = CALLS[source.path.rpartition("/")[2].removesuffix(".rt")]
+        before = source.text[:source.text.index(f"pub fn {name}(")]
+        comment = " ".join(line.strip(" /") for line in before.rpartition("\n\n")[2].splitlines() if line.startswith("///"))
+        self.says, _, premises = comment.partition(" Premise")
+        self.premises = re.findall(r"`(\w+)`", premises) or ["judged"]
+
+    def all_lines(self):
+        """How many lines of definitions and of types there are."""
+        return sum(one.lines for one in self.definitions | self.types)
+
+
+def meanings(sources):
+    """What each answer means, by its name."""
+    laws = [(source, name, head) for source in sources.code(MEANINGS) for name, head, is_law in source.functions() if is_law]
+    return {name.removesuffix("_means"): Meaning(source, name, head) for source, name, head in laws}
+
+
+def premise(sources, call, name):
+    """A clause of a call, as it is written."""
+    crate, function = call
+    heads = [head for source in sources.code(crate) for called, head, _ in source.functions() if called == function]
+    found = re.search(rf"ensures {name} (\{{.*?\}})\s*(?:ensures|$)", "\n".join(heads), re.DOTALL)
+    return " ".join(found.group(1).split()) if found else "no such clause"
+
+
+def read_first(sources, claim):
+    """The files of a claim, lowest crate first, those of types before those of definitions: the path, its lines, how many it has and what is to be read there."""
+    for crate in units(sources):
+        for path in sorted({one.source.path for one in claim.types if unit(one.source.path) == crate}) + claim.ordered(crate):
+            source = sources.file(path)
+            names = ", ".join(f"`{one.name}`" for one in claim.of_file(path))
+            yield path, claim.lines(path), source.text.count("\n"), names
+
+
+def answer_list(sources, meaning):
+    """What is to be read for an answer, in which order, and its law beside the clauses of its premises."""
+    rows = list(read_first(sources, meaning))
+    text = f"{meaning.says}\n\nTo trust this answer read these {count(meaning.all_lines(), 'line')}, in this order ({count(len(meaning.kit), 'name')} of the kit's stand in them):\n\n"
+    text += "| file | lines | of | what is read there |\n|---|---|---|---|\n"
+    text += "".join(f"| `{path.removeprefix('crates/')}` | {lines} | {whole} | {names} |\n" for path, lines, whole, names in rows)
+    text += f"\nThe law is `{MEANINGS}::{meaning.words}`:\n\n    {meaning.clause}\n\nIts premise is, word for word, what `{'::'.join(meaning.call)}` promises:\n\n"
+    return text + "".join(f"    {name} {premise(sources, meaning.call, name)}\n" for name in meaning.premises)
+
+
+def answered(sources, name):
+    """Prints what is to be read for the answer of that name."""
+    known = meanings(sources)
+    if name not in known:
+        print(f"tools/audit.py: no answer of that name; there are {', '.join(sorted(known))}", file=sys.stderr)
+        return 1
+    print(answer_list(sources, known[name]), end="")
+    return 0
+
+
 def printed(sources, names):
     """The whole lists of some crates' claims, or that of the top call."""
     claims = [claim for name in names for claim in claims_of(sources, name)] if names else [top_claim(sources)]
@@ -255,6 +327,8 @@ def main():
     words = sys.argv[1:]
     names = [word for word in words if not word.startswith("--")]
     sources = Sources()
+    if "--answer" in words:
+        return answered(sources, (names or [""])[0])
     if not {"--write", "--check"} & set(words):
         printed(sources, names)
         return 0

@@ -1,17 +1,7 @@
-//! Tests of the crates at the program's edge: the words that it is given, the files that it reads, and what it prints.
+//! Tests of the files and sinks at the program's edge which no row of `edge_rows` shows: those of the system, and such as fail in mid-stream.
 //!
-//! A crate with tests is proved twice, so those of these crates stand here, where there is no other code.
+//! A crate with tests is proved twice, so those of `outside` stand here, where there is no other code.
 #![tactic(auto)]
 
 #[cfg(test)]
 mod files;
-#[cfg(test)]
-mod program;
-#[cfg(test)]
-mod replay_words;
-#[cfg(test)]
-mod replays;
-#[cfg(test)]
-mod reports;
-#[cfg(test)]
-mod words;

@@ -3,80 +3,113 @@ ghost use Rattle.ctokens.specs.InText.{LieInText};
 ghost use Rattle.ctokens.specs.TokenList.{AreNumbered};
 
 use crate::answers::{Asked, last, typedef};
-use crate::at_tokens::{block, expression, left, statements};
+use crate::at_tokens::{block, expression};
 use crate::constructs::{construct, layout};
 use crate::cut::cut;
 use crate::faults::{faults, program};
+use crate::kinds::Kind;
 use crate::lexical::tokens;
 use crate::needs::{items, needed, passed};
-use crate::reports::report;
-use crate::row::{row_of_line, unescaped};
+use crate::printing::push_text;
+use crate::row::{Row, row_of_line, unescape};
 use crate::scopes::scope;
-use crate::terminals::{constant, mark, terminal_of_text};
+use crate::terminals::{constant, mark, terminal};
 use cbase::{NoMemory, Text};
 use ctokens::Tokens;
 use std::alloc::Global;
 
-/// What is printed for a line, where it is not a row `repeat`; the text of such a row is put behind `front`.
+/// Puts what is printed for a line into an empty text. The text of a row `repeat` is put behind `front`, and that of any other row behind what stands there is
+/// the text that it asks of.
 pub fn answer_of_line(
     alloc: Global,
     front: &mut Text,
     line: &str,
-) -> Result<Option<String>, NoMemory> {
+    shown: &mut String,
+) -> Result<(), NoMemory> {
     if line.starts_with("# ") {
-        return Ok(Some(String::from_str(alloc, line)?));
+        return push_text(line, shown);
     }
-    let Some(row) = row_of_line(line) else {
-        return Ok(Some(String::from_str(alloc, "no row")?));
-    };
-    let part = unescaped(alloc, row.text)?;
-    if row.kind == "repeat" {
-        for _ in 0..row.number {
-            front.extend(part.as_slice())?;
+    match row_of_line(line) {
+        Some(row) => {
+            push_text(row.word, shown)?;
+            answer_of_row(alloc, front, &row, shown)
         }
-        return Ok(None);
+        None => push_text("no row", shown),
     }
-    front.extend(part.as_slice())?;
-    let answer = answer(alloc, row.kind, row.number, front.as_slice())?;
+}
+
+/// What is printed for a row.
+fn answer_of_row(
+    alloc: Global,
+    front: &mut Text,
+    row: &Row<'_>,
+    shown: &mut String,
+) -> Result<(), NoMemory> {
+    if let Kind::Repeat = row.kind {
+        return repeat(front, row.number, row.text);
+    }
+    if let Kind::Scope = row.kind {
+        return scope(alloc, row.text, shown);
+    }
+    unescape(row.text, front)?;
+    let answered = answer(alloc, row.kind, row.number, front.as_slice(), shown);
     *front = Text::new(alloc);
-    Ok(Some(answer))
+    answered
+}
+
+/// Puts a text behind others so often.
+fn repeat(front: &mut Text, number: u32, text: &str) -> Result<(), NoMemory> {
+    for _ in 0..number {
+        unescape(text, front)?;
+    }
+    Ok(())
 }
 
 /// What a kind answers of a text.
-fn answer(alloc: Global, kind: &str, number: u32, text: &[u8]) -> Result<String, NoMemory> {
+fn answer(
+    alloc: Global,
+    kind: Kind,
+    number: u32,
+    text: &[u8],
+    shown: &mut String,
+) -> Result<(), NoMemory> {
     match kind {
-        "tokens" => tokens(alloc, text),
-        "report" => report(alloc, number, text),
-        "scope" => scope(alloc, text),
-        "constant" => constant(alloc, text),
-        "binary" | "unary" | "assignment" | "counting" | "member" => mark(alloc, kind, text),
-        _ => match cut(alloc, text)? {
-            None => Ok(String::from_str(alloc, "no tokens")?),
-            Some(t) => answer_of_tokens(alloc, kind, number, &t),
+        Kind::Tokens => tokens(alloc, text, shown),
+        Kind::Constant => constant(text, shown),
+        Kind::Mark => mark(text, shown),
+        _ => match cut(alloc, text) {
+            Ok(Some(t)) => answer_of_tokens(alloc, kind, number, &t, shown),
+            Ok(None) => push_text(" no tokens", shown),
+            Err(error) => Err(error),
         },
     }
 }
 
 /// What a kind answers of the tokens of a text.
-fn answer_of_tokens(alloc: Global, kind: &str, number: u32, t: &Tokens) -> Result<String, NoMemory>
+fn answer_of_tokens(
+    alloc: Global,
+    kind: Kind,
+    number: u32,
+    t: &Tokens,
+    shown: &mut String,
+) -> Result<(), NoMemory>
     requires text { LieInText t.now }
     requires numbered { AreNumbered t.now.list }
 {
     match kind {
-        "passed" => passed(alloc, t),
-        "items" => items(alloc, t),
-        "needed" => needed(alloc, t),
-        "last" => last(alloc, t, Asked::Answer),
-        "places" => last(alloc, t, Asked::Places),
-        "typedef" => typedef(alloc, t, number > 0),
-        "expression" => expression(alloc, t, number),
-        "left" => left(alloc, t, number),
-        "block" => block(alloc, t, number),
-        "statements" => statements(alloc, t, number),
-        "construct" => construct(alloc, t),
-        "layout" => layout(alloc, t),
-        "faults" => faults(alloc, t),
-        "form" | "lines" | "found" => program(alloc, kind, t),
-        _ => terminal_of_text(alloc, kind, number as usize, t),
+        Kind::Passed => passed(alloc, t, shown),
+        Kind::Items => items(alloc, t, shown),
+        Kind::Needed => needed(alloc, t, shown),
+        Kind::Last => last(alloc, t, Asked::Answer, shown),
+        Kind::Places => last(alloc, t, Asked::Places, shown),
+        Kind::Typedef => typedef(alloc, t, number > 0, shown),
+        Kind::Expression => expression(alloc, t, number, shown),
+        Kind::Block => block(alloc, t, number, false, shown),
+        Kind::Statements => block(alloc, t, number, true, shown),
+        Kind::Construct => construct(alloc, t, shown),
+        Kind::Layout => layout(alloc, t, shown),
+        Kind::Faults => faults(alloc, t, shown),
+        Kind::Form | Kind::Lines | Kind::Found => program(alloc, kind, t, shown),
+        _ => terminal(alloc, number as usize, t, shown),
     }
 }

@@ -1,7 +1,8 @@
-//! Reads rows from its standard input, and prints a line for each with what the crates that read C answer of it.
+//! Reads rows from its standard input, and prints a line for each with what the crates that read C answer of it: line N of what is printed answers
+//! line N of what is read.
 //!
-//! A row is `KIND NUMBER TEXT`. What a kind prints is said at the function of that name; the number is 0 where the kind asks for
-//! none. A row `repeat` prints nothing: it puts its text as often as its number says in front of the text of the row that
+//! A row is `KIND NUMBER TEXT`, and its answer `KIND ANSWER`. What a kind answers is said at the function of that name; the number is 0 where the kind
+//! asks for none. A row `repeat` has no answer: it puts its text as often as its number says in front of the text of the row that
 //! follows. A line that begins with `# ` is a heading, and is printed as it stands.
 #![tactic(auto)]
 
@@ -10,12 +11,13 @@ mod at_tokens;
 mod constructs;
 mod cut;
 mod faults;
+mod kinds;
 mod lexical;
 mod line;
 mod needs;
 mod nodes;
 mod places;
-mod reports;
+mod printing;
 mod row;
 mod scopes;
 mod terminals;
@@ -29,11 +31,14 @@ fn main(rt: HostRuntime) -> io::Result<()> {
     let mut front = Text::new(alloc);
     for line in BufReader::new(alloc, rt.reader())?.lines(alloc) {
         let line = line?;
-        match answer_of_line(alloc, &mut front, line.as_str()) {
-            Ok(None) => {}
-            Ok(Some(answer)) => println!(rt; "{answer}")?,
-            Err(NoMemory) => return Err(io::Error::from(ErrorKind::OutOfMemory)),
-        }
+        let mut shown = String::new(alloc);
+        let printed = match answer_of_line(alloc, &mut front, line.as_str(), &mut shown) {
+            Ok(()) => println!(rt; "{shown}"),
+            Err(NoMemory) => Err(io::Error::from(ErrorKind::OutOfMemory)),
+        };
+        drop(shown);
+        drop(line);
+        printed?;
     }
     Ok(())
 }

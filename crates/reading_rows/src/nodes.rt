@@ -1,262 +1,251 @@
-//! A walk through a tree in the order of the text.
+//! The parts of a tree, in the order of the text.
 use cbase::{
-    Boxed, Declared, Expr, ExprForm, FieldDecl, Identifier, Init, InitPart, NoMemory, Param, Part,
-    Place, Stmt, StmtForm, TypeSpec,
+    Boxed, Declared, Expr, ExprForm, FieldDecl, Identifier, Init, InitPart, Item, Param, Part,
+    Place, Stmt, StmtForm, TypeName, TypeSpec,
 };
-use std::alloc::Global;
 
 /// A part of a tree that is still to be gone through, or a place with what stands there.
 #[derive(Clone, Copy)]
 pub enum Node<'a> {
+    Done,
     Found(&'static str, Place),
     Maybe(&'static str, &'a Option<Identifier>),
     Expr(&'a Expr),
-    Exprs(&'a [Expr]),
+    Operand(&'a Boxed<Expr>),
     MaybeExpr(&'a Option<Boxed<Expr>>),
+    Exprs(&'a [Expr]),
     Steps(&'a [Part]),
     Type(&'a TypeSpec),
+    TypeName(&'a Boxed<TypeName>),
     Fields(&'a [FieldDecl]),
     Name(&'a Declared),
     Names(&'a [Declared]),
     Params(&'a [Param]),
     Init(&'a Init),
-    Parts(&'a [InitPart]),
+    Inits(&'a [InitPart]),
     Stmt(&'a Stmt),
-    MaybeStmt(&'a Option<Boxed<Stmt>>),
+    Body(&'a Boxed<Stmt>),
+    MaybeBody(&'a Option<Boxed<Stmt>>),
     Stmts(&'a [Stmt]),
+    /// What stands in a `for` behind its first part.
+    Rest(&'a StmtForm),
+    /// The `)` of a `for`, and its body.
+    Loop(Place, &'a Boxed<Stmt>),
 }
 
-/// Puts parts in front of what is still to be gone through.
-pub fn follow<'a>(todo: &mut Vec<Node<'a>>, nodes: &[Node<'a>]) -> Result<(), NoMemory> {
-    for node in nodes.iter().rev() {
-        todo.push(*node)?;
+use Node::{
+    Body, Done, Exprs, Fields, Found, Inits, Loop, Maybe, MaybeBody, MaybeExpr, Names, Operand,
+    Params, Rest, Steps, Stmts,
+};
+
+/// The parts of a part, behind which `Done` stands.
+pub type Parts<'a> = [Node<'a>; 4];
+
+/// The parts of an item.
+pub fn parts_of_item(item: &Item) -> Parts<'_> {
+    match item {
+        Item::Empty => [Done; 4],
+        Item::Declare(decl) => [
+            Node::Type(&decl.spec),
+            Names(decl.names.as_slice()),
+            Done,
+            Done,
+        ],
+        Item::Function {
+            spec,
+            head,
+            body,
+            ..
+        } => [
+            Node::Type(spec),
+            Node::Name(head),
+            Stmts(body.as_slice()),
+            Done,
+        ],
     }
-    Ok(())
 }
 
-/// Shows a place, or goes through a part of a tree.
-pub fn step<'a>(
-    alloc: Global,
-    todo: &mut Vec<Node<'a>>,
-    shown: &mut String,
-    node: Node<'a>,
-) -> Result<(), NoMemory> {
+/// The parts of a part.
+pub fn parts(node: Node<'_>) -> Parts<'_> {
     match node {
-        Node::Found(what, place) => show(alloc, shown, what, place),
-        Node::Maybe(what, Some(name)) => show(alloc, shown, what, name.place),
-        Node::Expr(expr) => in_expr(todo, &expr.form),
-        Node::MaybeExpr(Some(expr)) => in_expr(todo, &expr.get().form),
-        Node::Type(spec) => in_spec(todo, spec),
-        Node::Name(name) => in_name(todo, name),
-        Node::Init(Init::Value { value, after }) => {
-            follow(todo, &[Node::Expr(value), Node::Found("value", *after)])
-        }
-        Node::Init(Init::Braces(parts)) => follow(todo, &[Node::Parts(parts.as_slice())]),
-        Node::Stmt(stmt) => in_stmt(todo, &stmt.form),
-        Node::MaybeStmt(Some(stmt)) => in_stmt(todo, &stmt.get().form),
-        _ => in_list(todo, node),
+        Maybe(what, Some(name)) => [Found(what, name.place), Done, Done, Done],
+        Node::Expr(expr) => parts_of_expr(&expr.form),
+        Operand(expr) | MaybeExpr(Some(expr)) => parts_of_expr(&expr.get().form),
+        Node::Type(spec) => parts_of_type(spec),
+        Node::TypeName(to) => parts_of_type(&to.get().spec),
+        Node::Name(name) => parts_of_name(name),
+        Node::Init(init) => parts_of_init(init),
+        Node::Stmt(stmt) => parts_of_stmt(&stmt.form),
+        Body(stmt) | MaybeBody(Some(stmt)) => parts_of_stmt(&stmt.get().form),
+        Rest(form) => parts_of_for(form),
+        Loop(close, body) => [Found(" for", close), Body(body), Done, Done],
+        _ => parts_of_list(node),
     }
 }
 
-/// Shows a place.
-fn show(alloc: Global, shown: &mut String, what: &str, place: Place) -> Result<(), NoMemory> {
-    let text = format!(in alloc; "[{what} {}:{}]", place.line, place.column)?;
-    shown.push_str(text.as_str())?;
-    Ok(())
-}
-
-/// Goes through the first part of a list, before the others.
-fn in_list<'a>(todo: &mut Vec<Node<'a>>, node: Node<'a>) -> Result<(), NoMemory> {
+/// The first part of a list, before the others.
+fn parts_of_list(node: Node<'_>) -> Parts<'_> {
     match node {
-        Node::Exprs([first, others @ ..]) => {
-            follow(todo, &[Node::Expr(first), Node::Exprs(others)])
-        }
-        Node::Steps([Part::Member(name), others @ ..]) => {
-            follow(
-                todo,
-                &[Node::Found("step", name.place), Node::Steps(others)],
-            )
-        }
-        Node::Steps([Part::At(index), others @ ..]) => {
-            follow(todo, &[Node::Expr(index), Node::Steps(others)])
-        }
-        Node::Fields([first, others @ ..]) => {
-            follow(todo, &[Node::Type(&first.spec), Node::Fields(others)])
-        }
-        Node::Names([first, others @ ..]) => {
-            follow(todo, &[Node::Name(first), Node::Names(others)])
-        }
-        Node::Params([first, others @ ..]) => follow(
-            todo,
-            &[
-                Node::Type(&first.spec),
-                Node::Maybe("parameter", &first.name),
-                Node::Params(others),
-            ],
-        ),
-        Node::Parts([first, others @ ..]) => follow(
-            todo,
-            &[
-                Node::Maybe("designator", &first.member),
-                Node::Init(&first.init),
-                Node::Parts(others),
-            ],
-        ),
-        Node::Stmts([first, others @ ..]) => {
-            follow(todo, &[Node::Stmt(first), Node::Stmts(others)])
-        }
-        _ => Ok(()),
+        Exprs([first, others @ ..]) => [Node::Expr(first), Exprs(others), Done, Done],
+        Steps([Part::Member(name), others @ ..]) => [
+            Found(" step", name.place),
+            Steps(others),
+            Done,
+            Done,
+        ],
+        Steps([Part::At(index), others @ ..]) => [Node::Expr(index), Steps(others), Done, Done],
+        Fields([first, others @ ..]) => [Node::Type(&first.spec), Fields(others), Done, Done],
+        Names([first, others @ ..]) => [Node::Name(first), Names(others), Done, Done],
+        Params([first, others @ ..]) => [
+            Node::Type(&first.spec),
+            Maybe(" parameter", &first.name),
+            Params(others),
+            Done,
+        ],
+        Inits([first, others @ ..]) => [
+            Maybe(" designator", &first.member),
+            Node::Init(&first.init),
+            Inits(others),
+            Done,
+        ],
+        Stmts([first, others @ ..]) => [Node::Stmt(first), Stmts(others), Done, Done],
+        _ => [Done; 4],
     }
 }
 
-/// Goes through an expression.
-fn in_expr<'a>(todo: &mut Vec<Node<'a>>, form: &'a ExprForm) -> Result<(), NoMemory> {
+/// The parts of an initialiser.
+fn parts_of_init(init: &Init) -> Parts<'_> {
+    match init {
+        Init::Value { value, after } => [Node::Expr(value), Found(" value", *after), Done, Done],
+        Init::Braces(parts) => [Inits(parts.as_slice()), Done, Done, Done],
+    }
+}
+
+/// The parts of an expression.
+fn parts_of_expr(form: &ExprForm) -> Parts<'_> {
     match form {
-        ExprForm::Name(_) | ExprForm::Constant(_) | ExprForm::AssertFail => Ok(()),
-        ExprForm::Unary { arg, .. } | ExprForm::Count { arg, .. } | ExprForm::SizeOf(arg) => {
-            follow(todo, &[Node::Expr(arg.get())])
-        }
+        ExprForm::Name(_) | ExprForm::Constant(_) | ExprForm::AssertFail => [Done; 4],
+        ExprForm::Unary { arg, .. } | ExprForm::Count { arg, .. } | ExprForm::SizeOf(arg) => [
+            Operand(arg),
+            Done,
+            Done,
+            Done,
+        ],
         ExprForm::Binary { left, right, .. }
         | ExprForm::Assign { left, right, .. }
         | ExprForm::Index {
             base: left,
             index: right,
-        } => follow(todo, &[Node::Expr(left.get()), Node::Expr(right.get())]),
-        ExprForm::Choose { test, yes, no } => follow(
-            todo,
-            &[
-                Node::Expr(test.get()),
-                Node::Expr(yes.get()),
-                Node::Expr(no.get()),
-            ],
-        ),
-        ExprForm::Cast { to, arg } => {
-            follow(todo, &[Node::Type(&to.get().spec), Node::Expr(arg.get())])
-        }
-        ExprForm::SizeOfType(to) => follow(todo, &[Node::Type(&to.get().spec)]),
-        ExprForm::OffsetOf { to, path } => {
-            follow(
-                todo,
-                &[Node::Type(&to.get().spec), Node::Steps(path.as_slice())],
-            )
-        }
-        ExprForm::Member { base, name, .. } => {
-            follow(
-                todo,
-                &[
-                    Node::Expr(base.get()),
-                    Node::Found("member", name.get().place),
-                ],
-            )
-        }
-        ExprForm::Call { callee, args } => {
-            follow(
-                todo,
-                &[Node::Expr(callee.get()), Node::Exprs(args.as_slice())],
-            )
-        }
-        ExprForm::Inner { body, close } => {
-            follow(
-                todo,
-                &[Node::Stmts(body.as_slice()), Node::Found("block", *close)],
-            )
-        }
+        } => [Operand(left), Operand(right), Done, Done],
+        ExprForm::Choose { test, yes, no } => [Operand(test), Operand(yes), Operand(no), Done],
+        ExprForm::Cast { to, arg } => [Node::TypeName(to), Operand(arg), Done, Done],
+        ExprForm::SizeOfType(to) => [Node::TypeName(to), Done, Done, Done],
+        ExprForm::OffsetOf { to, path } => [Node::TypeName(to), Steps(path.as_slice()), Done, Done],
+        ExprForm::Member { base, name, .. } => [
+            Operand(base),
+            Found(" member", name.get().place),
+            Done,
+            Done,
+        ],
+        ExprForm::Call { callee, args } => [Operand(callee), Exprs(args.as_slice()), Done, Done],
+        ExprForm::Inner { body, close } => [
+            Stmts(body.as_slice()),
+            Found(" block", *close),
+            Done,
+            Done,
+        ],
     }
 }
 
-/// Goes through the words of a type.
-fn in_spec<'a>(todo: &mut Vec<Node<'a>>, spec: &'a TypeSpec) -> Result<(), NoMemory> {
+/// The parts of the words of a type.
+fn parts_of_type(spec: &TypeSpec) -> Parts<'_> {
     match spec {
-        TypeSpec::Basic(_) | TypeSpec::Named(_) => Ok(()),
+        TypeSpec::Basic(_) | TypeSpec::Named(_) => [Done; 4],
         TypeSpec::Struct {
             name,
             fields: Some(fields),
-        } => follow(
-            todo,
-            &[Node::Maybe("tag", name), Node::Fields(fields.as_slice())],
-        ),
-        TypeSpec::Struct { name, .. } | TypeSpec::Enum { name, .. } => {
-            follow(todo, &[Node::Maybe("tag", name)])
-        }
-        TypeSpec::OfExpr(expr) => follow(todo, &[Node::Expr(expr.get())]),
-        TypeSpec::OfType(name) => follow(todo, &[Node::Type(&name.get().spec)]),
+        } => [Maybe(" tag", name), Fields(fields.as_slice()), Done, Done],
+        TypeSpec::Struct { name, .. } | TypeSpec::Enum { name, .. } => [
+            Maybe(" tag", name),
+            Done,
+            Done,
+            Done,
+        ],
+        TypeSpec::OfExpr(expr) => [Operand(expr), Done, Done, Done],
+        TypeSpec::OfType(name) => [Node::TypeName(name), Done, Done, Done],
     }
 }
 
-/// Goes through a declared name.
-fn in_name<'a>(todo: &mut Vec<Node<'a>>, name: &'a Declared) -> Result<(), NoMemory> {
-    if let Some(params) = &name.params {
-        return follow(todo, &[Node::Params(params.as_slice())]);
-    }
-    match &name.init {
-        None => Ok(()),
-        Some(init) => follow(todo, &[Node::Init(init)]),
+/// The parts of a declared name.
+fn parts_of_name(name: &Declared) -> Parts<'_> {
+    match (&name.params, &name.init) {
+        (Some(params), _) => [Params(params.as_slice()), Done, Done, Done],
+        (None, Some(init)) => [Node::Init(init), Done, Done, Done],
+        (None, None) => [Done; 4],
     }
 }
 
-/// Goes through a statement.
-fn in_stmt<'a>(todo: &mut Vec<Node<'a>>, form: &'a StmtForm) -> Result<(), NoMemory> {
+/// The parts of a statement.
+fn parts_of_stmt(form: &StmtForm) -> Parts<'_> {
     match form {
-        StmtForm::Break | StmtForm::Continue => Ok(()),
-        StmtForm::Declare(decl) => {
-            let decl = decl.get();
-            follow(
-                todo,
-                &[Node::Type(&decl.spec), Node::Names(decl.names.as_slice())],
-            )
-        }
-        StmtForm::Eval(None) => Ok(()),
-        StmtForm::Eval(Some(expr)) => follow(todo, &[Node::Expr(expr)]),
-        StmtForm::Return(expr) => follow(todo, &[Node::MaybeExpr(expr)]),
-        StmtForm::Block(body) => follow(todo, &[Node::Stmts(body.as_slice())]),
+        StmtForm::Break | StmtForm::Continue | StmtForm::Eval(None) => [Done; 4],
+        StmtForm::Declare(decl) => [
+            Node::Type(&decl.get().spec),
+            Names(decl.get().names.as_slice()),
+            Done,
+            Done,
+        ],
+        StmtForm::Eval(Some(expr)) => [Node::Expr(expr), Done, Done, Done],
+        StmtForm::Return(expr) => [MaybeExpr(expr), Done, Done, Done],
+        StmtForm::Block(body) => [Stmts(body.as_slice()), Done, Done, Done],
         StmtForm::If {
             test,
             close,
             yes,
             no,
-        } => follow(
-            todo,
-            &[
-                Node::Expr(test.get()),
-                Node::Found("if", *close),
-                Node::Stmt(yes.get()),
-                Node::MaybeStmt(no),
-            ],
-        ),
-        StmtForm::While { test, close, body } => follow(
-            todo,
-            &[
-                Node::Expr(test.get()),
-                Node::Found("while", *close),
-                Node::Stmt(body.get()),
-            ],
-        ),
-        StmtForm::Do { body, test, close } => follow(
-            todo,
-            &[
-                Node::Stmt(body.get()),
-                Node::Expr(test.get()),
-                Node::Found("do", *close),
-            ],
-        ),
+        } => [
+            Operand(test),
+            Found(" if", *close),
+            Body(yes),
+            MaybeBody(no),
+        ],
+        StmtForm::While { test, close, body } => [
+            Operand(test),
+            Found(" while", *close),
+            Body(body),
+            Done,
+        ],
+        StmtForm::Do { body, test, close } => [
+            Body(body),
+            Operand(test),
+            Found(" do", *close),
+            Done,
+        ],
+        StmtForm::For { first, .. } => [
+            Body(first),
+            Found(" first", first.get().after),
+            Rest(form),
+            Done,
+        ],
+    }
+}
+
+/// The parts of a `for` behind its first.
+fn parts_of_for(form: &StmtForm) -> Parts<'_> {
+    match form {
         StmtForm::For {
-            first,
             test,
             semicolon,
             next,
             close,
             body,
-        } => follow(
-            todo,
-            &[
-                Node::Stmt(first.get()),
-                Node::Found("first", first.get().after),
-                Node::MaybeExpr(test),
-                Node::Found("second", *semicolon),
-                Node::MaybeExpr(next),
-                Node::Found("for", *close),
-                Node::Stmt(body.get()),
-            ],
-        ),
+            ..
+        } => [
+            MaybeExpr(test),
+            Found(" second", *semicolon),
+            MaybeExpr(next),
+            Loop(*close, body),
+        ],
+        _ => [Done; 4],
     }
 }

@@ -1,12 +1,14 @@
 //! The rows as they stand in a line, with the escapes of their texts.
+use crate::kinds::{Kind, kind_of};
 use cbase::{NoMemory, Text};
-use std::alloc::Global;
 
 /// What a line says.
 #[derive(Clone, Copy)]
 pub struct Row<'a> {
+    /// The word of what is asked.
+    pub word: &'a str,
     /// What is asked.
-    pub kind: &'a str,
+    pub kind: Kind,
     /// A number that the kind asks for, or 0.
     pub number: u32,
     /// The text, with its escapes.
@@ -15,11 +17,16 @@ pub struct Row<'a> {
 
 /// The row of a line, where it has a kind, a number and a text.
 pub fn row_of_line(line: &str) -> Option<Row<'_>> {
-    let (kind, rest) = line.split_once(' ')?;
+    let (word, rest) = line.split_once(' ')?;
     let (number, text) = rest.split_once(' ')?;
-    match number.parse::<u32>() {
-        Ok(number) => Some(Row { kind, number, text }),
-        Err(_) => None,
+    match (kind_of(word), number.parse::<u32>()) {
+        (Some(kind), Ok(number)) => Some(Row {
+            word,
+            kind,
+            number,
+            text,
+        }),
+        _ => None,
     }
 }
 
@@ -70,16 +77,15 @@ fn step(state: State, byte: u8) -> (State, Option<u8>) {
     }
 }
 
-/// The bytes of a text whose escapes are `\n`, `\t`, `\r`, `\s` for a blank, `\\` and `\x` with two hexadecimal digits.
-pub fn unescaped(alloc: Global, text: &str) -> Result<Text, NoMemory> {
-    let mut bytes = Vec::new(alloc);
+/// Puts the bytes of a text behind others. Its escapes are `\n`, `\t`, `\r`, `\s` for a blank, `\\` and `\x` with two hexadecimal digits.
+pub fn unescape(text: &str, bytes: &mut Text) -> Result<(), NoMemory> {
     let mut state = State::Plain;
     for byte in text.as_bytes() {
         let (next, ended) = step(state, *byte);
         state = next;
         if let Some(byte) = ended {
-            bytes.push(byte)?;
+            bytes.extend(&[byte])?;
         }
     }
-    Ok(Text::from_vec(bytes))
+    Ok(())
 }

@@ -1,4 +1,5 @@
 //! Names in scopes.
+use crate::printing::push_text;
 use cbase::NoMemory;
 use cgrammar::Scope;
 use std::alloc::Global;
@@ -7,23 +8,32 @@ use std::alloc::Global;
 /// scope around; `?t` asks whether it is a typedef.
 fn step(alloc: Global, scope: &mut Scope, word: &[u8], shown: &mut String) -> Result<(), NoMemory> {
     match word {
-        [b'('] => scope.enter(alloc)?,
-        [b')'] => scope.leave(),
-        [b'+', name @ ..] => scope.declare(alloc, name, true)?,
-        [b'-', name @ ..] => scope.declare(alloc, name, false)?,
-        [b'^', name @ ..] => scope.declare_around(alloc, name, false)?,
-        [b'?', name @ ..] => shown.push_str(if scope.is_typedef(name) { "y" } else { "n" })?,
-        _ => shown.push_str("no step")?,
+        [b'('] => scope.enter(alloc),
+        [b')'] => {
+            scope.leave();
+            Ok(())
+        }
+        [b'+', name @ ..] => scope.declare(alloc, name, true),
+        [b'-', name @ ..] => scope.declare(alloc, name, false),
+        [b'^', name @ ..] => scope.declare_around(alloc, name, false),
+        [b'?', name @ ..] => push_text(if scope.is_typedef(name) { "y" } else { "n" }, shown),
+        _ => push_text("no step", shown),
     }
-    Ok(())
 }
 
 /// The answers to the questions among the steps in a text with blanks between them, `y` or `n` each.
-pub fn scope(alloc: Global, text: &[u8]) -> Result<String, NoMemory> {
+pub fn scope(alloc: Global, text: &str, shown: &mut String) -> Result<(), NoMemory> {
+    push_text(" ", shown)?;
     let mut scope = Scope::new(alloc)?;
-    let mut shown = String::new(alloc);
-    for word in text.split(|byte| *byte == b' ') {
-        step(alloc, &mut scope, word, &mut shown)?;
+    let told = steps(alloc, &mut scope, text, shown);
+    drop(scope);
+    told
+}
+
+/// Takes the steps in a text.
+fn steps(alloc: Global, scope: &mut Scope, text: &str, shown: &mut String) -> Result<(), NoMemory> {
+    for word in text.split(' ') {
+        step(alloc, scope, word.as_bytes(), shown)?;
     }
-    Ok(shown)
+    Ok(())
 }

@@ -1,6 +1,7 @@
 //! Tokens as the grammar sees them, where `t` is a typedef.
 ghost use Rattle.ctokens.specs.InText.{LieInText};
 
+use crate::printing::{counted, push_row, push_text, push_truth};
 use cbase::{NoMemory, Place};
 use cgrammar::{Scope, Terminal, begins_with_label, read_basic_words, row_of, stars_length};
 use ctokens::{Token, TokenKind, Tokens};
@@ -8,100 +9,98 @@ use std::alloc::Global;
 
 /// A token of the kind that stands in no text.
 fn alone(kind: TokenKind) -> Token {
-    let place = Place {
-        file: 0,
-        line: 1,
-        column: 1,
-        at: 0,
-    };
     Token {
         kind,
         from: 0,
         to: 1,
-        place,
+        place: Place::NONE,
     }
 }
 
 /// Whether the bytes are an integer constant.
-pub fn constant(alloc: Global, bytes: &[u8]) -> Result<String, NoMemory> {
+pub fn constant(bytes: &[u8], shown: &mut String) -> Result<(), NoMemory> {
     let token = alone(TokenKind::Number);
     let number = Terminal {
         token: &token,
         bytes,
     };
-    Ok(format!(in alloc; "{}", number.is_constant())?)
+    push_truth(number.is_constant(), shown)
 }
 
-/// Which operator of the kind the bytes of a mark are.
-pub fn mark(alloc: Global, kind: &str, bytes: &[u8]) -> Result<String, NoMemory> {
+/// Which operator the bytes are among the binary ones, the unary ones and the assignments, whether they are `++` of `++` and `--`, and whether they are `->` of `->` and `.`.
+pub fn mark(bytes: &[u8], shown: &mut String) -> Result<(), NoMemory> {
     let token = alone(TokenKind::Mark);
     let mark = Terminal {
         token: &token,
         bytes,
     };
-    let shown = match kind {
-        "binary" => format!(in alloc; "{:?}", mark.binary())?,
-        "unary" => format!(in alloc; "{:?}", mark.unary())?,
-        "assignment" => format!(in alloc; "{:?}", mark.assignment())?,
-        "counting" => format!(in alloc; "{:?}", mark.counting())?,
-        _ => format!(in alloc; "{:?}", mark.member())?,
-    };
-    Ok(shown)
-}
-
-/// How many basic words a row begins with, and the type that they spell.
-fn basic(alloc: Global, row: &[Terminal<'_>]) -> Result<String, NoMemory> {
-    let read = read_basic_words(alloc, row)?;
-    Ok(format!(in alloc; "{} {:?}", read.count, read.basic)?)
-}
-
-/// The token at the number: its kind and place, whether it is any word, a name and a typedef.
-fn terminal(alloc: Global, scope: &Scope, token: &Terminal<'_>) -> Result<String, NoMemory> {
-    let signed = token.is_word(b"signed");
-    let word = token.is_any_word();
-    let name = token.is_name();
-    let typedef = token.is_typedef(scope);
-    let at = token.place().at;
-    let bytes = token.bytes().len();
-    Ok(format!(in alloc;
-        "at {at} of {bytes} signed={signed} word={word} name={name} typedef={typedef}"
+    Ok(write!(
+        shown,
+        " {:?} {:?} {:?} {:?} {:?}",
+        mark.binary(),
+        mark.unary(),
+        mark.assignment(),
+        mark.counting(),
+        mark.member()
     )?)
 }
 
-/// What a kind answers of a row that begins with a token.
-fn shown(
+/// What stands at the front of a row that begins with a token.
+fn show(
     alloc: Global,
-    kind: &str,
+    scope: &Scope,
     row: &[Terminal<'_>],
     first: &Terminal<'_>,
-) -> Result<String, NoMemory> {
-    let mut scope = Scope::new(alloc)?;
+    shown: &mut String,
+) -> Result<(), NoMemory> {
+    let numbers = [
+        u32::from(begins_with_label(scope, row)),
+        counted(stars_length(row)),
+        counted(row.len()),
+        first.token.place.at,
+        counted(first.bytes.len()),
+        u32::from(first.is_word(b"signed")),
+        u32::from(first.is_any_word()),
+        u32::from(first.is_name()),
+        u32::from(first.is_typedef(scope)),
+    ];
+    push_row("", &numbers, shown)?;
+    let read = read_basic_words(alloc, row)?;
+    let storage = first.storage_word();
+    Ok(write!(shown, " {} {:?} {storage:?}", read.count, read.basic)?)
+}
+
+/// The same of the row of a text from the token of that number on, where a typedef is put into an empty scope.
+fn show_in_scope(
+    alloc: Global,
+    number: usize,
+    t: &Tokens,
+    scope: &mut Scope,
+    shown: &mut String,
+) -> Result<(), NoMemory>
+    requires { LieInText t.now }
+{
     scope.declare(alloc, b"t", true)?;
-    match kind {
-        "label" => Ok(format!(in alloc; "{}", begins_with_label(&scope, row))?),
-        "basic" => basic(alloc, row),
-        "storage" => Ok(format!(in alloc; "{:?}", first.storage_word())?),
-        "stars" => Ok(format!(in alloc; "{}", stars_length(row))?),
-        "length" => Ok(format!(in alloc; "{}", row.len())?),
-        "terminal" => terminal(alloc, &scope, first),
-        _ => Ok(String::from_str(alloc, "no such kind")?),
+    let row = row_of(alloc, t)?;
+    let row = row.as_slice();
+    match row.get(number) {
+        Some(first) => show(alloc, scope, &row[number..], first, shown),
+        None => push_text(" no token", shown),
     }
 }
 
-/// What a kind answers of the row of a text from the token with the number on: whether a label stands there (`label`), its basic
-/// words (`basic`), the storage class (`storage`), the stars (`stars`), how many tokens there are (`length`) and what the
-/// first one is (`terminal`).
-pub fn terminal_of_text(
+/// What stands at a token of a text, and the tokens behind it: whether a label, 1 or 0, how many stars, and how many tokens there are from it on; of the token its number, how many bytes it has, and whether it is the
+/// word `signed`, any word, a name and a typedef, each 1 or 0; how many words of basic types stand there, the type that they spell, and the storage class that the token names.
+pub fn terminal(
     alloc: Global,
-    kind: &str,
     number: usize,
     t: &Tokens,
-) -> Result<String, NoMemory>
+    shown: &mut String,
+) -> Result<(), NoMemory>
     requires { LieInText t.now }
 {
-    let row = row_of(alloc, t)?;
-    match row.as_slice().get(number..) {
-        Some([first, behind @ ..]) => shown(alloc, kind, &row.as_slice()[number..], first),
-        _ => Ok(String::from_str(alloc, "no token")?),
-    }
+    let mut scope = Scope::new(alloc)?;
+    let told = show_in_scope(alloc, number, t, &mut scope, shown);
+    drop(scope);
+    told
 }

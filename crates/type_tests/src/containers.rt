@@ -10,13 +10,11 @@ fn two_bytes(alloc: Global) -> Result<List<u8>, NoMemory> {
     Ok(list)
 }
 
-#[test]
-fn a_list_gives_back_what_was_pushed(rt: HostRuntime) -> Result<(), Fail> {
-    let list = two_bytes(rt.alloc())?;
+/// Whether a list shows and gives back what was pushed.
+fn is_given_back(alloc: Global) -> Result<bool, NoMemory> {
+    let list = two_bytes(alloc)?;
     let seen = list.as_slice() == [7, 9].as_slice();
-    let given_back = list.into_vec().as_slice() == [7, 9].as_slice();
-    assert_eq!(rt; (seen, given_back), (true, true));
-    Ok(())
+    Ok(list.into_vec().as_slice() == [7, 9].as_slice() && seen)
 }
 
 /// A line in two pieces.
@@ -26,11 +24,10 @@ fn two_pieces(alloc: Global) -> Result<Text, NoMemory> {
     Ok(text)
 }
 
-#[test]
-fn a_text_is_its_bytes(rt: HostRuntime) -> Result<(), Fail> {
-    let text = two_pieces(rt.alloc())?;
-    assert_eq!(rt; text.as_slice(), b"t.c: safe\n".as_slice());
-    Ok(())
+/// Whether a text is its bytes.
+fn is_its_bytes(alloc: Global) -> Result<bool, NoMemory> {
+    let text = two_pieces(alloc)?;
+    Ok(text.as_slice() == b"t.c: safe\n".as_slice())
 }
 
 /// A tree of any width and depth, to see that both containers stand in types that hold themselves.
@@ -69,9 +66,16 @@ fn three_leaves(alloc: Global) -> Result<Tree, NoMemory> {
     Ok(Tree::Twin { left, right })
 }
 
+/// The sum of a tree that holds itself in lists and boxes.
+fn sum_of_a_tree(alloc: Global) -> Result<u64, NoMemory> {
+    Ok(sum(&three_leaves(alloc)?))
+}
+
 #[test]
-fn a_tree_holds_itself_in_lists_and_boxes(rt: HostRuntime) -> Result<(), Fail> {
-    let total = sum(&three_leaves(rt.alloc())?);
-    assert_eq!(rt; total, 7);
+fn lists_texts_and_boxes_hold_what_they_were_given(rt: HostRuntime) -> Result<(), Fail> {
+    let list = is_given_back(rt.alloc())?;
+    let text = is_its_bytes(rt.alloc())?;
+    let total = sum_of_a_tree(rt.alloc())?;
+    assert_eq!(rt; (list, text, total), (true, true, 7));
     Ok(())
 }

@@ -1,0 +1,9 @@
+pub mod OfFile
+pub mod Safe
+pub mod Warned
+pub mod GaveUp
+pub mod NotRead
+pub mod NotYet
+pub mod TooLong
+pub mod Words
+pub mod ReadFault

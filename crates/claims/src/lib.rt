@@ -1,0 +1,10 @@
+//! What each answer means: of each a law, which is the contract of a function that does nothing. Its premise is a clause of the call that gives the answer, word for word, and its conclusion
+//! is what the answer means, with no more definitions than that needs. `tools/audit.py --answer NAME` lists these.
+#![tactic(auto)]
+
+mod judging;
+
+pub use judging::{
+    gave_up_means, no_main_means, no_token_means, not_yet_means, read_fault_means, rule_means,
+    safe_means, syntax_means, too_deep_means, too_long_means, usage_means, warned_means,
+};
