@@ -1,5 +1,5 @@
 -- Blocks and what is declared directly in them (C11 6.2.4, 6.7, 6.8.2).
-use Rattle.std.specs.Prelude.{List, [], ◌∷◌, ◌++◌, map, Option, None, Some}
+use Rattle.std.specs.Prelude.{Bool, true, false, ◌&&◌, List, [], ◌∷◌, ◌++◌, map, Option, None, Some, if◌then◌else◌}
 use Rattle.std.specs.List.{flat_map}
 use Rattle.cbase.specs.declared.place.Place.{Place}
 use Rattle.c_machine.specs.declared.kind.Kind.TheVariants.{Struct}
@@ -31,16 +31,24 @@ entered t body = flat_map (objects_in t) body
 abbrev pub in_block : (t : Text) → List t.Stmt → Place → List (TaskIn t)
 in_block t body close = OpenBlock ∷ (entered t body ++ (map Execute body ++ LeaveBlock close ∷ []))
 
--- the block of a statement expression: the value of its last expression statement is kept over the `;` behind it and over the `}`. Where its last
--- statement is none, it has no value
+-- a statement that is `;` alone, and statements that are all so
+abbrev pub is_empty : {E S I : Type 0} → Clause E S I → Bool
+is_empty (Eval None) = true
+is_empty other = false
+
+abbrev pub are_empty : (t : Text) → List t.Stmt → Bool
+are_empty t [] = true
+are_empty t (stmt ∷ body) = is_empty (t.clause stmt) && are_empty t body
+
+-- the block of a statement expression: where the last statement that is not empty is an expression statement, the value of that is kept over the `;` behind it
+-- and over the `}`, as GNU C has it. Else it has no value
 abbrev pub last_tasks : (t : Text) → t.Stmt → Clause t.Expr t.Stmt t.Init → List (TaskIn t)
 last_tasks t stmt (Eval (Some expr)) = ValueOf expr ∷ Keep (t.last stmt) ∷ []
 last_tasks t stmt other = Execute stmt ∷ Push 0 ∷ []
 
 abbrev pub valued : (t : Text) → List t.Stmt → List (TaskIn t)
 valued t [] = Push 0 ∷ []
-valued t (stmt ∷ []) = last_tasks t stmt (t.clause stmt)
-valued t (stmt ∷ (next ∷ body)) = Execute stmt ∷ valued t (next ∷ body)
+valued t (stmt ∷ body) = if are_empty t body then last_tasks t stmt (t.clause stmt) else Execute stmt ∷ valued t body
 
 abbrev pub in_inner_block : (t : Text) → List t.Stmt → Place → List (TaskIn t)
 in_inner_block t body close = OpenBlock ∷ (entered t body ++ (valued t body ++ LeaveBlock close ∷ []))

@@ -1,7 +1,6 @@
 -- Blocks, and the objects that are made where they are entered.
-use Rattle.std.proofs.Common.{◌≡◌, Bool, true, false, ◌&&◌, ℕ, zero, suc, ◌+◌, ◌-◌, ◌<◌, length, get_or, arith, List, [], ◌∷◌, ◌++◌, map, drop, take, Option, None, Some, option_map, refl, sym, ap, ◌∙◌, append_assoc, if◌then◌else◌}
+use Rattle.std.proofs.Common.{◌≡◌, Bool, true, false, ◌&&◌, ℕ, zero, suc, ◌+◌, ◌-◌, ◌<◌, ◌≤◌, length, get_or, arith, List, [], ◌∷◌, ◌++◌, map, drop, take, Option, None, Some, option_map, refl, sym, ap, ◌∙◌, append_assoc, if◌then◌else◌}
 use Rattle.std.specs.Prelude.{nat_le}
-use Rattle.std.proofs.Math.Seq.{drop-length}
 use Rattle.std.specs.List.{flat_map}
 use Rattle.cbase.specs.declared.place.Place.{Place}
 use Rattle.cbase.specs.declared.tree.decl.Decl.{Decl}
@@ -15,7 +14,7 @@ use Rattle.typing.specs.Forms.{Clause as Layer}
 use Rattle.c_machine.specs.declared.object.Object.{Object}
 use Rattle.c_machine.specs.declared.kind.Kind.TheVariants.{Struct}
 use Rattle.c_machine.specs.declared.task.Task.TheVariants.{Execute, LeaveBlock, MakeObject}
-use Rattle.c_machine.specs.Blocks.{last_tasks, made, valued}
+use Rattle.c_machine.specs.Blocks.{are_empty, is_empty, last_tasks, made, valued}
 use Rattle.c_machine.specs.Program.{Program}
 use Rattle.c_machine.specs.State.{doing}
 use Rattle.c_machine.specs.Text.{Clause, Declare, Eval, Block, If, While, Do, For, Break, Continue, Return, Declared as DeclaredName, Text}
@@ -105,29 +104,61 @@ last_kept p stmt (Return expr) close = refl
 
 pub valued_kept : (p : Program) (body : List Stmt) (close : Place) → are_kept (kinds_in (valued (text_of p) body ++ LeaveBlock close ∷ [])) ≡ true
 valued_kept p [] close = refl
-valued_kept p (stmt ∷ []) close = last_kept p stmt (clause_of (out-StmtForm stmt.form)) close
-valued_kept p (stmt ∷ (next ∷ body)) close = valued_kept p (next ∷ body) close
-
-pub last_alone : (body : List Stmt) (stmt : Stmt) → 0 < length body → stmt ≡ get_or body (length body - 1) stmt → drop (length body - 1) body ≡ stmt ∷ []
-last_alone body stmt some is =
-    let inside : length body - 1 < length body = grind (arith, some) in
-    let same : length body - 1 + 1 ≡ length body = grind (arith, some) in
-    item_at body (length body - 1) stmt inside is
-    ∙ ap (λ (k : ℕ). stmt ∷ drop k body) same
-    ∙ ap (λ (rest : List Stmt). stmt ∷ rest) (drop-length body)
-
-pub valued_last : (p : Program) (body : List Stmt) (front : ℕ) (stmt : Stmt) → drop front body ≡ stmt ∷ [] →
-    valued (text_of p) body ≡ map Execute (take front body) ++ last_tasks (text_of p) stmt (clause_of (out-StmtForm stmt.form))
-valued_last p [] zero stmt is = absurd cc
-valued_last p [] (suc front) stmt is = absurd cc
-valued_last p (one ∷ []) zero stmt is =
-    let same : one ≡ stmt = cc in ap (λ (stmt : Stmt). last_tasks (text_of p) stmt (clause_of (out-StmtForm stmt.form))) same
-valued_last p (one ∷ (next ∷ body)) zero stmt is = absurd cc
-valued_last p (one ∷ []) (suc front) stmt is = empty front is
+valued_kept p (stmt ∷ body) close = chosen (are_empty (text_of p) body) (valued_kept p body close)
   where
-    empty : (k : ℕ) → drop k [] ≡ stmt ∷ [] →
-        valued (text_of p) (one ∷ []) ≡ map Execute (take (suc k) (one ∷ [])) ++ last_tasks (text_of p) stmt (clause_of (out-StmtForm stmt.form))
-    empty zero is = absurd cc
-    empty (suc k) is = absurd cc
-valued_last p (one ∷ (next ∷ body)) (suc front) stmt is =
-    ap (λ (tasks : Tasks). Execute one ∷ tasks) (valued_last p (next ∷ body) front stmt is)
+    chosen : (last : Bool) → are_kept (kinds_in (valued (text_of p) body ++ LeaveBlock close ∷ [])) ≡ true → are_kept (kinds_in (
+        (if last then last_tasks (text_of p) stmt (clause_of (out-StmtForm stmt.form)) else Execute stmt ∷ valued (text_of p) body) ++ LeaveBlock close ∷ [])) ≡ true
+    chosen true rest = last_kept p stmt (clause_of (out-StmtForm stmt.form)) close
+    chosen false rest = rest
+
+-- statements of which one is not empty are not all empty
+never : (test : Bool) → test && false ≡ false
+never true = refl
+never false = refl
+
+pub one_full : (p : Program) (body : List Stmt) (front : ℕ) (stmt : Stmt) (rest : List Stmt) → drop front body ≡ stmt ∷ rest →
+    are_empty (text_of p) (stmt ∷ rest) ≡ false → are_empty (text_of p) body ≡ false
+one_full p [] zero stmt rest is full = absurd cc
+one_full p [] (suc front) stmt rest is full = absurd cc
+one_full p (one ∷ body) zero stmt rest is full = ap (are_empty (text_of p)) is ∙ full
+one_full p (one ∷ body) (suc front) stmt rest is full =
+    ap (λ (all : Bool). is_empty (clause_of (out-StmtForm one.form)) && all) (one_full p body front stmt rest is full)
+    ∙ never (is_empty (clause_of (out-StmtForm one.form)))
+
+-- the last statement that counts stands behind the others, and empty ones stand behind it
+pub valued_at : (p : Program) (body : List Stmt) (front : ℕ) (stmt : Stmt) (rest : List Stmt) → drop front body ≡ stmt ∷ rest →
+    are_empty (text_of p) rest ≡ true → (0 < front → are_empty (text_of p) (stmt ∷ rest) ≡ false) →
+    valued (text_of p) body ≡ map Execute (take front body) ++ last_tasks (text_of p) stmt (clause_of (out-StmtForm stmt.form))
+valued_at p [] zero stmt rest is empty full = absurd cc
+valued_at p [] (suc front) stmt rest is empty full = absurd cc
+valued_at p (one ∷ body) zero stmt rest is empty full =
+    ap (valued (text_of p)) is
+    ∙ ap (λ (all : Bool). if all then last_tasks (text_of p) stmt (clause_of (out-StmtForm stmt.form)) else Execute stmt ∷ valued (text_of p) rest) empty
+valued_at p (one ∷ body) (suc front) stmt rest is empty full =
+    ap (λ (all : Bool). if all then last_tasks (text_of p) one (clause_of (out-StmtForm one.form)) else Execute one ∷ valued (text_of p) body)
+    (one_full p body front stmt rest is (full (grind arith)))
+    ∙ ap (λ (tasks : Tasks). Execute one ∷ tasks) (valued_at p body front stmt rest is empty (λ some. full (grind arith)))
+
+-- all from a place on are empty, or not, as the statement there is, where all behind it are
+with_true : (test : Bool) → test && true ≡ test
+with_true true = refl
+with_true false = refl
+
+pub empty_from : (p : Program) (body : List Stmt) (left : ℕ) (stmt : Stmt) (test : Bool) → 0 < left → left ≤ length body → stmt ≡ get_or body (left - 1) stmt →
+    test ≡ is_empty (clause_of (out-StmtForm stmt.form)) → are_empty (text_of p) (drop left body) ≡ true → are_empty (text_of p) (drop (left - 1) body) ≡ test
+empty_from p body left stmt test some inside is one rest =
+    let before : left - 1 < length body = grind (arith, some, inside) in
+    let behind : left - 1 + 1 ≡ left = grind (arith, some) in
+    ap (are_empty (text_of p)) (item_at body (left - 1) stmt before is)
+    ∙ ap (λ (k : ℕ). is_empty (clause_of (out-StmtForm stmt.form)) && are_empty (text_of p) (drop k body)) behind
+    ∙ ap (λ (all : Bool). is_empty (clause_of (out-StmtForm stmt.form)) && all) rest
+    ∙ ap (λ (first : Bool). first && true) (sym one)
+    ∙ with_true test
+
+pub empty_behind : (p : Program) (body : List Stmt) → are_empty (text_of p) body ≡ true → are_empty (text_of p) (drop 1 body) ≡ true
+empty_behind p [] all = refl
+empty_behind p (stmt ∷ body) all = both (is_empty (clause_of (out-StmtForm stmt.form))) (are_empty (text_of p) body) all
+  where
+    both : (first rest : Bool) → first && rest ≡ true → rest ≡ true
+    both true rest all = all
+    both false rest all = absurd cc

@@ -1,9 +1,9 @@
 //! Blocks and the objects that are made where they are entered (C11 6.2.4, 6.8.2).
-ghost use Rattle.std.specs.Prelude.{◌≡◌, ◌∷◌, map, IfOk, OnOk};
+ghost use Rattle.std.specs.Prelude.{◌≡◌, ◌+◌, ◌<◌, [], ◌∷◌, drop, length, map, true, false, IfNone, IfOk, IfSome, OnOk};
 ghost use Rattle.std.specs.List.{flat_map};
 ghost use Rattle.cbase.specs.declared.tree.decl.Declared.{Declared};
 ghost use Rattle.c_machine.specs.declared.task.Task.TheVariants.{Execute, OpenBlock};
-ghost use Rattle.c_machine.specs.Blocks.{entered, in_block, in_inner_block, last_tasks, made, objects_in, valued};
+ghost use Rattle.c_machine.specs.Blocks.{are_empty, entered, in_block, in_inner_block, is_empty, last_tasks, made, objects_in, valued};
 ghost use Rattle.c_machine.specs.State.{doing};
 ghost use Rattle.expressions.specs.Numbers.{Numbering};
 ghost use Rattle.c_machine.specs.Program.{Program};
@@ -137,16 +137,42 @@ fn do_statements<'a>(state: &mut TreeState<'a>, body: &'a [Stmt]) -> Result<(), 
     Ok(())
 }
 
-/// The statements of the block of a statement expression, in order, with the value of the last one.
+/// The statements of the block of a statement expression, in order, with the value of the last one that is not empty.
 fn do_valued<'a>(state: &mut TreeState<'a>, body: &'a [Stmt]) -> Result<(), NoMemory>
     ensures { OnOk result ((p : Program) → state.new ≡ doing (valued (text_of p) body.now) state.old) }
 {
-    if body.is_empty() {
+    let Some(front) = last_counted(body) else {
         return state.do_first(Task::Push(0));
-    }
-    let front = body.len() - 1;
+    };
     do_last(state, &body[front])?;
     do_statements(state, &body[..front])
+}
+
+/// Where the last statement stands that is not empty, or the first one where all are. None where there is no statement.
+fn last_counted(body: &[Stmt]) -> Option<usize>
+    ensures none { IfNone result (body.now ≡ []) }
+    ensures inside { IfSome result (λ at. at < length body.now) }
+    ensures empty { IfSome result (λ at. (p : Program) → are_empty (text_of p) (drop (at + 1) body.now) ≡ true) }
+    ensures full { IfSome result (λ at. (p : Program) → 0 < at → are_empty (text_of p) (drop at body.now) ≡ false) }
+{
+    let mut at = body.len();
+    while at > 0 {
+        at -= 1;
+        if !is_empty(&body[at]) {
+            return Some(at);
+        }
+    }
+    if body.is_empty() { None } else { Some(0) }
+}
+
+/// Whether a statement is `;` alone.
+fn is_empty(stmt: &Stmt) -> bool
+    ensures { (p : Program) → result ≡ is_empty ((text_of p).clause stmt.now) }
+{
+    match &stmt.form {
+        StmtForm::Eval(expr) => expr.is_none(),
+        _ => false,
+    }
 }
 
 /// The last statement of the block of a statement expression: the value of an expression is kept, and any other statement has none.
