@@ -61,8 +61,6 @@ pub enum Kind {
     BadChoices,
     /// That of a text without `main`.
     RunNoMain,
-    /// That of a run that comes to a call that is not run yet.
-    RunNotYet,
     /// That of a text that is too long.
     RunTooLong,
     /// That of choices that are too long.
@@ -76,7 +74,7 @@ pub enum Kind {
 }
 
 /// The words of the kinds.
-const KINDS: [(&str, Kind); 35] = [
+const KINDS: [(&str, Kind); 34] = [
     ("repeat", Kind::Repeat),
     ("run", Kind::Run),
     ("files", Kind::Files),
@@ -106,7 +104,6 @@ const KINDS: [(&str, Kind); 35] = [
     ("run_stuck", Kind::Stuck),
     ("run_choices", Kind::BadChoices),
     ("run_no_main", Kind::RunNoMain),
-    ("run_not_yet", Kind::RunNotYet),
     ("run_too_long", Kind::RunTooLong),
     ("run_choices_too_long", Kind::ChoicesTooLong),
     ("run_usage", Kind::RunUsage),

@@ -36,7 +36,6 @@ fn answer_of(kind: Kind, number: u32, place: Place) -> Option<ReplayAnswer>
         }),
         Kind::BadChoices => Some(ReplayAnswer::BadChoices),
         Kind::RunNoMain => Some(ReplayAnswer::NotRead { why: Why::NoMain }),
-        Kind::RunNotYet => Some(ReplayAnswer::NotYet { place }),
         Kind::RunTooLong => Some(ReplayAnswer::TooLong {
             taken: number,
             second: false,
