@@ -104,13 +104,7 @@ fn value_of<'a>(stmt: &'a Stmt, rest: &[Stmt]) -> Option<&'a Expr>
     ensures none { IfNone result (is_last_value (stmt.now ∷ rest.now) ≡ false) }
 {
     match value_in(stmt) {
-        Some(expr) => {
-            if are_empty(rest) {
-                Some(expr)
-            } else {
-                None
-            }
-        }
+        Some(expr) => { if are_empty(rest) { Some(expr) } else { None } }
         None => None,
     }
 }

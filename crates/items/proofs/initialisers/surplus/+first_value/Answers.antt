@@ -1,5 +1,5 @@
 -- The first value in parts.
-use Rattle.std.proofs.Common.{◌≡◌, ◌<◌, ◌≤◌, ◌∙◌, ℕ,  Bool, true, false, nat_eq, List, Option, None, Some, map, length, get_or, arith, ap, sym}
+use Rattle.std.proofs.Common.{◌≡◌, ◌<◌, ◌≤◌, ◌∙◌, ℕ, Bool, true, false, nat_eq, List, Option, None, Some, map, length, get_or, arith, ap, sym}
 use Rattle.std.specs.Prelude.{IfNone, IfSome}
 use Rattle.std.proofs.lemmas.Bool.Decides.{nat_tests}
 use Rattle.cbase.specs.declared.place.Place.{Place}
