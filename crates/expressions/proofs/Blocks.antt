@@ -1,6 +1,5 @@
 -- What is found of the block of a statement expression.
 use Rattle.std.proofs.Common.{◌≡◌, ◌<◌, ℕ, true, false, List, [], ◌∷◌, ◌++◌, map, length, refl, sym, ap, subst, ◌∙◌, ◌≤◌, ◌+◌, ◌-◌, take, drop, get_or, arith, length-drop, None, Some, append-nil, Result, Ok, Err, IfOk}
-use Rattle.std.specs.Prelude.{is_some}
 use Rattle.std.proofs.lemmas.List.{append_assoc, map-append, drop_all, take_all}
 use Rattle.cbase.specs.declared.abi.Abi.{Abi}
 use Rattle.cbase.specs.declared.ctype.CType.{CType}

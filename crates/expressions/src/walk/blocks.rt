@@ -103,8 +103,10 @@ fn value_of<'a>(stmt: &'a Stmt, rest: &[Stmt]) -> Option<&'a Expr>
     ensures levels { IfSome result (λ expr. expr_levels expr.now ≤ stmt_levels stmt.now) }
     ensures none { IfNone result (is_last_value (stmt.now ∷ rest.now) ≡ false) }
 {
-    let value = value_in(stmt);
-    if are_empty(rest) { value } else { None }
+    match value_in(stmt) {
+        Some(expr) => { if are_empty(rest) { Some(expr) } else { None } }
+        None => None,
+    }
 }
 
 /// The expression that is a statement, where it is one.

@@ -1,7 +1,6 @@
 -- What a declaration says of an object.
 use Rattle.std.proofs.Common.{◌≡◌, ◌∙◌, List, ℕ, Option, length, ap, sym, subst, refl}
 use Rattle.cbase.specs.declared.tree.expr.ExprForm.TheViews.{out-Declared}
-use Rattle.typing.specs.declared.environment.entity.Linked.{Linked}
 use Rattle.typing.specs.environment.Bounds.{DeclaredBelow}
 use Rattle.typing.specs.environment.Environment.{visible_type}
 use Rattle.typing.specs.environment.Names.{value_in}

@@ -1,5 +1,5 @@
 -- The type of the value of a block.
-use Rattle.std.proofs.Common.{◌∙◌, [], ◌∷◌, refl, sym, subst}
+use Rattle.std.proofs.Common.{◌∙◌, ◌∷◌, refl, sym, subst}
 use Rattle.cbase.specs.declared.place.Place.{Place}
 use Rattle.typing.specs.declared.ctypes.found.Broken.TheVariants.{Rule}
 use Rattle.typing.specs.Faults.{fault}

@@ -1,4 +1,4 @@
-use Rattle.items.proofs.initialisers.Judged.{unconverted, no_constant, test_of_pointer, nothing_broken}
+use Rattle.items.proofs.initialisers.Judged.{unconverted, no_constant}
 use Rattle.items.proofs.initialisers.storing.fault_of.Goals as goal
 
 pub returns-then-not-converts : goal.returns-then-not-converts
