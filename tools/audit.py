@@ -215,19 +215,11 @@ def group_list(claim):
     return text + (f"| {', '.join(f'`{crate}`' for crate in sorted(left))} | | | in no group yet |\n" if left else "")
 
 
-def claim_list(sources, claim, top):
-    """A claim with its functions, its sizes, and the files that are not in the list of the top call."""
-    shared = claim.paths & top.paths
-    text = f"- **`{claim.crate}`, {claim.words}** ({', '.join(f'`{name}`' for name in claim.names)}): {sizes(sources, claim)}."
-    beyond = []
-    for crate in units(sources):
-        for path in claim.ordered(crate):
-            if path not in top.paths:
-                kind = mark(path)
-                beyond.append(f"`{short(path)}` {claim.lines(path)}{f' ({kind})' if kind else ''}")
-    if shared:
-        text += f" {count(len(shared), 'file')} of the list above."
-    return text + (f" Besides: {', '.join(beyond)}.\n" if beyond else " No other.\n")
+def claim_row(sources, claim):
+    """A claim with its functions and how much there is to read for it."""
+    names = ", ".join(f"`{name}`" for name in claim.names)
+    lines, types = claim.all_lines(), sum(one.lines for one in claim.types)
+    return f"| `{claim.crate}` | {claim.words} | {cell(names) if claim.words == 'laws' or len(claim.names) < 8 else f'{len(claim.names)} of them'} | {lines:,} | {types:,} |\n"
 
 
 def rest_list(sources, claims):
@@ -243,13 +235,14 @@ def rest_list(sources, claims):
 
 
 def page(sources):
-    """The lists of docs/audit.md."""
+    """The tables of docs/audit.md."""
     top = top_claim(sources)
     text = f"{sizes(sources, top)}.\n\n{group_list(top)}\n"
-    text += "".join(crate_list(sources, top, crate) for crate in units(sources))
-    text += "## What each further claim rests on\n\n"
+    text += "## What each answer rests on\n\nA law of `claims` says of each answer what it means, with no more definitions than it needs, from the clause of the top call.\n\n| answer | its law | lines of definitions and types |\n|---|---|---|\n"
+    text += "".join(f"| `tools/audit.py --answer {name}` | `{meaning.words}` | {meaning.all_lines():,} |\n" for name, meaning in meanings(sources).items())
+    text += "\n## What each further claim rests on\n\nThe lists are printed by `tools/audit.py CRATE`.\n\n| crate | what | names | lines of definitions | of types |\n|---|---|---|---|---|\n"
     claims = [claim for crate in reversed(units(sources)) for claim in claims_of(sources, crate)]
-    text += "".join(claim_list(sources, claim, top) for claim in claims if claim.names != top.names)
+    text += "".join(claim_row(sources, claim) for claim in claims if claim.names != top.names)
     return text + rest_list(sources, claims)
 
 

@@ -157,11 +157,16 @@ class SpecSource(Source):
             self.register(definition)
 
     def without_uses(self):
-        """The lines with their numbers, but for `use` lines, which are taken in. What stands in a section is moved to the margin."""
-        joined, margin = "", ""
+        """The lines with their numbers, but for `use` lines, which are taken in. What stands in a section, or in a group of definitions that name one
+        another, is moved to the margin."""
+        joined, margin, is_group = "", "", False
         for number, line in enumerate(self.lines, 1):
+            if is_group and line and line[0] not in " -":
+                margin, is_group = "", False
             if line.startswith("module _"):
                 margin = "  "
+            elif line == "mutual":
+                margin, is_group = "  ", True
             elif joined or line.startswith(("use ", "use_at ", "pub use ")):
                 joined = f"{joined} {line.strip()}".strip()
                 if joined.count("{") == joined.count("}"):
