@@ -2,7 +2,7 @@
 """Counts, for small graphs, the memories of a small world that they stand for.
 
 Usage, at the project's root: tests/graph_memories.py
-It goes over all states of a world and counts those that a graph stands for, by what docs/map.md says of a graph's meaning and
+It goes over all states of a world and counts those that a graph stands for, by what docs/inside.md says of a graph's meaning and
 not by the definitions of crates/graph/specs. Each graph of the table below has a count that was worked out by hand. The row
 `built` with that graph stands in crates/graph_rows/stdin, and the graph that the program makes of it in crates/graph_rows/stdout,
 which the gate compares with what the program prints: it has to stand for as many states.
