@@ -60,7 +60,10 @@ type_mapped n (Parameter own ctype ∷ others) rest zero row few is =
     let same : Parameter own ctype ≡ row = cc in ap (λ (r : HandedRow). option_map n.ctype (parameter_type r)) (sym same)
 type_mapped n (Parameter own ctype ∷ others) rest (suc index) row few is = type_mapped n others rest index row (omega (arith, few)) is
 
-drop_none : (k : ℕ) → drop k ([] {A = HandedRow}) ≡ []
+abbrev no_rows : List HandedRow
+no_rows = []
+
+drop_none : (k : ℕ) → drop k no_rows ≡ no_rows
 drop_none zero = refl
 drop_none (suc k) = refl
 
