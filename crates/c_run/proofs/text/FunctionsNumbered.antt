@@ -19,17 +19,19 @@ number_behind [] function name = at (bytes_eq function.name name)
     at : (same : Bool) → (if same then Some 0 else option_map suc None) ≡ (if same then Some 0 else None)
     at true = refl
     at false = refl
-number_behind (first ∷ functions) function name = at (bytes_eq first.name name)
+number_behind (first ∷ functions) function name = at (bytes_eq first.name name) (number_behind functions function name)
   where
     mapped : (found : Option ℕ) (same : Bool) → option_map suc (or_else found (if same then Some (length functions) else None))
         ≡ or_else (option_map suc found) (if same then Some (suc (length functions)) else None)
     mapped (Some number) same = refl
     mapped None true = refl
     mapped None false = refl
-    at : (same : Bool) → (if same then Some 0 else option_map suc (number_in (functions ++ function ∷ []) name))
+    at : (same : Bool)
+        → number_in (functions ++ function ∷ []) name ≡ or_else (number_in functions name) (if bytes_eq function.name name then Some (length functions) else None)
+        → (if same then Some 0 else option_map suc (number_in (functions ++ function ∷ []) name))
         ≡ or_else (if same then Some 0 else option_map suc (number_in functions name)) (if bytes_eq function.name name then Some (suc (length functions)) else None)
-    at true = refl
-    at false = ap (option_map suc) (number_behind functions function name) ∙ mapped (number_in functions name) (bytes_eq function.name name)
+    at true behind = refl
+    at false behind = ap (option_map suc) behind ∙ mapped (number_in functions name) (bytes_eq function.name name)
 
 -- names are compared either way
 same_either_way : (one other : List ℕ) → bytes_eq one other ≡ bytes_eq other one

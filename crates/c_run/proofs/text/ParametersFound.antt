@@ -40,7 +40,7 @@ pub signature_count : (n : Numbering) (p : Program) (signature : ℕ) → length
 signature_count n p signature = sym (length-map (n.signature signature).parameters n.ctype)
 
 pub leading_inside : (rows : List HandedRow) → leading rows ≤ length rows
-leading_inside [] = arith
+leading_inside [] = omega arith
 leading_inside (row ∷ rest) = at (is_some (parameter_type row)) (leading_inside rest)
   where
     at : (is : Bool) → leading rest ≤ length rest → (if is then suc (leading rest) else 0) ≤ suc (length rest)
@@ -60,14 +60,20 @@ type_mapped n (Parameter own ctype ∷ others) rest zero row few is =
     let same : Parameter own ctype ≡ row = cc in ap (λ (r : HandedRow). option_map n.ctype (parameter_type r)) (sym same)
 type_mapped n (Parameter own ctype ∷ others) rest (suc index) row few is = type_mapped n others rest index row (omega (arith, few)) is
 
+abbrev no_rows : List HandedRow
+no_rows = []
+
+drop_none : (k : ℕ) → drop k no_rows ≡ no_rows
+drop_none zero = refl
+drop_none (suc k) = refl
+
 drop_behind : (start index : ℕ) (rows : List HandedRow) → drop index (drop start rows) ≡ drop (start + index) rows
-drop_behind zero index rows = refl
-drop_behind (suc start) index [] = none index
-  where
-    none : (k : ℕ) → drop k [] ≡ []
-    none zero = refl
-    none (suc k) = refl
-drop_behind (suc start) index (row ∷ rows) = drop_behind start index rows
+drop_behind zero index rows =
+    let same : index ≡ 0 + index = omega arith in ap (λ (k : ℕ). drop k rows) same
+drop_behind (suc start) index [] = drop_none index ∙ sym (drop_none (suc start + index))
+drop_behind (suc start) index (row ∷ rows) =
+    let same : suc (start + index) ≡ suc start + index = omega arith in
+    drop_behind start index rows ∙ ap (λ (k : ℕ). drop k (row ∷ rows)) same
 
 pub type_is : (n : Numbering) (context : Context) (p : Program) (start index count : ℕ) (row : HandedRow) (rest : List HandedRow) (found : Option ℕ) →
     StandsFor n context p → count ≡ leading (drop start context.handed) → index < count → drop (start + index) context.handed ≡ row ∷ rest →
@@ -83,7 +89,7 @@ index_inside rows start index count is few =
     inside rows start (omega (arith, is, few, leading_inside (drop start rows)))
   where
     inside : (rows : List HandedRow) (start : ℕ) → index < length (drop start rows) → start + index < length rows
-    inside rows zero few = few
+    inside rows zero few = omega (arith, few)
     inside [] (suc start) few = absurd (omega (arith, few))
     inside (row ∷ rows) (suc start) few = omega (arith, inside rows start few)
 

@@ -80,6 +80,8 @@ impl TypedText {
         if index >= count {
             return None;
         }
+        // The number of all rows fits, and so does the place of each.
+        let _rows = self.context.handed().len();
         match parameter_type(self.handed_row(start + index)) {
             None => None,
             Some(ctype) => type_kind(self.context.types(), ctype),

@@ -3,11 +3,11 @@ use Rattle.std.proofs.Common.{◌≡◌, ◌≤◌, ◌+◌, ◌-◌, drop, leng
 use Rattle.c_run.specs.text.Parameters.{leading}
 use Rattle.c_run.proofs.text.typed_text.TypedText.leading_from.Given as goal
 
-abbrev pub invariant-loop : goal.invariant-loop
-invariant-loop l = record {
+abbrev pub invariant-loop-at : goal.invariant-loop-at
+invariant-loop-at l = record {
   behind : l.start ≤ l.at;
   counted : leading (drop l.start l.self.handed) ≡ (l.at - l.start) + leading (drop l.at l.self.handed);
 }
 
-abbrev pub decreases-loop : goal.decreases-loop
-decreases-loop l = length l.self.handed - l.at
+abbrev pub decreases-loop-at : goal.decreases-loop-at
+decreases-loop-at l = length l.self.handed - l.at

@@ -16,6 +16,10 @@ returns-then-index-count c = λ n p stands.
     ap (option_and_then (λ (t : CType). kept (kind_in p t)))
     (none_behind n c.args.self.now p c.args.start c.args.index c.args.count stands c.requires c.if-index-count.true)
 
+-- there is such a row, so its place fits
+pub overflow_add-start : goal.overflow_add-start
+overflow_add-start c = let inside = index_inside c.args.self.now.handed c.args.start c.args.index c.args.count c.requires (omega (arith, c.if-index-count.false)) in grind (arith, inside)
+
 pub handed_row-requires : goal.handed_row-requires
 handed_row-requires c = index_inside c.args.self.now.handed c.args.start c.args.index c.args.count c.requires (omega (arith, c.if-index-count.false))
 
