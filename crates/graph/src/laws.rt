@@ -52,7 +52,7 @@ pub fn what_is_not_seen_may_differ()
         StandsFor parts other }
 {}
 
-/// A dead object whose address a register, a port, a live region or a node that has to be there holds has its block: one that is there, dead and of
+/// A dead object whose address a register, a port, a live region or a node that has to be there holds, in an edge or a link, has its block: one that is there, dead and of
 /// its kind.
 pub fn dead_objects_that_are_held_have_their_blocks()
     ensures { AreHeldBlocksThere }
