@@ -23,8 +23,11 @@ pub mod AlikeLimits
 pub mod AlikeStates
 pub mod AlikeMeaning
 pub mod Chosen
-pub mod Table
 pub mod Scalars
+pub mod Completed
+pub mod Extended
+pub mod Unheld
+pub mod Table
 pub mod Rows
 pub mod Placing
 pub mod Witness

@@ -13,6 +13,8 @@ pub mod SegmentLaws
 pub mod NodeRows
 pub mod Handed
 pub mod DeadObjects
+pub mod Numbers
+pub mod Unheld
 pub mod Choices
 pub mod Alike
 pub mod AlikeMemories

@@ -1,5 +1,5 @@
 //! Laws of what graphs stand for. Each is the contract of a function that does nothing.
-ghost use Rattle.std.specs.Prelude.{◌≡◌, ℕ, ◌↔◌, IsTrue};
+ghost use Rattle.std.specs.Prelude.{◌≡◌, ℕ, Bool, ◌↔◌, IsTrue};
 ghost use Rattle.bytes_core.specs.declared.byte.Byte.{Byte};
 ghost use Rattle.bytes_core.specs.declared.word.Word.{Word};
 ghost use Rattle.graph.specs.declared.parts.Parts.{Parts};
@@ -8,8 +8,10 @@ ghost use Rattle.graph.specs.Choices.{IsChoice, IsMadeWith};
 ghost use Rattle.graph.specs.DeadObjects.{AreHeldBlocksThere};
 ghost use Rattle.graph.specs.Laws.{IsRenaming};
 ghost use Rattle.graph.specs.Meaning.{StandsFor};
+ghost use Rattle.graph.specs.Numbers.{NumbersAreCompleted};
 ghost use Rattle.graph.specs.Renaming.{renamed, numbered, object_place, value_place};
 ghost use Rattle.graph.specs.State.{State, IsState};
+ghost use Rattle.graph.specs.Unheld.{MayGo, WhatNothingHoldsMayGo, with_only};
 ghost use Rattle.graph.specs.WellFormed.{IsWellFormed, HasAscendingKeys, is_within_limits};
 
 /// Other keys, one to one, leave a graph well formed.
@@ -76,4 +78,26 @@ pub fn words_and_bytes_may_be_chosen()
         IsTrue (is_within_limits parts) →
         IsChoice (numbered parts) word byte →
         (state : State) × IsState state × IsMadeWith (numbered parts) word byte state }
+{}
+
+/// Numbers that are given for some values of a graph within the limits can be completed: where they fit sizes and differ in unequal pairs, there
+/// are numbers for all values that do.
+pub fn numbers_can_be_completed()
+    ensures { NumbersAreCompleted }
+{}
+
+/// What nothing holds may go: values that no edge, link, register or port holds, with their unequal pairs, and dead objects whose address is
+/// no value that stays. Both graphs say the same of each state, with the same words and blocks for what stays. A constant in a pair with a value
+/// that stays tells something of it, and stays.
+pub fn what_nothing_holds_may_go()
+    ensures { WhatNothingHoldsMayGo }
+{}
+
+/// So the states that are stood for stay the same.
+pub fn what_nothing_holds_says_nothing()
+    ensures { (values objects : ℕ → Bool) (parts : Parts) (state : State) →
+        IsWellFormed parts →
+        IsTrue (is_within_limits parts) →
+        MayGo values objects parts →
+        (StandsFor (with_only values objects parts) state ↔ StandsFor parts state) }
 {}

@@ -1,0 +1,27 @@
+-- Numbers for the values of a graph.
+use Rattle.std.specs.Prelude.{◌≡◌, ◌≢◌, ℕ, ◌^◌, ◌<◌, slice_get, Option, Some, IsTrue}
+use Rattle.graph.specs.declared.value.Value.TheVariants.{Const, Number}
+use Rattle.graph.specs.declared.parts.Pair.{Pair}
+use Rattle.graph.specs.declared.parts.Parts.{Parts}
+use Rattle.graph.specs.Maps.{value_at}
+use Rattle.graph.specs.WellFormed.{IsWellFormed, is_within_limits}
+
+-- constants have their own, each number fits its size, and those of unequal pairs differ
+pub record AreNumbers (parts : Parts) (number : ℕ → ℕ) : Type 0 where
+  pub constants : (key constant size : ℕ) → value_at parts.values key ≡ Some (Const constant size) → number key ≡ constant
+  pub fits : (key size : ℕ) → value_at parts.values key ≡ Some (Number size) → number key < 256 ^ size
+  pub unequal : (place : ℕ) (pair : Pair) → slice_get parts.unequal place ≡ Some pair → number pair.left ≢ number pair.right
+
+-- the same of numbers that are given for some of the values, constants among them
+pub record AreSomeNumbers (parts : Parts) (known : ℕ → Option ℕ) : Type 0 where
+  pub constants : (key constant size : ℕ) → value_at parts.values key ≡ Some (Const constant size) → known key ≡ Some constant
+  pub fits : (key size number : ℕ) → value_at parts.values key ≡ Some (Number size) → known key ≡ Some number → number < 256 ^ size
+  pub unequal : (place : ℕ) (pair : Pair) (one other : ℕ) → slice_get parts.unequal place ≡ Some pair → known pair.left ≡ Some one → known pair.right ≡ Some other → one ≢ other
+
+-- the numbers that are given are among these
+abbrev pub AreAmong : (ℕ → Option ℕ) → (ℕ → ℕ) → Type 0
+AreAmong known number = (key one : ℕ) → known key ≡ Some one → number key ≡ one
+
+abbrev pub NumbersAreCompleted : Type 0
+NumbersAreCompleted = (parts : Parts) (known : ℕ → Option ℕ) → IsWellFormed parts → IsTrue (is_within_limits parts) → AreSomeNumbers parts known →
+    (number : ℕ → ℕ) × AreNumbers parts number × AreAmong known number
