@@ -22,6 +22,9 @@ pub mod AlikeSteps
 pub mod AlikeLimits
 pub mod AlikeStates
 pub mod AlikeMeaning
+pub mod Absent
+pub mod DeadMore
+pub mod AllThere
 pub mod Chosen
 pub mod Scalars
 pub mod Completed

@@ -13,6 +13,7 @@ pub mod SegmentLaws
 pub mod NodeRows
 pub mod Handed
 pub mod DeadObjects
+pub mod DeadBlocks
 pub mod Numbers
 pub mod Unheld
 pub mod Choices

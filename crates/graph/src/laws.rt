@@ -5,6 +5,7 @@ ghost use Rattle.bytes_core.specs.declared.word.Word.{Word};
 ghost use Rattle.graph.specs.declared.parts.Parts.{Parts};
 ghost use Rattle.graph.specs.Alike.{IsSeenAs};
 ghost use Rattle.graph.specs.Choices.{IsChoice, IsMadeWith};
+ghost use Rattle.graph.specs.DeadBlocks.{AbsentBlocksMayHaveOtherNumbers, AllBlocksMayBeThere, IsWithAllBlocks};
 ghost use Rattle.graph.specs.DeadObjects.{AreHeldBlocksThere};
 ghost use Rattle.graph.specs.Laws.{IsRenaming};
 ghost use Rattle.graph.specs.Meaning.{StandsFor};
@@ -100,4 +101,20 @@ pub fn what_nothing_holds_says_nothing()
         IsTrue (is_within_limits parts) →
         MayGo values objects parts →
         (StandsFor (with_only values objects parts) state ↔ StandsFor parts state) }
+{}
+
+/// Dead blocks that are not there may have other numbers, one to one: any that no block has.
+pub fn absent_blocks_may_have_other_numbers()
+    ensures { AbsentBlocksMayHaveOtherNumbers }
+{}
+
+/// All blocks of dead objects may be made to be there: each state that a graph stands for differs from one that it stands for as well, and in which
+/// each block of each object is there, in dead blocks that stand behind all others.
+pub fn all_blocks_may_be_there()
+    ensures { AllBlocksMayBeThere }
+{}
+
+/// So it is with each state that is stood for.
+pub fn stood_for_with_all_blocks()
+    ensures { (parts : Parts) (state : State) → IsState state → StandsFor parts state → IsWithAllBlocks parts state }
 {}
