@@ -5,6 +5,7 @@ pub mod Closed
 pub mod Frames
 pub mod SegmentNodes
 pub mod Appended
+pub mod Split
 pub mod Pulled
 pub mod DeadObjects
 pub mod Renamed

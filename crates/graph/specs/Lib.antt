@@ -11,6 +11,7 @@ pub mod Closed
 pub mod Laws
 pub mod SegmentLaws
 pub mod NodeRows
+pub mod SplitLaws
 pub mod Handed
 pub mod DeadObjects
 pub mod DeadBlocks
