@@ -216,3 +216,27 @@ module _ (parts : Parts) (known : ℕ → Option ℕ) (well_formed : IsWellForme
 
 pub numbers_are_completed : NumbersAreCompleted
 numbers_are_completed parts known well_formed limits some = completed parts known well_formed limits some
+
+-- the number of a constant
+abbrev pub constant_in : Option Value → Option ℕ
+constant_in None = None
+constant_in (Some (Const constant size)) = Some constant
+constant_in (Some (Number size)) = None
+constant_in (Some Any) = None
+constant_in (Some (Address object offset target)) = None
+
+constant_is : (value : Value) (number : ℕ) → constant_in (Some value) ≡ Some number → is_constant value ≡ true
+constant_is (Const constant size) number is = refl
+constant_is (Number size) number is = absurd (none-some number is)
+constant_is Any number is = absurd (none-some number is)
+constant_is (Address object offset target) number is = absurd (none-some number is)
+
+-- constants alone are numbers of some of the values
+pub constants_are : (parts : Parts) → IsWellFormed parts → AreSomeNumbers parts (λ key. constant_in (value_at parts.values key))
+constants_are parts well_formed = record {
+  constants = λ key constant size is. ap constant_in is;
+  fits = λ key size number is found. absurd (none-some number (sym (ap constant_in is) ∙ found));
+  unequal = λ place pair one other stands left right equal.
+      let is = pair_at parts well_formed place pair stands in
+      is.not_both (constant_is is.one one (sym (ap constant_in is.one_is) ∙ left)) (constant_is is.next other (sym (ap constant_in is.next_is) ∙ right));
+}

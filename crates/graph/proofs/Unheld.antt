@@ -28,7 +28,7 @@ use Rattle.graph.specs.Meaning.{ends_of, HasWord, Assignment, Meets, maps_of, St
 use Rattle.graph.specs.Unheld.{with_only, MayGo, AreKept, SayTheSame, WhatNothingHoldsMayGo}
 use Rattle.graph.specs.WellFormed.{IsWellFormed, is_storage, says_nothing, is_within_limits}
 use Rattle.graph.proofs.Closed.{closed_of}
-use Rattle.graph.proofs.Completed.{IsWideNumber, IsPair, pair_at, numbers_are_completed}
+use Rattle.graph.proofs.Completed.{IsWideNumber, IsPair, pair_at, constant_in, numbers_are_completed}
 use Rattle.graph.proofs.Extended.{IsPartOf, narrowed, extended, word_kept, word_chosen, blocks_kept, Meets-extended}
 use Rattle.graph.proofs.Found.{IsSome-holds, found-here, found-later, found-all}
 use Rattle.graph.proofs.Frames.{OnNamed-both}
@@ -129,14 +129,6 @@ place_filter test (first ∷ rest) (suc at) x is passes = by_test (test first) (
 abbrev number_in : Word → ℕ
 number_in (Plain number) = number
 number_in (To block offset) = 0
-
--- the number of a constant
-abbrev constant_in : Option Value → Option ℕ
-constant_in None = None
-constant_in (Some (Const constant size)) = Some constant
-constant_in (Some (Number size)) = None
-constant_in (Some Any) = None
-constant_in (Some (Address object offset target)) = None
 
 abbrev known_or : Bool → Word → Option Value → Option ℕ
 known_or true word value = Some (number_in word)

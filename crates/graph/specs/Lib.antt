@@ -15,9 +15,9 @@ pub mod SplitLaws
 pub mod Handed
 pub mod DeadObjects
 pub mod DeadBlocks
-pub mod Numbers
 pub mod Unheld
 pub mod Choices
+pub mod Numbers
 pub mod Alike
 pub mod AlikeMemories
 pub mod AlikeSteps

@@ -1,10 +1,16 @@
 -- Numbers for the values of a graph.
 use Rattle.std.specs.Prelude.{◌≡◌, ◌≢◌, ℕ, ◌^◌, ◌<◌, slice_get, Option, Some, IsTrue}
+use Rattle.bytes_core.specs.declared.byte.Byte.{Byte}
+use Rattle.bytes_core.specs.declared.word.Word.{Word}
+use Rattle.bytes_core.specs.declared.word.Word.TheVariants.{Plain}
 use Rattle.graph.specs.declared.value.Value.TheVariants.{Const, Number}
 use Rattle.graph.specs.declared.parts.Pair.{Pair}
 use Rattle.graph.specs.declared.parts.Parts.{Parts}
+use Rattle.graph.specs.Choices.{IsChoice, IsMadeWith}
 use Rattle.graph.specs.Maps.{value_at}
-use Rattle.graph.specs.WellFormed.{IsWellFormed, is_within_limits}
+use Rattle.graph.specs.Renaming.{numbered}
+use Rattle.graph.specs.State.{State, IsState}
+use Rattle.graph.specs.WellFormed.{IsWellFormed, HasAscendingKeys, is_within_limits}
 
 -- constants have their own, each number fits its size, and those of unequal pairs differ
 pub record AreNumbers (parts : Parts) (number : ℕ → ℕ) : Type 0 where
@@ -25,3 +31,19 @@ AreAmong known number = (key one : ℕ) → known key ≡ Some one → number ke
 abbrev pub NumbersAreCompleted : Type 0
 NumbersAreCompleted = (parts : Parts) (known : ℕ → Option ℕ) → IsWellFormed parts → IsTrue (is_within_limits parts) → AreSomeNumbers parts known →
     (number : ℕ → ℕ) × AreNumbers parts number × AreAmong known number
+
+-- a graph stands for a state in which what was chosen stands, these numbers among it
+pub record IsMadeWithNumbers (parts : Parts) (number : ℕ → ℕ) (word : ℕ → Word) (byte : ℕ → ℕ → Byte) (state : State) : Type 0 where
+  pub made : IsMadeWith parts word byte state
+  pub numbers : (key size : ℕ) → value_at parts.values key ≡ Some (Number size) → made.given.word key ≡ Plain (number key)
+
+abbrev pub NumbersMayBeChosen : Type 0
+NumbersMayBeChosen = (parts : Parts) (number : ℕ → ℕ) (word : ℕ → Word) (byte : ℕ → ℕ → Byte) → HasAscendingKeys parts → IsWellFormed parts → IsTrue (is_within_limits parts) →
+    IsChoice (numbered parts) word byte → AreNumbers (numbered parts) number →
+    (state : State) × IsState state × IsMadeWithNumbers (numbered parts) number word byte state
+
+-- so may those of some values, and the others are found
+abbrev pub SomeNumbersMayBeChosen : Type 0
+SomeNumbersMayBeChosen = (parts : Parts) (known : ℕ → Option ℕ) (word : ℕ → Word) (byte : ℕ → ℕ → Byte) → HasAscendingKeys parts → IsWellFormed parts → IsTrue (is_within_limits parts) →
+    IsChoice (numbered parts) word byte → AreSomeNumbers (numbered parts) known →
+    (number : ℕ → ℕ) × AreNumbers (numbered parts) number × AreAmong known number × ((state : State) × IsState state × IsMadeWithNumbers (numbered parts) number word byte state)

@@ -9,7 +9,7 @@ ghost use Rattle.graph.specs.DeadBlocks.{AbsentBlocksMayHaveOtherNumbers, AllBlo
 ghost use Rattle.graph.specs.DeadObjects.{AreHeldBlocksThere};
 ghost use Rattle.graph.specs.Laws.{IsRenaming};
 ghost use Rattle.graph.specs.Meaning.{StandsFor};
-ghost use Rattle.graph.specs.Numbers.{NumbersAreCompleted};
+ghost use Rattle.graph.specs.Numbers.{NumbersAreCompleted, NumbersMayBeChosen, SomeNumbersMayBeChosen};
 ghost use Rattle.graph.specs.Renaming.{renamed, numbered, object_place, value_place};
 ghost use Rattle.graph.specs.State.{State, IsState};
 ghost use Rattle.graph.specs.Unheld.{MayGo, WhatNothingHoldsMayGo, with_only};
@@ -117,4 +117,14 @@ pub fn all_blocks_may_be_there()
 /// So it is with each state that is stood for.
 pub fn stood_for_with_all_blocks()
     ensures { (parts : Parts) (state : State) → IsState state → StandsFor parts state → IsWithAllBlocks parts state }
+{}
+
+/// Numbers may be chosen too: every graph within the limits stands for a state with any numbers that fit sizes and differ in unequal pairs.
+pub fn numbers_may_be_chosen()
+    ensures { NumbersMayBeChosen }
+{}
+
+/// So may the numbers of some values alone, constants among them: there are numbers for the others.
+pub fn some_numbers_may_be_chosen()
+    ensures { SomeNumbersMayBeChosen }
 {}
