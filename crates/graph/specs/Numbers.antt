@@ -1,5 +1,8 @@
 -- Numbers for the values of a graph.
-use Rattle.std.specs.Prelude.{◌≡◌, ◌≢◌, ℕ, ◌^◌, ◌<◌, slice_get, Option, Some, IsTrue}
+use Rattle.std.specs.Prelude.{◌≡◌, ◌≢◌, ℕ, ◌^◌, ◌<◌, ◌≤◌, true, List, length, slice_get, Option, Some, IsTrue}
+use Rattle.bytes_core.specs.Placement.{can_be_placed}
+use Rattle.bytes_core.specs.declared.block.Block.{Block}
+use Rattle.bytes_core.specs.declared.block.BlockKind.{BlockKind}
 use Rattle.bytes_core.specs.declared.byte.Byte.{Byte}
 use Rattle.bytes_core.specs.declared.word.Word.{Word}
 use Rattle.bytes_core.specs.declared.word.Word.TheVariants.{Plain}
@@ -37,13 +40,19 @@ pub record IsMadeWithNumbers (parts : Parts) (number : ℕ → ℕ) (word : ℕ 
   pub made : IsMadeWith parts word byte state
   pub numbers : (key size : ℕ) → value_at parts.values key ≡ Some (Number size) → made.given.word key ≡ Plain (number key)
 
+-- one more live block of at most 65,536 bytes can be put into the memory, and there is a number for it
+pub record HasRoom (memory : List Block) : Type 0 where
+  pub base : ℕ
+  pub place : (kind : BlockKind) (bytes : List Byte) → length bytes ≤ 65536 → IsTrue (can_be_placed memory (record { base = base; kind = kind; live = true; bytes = bytes }))
+  pub number : length memory < 2 ^ 32
+
 abbrev pub NumbersMayBeChosen : Type 0
 NumbersMayBeChosen = (parts : Parts) (number : ℕ → ℕ) (word : ℕ → Word) (byte : ℕ → ℕ → Byte) → HasAscendingKeys parts → IsWellFormed parts → IsTrue (is_within_limits parts) →
     IsChoice (numbered parts) word byte → AreNumbers (numbered parts) number →
-    (state : State) × IsState state × IsMadeWithNumbers (numbered parts) number word byte state
+    (state : State) × IsState state × IsMadeWithNumbers (numbered parts) number word byte state × HasRoom state.memory
 
 -- so may those of some values, and the others are found
 abbrev pub SomeNumbersMayBeChosen : Type 0
 SomeNumbersMayBeChosen = (parts : Parts) (known : ℕ → Option ℕ) (word : ℕ → Word) (byte : ℕ → ℕ → Byte) → HasAscendingKeys parts → IsWellFormed parts → IsTrue (is_within_limits parts) →
     IsChoice (numbered parts) word byte → AreSomeNumbers (numbered parts) known →
-    (number : ℕ → ℕ) × AreNumbers (numbered parts) number × AreAmong known number × ((state : State) × IsState state × IsMadeWithNumbers (numbered parts) number word byte state)
+    (number : ℕ → ℕ) × AreNumbers (numbered parts) number × AreAmong known number × ((state : State) × IsState state × IsMadeWithNumbers (numbered parts) number word byte state × HasRoom state.memory)

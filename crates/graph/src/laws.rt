@@ -119,7 +119,8 @@ pub fn stood_for_with_all_blocks()
     ensures { (parts : Parts) (state : State) → IsState state → StandsFor parts state → IsWithAllBlocks parts state }
 {}
 
-/// Numbers may be chosen too: every graph within the limits stands for a state with any numbers that fit sizes and differ in unequal pairs.
+/// Numbers may be chosen too: every graph within the limits stands for a state with any numbers that fit sizes and differ in unequal pairs, in
+/// whose memory there is room for one more block of 65,536 bytes.
 pub fn numbers_may_be_chosen()
     ensures { NumbersMayBeChosen }
 {}
