@@ -25,7 +25,7 @@ use Rattle.graph.specs.declared.value.Value.TheVariants.{Address}
 use Rattle.graph.specs.declared.parts.KeyedObject.{KeyedObject}
 use Rattle.graph.specs.declared.parts.KeyedValue.{KeyedValue}
 use Rattle.graph.specs.declared.parts.Parts.{Parts}
-use Rattle.graph.specs.DeadObjects.{IsDeadBlock, IsHeld, InRegister, InPort, InObject, InNode, InLink, AreHeldBlocksThere}
+use Rattle.graph.specs.DeadObjects.{IsDeadBlock, IsHeld, InRegister, InPort, InObject, InNode, InLink, InLinkBack, AreHeldBlocksThere}
 use Rattle.graph.specs.Maps.{object_at, value_at}
 use Rattle.graph.specs.State.{IsWordBelow}
 use Rattle.graph.specs.Nodes.{is_region, own_node, node_in, node_of}
@@ -210,3 +210,14 @@ held_blocks_there parts state given key value object offset target well is meets
         (All-take (NamesBelow (length state.memory)) 8 (drop links.next node.block.bytes)
         (All-drop (NamesBelow (length state.memory)) links.next node.block.bytes
         (All-at (λ (block : Block). All (NamesBelow (length state.memory)) block.bytes) state.memory last.1 node.block node.there is.memory.named))))))
+    by_held (InLinkBack holds holder links holder_stands linked some twofold same) =
+        let has = segments_have_nodes parts state given holds holder links well meets holder_stands linked in
+        let first = get_first (given.blocks holds) (let enough = has.enough in omega arith) in
+        let node = has.nodes 0 first.0 first.1 in
+        subst (λ (key : ℕ). WordNamesBelow (length state.memory) (given.word key)) same
+        (moved_names (length state.memory) (given.word links.prev_value) (pos links.back -ℤ pos links.back)
+        (link_names (length state.memory) (moved (given.word links.prev_value) (pos links.back -ℤ pos links.back))
+        (subst (All (NamesBelow (length state.memory))) (node.first twofold refl)
+        (All-take (NamesBelow (length state.memory)) 8 (drop links.prev node.block.bytes)
+        (All-drop (NamesBelow (length state.memory)) links.prev node.block.bytes
+        (All-at (λ (block : Block). All (NamesBelow (length state.memory)) block.bytes) state.memory first.0 node.block node.there is.memory.named))))))

@@ -34,6 +34,17 @@ OnEnds-weaker P Q implies (Segment twofold head next prev back least next_value 
 pub OnNamed-weaker : (P Q : ℕ → Type 0) → ((key : ℕ) → P key → Q key) → (shape : Shape) (own : Node) → OnNamed P shape own → OnNamed Q shape own
 OnNamed-weaker P Q implies shape own on = (OnEdges-weaker P Q implies _ on.0, OnEnds-weaker P Q implies shape on.1)
 
+OnEdges-both : (P Q R : ℕ → Type 0) → ((key : ℕ) → P key → Q key → R key) → (edges : List HasValue) → OnEdges P edges → OnEdges Q edges → OnEdges R edges
+OnEdges-both P Q R implies [] one other = tt
+OnEdges-both P Q R implies (edge ∷ rest) one other = (implies edge.value one.0 other.0, OnEdges-both P Q R implies rest one.1 other.1)
+
+OnEnds-both : (P Q R : ℕ → Type 0) → ((key : ℕ) → P key → Q key → R key) → (shape : Shape) → OnEnds P shape → OnEnds Q shape → OnEnds R shape
+OnEnds-both P Q R implies Region one other = tt
+OnEnds-both P Q R implies (Segment twofold head next prev back least next_value prev_value node) one other = (implies next_value one.0 other.0, implies prev_value one.1 other.1)
+
+pub OnNamed-both : (P Q R : ℕ → Type 0) → ((key : ℕ) → P key → Q key → R key) → (shape : Shape) (own : Node) → OnNamed P shape own → OnNamed Q shape own → OnNamed R shape own
+OnNamed-both P Q R implies shape own one other = (OnEdges-both P Q R implies _ one.0 other.0, OnEnds-both P Q R implies shape one.1 other.1)
+
 -- Words that agree.
 
 pub HoldEdges-agree : (bytes : List Byte) (word word' : ℕ → Word) (edges : List HasValue) → OnEdges (λ key. word key ≡ word' key) edges → HoldEdges bytes word edges → HoldEdges bytes word' edges

@@ -5,6 +5,7 @@ pub mod Closed
 pub mod Frames
 pub mod SegmentNodes
 pub mod Appended
+pub mod Split
 pub mod Pulled
 pub mod DeadObjects
 pub mod Renamed
@@ -22,9 +23,15 @@ pub mod AlikeSteps
 pub mod AlikeLimits
 pub mod AlikeStates
 pub mod AlikeMeaning
+pub mod Absent
+pub mod DeadMore
+pub mod AllThere
 pub mod Chosen
-pub mod Table
 pub mod Scalars
+pub mod Completed
+pub mod Extended
+pub mod Unheld
+pub mod Table
 pub mod Rows
 pub mod Placing
 pub mod Witness

@@ -6,10 +6,12 @@ use Rattle.std.proofs.lemmas.List.Kept.{AllPairs-cons}
 use Rattle.std.proofs.Math.Nat.{mul-mod_left}
 use Rattle.bytes_core.specs.declared.byte.Byte.{Byte}
 use Rattle.bytes_core.specs.declared.block.Block.{Block}
+use Rattle.bytes_core.specs.declared.block.BlockKind.{BlockKind}
 use Rattle.bytes_core.specs.Placement.{is_placed, are_compatible}
 use Rattle.bytes_core.specs.Valid.{NamesBelow, IsMemory}
 use Rattle.graph.specs.declared.object.Object.{Object}
-use Rattle.graph.proofs.Tests.{and_left, and_right}
+use Rattle.graph.specs.Numbers.{HasRoom}
+use Rattle.graph.proofs.Tests.{and_left, and_right, and_both}
 
 pub All-nil : {A : Type 0} (P : A → Type 0) → All P []
 All-nil P k d within = absurd (omega arith)
@@ -99,4 +101,47 @@ module _ (bytes : ℕ → Object → List Byte) (sizes : (number : ℕ) (object 
     apart = apart 0 objects small;
     named = subst (λ (count : ℕ). All (λ block. All (NamesBelow count) block.bytes) (blocks_from bytes 0 objects)) (sym (length-blocks bytes 0 objects))
         (named (length objects) 0 objects (λ i object is. subst (λ (n : ℕ). All (NamesBelow (length objects)) (bytes n object)) (let e : i ≡ 0 + i = omega arith in e) (names i object is)));
+  }
+
+  -- a new block behind all of them
+  abbrev new_block : ℕ → BlockKind → List Byte → Block
+  new_block later kind contents = record { base = 16 + 65536 * later; kind = kind; live = true; bytes = contents }
+
+  compatible_later : (later : ℕ) (kind : BlockKind) (contents : List Byte) (number : ℕ) (object : Object) → number < later → object.size ≤ 65536 →
+      are_compatible (new_block later kind contents) (block_of bytes number object) ≡ true
+  compatible_later later kind contents number object before small =
+      let long : length (bytes number object) ≡ object.size = sizes number object in
+      either object.live (nat_le (16 + 65536 * later + max 16 (length contents)) (16 + 65536 * number)) (le-leb _ _ (omega arith))
+    where
+      either : (lives first : Bool) → nat_le (16 + 65536 * number + max 16 (length (bytes number object))) (16 + 65536 * later) ≡ true →
+          (not lives || (first || nat_le (16 + 65536 * number + max 16 (length (bytes number object))) (16 + 65536 * later))) ≡ true
+      either false first ends = refl
+      either true true ends = refl
+      either true false ends = ends
+
+  all_compatible : (later : ℕ) (kind : BlockKind) (contents : List Byte) (number : ℕ) (objects : List Object) → number + length objects ≤ later → list_all (λ object. nat_le object.size 65536) objects ≡ true →
+      list_all (are_compatible (new_block later kind contents)) (blocks_from bytes number objects) ≡ true
+  all_compatible later kind contents number [] few small = refl
+  all_compatible later kind contents number (object ∷ rest) few small =
+      and_both (are_compatible (new_block later kind contents) (block_of bytes number object)) (list_all (are_compatible (new_block later kind contents)) (blocks_from bytes (number + 1) rest))
+      (compatible_later later kind contents number object (omega arith) (leb-true _ _ (and_left (nat_le object.size 65536) (list_all (λ object. nat_le object.size 65536) rest) small)))
+      (all_compatible later kind contents (number + 1) rest (omega arith) (and_right (nat_le object.size 65536) (list_all (λ object. nat_le object.size 65536) rest) small))
+
+  new_placed : (later : ℕ) (kind : BlockKind) (contents : List Byte) → later < 2 ^ 30 → length contents ≤ 65536 → is_placed (new_block later kind contents) ≡ true
+  new_placed later kind contents few small =
+      let base : 16 + 65536 * later ≡ (1 + 4096 * later) * 16 = omega arith in
+      let even : nat_eq ((16 + 65536 * later) % 16) 0 ≡ true = eq-eqb _ _ (ap (λ (n : ℕ). n % 16) base ∙ mul-mod_left (1 + 4096 * later) 16) in
+      let low : nat_le 16 (16 + 65536 * later) ≡ true = le-leb _ _ (omega arith) in
+      let high : nat_le (16 + 65536 * later + max 16 (length contents)) (2 ^ 47) ≡ true = le-leb _ _ (omega arith) in
+      rw (even, low, high) refl
+
+  -- there is room for it
+  pub room-blocks : (objects : List Object) → length objects < 2 ^ 30 → list_all (λ object. nat_le object.size 65536) objects ≡ true → HasRoom (blocks_from bytes 0 objects)
+  room-blocks objects few small = record {
+    base = 16 + 65536 * length objects;
+    place = λ kind contents fits.
+        and_both (is_placed (new_block (length objects) kind contents)) (list_all (are_compatible (new_block (length objects) kind contents)) (blocks_from bytes 0 objects))
+        (new_placed (length objects) kind contents few fits)
+        (all_compatible (length objects) kind contents 0 objects (omega arith) small);
+    number = let long = length-blocks bytes 0 objects in omega arith;
   }

@@ -145,7 +145,7 @@ last_or_behind : (first : ℕ) (front : List ℕ) (number : ℕ) → last_or fir
 last_or_behind first [] number = refl
 last_or_behind first (next ∷ front) number = last_or_behind next front number
 
-last_behind : (front : List ℕ) (number : ℕ) → last_of (front ++ number ∷ []) ≡ Some number
+pub last_behind : (front : List ℕ) (number : ℕ) → last_of (front ++ number ∷ []) ≡ Some number
 last_behind [] number = refl
 last_behind (first ∷ front) number = ap Some (last_or_behind first front number)
 

@@ -24,7 +24,7 @@ pub record IsDeadBlock (memory : List Block) (storage : BlockKind) (number : ℕ
   pub live : block.live ≡ false
   pub kind : block.kind ≡ storage
 
--- a register, a port or an edge of a live region holds the value with this key
+-- a register, a port, an edge of a live region or a node that has to be there holds the value with this key
 pub data IsHeld (parts : Parts) (value : ℕ) : Type 0 where
   InRegister : (register : ℕ) → held_by parts.registers register ≡ Some value → IsHeld parts value
   InPort : (place : ℕ) → slice_get parts.ports place ≡ Some value → IsHeld parts value
@@ -35,6 +35,9 @@ pub data IsHeld (parts : Parts) (value : ℕ) : Type 0 where
       slice_get (node_of object).edges place ≡ Some edge → edge.value ≡ value → IsHeld parts value
   InLink : (key : ℕ) (object : Object) (links : Links) → object_at parts.objects key ≡ Some object → links_in object.shape ≡ Some links → 1 ≤ links.least →
       links.next_value ≡ value → IsHeld parts value
+  -- or, where the nodes are linked both ways, the link back of its first node
+  InLinkBack : (key : ℕ) (object : Object) (links : Links) → object_at parts.objects key ≡ Some object → links_in object.shape ≡ Some links → 1 ≤ links.least →
+      links.twofold ≡ true → links.prev_value ≡ value → IsHeld parts value
 
 -- a dead object whose address is held has one block, which is there, dead and of the object's kind
 abbrev pub AreHeldBlocksThere : Type 0

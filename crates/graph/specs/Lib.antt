@@ -11,9 +11,13 @@ pub mod Closed
 pub mod Laws
 pub mod SegmentLaws
 pub mod NodeRows
+pub mod SplitLaws
 pub mod Handed
 pub mod DeadObjects
+pub mod DeadBlocks
+pub mod Unheld
 pub mod Choices
+pub mod Numbers
 pub mod Alike
 pub mod AlikeMemories
 pub mod AlikeSteps

@@ -1,15 +1,18 @@
 //! Laws of what graphs stand for. Each is the contract of a function that does nothing.
-ghost use Rattle.std.specs.Prelude.{◌≡◌, ℕ, ◌↔◌, IsTrue};
+ghost use Rattle.std.specs.Prelude.{◌≡◌, ℕ, Bool, ◌↔◌, IsTrue};
 ghost use Rattle.bytes_core.specs.declared.byte.Byte.{Byte};
 ghost use Rattle.bytes_core.specs.declared.word.Word.{Word};
 ghost use Rattle.graph.specs.declared.parts.Parts.{Parts};
 ghost use Rattle.graph.specs.Alike.{IsSeenAs};
 ghost use Rattle.graph.specs.Choices.{IsChoice, IsMadeWith};
+ghost use Rattle.graph.specs.DeadBlocks.{AbsentBlocksMayHaveOtherNumbers, AllBlocksMayBeThere, IsWithAllBlocks};
 ghost use Rattle.graph.specs.DeadObjects.{AreHeldBlocksThere};
 ghost use Rattle.graph.specs.Laws.{IsRenaming};
 ghost use Rattle.graph.specs.Meaning.{StandsFor};
+ghost use Rattle.graph.specs.Numbers.{NumbersAreCompleted, NumbersMayBeChosen, SomeNumbersMayBeChosen};
 ghost use Rattle.graph.specs.Renaming.{renamed, numbered, object_place, value_place};
 ghost use Rattle.graph.specs.State.{State, IsState};
+ghost use Rattle.graph.specs.Unheld.{MayGo, WhatNothingHoldsMayGo, with_only};
 ghost use Rattle.graph.specs.WellFormed.{IsWellFormed, HasAscendingKeys, is_within_limits};
 
 /// Other keys, one to one, leave a graph well formed.
@@ -52,7 +55,7 @@ pub fn what_is_not_seen_may_differ()
         StandsFor parts other }
 {}
 
-/// A dead object whose address a register, a port, a live region or a node that has to be there holds has its block: one that is there, dead and of
+/// A dead object whose address a register, a port, a live region or a node that has to be there holds, in an edge or a link, has its block: one that is there, dead and of
 /// its kind.
 pub fn dead_objects_that_are_held_have_their_blocks()
     ensures { AreHeldBlocksThere }
@@ -76,4 +79,53 @@ pub fn words_and_bytes_may_be_chosen()
         IsTrue (is_within_limits parts) →
         IsChoice (numbered parts) word byte →
         (state : State) × IsState state × IsMadeWith (numbered parts) word byte state }
+{}
+
+/// Numbers that are given for some values of a graph within the limits can be completed: where they fit sizes and differ in unequal pairs, there
+/// are numbers for all values that do.
+pub fn numbers_can_be_completed()
+    ensures { NumbersAreCompleted }
+{}
+
+/// What nothing holds may go: values that no edge, link, register or port holds, with their unequal pairs, and dead objects whose address is
+/// no value that stays. Both graphs say the same of each state, with the same words and blocks for what stays. A constant in a pair with a value
+/// that stays tells something of it, and stays.
+pub fn what_nothing_holds_may_go()
+    ensures { WhatNothingHoldsMayGo }
+{}
+
+/// So the states that are stood for stay the same.
+pub fn what_nothing_holds_says_nothing()
+    ensures { (values objects : ℕ → Bool) (parts : Parts) (state : State) →
+        IsWellFormed parts →
+        IsTrue (is_within_limits parts) →
+        MayGo values objects parts →
+        (StandsFor (with_only values objects parts) state ↔ StandsFor parts state) }
+{}
+
+/// Dead blocks that are not there may have other numbers, one to one: any that no block has.
+pub fn absent_blocks_may_have_other_numbers()
+    ensures { AbsentBlocksMayHaveOtherNumbers }
+{}
+
+/// All blocks of dead objects may be made to be there: each state that a graph stands for differs from one that it stands for as well, and in which
+/// each block of each object is there, in dead blocks that stand behind all others.
+pub fn all_blocks_may_be_there()
+    ensures { AllBlocksMayBeThere }
+{}
+
+/// So it is with each state that is stood for.
+pub fn stood_for_with_all_blocks()
+    ensures { (parts : Parts) (state : State) → IsState state → StandsFor parts state → IsWithAllBlocks parts state }
+{}
+
+/// Numbers may be chosen too: every graph within the limits stands for a state with any numbers that fit sizes and differ in unequal pairs, in
+/// whose memory there is room for one more block of 65,536 bytes.
+pub fn numbers_may_be_chosen()
+    ensures { NumbersMayBeChosen }
+{}
+
+/// So may the numbers of some values alone, constants among them: there are numbers for the others.
+pub fn some_numbers_may_be_chosen()
+    ensures { SomeNumbersMayBeChosen }
 {}

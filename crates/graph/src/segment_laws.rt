@@ -10,6 +10,7 @@ ghost use Rattle.graph.specs.Meaning.{HasBlocks, maps_of};
 ghost use Rattle.graph.specs.NodeRows.{RowsAreAppended};
 ghost use Rattle.graph.specs.Nodes.{own_node};
 ghost use Rattle.graph.specs.SegmentLaws.{SegmentsHaveAddresses, SegmentsHaveNodes};
+ghost use Rattle.graph.specs.SplitLaws.{AddressesAreSplit, SegmentsHaveSplitAddresses};
 ghost use Rattle.graph.specs.WellFormed.{IsWellFormed};
 
 /// A segment stands for its least number of nodes at least. Each of its blocks is live and meets what is said of a node; it holds the
@@ -55,4 +56,16 @@ pub fn an_object_means_the_words_that_it_names()
 /// the others, and before these the last of the front ones.
 pub fn rows_of_nodes_are_appended()
     ensures { RowsAreAppended }
+{}
+
+/// An address of the first node of a row of nodes is, where the row stands in two, one of the front row, behind which the other lies, and an address
+/// of the last node is one of the other, before which the front row lies; also where these are without nodes. An address of a node at an end is one
+/// of its block.
+pub fn addresses_are_split()
+    ensures { AddressesAreSplit }
+{}
+
+/// Addresses of the first and last node of a segment have the words that they have when the first node is split off, or the last one.
+pub fn segments_have_split_addresses()
+    ensures { SegmentsHaveSplitAddresses }
 {}
