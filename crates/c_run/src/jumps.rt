@@ -29,10 +29,7 @@ fn broken_off(state: &mut TreeState, word: Place) -> Result<Outcome, NoMemory>
 }
 
 /// `break`.
-pub(crate) fn break_step(
-    state: &mut TreeState,
-    word: Place,
-) -> Result<Stepped, NoMemory>
+pub(crate) fn break_step(state: &mut TreeState, word: Place) -> Result<Stepped, NoMemory>
     ensures { IfOk result (λ stepped. (p : Program) (choices : Items Choice) →
         IsStepOf (text_of p) (BreakAt word) stepped state.old choices state.new choices) }
 {
@@ -40,10 +37,7 @@ pub(crate) fn break_step(
 }
 
 /// `continue`.
-pub(crate) fn continue_step(
-    state: &mut TreeState,
-    word: Place,
-) -> Result<Stepped, NoMemory>
+pub(crate) fn continue_step(state: &mut TreeState, word: Place) -> Result<Stepped, NoMemory>
     ensures { IfOk result (λ stepped. (p : Program) (choices : Items Choice) →
         IsStepOf (text_of p) (ContinueAt word) stepped state.old choices state.new choices) }
 {

@@ -26,6 +26,7 @@ number_behind (first ∷ functions) function name = at (bytes_eq first.name name
     mapped (Some number) same = refl
     mapped None true = refl
     mapped None false = refl
+
     at : (same : Bool)
         → number_in (functions ++ function ∷ []) name ≡ or_else (number_in functions name) (if bytes_eq function.name name then Some (length functions) else None)
         → (if same then Some 0 else option_map suc (number_in (functions ++ function ∷ []) name))
@@ -52,9 +53,11 @@ first_has own name number numbers = at (value_in own numbers) refl
     has : (found : Option ℕ) (same : Bool) (there : ℕ) → (same ≡ true → found ≡ Some there) → found ≡ or_else found (if same then Some number else None)
     has found true there is = is refl ∙ sym (ap (λ (o : Option ℕ). or_else o (Some number)) (is refl))
     has found false there is = sym (or_none found)
+
     gets : (found : Option ℕ) (same : Bool) → (same ≡ true → found ≡ None) → (if same then Some number else found) ≡ or_else found (if same then Some number else None)
     gets found true is = sym (ap (λ (o : Option ℕ). or_else o (Some number)) (is refl))
     gets found false is = sym (or_none found)
+
     at : (found : Option ℕ) → value_in own numbers ≡ found → value_in name (with_first own number numbers)
         ≡ or_else (value_in name numbers) (if bytes_eq own name then Some number else None)
     at (Some there) is =

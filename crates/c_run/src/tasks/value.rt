@@ -53,7 +53,13 @@ pub fn value_tasks<'a>(
         ExprForm::OffsetOf { .. } => known_value(text, state, expr),
         ExprForm::Index { .. } => loaded(text, state, expr),
         ExprForm::Member { .. } => loaded(text, state, expr),
-        ExprForm::Call { callee, args } => called(text, functions, state, callee.get(), args.as_slice()),
+        ExprForm::Call { callee, args } => called(
+            text,
+            functions,
+            state,
+            callee.get(),
+            args.as_slice(),
+        ),
         ExprForm::Inner { body, close } => in_inner_block(text, state, body.as_slice(), *close),
         ExprForm::AssertFail => alone(state, Task::EndRun),
     }
