@@ -1,5 +1,5 @@
 -- Functions that are called, part by part.
-use Rattle.std.proofs.Common.{◌≡◌, ℕ, ◌-◌, Bool, true, false, ◌&&◌, List, [], ◌∷◌, ◌++◌, map, length, drop, length-drop, Option, None, Some, slice_get, refl, sym, ap, subst, ◌∙◌}
+use Rattle.std.proofs.Common.{◌≡◌, ℕ, ◌-◌, Bool, false, ◌&&◌, List, [], ◌∷◌, ◌++◌, map, length, drop, length-drop, Option, Some, slice_get, refl, sym, ap, subst, ◌∙◌}
 use Rattle.std.specs.List.{list_all}
 use Rattle.std.proofs.lemmas.List.{length-map}
 use Rattle.choices.specs.declared.choice.Choice.{Choice}
@@ -9,7 +9,7 @@ use Rattle.c_machine.specs.declared.object.Object.{Object}
 use Rattle.c_machine.specs.declared.task.Task.{Task}
 use Rattle.c_machine.specs.declared.task.Task.TheVariants.{CallDefined, EndOfBody, Execute, OpenBlock, MakeParameter}
 use Rattle.c_machine.specs.Blocks.{entered}
-use Rattle.c_machine.specs.Calls.{called, function_tasks}
+use Rattle.c_machine.specs.Calls.{function_tasks}
 use Rattle.c_machine.specs.State.{StateIn, Went, doing}
 use Rattle.c_machine.specs.Text.{Function, Parameter, Text}
 use Rattle.c_steps.specs.Leaving.{in_call}

@@ -1,12 +1,11 @@
 -- Functions that have a body, by their numbers, with their parameters.
-use Rattle.std.proofs.Common.{◌≡◌, ℕ, zero, suc, List, [], ◌∷◌, map, Option, None, Some, option_map, slice_get, refl, sym, ap, ◌∙◌}
+use Rattle.std.proofs.Common.{◌≡◌, ℕ, List, [], ◌∷◌, map, Option, None, Some, option_map, slice_get, refl, sym, ap, ◌∙◌}
 use Rattle.std.proofs.lemmas.Option.{slice_get-map}
-use Rattle.cbase.specs.declared.tree.stmt.Stmt.{Stmt}
 use Rattle.typing.specs.Outcomes.{ParameterRow}
 use Rattle.c_machine.specs.declared.kind.Kind.{Kind}
 use Rattle.c_machine.specs.declared.object.Object.{Object}
 use Rattle.c_machine.specs.Program.{Program, FunctionItem, functions_in, main_in}
-use Rattle.c_machine.specs.Text.{Function, Parameter}
+use Rattle.c_machine.specs.Text.{Parameter}
 use Rattle.c_machine.specs.Trees.{function_as, kind_in, parameter_of, text_of}
 use Rattle.c_run.specs.text.Functions.{parameter_object}
 

@@ -2,10 +2,9 @@
 use Rattle.std.proofs.Common.{◌≡◌, ℕ, ◌+◌, ◌*◌, arith, Bool, true, false, ◌&&◌, List, [], ◌++◌, Option, None, Some, refl, sym, ap, subst, ◌∙◌}
 use Rattle.std.proofs.lemmas.List.{append-nil}
 use Rattle.choices.specs.declared.choice.Choice.{Choice}
-use Rattle.c_machine.specs.Run.{blank, done_within, main_tasks, start_main, static_tasks, then_go}
+use Rattle.c_machine.specs.Run.{blank, done_within, main_tasks, static_tasks, then_go}
 use Rattle.c_machine.specs.State.{TaskIn, StateIn, OutcomeIn, doing, Went as WentThere}
 use Rattle.c_machine.specs.Text.{Function, Text}
-use Rattle.c_steps.specs.declared.outcome.Outcome.{Outcome as Answer}
 use Rattle.c_steps.specs.declared.outcome.Outcome.TheVariants.{Went, Waits, Ended, Faulted, Stuck}
 use Rattle.c_steps.specs.ComesTo.{comes_to}
 use Rattle.c_run.specs.declared.stepped.Stepped.{Stepped}

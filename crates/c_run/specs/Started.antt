@@ -2,7 +2,7 @@
 use Rattle.std.specs.Prelude.{◌≡◌, ℕ, zero, suc, Bool, true, false, ◌&&◌, List, [], ◌∷◌, length, Option, None, Some}
 use Rattle.choices.specs.declared.choice.Choice.{Choice}
 use Rattle.c_machine.specs.Run.{blank, done_within, main_tasks, start_main, static_tasks}
-use Rattle.c_machine.specs.State.{TaskIn, StateIn}
+use Rattle.c_machine.specs.State.{StateIn}
 use Rattle.c_machine.specs.Step.{step}
 use Rattle.c_machine.specs.Text.{Function, Text}
 use Rattle.c_steps.specs.declared.outcome.Outcome.TheVariants as outcome

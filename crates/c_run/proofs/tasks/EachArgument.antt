@@ -1,10 +1,9 @@
 -- The arguments of a call, from the last to the first.
 use Rattle.std.proofs.Common.{◌≡◌, ℕ, zero, suc, ◌-◌, ◌<◌, ◌≤◌, false, List, [], ◌∷◌, ◌++◌, length, length-take, map, take, drop, get_or, slice_get, option_map, Some, refl, sym, ap, subst, ◌∙◌, arith}
 use Rattle.std.proofs.lemmas.List.{length-map}
-use Rattle.std.proofs.lemmas.Option.{slice_get-map, slice_get-get_or, slice_get_read}
+use Rattle.std.proofs.lemmas.Option.{slice_get-map, slice_get_read}
 use Rattle.cbase.specs.declared.ctype.CType.{CType}
 use Rattle.cbase.specs.declared.tree.expr.Expr.{Expr}
-use Rattle.expressions.specs.Numbers.{Numbering}
 use Rattle.c_machine.specs.declared.kind.Kind.{Kind}
 use Rattle.c_machine.specs.declared.task.Task.TheVariants.{Convert, Unknown, ValueOf}
 use Rattle.c_machine.specs.Expressions.{argument_tasks, value_kind}

@@ -1,5 +1,5 @@
 -- The parameters of a definition are the rows in front of all others.
-use Rattle.std.proofs.Common.{◌≡◌, ℕ, zero, suc, ◌+◌, ◌-◌, ◌<◌, ◌≤◌, Bool, true, false, List, [], ◌∷◌, map, drop, length, Option, None, Some, is_some, slice_get, option_map, if◌then◌else◌, refl, sym, ap, ◌∙◌, arith, subst}
+use Rattle.std.proofs.Common.{◌≡◌, ℕ, zero, suc, ◌+◌, ◌<◌, ◌≤◌, Bool, true, false, List, [], ◌∷◌, map, drop, length, Option, None, Some, is_some, slice_get, option_map, if◌then◌else◌, refl, sym, ap, ◌∙◌, arith, subst}
 use Rattle.std.proofs.lemmas.List.{drop-map, length-map}
 use Rattle.cbase.specs.declared.ctype.CType.{CType}
 use Rattle.typing.specs.Outcomes.{Handed, ParameterRow}

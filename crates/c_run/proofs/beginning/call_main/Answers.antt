@@ -1,5 +1,4 @@
 -- Main is called where the sizes of its objects are kept.
-use Rattle.std.proofs.Common.{◌∙◌, sym}
 use Rattle.c_machine.specs.Run.{main_tasks}
 use Rattle.c_machine.specs.Trees.{function_as, text_of}
 use Rattle.c_run.specs.declared.tasks.room.Room.TheVariants.{Made, NotKept}

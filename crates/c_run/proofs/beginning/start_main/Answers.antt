@@ -1,5 +1,5 @@
 -- The objects are made and initialised, and then main is called.
-use Rattle.std.proofs.Common.{◌≡◌, ℕ, List, length, map, sym, ◌∙◌}
+use Rattle.std.proofs.Common.{length, sym, ◌∙◌}
 use Rattle.std.proofs.lemmas.List.{length-map}
 use Rattle.c_machine.specs.Run.{blank, static_tasks}
 use Rattle.c_machine.specs.Trees.{function_as, nodes_in, object_of, static_rows, text_of}

@@ -1,5 +1,5 @@
 -- One step after the other, until nothing is left.
-use Rattle.std.proofs.Common.{◌≡◌, ℕ, ◌-◌, suc, ◌∙◌, sym, ap, subst, arith, refl}
+use Rattle.std.proofs.Common.{◌≡◌, ℕ, ◌-◌, suc, ◌∙◌, sym, subst, arith}
 use Rattle.c_machine.specs.Trees.{text_of}
 use Rattle.c_run.proofs.StepsLeft.{all_done, at_first, last_step, one_step_on, too_many, some_there, none_there, Finishes}
 use Rattle.c_run.proofs.finishing.finish.Goals as goal

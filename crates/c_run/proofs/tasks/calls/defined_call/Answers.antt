@@ -5,7 +5,7 @@ use Rattle.c_machine.specs.declared.kind.Kind.{Kind}
 use Rattle.c_machine.specs.declared.task.Task.TheVariants.{CallDefined}
 use Rattle.c_machine.specs.Expressions.{argument_tasks}
 use Rattle.c_machine.specs.Program.{parameters_in}
-use Rattle.c_machine.specs.Trees.{kind_in, text_of}
+use Rattle.c_machine.specs.Trees.{text_of}
 use Rattle.c_run.specs.text.Parameters.{types_by}
 use Rattle.c_run.proofs.DefinedFunctions.{kinds_of_rows}
 use Rattle.c_run.proofs.tasks.EachArgument.{params_by}

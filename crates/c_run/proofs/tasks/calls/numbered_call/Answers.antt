@@ -1,5 +1,5 @@
 -- The function of that number, if there is one.
-use Rattle.std.proofs.Common.{Option, None, Some, refl, sym, ap, ◌∙◌}
+use Rattle.std.proofs.Common.{Option, None, Some, sym, ap}
 use Rattle.cbase.specs.declared.tree.stmt.Stmt.{Stmt}
 use Rattle.c_machine.specs.Expressions.{body_call}
 use Rattle.c_machine.specs.Text.{Function}

@@ -1,9 +1,8 @@
 -- A function gets the number of those in front of it.
-use Rattle.std.proofs.Common.{List, length, sym, ap, ◌∙◌, subst}
+use Rattle.std.proofs.Common.{ap, ◌∙◌}
 use Rattle.c_machine.specs.Program.{FunctionItem}
-use Rattle.typing.specs.environment.Names.{Entries}
-use Rattle.c_run.specs.text.Numbered.{AreNumbers, with_first}
-use Rattle.c_run.proofs.text.FunctionsNumbered.{numbered, put_numbers}
+use Rattle.c_run.specs.text.Numbered.{with_first}
+use Rattle.c_run.proofs.text.FunctionsNumbered.{put_numbers}
 use Rattle.c_run.proofs.text.function_table.put.Goals as goal
 
 pub returns-clause-numbers : goal.returns-clause-numbers

@@ -1,7 +1,7 @@
 -- A row is looked at where there is one.
 use Rattle.std.proofs.Common.{◌+◌, drop, suc, Bool, ap, ◌∙◌, if◌then◌else◌}
 use Rattle.c_run.specs.text.Parameters.{leading}
-use Rattle.c_run.proofs.text.ParametersFound.{leads, leads_past}
+use Rattle.c_run.proofs.text.ParametersFound.{leads}
 use Rattle.c_run.proofs.text.typed_text.TypedText.is_parameter.Goals as goal
 
 pub returns-clause-yes : goal.returns-clause-yes

@@ -1,5 +1,5 @@
 -- The parameter at an index is the row behind so many others.
-use Rattle.std.proofs.Common.{ℕ, ◌+◌, List, ◌∷◌, drop, None, Some, option_map, sym, ap, ◌∙◌, subst, arith}
+use Rattle.std.proofs.Common.{List, None, Some, sym, ap, ◌∙◌, subst, arith}
 use Rattle.std.specs.Prelude.{option_and_then}
 use Rattle.cbase.specs.declared.ctype.CType.{CType}
 use Rattle.typing.specs.ctypes.Table.{type_at}
