@@ -32,12 +32,12 @@ above most whole front rest taken whole_is front_is taken_is = omega arith
 module _ (tells : Bool) (content : Option (List ℕ)) (left file : List ℕ) (names : List (List ℕ)) where
   pub safe : IsAnswered tells content left file names Safe → OfFile tells content (MeansSafe file)
   safe answered = of_file tells content left file names Safe (MeansSafe file)
-      (λ bytes judged. let (t, items, numbers, read, checked, row, program, formed, sound) = judged.1 in (t, items, numbers, row, program, read, formed, sound)) answered
+      (λ bytes judged. let (t, items, numbers, read, checked, (row, program, formed, sound)) = judged.1 in (t, items, numbers, row, program, read, formed, sound)) answered
 
   pub warned : (warnings : List Warning) → IsAnswered tells content left file names (Warned warnings)
       → OfFile tells content (λ bytes. MeansWarned file bytes warnings)
   warned warnings answered = of_file tells content left file names (Warned warnings) (λ bytes. MeansWarned file bytes warnings)
-      (λ bytes judged. let (short, (t, items, numbers, read, checked, row, program, formed, are), some) = judged in (t, items, numbers, row, program, read, formed, are, some)) answered
+      (λ bytes judged. let (short, (t, items, numbers, read, checked, (row, program, formed, are)), some) = judged in (t, items, numbers, row, program, read, formed, are, some)) answered
 
   pub gave_up : (number : ℕ) (place : Place) → IsAnswered tells content left file names (Construct number place)
       → OfFile tells content (λ bytes. MeansGaveUp file bytes number place)
