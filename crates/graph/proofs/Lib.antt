@@ -31,6 +31,7 @@ pub mod Scalars
 pub mod Completed
 pub mod Extended
 pub mod Unheld
+pub mod UnheldForm
 pub mod Table
 pub mod Rows
 pub mod Placing

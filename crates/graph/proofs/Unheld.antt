@@ -74,7 +74,7 @@ above-number blocks (entry ∷ rest) bound key place number some is = by_cases (
 -- Lists of which some entries stay.
 
 module _ {Entry Item : Type 0} (key : Entry → ℕ) (item : Entry → Item) (stays : ℕ → Bool) where
-  found_staying : (entries : List Entry) (at : ℕ) → stays at ≡ true → found_at key item (filter (λ entry. stays (key entry)) entries) at ≡ found_at key item entries at
+  pub found_staying : (entries : List Entry) (at : ℕ) → stays at ≡ true → found_at key item (filter (λ entry. stays (key entry)) entries) at ≡ found_at key item entries at
   found_staying [] at stay = refl
   found_staying (first ∷ rest) at stay = by_cases (stays (key first)) refl (nat_eq (key first) at) refl (found_staying rest at stay)
     where
@@ -102,7 +102,7 @@ module _ {Entry Item : Type 0} (key : Entry → ℕ) (item : Entry → Item) (st
       by_cases true is = is
       by_cases false is = absurd (false≢true (subst (λ (o : Option Item). IsSome o) (found_gone entries at is) some))
 
-  was_there : (entries : List Entry) (at : ℕ) (found : Item) → found_at key item (filter (λ entry. stays (key entry)) entries) at ≡ Some found → found_at key item entries at ≡ Some found
+  pub was_there : (entries : List Entry) (at : ℕ) (found : Item) → found_at key item (filter (λ entry. stays (key entry)) entries) at ≡ Some found → found_at key item entries at ≡ Some found
   was_there entries at found is = sym (found_staying entries at (stays_there entries at (IsSome-holds _ _ is))) ∙ is
 
 -- a place of an item in a list of which some stay

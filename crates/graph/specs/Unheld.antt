@@ -11,7 +11,7 @@ use Rattle.graph.specs.Maps.{object_at, value_at, held_by}
 use Rattle.graph.specs.Nodes.{own_node}
 use Rattle.graph.specs.Meaning.{Assignment, Meets, maps_of}
 use Rattle.graph.specs.State.{State}
-use Rattle.graph.specs.WellFormed.{IsWellFormed, is_within_limits}
+use Rattle.graph.specs.WellFormed.{IsWellFormed, HasAscendingKeys, is_within_limits}
 
 -- the parts with these values and objects alone, and with the pairs of which both values stay
 abbrev pub with_only : (ℕ → Bool) → (ℕ → Bool) → Parts → Parts
@@ -52,3 +52,8 @@ pub record SayTheSame (parts kept : Parts) (state : State) : Type 0 where
 abbrev pub WhatNothingHoldsMayGo : Type 0
 WhatNothingHoldsMayGo = (values objects : ℕ → Bool) (parts : Parts) (state : State) → IsWellFormed parts → IsTrue (is_within_limits parts) → MayGo values objects parts →
     SayTheSame parts (with_only values objects parts) state
+
+-- what stays is well formed
+abbrev pub WhatStaysIsAGraph : Type 0
+WhatStaysIsAGraph = (values objects : ℕ → Bool) (parts : Parts) → HasAscendingKeys parts → IsWellFormed parts → MayGo values objects parts →
+    IsWellFormed (with_only values objects parts) × HasAscendingKeys (with_only values objects parts)
