@@ -5,7 +5,7 @@ Usage: tools/attack.py [--check] [LOG ..]
 An edit of crates/NAME/must-fail/ is one that the gate tries, one of tests/wrong_bodies/NAME/ was tried by hand. What refused an edit stands in it as a line
 `refused by: WHAT`, behind a `#` in must-fail/. From a LOG of the gate, of rt must-fail or of tests/wrong_bodies/try.py these lines are written anew, and
 then the tables of the page between the lines `attack.py: begin` and `attack.py: end`. `refused by: nothing, WHY` is that of an edit which got through, and
-why it is right. With --check nothing is written, and the status is 1 where the page would change, or where an edit has no such line or no longer fits: a
+why it is right; `refused by: not tried yet` that of one which fits the lines as they are and waits for its try: it is counted apart. With --check nothing is written, and the status is 1 where the page would change, or where an edit has no such line or no longer fits: a
 text that it replaces has to stand in its file, once. What is wrong is printed.
 """
 import re
@@ -26,6 +26,7 @@ CAUSES = {
     "a proof that names what is gone": "a proof names what is gone",
 }
 OTHER = "else"
+UNTRIED = "not tried yet"
 
 
 def crates():
@@ -107,10 +108,10 @@ def kind(what):
 def row(crate):
     """The row of a crate: how many edits it has, and how many each cause refused."""
     records = [record(edit) for edit in (*by_gate(crate), *by_hand(crate))]
-    counts = Counter(kind(what) for what in records if what and not what.startswith("nothing"))
-    through = sum(what.startswith("nothing") for what in records if what)
+    counts = Counter(kind(what) for what in records if what and what != UNTRIED and not what.startswith("nothing"))
+    through, waiting = sum(what.startswith("nothing") for what in records if what), sum(what == UNTRIED for what in records)
     heads = [counts[head] or "" for head in (*CAUSES.values(), OTHER)]
-    cells = [f"`{crate}`", len(by_gate(crate)) or "", len(by_hand(crate)) or "", *heads, through or ""]
+    cells = [f"`{crate}`", len(by_gate(crate)) or "", len(by_hand(crate)) or "", *heads, through or "", waiting or ""]
     return "| " + " | ".join(map(str, cells)) + " |"
 
 
@@ -122,7 +123,7 @@ def passed():
 
 def summed_up():
     """What stands on the page between the marks."""
-    heads = ["crate", "the gate tries", "by hand", *CAUSES.values(), OTHER, "got through"]
+    heads = ["crate", "the gate tries", "by hand", *CAUSES.values(), OTHER, "got through", UNTRIED]
     rows = [row(crate) for crate in crates() if by_gate(crate) or by_hand(crate)]
     sums = [sum(int(cell or 0) for cell in column) for column in zip(*([cell.strip() for cell in line.split("|")[2:-1]] for line in rows))]
     lines = ["| " + " | ".join(heads) + " |", "|---" * len(heads) + "|", *rows, "| together | " + " | ".join(map(str, sums)) + " |"]
