@@ -1,9 +1,9 @@
 -- A graph from which goes what nothing holds is a graph.
-use Rattle.std.proofs.Common.{◌≡◌, ℕ, zero, suc, ◌<◌, Bool, true, false, ◌&&◌, ◌||◌, not, List, [], ◌∷◌, map, nat_eq, nat_le, nat_lt, Option, None, Some, refl, sym, ◌∙◌, ap, subst, eqb-true, eq-eqb, ltb-true, arith, cond}
+use Rattle.std.proofs.Common.{◌≡◌, ℕ, zero, suc, ◌+◌, ◌^◌, ◌<◌, ◌≤◌, Bool, true, false, ◌&&◌, ◌||◌, not, List, [], ◌∷◌, map, length, nat_eq, nat_le, nat_lt, Option, None, Some, refl, sym, ◌∙◌, ap, subst, eqb-true, eq-eqb, ltb-true, arith, cond}
 use Rattle.std.specs.Prelude.{IsTrue, option_map, slice_get, is_some}
-use Rattle.std.specs.List.{filter, list_all, AllPairs}
+use Rattle.std.specs.List.{filter, list_all, AllPairs, fold}
 use Rattle.std.specs.Option.{option_map_or}
-use Rattle.std.proofs.lemmas.Bool.{false≢true}
+use Rattle.std.proofs.lemmas.Bool.{false≢true, lt-ltb}
 use Rattle.std.proofs.lemmas.List.Kept.{AllPairs-filter}
 use Rattle.std.proofs.lemmas.Option.{same_Some, none-some, get_or_from_slice_get, slice_get_within, slice_get-map}
 use Rattle.bytes_core.specs.Release.{is_heap}
@@ -24,8 +24,8 @@ use Rattle.graph.specs.Closed.{OnEdges, OnEnds}
 use Rattle.graph.specs.Maps.{found_at, object_at, value_at}
 use Rattle.graph.specs.Nodes.{is_region, node_of, back_edges, link_edges, links_in}
 use Rattle.graph.specs.Sizes.{value_size, is_sized, is_zero}
-use Rattle.graph.specs.Unheld.{with_only, MayGo, WhatStaysIsAGraph}
-use Rattle.graph.specs.WellFormed.{IsWellFormed, HasAscendingKeys, are_ascending, has_value, passes_at, may_stand_in, may_be_held, target_fits, leads_to_object, is_storage, has_class_a_byte, says_nothing, is_segment_storage, lies_in, are_in_order, share_no_byte, link_is_any, is_outward, is_null, back_fits, Ranks, Falls, edge_has_size, edge_has_class, is_unequal_pair, may_be_unequal, differs_from, are_different}
+use Rattle.graph.specs.Unheld.{with_only, MayGo, WhatStaysIsAGraph, WhatStaysIsWithinLimits}
+use Rattle.graph.specs.WellFormed.{IsWellFormed, HasAscendingKeys, are_ascending, has_value, passes_at, may_stand_in, may_be_held, target_fits, leads_to_object, is_storage, has_class_a_byte, says_nothing, is_segment_storage, lies_in, are_in_order, share_no_byte, link_is_any, is_outward, is_null, back_fits, Ranks, Falls, edge_has_size, edge_has_class, is_unequal_pair, may_be_unequal, differs_from, are_different, nodes_of, nodes}
 use Rattle.graph.proofs.Closed.{passes-at}
 use Rattle.graph.proofs.Found.{found-here, found-later}
 use Rattle.graph.proofs.Tests.{and_left, and_right, and_both}
@@ -237,3 +237,30 @@ module _ (values objects : ℕ → Bool) (parts : Parts) (ascending : HasAscendi
 
 pub what_stays_is_a_graph : WhatStaysIsAGraph
 what_stays_is_a_graph values objects parts ascending well may = (kept_well_formed values objects parts ascending well may, kept_ascending values objects parts ascending well may)
+
+-- How much stays.
+
+fold_staying : {X : Type 0} (stay : X → Bool) (f : X → ℕ) (xs : List X) (m n : ℕ) → m ≤ n → fold (λ count x. count + f x) m (filter stay xs) ≤ fold (λ count x. count + f x) n xs
+fold_staying stay f [] m n below = below
+fold_staying stay f (x ∷ rest) m n below = by_stay (stay x) (fold_staying stay f rest (m + f x) (n + f x) (omega arith)) (fold_staying stay f rest m (n + f x) (omega arith))
+  where
+    by_stay : (b : Bool) → fold (λ count x. count + f x) (m + f x) (filter stay rest) ≤ fold (λ count x. count + f x) (n + f x) rest → fold (λ count x. count + f x) m (filter stay rest) ≤ fold (λ count x. count + f x) (n + f x) rest →
+        fold (λ count x. count + f x) m (cond b (x ∷ filter stay rest) (filter stay rest)) ≤ fold (λ count x. count + f x) (n + f x) rest
+    by_stay true here later = here
+    by_stay false here later = later
+
+length_staying : {X : Type 0} (stay : X → Bool) (xs : List X) → length (filter stay xs) ≤ length xs
+length_staying stay [] = omega arith
+length_staying stay (x ∷ rest) = by_stay (stay x) (length_staying stay rest)
+  where
+    by_stay : (b : Bool) → length (filter stay rest) ≤ length rest → length (cond b (x ∷ filter stay rest) (filter stay rest)) ≤ suc (length rest)
+    by_stay true below = omega arith
+    by_stay false below = omega arith
+
+pub what_stays_is_within_limits : WhatStaysIsWithinLimits
+what_stays_is_within_limits values objects parts limits =
+    let few = ltb-true (nodes parts) (2 ^ 30) (and_left (nat_lt (nodes parts) (2 ^ 30)) (nat_lt (length parts.unequal) (2 ^ 30)) limits) in
+    let pairs = ltb-true (length parts.unequal) (2 ^ 30) (and_right (nat_lt (nodes parts) (2 ^ 30)) (nat_lt (length parts.unequal) (2 ^ 30)) limits) in
+    let fewer : nodes (with_only values objects parts) ≤ nodes parts = fold_staying (λ (entry : KeyedObject). objects entry.key) (λ (entry : KeyedObject). nodes_of entry.object.shape) parts.objects 0 0 (omega arith) in
+    let fewer_pairs = length_staying (λ (pair : Pair). values pair.left && values pair.right) parts.unequal in
+    and_both (nat_lt (nodes (with_only values objects parts)) (2 ^ 30)) (nat_lt (length (with_only values objects parts).unequal) (2 ^ 30)) (lt-ltb _ _ (omega arith)) (lt-ltb _ _ (omega arith))

@@ -57,3 +57,7 @@ WhatNothingHoldsMayGo = (values objects : ℕ → Bool) (parts : Parts) (state :
 abbrev pub WhatStaysIsAGraph : Type 0
 WhatStaysIsAGraph = (values objects : ℕ → Bool) (parts : Parts) → HasAscendingKeys parts → IsWellFormed parts → MayGo values objects parts →
     IsWellFormed (with_only values objects parts) × HasAscendingKeys (with_only values objects parts)
+
+-- and holds no more than before
+abbrev pub WhatStaysIsWithinLimits : Type 0
+WhatStaysIsWithinLimits = (values objects : ℕ → Bool) (parts : Parts) → IsTrue (is_within_limits parts) → IsTrue (is_within_limits (with_only values objects parts))

@@ -12,7 +12,7 @@ ghost use Rattle.graph.specs.Meaning.{StandsFor};
 ghost use Rattle.graph.specs.Numbers.{NumbersAreCompleted, NumbersMayBeChosen, SomeNumbersMayBeChosen};
 ghost use Rattle.graph.specs.Renaming.{renamed, numbered, object_place, value_place};
 ghost use Rattle.graph.specs.State.{State, IsState};
-ghost use Rattle.graph.specs.Unheld.{MayGo, WhatNothingHoldsMayGo, WhatStaysIsAGraph, with_only};
+ghost use Rattle.graph.specs.Unheld.{MayGo, WhatNothingHoldsMayGo, WhatStaysIsAGraph, WhatStaysIsWithinLimits, with_only};
 ghost use Rattle.graph.specs.WellFormed.{IsWellFormed, HasAscendingKeys, is_within_limits};
 
 /// Other keys, one to one, leave a graph well formed.
@@ -97,6 +97,11 @@ pub fn what_nothing_holds_may_go()
 /// What stays when that goes is well formed, and its keys ascend.
 pub fn what_stays_is_a_graph()
     ensures { WhatStaysIsAGraph }
+{}
+
+/// It holds no more than before, whatever goes.
+pub fn what_stays_is_within_limits()
+    ensures { WhatStaysIsWithinLimits }
 {}
 
 /// So the states that are stood for stay the same.
