@@ -10,8 +10,9 @@ use Rattle.typing.specs.declared.environment.entity.Definition.{Definition}
 use Rattle.typing.specs.declared.environment.entity.Entity.{Entity}
 use Rattle.typing.specs.declared.environment.entity.Entity.TheVariants as entity
 use Rattle.typing.specs.declared.environment.entity.Linked.{Linked as LinkedByNumber}
+use Rattle.typing.specs.declared.environment.entity.Signature.{Signature}
 use Rattle.typing.specs.declared.environment.environment.Environment.{Environment}
-use Rattle.typing.specs.environment.Bounds.{DeclaredBelow}
+use Rattle.typing.specs.environment.Bounds.{DeclaredBelow, EntityBelow, LinkedBelow}
 use Rattle.typing.specs.environment.Environment.{visible_type}
 use Rattle.typing.specs.environment.Linkage.{linked_declared, own_declared}
 use Rattle.typing.specs.environment.Names.{value_in}
@@ -38,6 +39,20 @@ pub composite_is : (n : Numbering) (before : Option LinkedByNumber) (t : Declare
 composite_is n None t = refl
 composite_is n (Some meaning) t = composite_in_is n meaning.entity meaning.definition t
 
+-- its number is below where those of both types are
+composite_in_below : (count : ℕ) (signatures : List Signature) (before : Entity) (by_now : Definition) (t : DeclaredType) → EntityBelow count signatures before → DeclaredBelow count t
+    → DeclaredBelow count (composite_by_now (Some (record { entity = before; definition = by_now })) t)
+composite_in_below count signatures (entity.Object (Whole number) token lifetime defined) by_now t below also = below
+composite_in_below count signatures (entity.Object (UnsizedArray item) token lifetime defined) by_now t below also = also
+composite_in_below count signatures (entity.Typedef before) by_now t below also = also
+composite_in_below count signatures (entity.Enumerator bits) by_now t below also = also
+composite_in_below count signatures (entity.Function signature defined built_in) by_now t below also = also
+
+pub composite_below : (count : ℕ) (signatures : List Signature) (before : Option LinkedByNumber) (t : DeclaredType) → IfSome before (LinkedBelow count signatures) → DeclaredBelow count t
+    → DeclaredBelow count (composite_by_now before t)
+composite_below count signatures None t below also = also
+composite_below count signatures (Some meaning) t below also = composite_in_below count signatures meaning.entity meaning.definition t below also
+
 -- the type that is seen, by numbers, and the items of an array whose size is not
 pub seen_is : (n : Numbering) (visible : Option ℕ) (t : DeclaredType) → declared_type_at n (seen_in visible t) ≡ seen_type (option_map n.ctype visible) (declared_type_at n t)
 seen_is n None t = refl
@@ -46,6 +61,10 @@ seen_is n (Some number) t = refl
 pub seen_below : (count : ℕ) (visible : Option ℕ) (t : DeclaredType) → IfSome visible (λ number. number < count) → DeclaredBelow count t → DeclaredBelow count (seen_in visible t)
 seen_below count None t below also = also
 seen_below count (Some number) t below also = below
+
+pub unsized_below : (count : ℕ) (t : DeclaredType) → DeclaredBelow count t → IfSome (unsized_in t) (λ item. item < count)
+unsized_below count (Whole number) below = tt
+unsized_below count (UnsizedArray item) below = below
 
 unsized_back : (n : Numbering) (context : Context) → Agrees n context → (t : DeclaredType) → DeclaredBelow (length context.types) t
     → option_map n.number (unsized_items (declared_type_at n t)) ≡ unsized_in t

@@ -1,5 +1,5 @@
 -- What is broken at a value that is stored, first.
-use Rattle.std.proofs.Common.{◌≡◌, ◌∙◌, ℕ, Bool, true, false, [], ◌∷◌, List, map, drop, refl, sym, ap, subst, arith, Some}
+use Rattle.std.proofs.Common.{◌≡◌, ◌∙◌, ℕ, Bool, true, false, [], ◌∷◌, List, map, drop, refl, sym, ap, subst, arith, None, Some}
 use Rattle.std.specs.Prelude.{◌&&◌, not}
 use Rattle.cbase.specs.declared.ctype.CType.{CType}
 use Rattle.cbase.specs.declared.place.Place.{Place}
@@ -28,6 +28,11 @@ rule_5 true false place = record { front = []; back = fault place (Rule 9) ∷ [
 rule_9 : (fixed : Bool) (t : CType) (handed : List Handed) (value : Expr) (place : Place) → IsAsked (Stored fixed t) handed value false → IsFirst (stored_faults fixed false place true) (fault place (Rule 9))
 rule_9 true t handed value place asked = first_alone (fault place (Rule 9) ∷ []) (fault place (Rule 9)) refl
 rule_9 false t handed value place asked = cc asked
+
+none_of : (fixed tests : Bool) (place : Place) → (fixed && tests) ≡ false → stored_faults fixed (not tests) place true ≡ []
+none_of false tests place neither = refl
+none_of true false place neither = refl
+none_of true true place neither = cc neither
 
 module _ (now : Context) (before : ℕ) (fixed : Bool) (to : ℕ) (value : Expr) (known : KnownByNumber) (operand : OperandByNumber) (converted constant : Bool)
     (same : operand ≡ operand_in known) (form : IsForm now before fixed value constant)
@@ -61,3 +66,27 @@ module _ (now : Context) (before : ℕ) (fixed : Bool) (to : ℕ) (value : Expr)
         (subst (λ (test : Bool). IsFirst (stored_faults fixed (test && not (tests_in n)) value.place true) (fault value.place (Rule 9))) (sym none)
         (rule_9 fixed (n.ctype to) (map (handed_at n) (drop before now.handed)) value value.place asked)),
   )
+
+  -- one that is a pointer and becomes a `_Bool`, or not
+  module _ (tests : Bool) (tested : (n : Numbering) → Agrees n now → tests ≡ tests_in n) (is : converted ≡ true) (has : constant ≡ true) where
+    pub test_of_pointer : fixed ≡ true → tests ≡ true → IsJudged now before fixed to value known (Some (fault value.place (Rule 9)))
+    test_of_pointer lasts test = (
+      constant,
+      form,
+      λ n agrees.
+          subst (λ (t : Bool). IsFirst (stored_faults fixed (constant && not (tests_in n)) value.place t) (fault value.place (Rule 9))) (sym is ∙ as_told n agrees)
+          (subst (λ (t : Bool). IsFirst (stored_faults fixed (constant && not t) value.place true) (fault value.place (Rule 9))) (sym test ∙ tested n agrees)
+          (subst (λ (t : Bool). IsFirst (stored_faults fixed (t && false) value.place true) (fault value.place (Rule 9))) (sym has)
+          (subst (λ (t : Bool). IsFirst (stored_faults t false value.place true) (fault value.place (Rule 9))) (sym lasts)
+          (first_alone (fault value.place (Rule 9) ∷ []) (fault value.place (Rule 9)) refl)))),
+    )
+
+    pub nothing_broken : (fixed && tests) ≡ false → IsJudged now before fixed to value known None
+    nothing_broken neither = (
+      constant,
+      form,
+      λ n agrees.
+          subst (λ (t : Bool). stored_faults fixed (constant && not (tests_in n)) value.place t ≡ []) (sym is ∙ as_told n agrees)
+          (subst (λ (t : Bool). stored_faults fixed (constant && not t) value.place true ≡ []) (tested n agrees)
+          (subst (λ (t : Bool). stored_faults fixed (t && not tests) value.place true ≡ []) (sym has) (none_of fixed tests value.place neither))),
+    )
