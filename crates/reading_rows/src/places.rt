@@ -16,6 +16,7 @@ fn follow<'a>(todo: &mut Vec<Node<'a>>, parts: &Parts<'a>) -> Result<(), NoMemor
 /// Shows a place, or goes through a part of a tree.
 fn step<'a>(todo: &mut Vec<Node<'a>>, node: Node<'a>, shown: &mut String) -> Result<(), NoMemory> {
     match node {
+        Node::Done => Ok(()),
         Node::Found(what, place) => push_row(what, &[place.line, place.column], shown),
         _ => follow(todo, &parts(node)),
     }
