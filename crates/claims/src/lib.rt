@@ -3,8 +3,12 @@
 #![tactic(auto)]
 
 mod judging;
+mod replaying;
 
 pub use judging::{
     gave_up_means, no_main_means, no_token_means, not_yet_means, read_fault_means, rule_means,
     safe_means, syntax_means, too_deep_means, too_long_means, usage_means, warned_means,
+};
+pub use replaying::{
+    ended_means, fault_means, no_choices_means, no_step_means, still_running_means, waits_means,
 };
