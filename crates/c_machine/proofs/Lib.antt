@@ -22,3 +22,4 @@ pub mod AwaitingSteps
 pub mod StandingParts
 pub mod RunStateLaws
 pub mod LackingLaws
+pub mod WitnessLaws
