@@ -23,3 +23,4 @@ pub mod StandingParts
 pub mod RunStateLaws
 pub mod LackingLaws
 pub mod WitnessLaws
+pub mod SizedNames

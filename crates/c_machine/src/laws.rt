@@ -4,7 +4,7 @@ ghost use Rattle.c_machine.specs.Keeping.{DoRunsKeep, DoStepsKeep};
 ghost use Rattle.c_machine.specs.Lacking.{IsNoOperandLacking};
 ghost use Rattle.c_machine.specs.Laws.{DoConversionsAgree, DoesLossStay, DoProgramsLeaveMore, DoRunsLeaveMore, DoStepsLeaveMore, DoStepsTakeOne};
 ghost use Rattle.c_machine.specs.Reading.{AreRead};
-ghost use Rattle.c_machine.specs.RunStates.{AreFitting, AreRunStates};
+ghost use Rattle.c_machine.specs.RunStates.{AreFitting, AreRunStates, DoNamesLeadToSizes};
 ghost use Rattle.c_machine.specs.Witness.{IsMet};
 
 /// A step takes at most one choice, and waits only where there is none.
@@ -76,4 +76,9 @@ pub fn no_step_lacks_an_operand()
 /// A program with a call meets what these laws ask of programs, and a state of its run has what they say.
 pub fn a_program_meets_what_is_asked()
     ensures { IsMet }
+{}
+
+/// The block that a name leads to has as many bytes as an object of the text with its token.
+pub fn a_name_leads_to_a_block_of_its_size()
+    ensures { DoNamesLeadToSizes }
 {}
