@@ -22,3 +22,5 @@ pub mod AwaitingSteps
 pub mod StandingParts
 pub mod RunStateLaws
 pub mod LackingLaws
+pub mod WitnessLaws
+pub mod SizedNames

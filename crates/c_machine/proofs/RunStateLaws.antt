@@ -180,7 +180,7 @@ if_body : (t : Text) (parts : Parts t) (found : Option (Function t.Stmt)) (main 
 if_body t parts None main is are = absurd cc
 if_body t parts (Some other) main is are = let same : other ≡ main = cc in subst (λ (function : Function t.Stmt). Each parts.stmt function.body) same are
 
-goes_on_awaiting : (t : Text) (parts : Parts t) → IsFittingText t → AreParts t parts → (main : Function t.Stmt) (state : StateIn t) → t.main ≡ Some main → IsDone t (Awaited t parts 0) state →
+pub goes_on_awaiting : (t : Text) (parts : Parts t) → IsFittingText t → AreParts t parts → (main : Function t.Stmt) (state : StateIn t) → t.main ≡ Some main → IsDone t (Awaited t parts 0) state →
     Awaited t parts 1 (record state { tasks = main_tasks t main })
 goes_on_awaiting t parts fit all main state is done =
     let none : length state.operands ≡ 0 = subst (λ (tasks : List (TaskIn t)). Leads t 0 (length state.operands) tasks 0) done.nothing done.holds.awaits.operands in
@@ -199,7 +199,7 @@ runs_await t parts fit all steps choices =
     (start_leaves t (Awaited t parts 0) (Awaited t parts 1) (steps_await t parts fit all 0) (begins_awaiting t parts fit all) (goes_on_awaiting t parts fit all) t.main choices refl)
     (run_leaves t (Awaited t parts 1) (steps_await t parts fit all 1) steps)
 
-told : (t : Text) (parts : Parts t) (state : StateIn t) → Awaited t parts 1 state → IsRunState t parts state
+pub told : (t : Text) (parts : Parts t) (state : StateIn t) → Awaited t parts 1 state → IsRunState t parts state
 told t parts state is = record { lives = is.fitted.lives; fits = is.fitted.fits; awaits = is.awaits }
 
 given : (t : Text) (parts : Parts t) (state : StateIn t) → IsRunState t parts state → Awaited t parts 1 state

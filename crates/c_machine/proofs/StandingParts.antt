@@ -27,7 +27,7 @@ each_places : {X : Type 0} (P : X → Type 0) (items : List X) → ((place : ℕ
 each_places P [] all = tt
 each_places P (item ∷ rest) all = (all 0 item refl, each_places P rest (λ place other is. all (suc place) other is))
 
-each_front : {X : Type 0} (P : X → Type 0) (one other : List X) → Each P (one ++ other) → Each P one
+pub each_front : {X : Type 0} (P : X → Type 0) (one other : List X) → Each P (one ++ other) → Each P one
 each_front P [] other are = tt
 each_front P (item ∷ one) other are = (are.0, each_front P one other are.1)
 

@@ -20,4 +20,5 @@ pub mod Statics
 pub mod Step
 pub mod Text
 pub mod Trees
+pub mod Witness
 pub mod Words

@@ -4,7 +4,8 @@ ghost use Rattle.c_machine.specs.Keeping.{DoRunsKeep, DoStepsKeep};
 ghost use Rattle.c_machine.specs.Lacking.{IsNoOperandLacking};
 ghost use Rattle.c_machine.specs.Laws.{DoConversionsAgree, DoesLossStay, DoProgramsLeaveMore, DoRunsLeaveMore, DoStepsLeaveMore, DoStepsTakeOne};
 ghost use Rattle.c_machine.specs.Reading.{AreRead};
-ghost use Rattle.c_machine.specs.RunStates.{AreFitting, AreRunStates};
+ghost use Rattle.c_machine.specs.RunStates.{AreFitting, AreRunStates, DoNamesLeadToSizes};
+ghost use Rattle.c_machine.specs.Witness.{IsMet};
 
 /// A step takes at most one choice, and waits only where there is none.
 #[tactic(auto, using(crate::proofs::OneChoice::steps_take_one))]
@@ -70,4 +71,14 @@ pub fn each_awaited_value_has_its_operand()
 /// No step of a run lacks an operand: where it is none of a program of C, it lacks an object, a type, a function, a block, a loop or a body.
 pub fn no_step_lacks_an_operand()
     ensures { IsNoOperandLacking }
+{}
+
+/// A program with a call meets what these laws ask of programs, and a state of its run has what they say.
+pub fn a_program_meets_what_is_asked()
+    ensures { IsMet }
+{}
+
+/// The block that a name leads to has as many bytes as an object of the text with its token.
+pub fn a_name_leads_to_a_block_of_its_size()
+    ensures { DoNamesLeadToSizes }
 {}
