@@ -5,7 +5,7 @@ Usage, at the project's root: bench/recursion.py [--unproved] [--most N] [PART .
 Without words it takes all parts. Each run is of a program with all its choices, and of the processor times of some runs the least is taken. Printed is the time
 for each function or level in a size as a ratio to that in the smallest size, which is an eighth of the largest: where the work is linear these are about 1, and work that goes with the square
 would give 2, 4 and 8. It takes the proved program; with --unproved one that is built from the same sources without proofs. --most sets how deep the
-deepest recursion is, and --functions how many functions the longest chain has.
+deepest recursion is, and --functions how many functions the longest chain has, and --runs how often each program is run.
 
 chain        functions that each call the one before it and add 1, read and checked (CHOICES is empty, so the run waits at once)
 chain_run    the same, run to its end; the time of `chain` is taken off
@@ -26,7 +26,6 @@ from pathlib import Path
 sys.path.insert(0, str(Path(__file__).resolve().parent.parent / "tools"))
 from front import run, sources  # noqa: E402
 
-RUNS = 3
 SHARES = (8, 4, 2, 1)
 FOR_EVER = "void f(void) { char c; f(); }\nint main(void) { f(); return 0; }\n"
 
@@ -80,14 +79,14 @@ def held(depth):
 PARTS = {"chain": unrun, "chain_run": chain, "down": down, "descending": descending, "scattered": scattered, "back": back, "held": held}
 
 
-def seconds(program, case):
+def seconds(program, case, runs):
     """The least processor time of some runs of a program of C with its choices."""
     text, choices, answer = case
     times = []
     with tempfile.TemporaryDirectory() as folder:
         Path(folder, "t.c").write_text(text)
         Path(folder, "c").write_text("".join(choice + "\n" for choice in choices))
-        for _ in range(RUNS):
+        for _ in range(runs):
             before = resource.getrusage(resource.RUSAGE_CHILDREN)
             said, _ = program.answer(["replay", "t.c", "c"], cwd=folder, stdin=subprocess.DEVNULL)
             after = resource.getrusage(resource.RUSAGE_CHILDREN)
@@ -97,13 +96,13 @@ def seconds(program, case):
     return min(times)
 
 
-def measured(program, part, most):
+def measured(program, part, most, runs):
     """Prints what a part takes for each function or level, against the smallest size."""
     first = None
     for count in (most // share for share in SHARES):
-        took = seconds(program, PARTS[part](count))
+        took = seconds(program, PARTS[part](count), runs)
         if part == "chain_run":
-            took -= seconds(program, unrun(count))
+            took -= seconds(program, unrun(count), runs)
         each = took / count
         first = first or each
         print(f"{part}, {count:,}: {took:.3f} s, {each / first:.2f}", flush=True)
@@ -114,13 +113,14 @@ def main():
     words.add_argument("--unproved", action="store_true")
     words.add_argument("--most", type=int, default=100_000)
     words.add_argument("--functions", type=int, default=1_000)
-    words.add_argument("part", nargs="*", choices=[*PARTS, []])
+    words.add_argument("--runs", type=int, default=3)
+    words.add_argument("part", nargs="*", metavar="PART", choices=[*PARTS, []])
     given = words.parse_args()
     if not given.unproved and not sources.is_proved():
         sys.exit("bench/recursion.py: no program stands that was proved from these sources: `.ci/run` and `./prove` leave one")
     program = run.Program()
     for part in given.part or PARTS:
-        measured(program, part, given.functions if part.startswith("chain") else given.most)
+        measured(program, part, given.functions if part.startswith("chain") else given.most, given.runs)
     return 0
 
 
