@@ -9,3 +9,4 @@ pub mod Words
 pub mod ReadFault
 pub mod Played
 pub mod NoChoices
+pub mod OfItems
