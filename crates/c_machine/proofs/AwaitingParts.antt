@@ -1,5 +1,5 @@
 -- What a text makes room for stands in a set of its parts.
-use Rattle.std.proofs.Common.{ℕ, List, [], ◌∷◌, ◌++◌, map, Bool, true, false, Option, None, Some}
+use Rattle.std.proofs.Common.{◌≡◌, ℕ, List, [], ◌∷◌, ◌++◌, map, Bool, true, false, refl, Option, None, Some}
 use Rattle.std.specs.Prelude.{if◌then◌else◌, slice_get}
 use Rattle.std.specs.List.{flat_map}
 use Rattle.cbase.specs.declared.place.Place.{Place}
@@ -121,16 +121,16 @@ arguments_in t parts [] params are = tt
 arguments_in t parts (arg ∷ args) [] are = (tt, tt)
 arguments_in t parts (arg ∷ args) (param ∷ params) are = (are.0, (tt, arguments_in t parts args params are.1))
 
-body_call_in : (t : Text) (parts : Parts t) (args : List t.Expr) (number : ℕ) (function : Option (Function t.Stmt)) → Each parts.expr args → Each (TaskIsIn t parts) (body_call t args number function)
-body_call_in t parts args number None are = (tt, tt)
-body_call_in t parts args number (Some function) are =
+body_call_in : (t : Text) (parts : Parts t) (args : List t.Expr) (number : ℕ) (function : Option (Function t.Stmt)) → slice_get t.functions number ≡ function → Each parts.expr args → Each (TaskIsIn t parts) (body_call t args number function)
+body_call_in t parts args number None stands are = (tt, tt)
+body_call_in t parts args number (Some function) stands are =
     each_both (TaskIsIn t parts) (argument_tasks t args (map (λ param. param.kind) function.params)) (CallDefined number ∷ [])
-    (arguments_in t parts args (map (λ param. param.kind) function.params) are) (tt, tt)
+    (arguments_in t parts args (map (λ param. param.kind) function.params) are) ((function, stands), tt)
 
 call_in : (t : Text) (parts : Parts t) (callee : t.Expr) (args : List t.Expr) (standing : Standing) → Each parts.expr args → Each (TaskIsIn t parts) (call_parts t callee args standing)
 call_in t parts callee args (BuiltInStands name params result) are =
     each_both (TaskIsIn t parts) (argument_tasks t args params) (RunBuiltIn (built_in name) (t.place callee) result ∷ []) (arguments_in t parts args params are) (tt, tt)
-call_in t parts callee args (BodyStands number) are = body_call_in t parts args number (slice_get t.functions number) are
+call_in t parts callee args (BodyStands number) are = body_call_in t parts args number (slice_get t.functions number) refl are
 call_in t parts callee args other are = (tt, tt)
 
 pub body_in : (t : Text) (parts : Parts t) (function : Function t.Stmt) (held : ℕ) → Each parts.stmt function.body → Each (TaskIsIn t parts) (body_tasks t function held)

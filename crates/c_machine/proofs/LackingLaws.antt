@@ -1,7 +1,8 @@
 -- No step lacks an operand.
-use Rattle.std.proofs.Common.{◌≡◌, ℕ, suc, ◌+◌, List, [], ◌∷◌, length, Bool, true, false, refl, subst, Option, None as Nothing, Some, arith}
+use Rattle.std.proofs.Common.{◌≡◌, ℕ, suc, ◌+◌, List, [], ◌∷◌, length, Bool, true, false, refl, sym, subst, ◌∙◌, Option, None as Nothing, Some, arith}
 use Rattle.std.specs.Prelude.{pos, if◌then◌else◌, not, ◌&&◌, ◌||◌, nat_eq, nat_lt, slice_get}
 use Rattle.std.specs.List.{list_all}
+use Rattle.std.proofs.lemmas.Option.{none-some}
 use Rattle.cbase.specs.declared.place.Place.{Place}
 use Rattle.cbase.specs.declared.tree.operators.BinaryOp.{BinaryOp}
 use Rattle.bytes_core.specs.declared.block.BlockKind.{BlockKind}
@@ -22,7 +23,9 @@ use Rattle.c_machine.specs.declared.built_in.BuiltIn.{BuiltIn}
 use Rattle.c_machine.specs.declared.kind.Kind.TheVariants.{Integer, Pointer, Array, Struct, Void}
 use Rattle.c_machine.specs.declared.kind.Kind.{Kind}
 use Rattle.c_machine.specs.declared.task.Task.TheVariants.{ValueOf, AddressOf, Push, ObjectAt, Shift, Load, Convert, Apply, Operate, Answer, AndThen, OrElse, Pick, Drop, Store, Update, CountBy, CopyStruct, RunBuiltIn, CallDefined, EndRun, Finish, Keep, Execute, Branch, Test, Again, OpenBlock, MakeObject, MakeParameter, MakeStatic, LeaveBlock, Zero, Initialise, BreakAt, ContinueAt, GiveBack, LeaveFunction, EndOfBody, Unknown}
-use Rattle.c_machine.specs.Awaiting.{TakesArguments, Changes, Leads}
+use Rattle.c_machine.specs.Awaiting.{TakesArguments, Changes, Leads, Parts, TaskIsIn}
+use Rattle.c_machine.specs.Fitting.{Each}
+use Rattle.c_machine.specs.Standing.{parts_of}
 use Rattle.c_machine.specs.Calls.{called}
 use Rattle.c_machine.specs.Choosing.{with_block, allocated, received, count_of}
 use Rattle.c_machine.specs.Lacking.{Lacks, LacksFirst, IsNoOperandLacking}
@@ -179,67 +182,67 @@ returns t Lacking strict (frame ∷ callers) place state choices = tt
 function_left : (t : Text) (Lacking : Type 0) (strict : Bool) (place : Place) (state : StateIn t) (choices : List Choice) → IfStuck t Lacking (leave_function strict place state choices)
 function_left t Lacking strict place state choices = by_test t Lacking _ _ (is_lost state.memory (roots state)) tt (returns t Lacking strict state.callers place state choices)
 
-lacks_on : (t : Text) (low mid : ℕ) (task : TaskIn t) (state : StateIn t) (choices : List Choice) → Changes t task (length state.operands) low mid → IfStuck t (Lacks t task state) (step_of t task state choices)
-lacks_on t low mid (ValueOf expr) state choices (before, after) = tt
-lacks_on t low mid (AddressOf expr) state choices (before, after) = tt
-lacks_on t low mid (Push number) state choices (before, after) = tt
-lacks_on t low mid (ObjectAt token) state choices (before, after) = object_or t _ (block_of state token) state choices (λ none. none)
-lacks_on t low mid (Shift bytes) state choices (before, after) = popping t _ low state.operands state _ (omega arith) (λ word rest one. tt)
-lacks_on t low mid (Load place kind) state choices (before, after) =
+lacks_on : (t : Text) (parts : Parts t) (low mid : ℕ) (task : TaskIn t) (state : StateIn t) (choices : List Choice) → TaskIsIn t parts task → Changes t task (length state.operands) low mid → IfStuck t (Lacks t task state) (step_of t task state choices)
+lacks_on t parts low mid (ValueOf expr) state choices is (before, after) = tt
+lacks_on t parts low mid (AddressOf expr) state choices is (before, after) = tt
+lacks_on t parts low mid (Push number) state choices is (before, after) = tt
+lacks_on t parts low mid (ObjectAt token) state choices is (before, after) = object_or t _ (block_of state token) state choices (λ none. none)
+lacks_on t parts low mid (Shift bytes) state choices is (before, after) = popping t _ low state.operands state _ (omega arith) (λ word rest one. tt)
+lacks_on t parts low mid (Load place kind) state choices is (before, after) =
     popping t _ low state.operands state _ (omega arith) (λ at rest one. loads t _ place kind (scalar_bytes kind) at (record state { operands = rest }) choices)
-lacks_on t low mid (Convert from to) state choices (before, after) = popping t _ low state.operands state _ (omega arith) (λ word rest one. tt)
-lacks_on t low mid (Apply op kind) state choices (before, after) =
+lacks_on t parts low mid (Convert from to) state choices is (before, after) = popping t _ low state.operands state _ (omega arith) (λ word rest one. tt)
+lacks_on t parts low mid (Apply op kind) state choices is (before, after) =
     popping t _ low state.operands state _ (omega arith) (λ word rest one. stuck_or t _ (applied state.memory op kind word) (record state { operands = rest }) choices (λ none. (word, none)))
-lacks_on t low mid (Operate op first second) state choices (before, after) =
+lacks_on t parts low mid (Operate op first second) state choices is (before, after) =
     popping t _ (suc low) state.operands state _ (omega arith) (λ other rest one. popping t _ low rest (record state { operands = rest }) _ one
     (λ word rest' two. ended_or t _ (operated state.memory op first second word other) (record state { operands = rest' }) choices))
-lacks_on t low mid (Answer holds) state choices (before, after) = popping t _ low state.operands state _ (omega arith) (λ word rest one. tt)
-lacks_on t low mid (AndThen right) state choices (before, after) =
+lacks_on t parts low mid (Answer holds) state choices is (before, after) = popping t _ low state.operands state _ (omega arith) (λ word rest one. tt)
+lacks_on t parts low mid (AndThen right) state choices is (before, after) =
     popping t _ low state.operands state _ (omega arith) (λ word rest one. and_steps t _ (is_true state.memory word) (ValueOf right ∷ Answer true ∷ []) (record state { operands = rest }) choices)
-lacks_on t low mid (OrElse right) state choices (before, after) =
+lacks_on t parts low mid (OrElse right) state choices is (before, after) =
     popping t _ low state.operands state _ (omega arith) (λ word rest one. or_steps t _ (is_true state.memory word) (ValueOf right ∷ Answer true ∷ []) (record state { operands = rest }) choices)
-lacks_on t low mid (Pick kind first second) state choices (before, after) = popping t _ low state.operands state _ (omega arith) (λ word rest one. tt)
-lacks_on t low mid Drop state choices (before, after) = popping t _ low state.operands state _ (omega arith) (λ word rest one. tt)
-lacks_on t low mid (Store place kind) state choices (before, after) =
+lacks_on t parts low mid (Pick kind first second) state choices is (before, after) = popping t _ low state.operands state _ (omega arith) (λ word rest one. tt)
+lacks_on t parts low mid Drop state choices is (before, after) = popping t _ low state.operands state _ (omega arith) (λ word rest one. tt)
+lacks_on t parts low mid (Store place kind) state choices is (before, after) =
     popping t _ (suc low) state.operands state _ (omega arith) (λ word rest one. popping t _ low rest (record state { operands = rest }) _ one
     (λ at rest' two. stores t _ place (scalar_bytes kind) at word (record state { operands = rest' }) choices (λ none. none)))
-lacks_on t low mid (Update op place kind right) state choices (before, after) =
+lacks_on t parts low mid (Update op place kind right) state choices is (before, after) =
     popping t _ (suc low) state.operands state _ (omega arith) (λ word rest one. popping t _ low rest (record state { operands = rest }) _ one
     (λ at rest' two. updates t _ op place kind (scalar_bytes kind) right at word (counted false) (record state { operands = rest' }) choices (λ none. none)))
-lacks_on t low mid (CountBy up behind place kind) state choices (before, after) =
+lacks_on t parts low mid (CountBy up behind place kind) state choices is (before, after) =
     popping t _ low state.operands state _ (omega arith) (λ at rest one. updates t _ (counting up) place kind (scalar_bytes kind) (Integer int) at (Plain 1) (counted behind) (record state { operands = rest }) choices (λ none. none))
-lacks_on t low mid (CopyStruct place count) state choices (before, after) =
+lacks_on t parts low mid (CopyStruct place count) state choices is (before, after) =
     popping t _ (suc low) state.operands state _ (omega arith) (λ from rest one. popping t _ low rest (record state { operands = rest }) _ one
     (λ to rest' two. fault_or t _ _ (copy_fault state.memory to from count false) place tt))
-lacks_on t low mid (RunBuiltIn what place result) state choices (count, takes, before, after) = built_ins t _ low what place result state choices count takes before
-lacks_on t low mid (CallDefined number) state choices (before, after) = calls t _ (slice_get t.functions number) state choices (λ none. none)
-lacks_on t low mid EndRun state choices (before, after) = tt
-lacks_on t low mid (Finish place) state choices (before, after) = popping t _ low state.operands state _ (omega arith) (λ word rest one. lost_or t _ place (record state { operands = rest }) choices)
-lacks_on t low mid (Keep place) state choices (before, after) = lost_or t _ place state choices
-lacks_on t low mid (Execute stmt) state choices (before, after) = tt
-lacks_on t low mid (Branch stmt) state choices (before, after) = popping t _ low state.operands state _ (omega arith) (λ word rest one. lost_or t _ (branch_place t stmt) (doing (branch_tasks t stmt (length rest) (is_true state.memory word)) (record state { operands = rest })) choices)
-lacks_on t low mid (Test stmt) state choices (before, after) = tt
-lacks_on t low mid (Again stmt held) state choices changes = tt
-lacks_on t low mid OpenBlock state choices (before, after) = tt
-lacks_on t low mid (MakeObject object) state choices (before, after) = blocks t _ storage.Local object.bytes false state choices _ (λ next block left. tt)
-lacks_on t low mid (MakeParameter object) state choices (before, after) =
+lacks_on t parts low mid (RunBuiltIn what place result) state choices is (count, takes, before, after) = built_ins t _ low what place result state choices count takes before
+lacks_on t parts low mid (CallDefined number) state choices is (before, after) = calls t _ (slice_get t.functions number) state choices (λ none. absurd (none-some is.0 (sym none ∙ is.1)))
+lacks_on t parts low mid EndRun state choices is (before, after) = tt
+lacks_on t parts low mid (Finish place) state choices is (before, after) = popping t _ low state.operands state _ (omega arith) (λ word rest one. lost_or t _ place (record state { operands = rest }) choices)
+lacks_on t parts low mid (Keep place) state choices is (before, after) = lost_or t _ place state choices
+lacks_on t parts low mid (Execute stmt) state choices is (before, after) = tt
+lacks_on t parts low mid (Branch stmt) state choices is (before, after) = popping t _ low state.operands state _ (omega arith) (λ word rest one. lost_or t _ (branch_place t stmt) (doing (branch_tasks t stmt (length rest) (is_true state.memory word)) (record state { operands = rest })) choices)
+lacks_on t parts low mid (Test stmt) state choices is (before, after) = tt
+lacks_on t parts low mid (Again stmt held) state choices is changes = tt
+lacks_on t parts low mid OpenBlock state choices is (before, after) = tt
+lacks_on t parts low mid (MakeObject object) state choices is (before, after) = blocks t _ storage.Local object.bytes false state choices _ (λ next block left. tt)
+lacks_on t parts low mid (MakeParameter object) state choices is (before, after) =
     popping t _ low state.operands state _ (omega arith) (λ word rest one. blocks t _ storage.Local object.bytes false (record state { operands = rest }) choices _ (λ next block left. tt))
-lacks_on t low mid (MakeStatic object) state choices (before, after) = blocks t _ storage.Static object.bytes true state choices _ (λ next block left. tt)
-lacks_on t low mid (LeaveBlock place) state choices (before, after) = block_left t _ state.frame place state choices (λ none. none)
-lacks_on t low mid (Zero place count) state choices (before, after) = popping t _ low state.operands state _ (omega arith) (λ at rest one. fault_or t _ _ (range_fault state.memory at count) place tt)
-lacks_on t low mid (Initialise place init) state choices (before, after) = tt
-lacks_on t low mid (BreakAt word) state choices (before, after) = loop_is_left t _ (loop_left state.tasks) (after_break t word) state choices (λ none. none)
-lacks_on t low mid (ContinueAt word) state choices (before, after) = loop_is_left t _ (loop_left state.tasks) (after_continue word) state choices (λ none. none)
-lacks_on t low mid (GiveBack word from) state choices (before, after) =
+lacks_on t parts low mid (MakeStatic object) state choices is (before, after) = blocks t _ storage.Static object.bytes true state choices _ (λ next block left. tt)
+lacks_on t parts low mid (LeaveBlock place) state choices is (before, after) = block_left t _ state.frame place state choices (λ none. none)
+lacks_on t parts low mid (Zero place count) state choices is (before, after) = popping t _ low state.operands state _ (omega arith) (λ at rest one. fault_or t _ _ (range_fault state.memory at count) place tt)
+lacks_on t parts low mid (Initialise place init) state choices is (before, after) = tt
+lacks_on t parts low mid (BreakAt word) state choices is (before, after) = loop_is_left t _ (loop_left state.tasks) (after_break t word) state choices (λ none. none)
+lacks_on t parts low mid (ContinueAt word) state choices is (before, after) = loop_is_left t _ (loop_left state.tasks) (after_continue word) state choices (λ none. none)
+lacks_on t parts low mid (GiveBack word from) state choices is (before, after) =
     popping t _ low state.operands state _ (omega arith) (λ value rest one. given_back t _ (body_left state.tasks) word from value (record state { operands = rest }) choices (λ none. none))
-lacks_on t low mid (LeaveFunction place) state choices (before, after) = function_left t _ t.strict place (record state { frame = []; memory = without_objects (blocks_of (objects_of state.frame)) state.memory }) choices
-lacks_on t low mid (EndOfBody is_main result close held) state choices changes = body_ends t _ is_main result close state choices
-lacks_on t low mid Unknown state choices changes = tt
+lacks_on t parts low mid (LeaveFunction place) state choices is (before, after) = function_left t _ t.strict place (record state { frame = []; memory = without_objects (blocks_of (objects_of state.frame)) state.memory }) choices
+lacks_on t parts low mid (EndOfBody is_main result close held) state choices is changes = body_ends t _ is_main result close state choices
+lacks_on t parts low mid Unknown state choices is changes = tt
 
-lacks_first : (t : Text) (end : ℕ) (tasks : List (TaskIn t)) (state : StateIn t) (choices : List Choice) → Leads t 0 (length state.operands) tasks end → IfStuck t (LacksFirst t tasks state) (step_on t tasks state choices)
-lacks_first t end [] state choices leads = tt
-lacks_first t end (task ∷ rest) state choices (low, mid, changes, enough, hold, later) = lacks_on t low mid task (record state { tasks = rest }) choices changes
+lacks_first : (t : Text) (parts : Parts t) (end : ℕ) (tasks : List (TaskIn t)) (state : StateIn t) (choices : List Choice) → Each (TaskIsIn t parts) tasks → Leads t 0 (length state.operands) tasks end → IfStuck t (LacksFirst t tasks state) (step_on t tasks state choices)
+lacks_first t parts end [] state choices are leads = tt
+lacks_first t parts end (task ∷ rest) state choices are (low, mid, changes, enough, hold, later) = lacks_on t parts low mid task (record state { tasks = rest }) choices are.0 changes
 
 pub no_operand_lacks : IsNoOperandLacking
 no_operand_lacks p state choices is stuck =
-    subst (IfStuck (text_of p) (LacksFirst (text_of p) state.tasks state)) stuck (lacks_first (text_of p) 1 state.tasks state choices is.awaits.operands)
+    subst (IfStuck (text_of p) (LacksFirst (text_of p) state.tasks state)) stuck (lacks_first (text_of p) (parts_of p) 1 state.tasks state choices is.awaits.tasks is.awaits.operands)

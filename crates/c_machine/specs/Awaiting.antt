@@ -1,5 +1,5 @@
 -- One operand for each value that is awaited: what is to be done finds the operands that it takes, and none that other things await.
-use Rattle.std.specs.Prelude.{◌≡◌, ℕ, suc, ◌+◌, ◌≤◌, List, [], ◌∷◌, length, slice_get}
+use Rattle.std.specs.Prelude.{◌≡◌, ℕ, suc, ◌+◌, ◌≤◌, List, [], ◌∷◌, length, Some, slice_get}
 use Rattle.std.specs.Option.{option_map_or}
 use Rattle.c_machine.specs.declared.built_in.BuiltIn.{BuiltIn}
 use Rattle.c_machine.specs.declared.built_in.BuiltIn.TheVariants.{Malloc, Calloc, Free, Memset, Memcpy, Memmove, EndsRun, Assume, Expect, GivesInput}
@@ -7,7 +7,7 @@ use Rattle.c_machine.specs.declared.task.Task.TheVariants.{ValueOf, AddressOf, P
 use Rattle.c_machine.specs.Expressions.{built_in}
 use Rattle.c_machine.specs.Fitting.{Each, IfThere}
 use Rattle.c_machine.specs.State.{TaskIn, StateIn}
-use Rattle.c_machine.specs.Text.{Standing, BuiltInStands, BodyStands, Form, Name, Known, Unary, Binary, Assign, Count, Choose, Cast, Index, Member, Call, Inner, AssertFail, Initialiser, Value, Braces, Clause, Declare, Eval, Block, If, While, Do, For, Break, Continue, Return, Text}
+use Rattle.c_machine.specs.Text.{Standing, BuiltInStands, BodyStands, Form, Name, Known, Unary, Binary, Assign, Count, Choose, Cast, Index, Member, Call, Inner, AssertFail, Initialiser, Value, Braces, Clause, Declare, Eval, Block, If, While, Do, For, Break, Continue, Return, Function, Text}
 
 -- how many arguments a function that is built in has; of those that end the run any number
 abbrev pub TakesArguments : BuiltIn → ℕ → Type 0
@@ -153,7 +153,7 @@ pub record AreParts (t : Text) (parts : Parts t) : Type 0 where
   pub main : IfThere (λ function. Each parts.stmt function.body) t.main
   pub sets : Each (λ set. parts.init set.init) t.sets
 
--- what a thing to do names is in the set
+-- what a thing to do names is in the set, and a function that it calls is there
 abbrev pub TaskIsIn : (t : Text) (parts : Parts t) → TaskIn t → Type 0
 TaskIsIn t parts (ValueOf expr) = parts.expr expr
 TaskIsIn t parts (AddressOf expr) = parts.expr expr
@@ -165,6 +165,7 @@ TaskIsIn t parts (Branch stmt) = parts.stmt stmt
 TaskIsIn t parts (Test stmt) = parts.stmt stmt
 TaskIsIn t parts (Again stmt held) = parts.stmt stmt
 TaskIsIn t parts (Initialise place init) = parts.init init
+TaskIsIn t parts (CallDefined number) = (function : Function t.Stmt) × (slice_get t.functions number ≡ Some function)
 TaskIsIn t parts other = Unit {0}
 
 -- so many operands stand as the things to do await, of which `rest` are left at their end: behind main its result

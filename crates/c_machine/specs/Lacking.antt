@@ -1,8 +1,8 @@
 -- What a step lacks that is no step of a program of C: never an operand.
-use Rattle.std.specs.Prelude.{◌≡◌, List, [], ◌∷◌, None, slice_get}
+use Rattle.std.specs.Prelude.{◌≡◌, List, [], ◌∷◌, None}
 use Rattle.bytes_core.specs.declared.word.Word.{Word}
 use Rattle.choices.specs.declared.choice.Choice.{Choice}
-use Rattle.c_machine.specs.declared.task.Task.TheVariants.{ObjectAt, Apply, Store, Update, CountBy, CallDefined, LeaveBlock, BreakAt, ContinueAt, GiveBack, Unknown}
+use Rattle.c_machine.specs.declared.task.Task.TheVariants.{ObjectAt, Apply, Store, Update, CountBy, LeaveBlock, BreakAt, ContinueAt, GiveBack, Unknown}
 use Rattle.c_machine.specs.Program.{Program}
 use Rattle.c_machine.specs.RunStates.{IsRunState}
 use Rattle.c_machine.specs.Standing.{parts_of}
@@ -13,15 +13,14 @@ use Rattle.c_machine.specs.Text.{Text}
 use Rattle.c_machine.specs.Trees.{text_of}
 use Rattle.c_machine.specs.Words.{applied, scalar_bytes}
 
--- a name without an object in scope, an operator that is none of its type, a store of what is no scalar, a call of no function, the end of a block where none
--- is open, a jump out of no loop and no body, and what no program of C does. Nothing else is lacking
+-- a name without an object in scope, an operator that is none of its type, a store of what is no scalar, the end of a block where none is open, a jump
+-- out of no loop and no body, and what no program of C does. Nothing else is lacking, no function that is called and no operand
 abbrev pub Lacks : (t : Text) → TaskIn t → StateIn t → Type 0
 Lacks t (ObjectAt token) state = block_of state token ≡ None
 Lacks t (Apply op kind) state = (word : Word) × (applied state.memory op kind word ≡ None)
 Lacks t (Store place kind) state = scalar_bytes kind ≡ None
 Lacks t (Update op place kind right) state = scalar_bytes kind ≡ None
 Lacks t (CountBy up behind place kind) state = scalar_bytes kind ≡ None
-Lacks t (CallDefined number) state = slice_get t.functions number ≡ None
 Lacks t (LeaveBlock place) state = state.frame ≡ []
 Lacks t (BreakAt word) state = loop_left state.tasks ≡ None
 Lacks t (ContinueAt word) state = loop_left state.tasks ≡ None

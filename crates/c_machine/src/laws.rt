@@ -68,7 +68,7 @@ pub fn each_awaited_value_has_its_operand()
     ensures { AreRunStates }
 {}
 
-/// No step of a run lacks an operand: where it is none of a program of C, it lacks an object, a type, a function, a block, a loop or a body.
+/// No step of a run lacks an operand: where it is none of a program of C, it lacks an object, a type, a block, a loop or a body.
 pub fn no_step_lacks_an_operand()
     ensures { IsNoOperandLacking }
 {}
