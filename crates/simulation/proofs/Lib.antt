@@ -26,3 +26,4 @@ pub mod Calls
 pub mod Simulation
 pub mod Wider
 pub mod Whole
+pub mod Starting

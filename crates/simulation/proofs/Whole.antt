@@ -1,5 +1,5 @@
 -- Programs and their graphs meet the same faults.
-use Rattle.std.proofs.Common.{◌≡◌, ℕ, List, [], ◌∷◌, subst, sym}
+use Rattle.std.proofs.Common.{◌≡◌, ℕ, List, [], subst, sym}
 use Rattle.c_machine.specs.State.{Frame, Scope, TaskIn}
 use Rattle.c_machine.specs.Text.{Text}
 use Rattle.c_machine.specs.Trees.{text_of}
@@ -10,10 +10,11 @@ use Rattle.flow.specs.Holding.{Owned}
 use Rattle.flow.specs.Machine as graph
 use Rattle.flow.specs.RunStates.{IsRunState}
 use Rattle.flow.specs.Valid.{IsFlow}
-use Rattle.simulation.specs.Laws.{DoLoweredRunsAgree}
+use Rattle.simulation.specs.Laws.{DoLoweredRunsAgree, DoProgramsMeet}
 use Rattle.simulation.specs.Running.{Setting, Result}
 use Rattle.simulation.proofs.Meeting.{Continues, IsKept}
 use Rattle.simulation.proofs.Simulation.{is_good}
+use Rattle.simulation.proofs.Starting.{programs_meet as meet}
 
 -- where no function waits none goes on
 pub none_waits : (t : Text) (flow : Flow) (setting : Setting) (valid : IsFlow flow) (n : ℕ) (gives : Result) (frames : List Frame) (callers : List graph.Caller) (statics : Scope)
@@ -30,3 +31,7 @@ lowered_runs_agree p flow setting running scopes tasks slots point n operands re
     is_good (text_of p) flow setting valid functions n lowered operands registers w v memory choices holds alike
     (none_waits (text_of p) flow setting valid n running.gives w.callers v.callers w.statics w.rest w.below v.statics v.outer none)
     (is_kept (text_of p) flow setting valid _ choices is)
+
+pub programs_meet : DoProgramsMeet
+programs_meet p flow setting main valid offsets begins lowered choices kind place =
+    meet (text_of p) flow setting valid main lowered choices kind place begins offsets

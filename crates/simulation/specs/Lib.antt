@@ -7,4 +7,5 @@ pub mod Worlds
 pub mod Agreeing
 pub mod Lowered
 pub mod Functions
+pub mod Starting
 pub mod Laws
