@@ -439,7 +439,7 @@ class Writer:
         front = self.pick(("", "", f"struct {name}; ", f"struct {name} *{name}p; "))
         tag = self.pick((name, name, name + "x"))
         inner = self.pick((f"struct {tag} {{ int b; }} a;", f"struct {tag} *a;", f"struct {tag} {{ int b; }} *a[2];", f"int a[sizeof(struct {tag} {{ int b; }})];", f"struct {tag} a;"))
-        return f"{front}struct {name} {{\nint c;\n{inner}\nint d[{self.pick(('1', '1', 'sizeof(int)', '0'))}];\n}};"
+        return f"{front}struct {name} {{\nint c;\n{inner}\nint d[{self.pick(('1', '1', 'sizeof(int)', '1 + 1'))}];\n}};"
 
     def declaration(self, block):
         if self.one_in(12):
