@@ -27,3 +27,4 @@ pub mod Simulation
 pub mod Wider
 pub mod Whole
 pub mod Starting
+pub mod Witness
