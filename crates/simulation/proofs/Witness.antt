@@ -201,7 +201,7 @@ abbrev statics : List Name
 statics = record { token = Some 7; variable = 0 } ∷ []
 
 abbrev setting : Setting
-setting = record { statics = statics; called = λ number. number; gives = λ number. GivesNothing }
+setting = record { statics = statics; called = λ number. None; gives = λ number. GivesNothing }
 
 abbrev running : Running
 running = record { base = 0; closes = false; gives = Gives 4 true }
@@ -246,7 +246,7 @@ is_lowered = record {
     enough = refl;
     written = λ made statics choices more is names. refl;
   };
-  functions = λ number function' stands. absurd (none-some function' stands);
+  functions = λ number called function' stands is. absurd (none-some function' stands);
   begins = record {
     there = function;
     stands = refl;

@@ -2,7 +2,7 @@
 --
 -- There is a rule for each thing that is to be done, and some for what the graph does alone. What is spoken of is the function that runs alone: its blocks,
 -- what it has to do up to its end, and the operands that its own unfinished expressions hold. The first operand of a list was computed last.
-use Rattle.std.specs.Prelude.{◌≡◌, ℕ, ◌+◌, ◌*◌, ◌^◌, Bool, true, false, not, List, [], ◌∷◌, ◌++◌, map, length, nat_eq, if◌then◌else◌, Option, None, Some, option_map, pos, slice_get}
+use Rattle.std.specs.Prelude.{◌≡◌, ℕ, suc, ◌+◌, ◌*◌, ◌^◌, Bool, true, false, not, List, [], ◌∷◌, ◌++◌, map, length, nat_eq, if◌then◌else◌, Option, None, Some, option_map, pos, slice_get}
 use Rattle.std.specs.List.{list_any}
 use Rattle.cbase.specs.declared.place.Place.{Place}
 use Rattle.cbase.specs.declared.tree.operators.BinaryOp.{BinaryOp}
@@ -64,6 +64,7 @@ pub data Lowered (t : Text) (flow : Flow) (setting : Setting) (running : Running
   Loop : {now later : List (Stop t)} {scopes : List (List Name)} {tasks : List (TaskIn t)} {slots : List Slot} {point : ℕ}
       → Lowered t flow setting running now (record { scopes = scopes; tasks = tasks; slots = slots; point = point } ∷ later) scopes tasks slots point
       → Lowered t flow setting running now later scopes tasks slots point
+
   -- trees make room for their parts
   Values : {now later : List (Stop t)} {scopes : List (List Name)} {tasks : List (TaskIn t)} {slots : List Slot} {point : ℕ}
       (expr : t.Expr)
@@ -441,9 +442,10 @@ pub data Lowered (t : Text) (flow : Flow) (setting : Setting) (running : Running
       → Lowered t flow setting running now later scopes (Test stmt ∷ tasks) slots point
   -- calls of functions that the program defines
   Calls : {now later : List (Stop t)} {scopes : List (List Name)} {tasks : List (TaskIn t)} {slots : List Slot} {point : ℕ}
-      (number : ℕ) (function : Function t.Stmt) (arguments : List Argument) (into : Option ℕ) (to : ℕ) (place : Place)
-      → slice_get t.functions number ≡ Some function → AreTaken arguments function.params → are_free (registers_of arguments) slots ≡ true → is_whole slots ≡ true
-      → is_free_result into slots ≡ true → One flow point (i.Call (setting.called number) (registers_of arguments) into) to place
+      (number there : ℕ) (function : Function t.Stmt) (arguments : List Argument) (into : Option ℕ) (to : ℕ) (place : Place)
+      → slice_get t.functions number ≡ Some function → setting.called number ≡ Some there → AreTaken arguments function.params
+      → are_free (registers_of arguments) slots ≡ true → is_whole slots ≡ true → is_free_result into slots ≡ true
+      → One flow point (i.Call there (registers_of arguments) into) to place
       → Lowered t flow setting running (later ++ now) [] scopes tasks (result_slot (setting.gives number) into ∷ slots) to
       → Lowered t flow setting running now later scopes (CallDefined number ∷ tasks) (slots_of arguments ++ slots) point
   -- ends of full expressions, and of conditions
