@@ -28,3 +28,4 @@ pub mod Wider
 pub mod Whole
 pub mod Starting
 pub mod Witness
+pub mod Recursion

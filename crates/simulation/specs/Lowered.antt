@@ -64,7 +64,6 @@ pub data Lowered (t : Text) (flow : Flow) (setting : Setting) (running : Running
   Loop : {now later : List (Stop t)} {scopes : List (List Name)} {tasks : List (TaskIn t)} {slots : List Slot} {point : ℕ}
       → Lowered t flow setting running now (record { scopes = scopes; tasks = tasks; slots = slots; point = point } ∷ later) scopes tasks slots point
       → Lowered t flow setting running now later scopes tasks slots point
-
   -- trees make room for their parts
   Values : {now later : List (Stop t)} {scopes : List (List Name)} {tasks : List (TaskIn t)} {slots : List Slot} {point : ℕ}
       (expr : t.Expr)
