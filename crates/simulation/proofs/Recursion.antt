@@ -1,6 +1,6 @@
 -- A worked program with a function that calls itself: `void f(void) { f(); } int main(void) { f(); }`.
-use Rattle.std.proofs.Common.{◌≡◌, ◌≢◌, ℕ, zero, suc, ◌<◌, List, [], ◌∷◌, ◌++◌, refl, sym, ap, ◌∙◌, arith, false, true, Bool, not, ◌||◌, ◌&&◌, Some, None, Option, slice_index_or, map, nat_eq, nat_lt, subst, inl, inr, ◌⊎◌, pos}
-use Rattle.std.specs.Prelude.{IsTrue, All, AllPairs, Contains, slice_get, ◌↔◌}
+use Rattle.std.proofs.Common.{◌≡◌, ◌≢◌, ℕ, zero, suc, ◌<◌, List, [], ◌∷◌, refl, sym, ap, ◌∙◌, arith, false, true, Bool, not, ◌||◌, ◌&&◌, Some, None, Option, slice_index_or, map, nat_eq, nat_lt, subst, inl, inr, ◌⊎◌}
+use Rattle.std.specs.Prelude.{IsTrue, All, Contains, slice_get, ◌↔◌}
 use Rattle.std.specs.List.{list_all}
 use Rattle.std.proofs.lemmas.Bool.{and_parts, not-true, eqb-true, or_cases, both_ways, eq-eqb, ne_eqb, false≢true}
 use Rattle.std.proofs.lemmas.List.Elements.{All-nil, All-cons, All-weaker, All-from_recursion, All-contains}
@@ -8,16 +8,10 @@ use Rattle.std.proofs.lemmas.Option.{none-some, same_Some}
 use Rattle.cbase.specs.declared.abi.Abi.TheVariants.{Lp64}
 use Rattle.cbase.specs.declared.place.Place.{Place}
 use Rattle.cbase.specs.declared.place.TheConstants.Place.{NONE}
-use Rattle.bytes_core.specs.declared.block.Block.{Block}
-use Rattle.bytes_core.specs.declared.word.Word.{Word}
-use Rattle.bytes_core.specs.declared.word.Word.TheVariants.{Plain, To}
 use Rattle.choices.specs.declared.choice.Choice.{Choice}
 use Rattle.typing.specs.ctypes.Integers.{int}
-use Rattle.c_machine.specs.declared.kind.Kind.{Kind}
 use Rattle.c_machine.specs.declared.kind.Kind.TheVariants.{Integer, Void}
-use Rattle.c_machine.specs.declared.object.Object.{Object}
 use Rattle.c_machine.specs.Run.{Leads}
-use Rattle.c_machine.specs.State.{TaskIn}
 use Rattle.c_machine.specs.Calls.{body_tasks}
 use Rattle.c_machine.specs.Text.{Standing, BodyStands, Form, Name as NameForm, Known, Call, Clause, Eval, Braces, Function, Text}
 use Rattle.flow.specs.declared.instruction.Instr.{Instr}
@@ -28,15 +22,14 @@ use Rattle.flow.specs.declared.flow_graph.FlowFunction.{FlowFunction}
 use Rattle.flow.specs.declared.flow_graph.Standing.{Standing as FlowStanding}
 use Rattle.flow.specs.Memories.{HasInitialOffset}
 use Rattle.flow.specs.Standing.{stands_at, stands_after}
-use Rattle.flow.specs.Valid.{IsFlow, AreSeparate, Reached, Here, Along, HasReturn, AreApart, is_close, is_local, is_scalar_size, is_object_size, has_sizes, ascend, names_what_is_there, are_distinct, is_parameter, calls_rightly, reads_what_stands, tests_one_size, has_scope, is_initial, exit_of, is_call_of}
+use Rattle.flow.specs.Valid.{IsFlow, Reached, Here, Along, HasReturn, is_close, is_local, is_scalar_size, is_object_size, has_sizes, ascend, names_what_is_there, are_distinct, is_parameter, calls_rightly, reads_what_stands, tests_one_size, has_scope, is_initial, exit_of, is_call_of}
 use Rattle.flow.specs.Walks.{is_return}
-use Rattle.simulation.specs.Functions.{IsFunctionLowered, AreFunctionsLowered, IsMainLowered}
+use Rattle.simulation.specs.Functions.{IsFunctionLowered}
 use Rattle.simulation.specs.Laws.{GraphLeads}
 use Rattle.simulation.specs.Lowered.{Lowered, Passes, Executes, Values, Calls, Finishes, EndsMain, EndsVoid, Makes, Returns}
-use Rattle.simulation.specs.Names.{Name}
-use Rattle.simulation.specs.Running.{Setting, Running, Gives, GivesNothing}
+use Rattle.simulation.specs.Running.{Setting, Gives, GivesNothing}
 use Rattle.simulation.specs.Slots.{KnownAs, InRegister}
-use Rattle.simulation.specs.Starting.{AreStaticsLowered, IsProgramLowered}
+use Rattle.simulation.specs.Starting.{IsProgramLowered}
 use Rattle.simulation.proofs.Starting.{programs_meet}
 
 -- the program

@@ -1,10 +1,10 @@
 -- A worked program: `static int x; int main(void) { while (x) x = 1; }`. It belongs to a flow graph, so that the theorems are not about nothing.
-use Rattle.std.proofs.Common.{◌≡◌, ◌≢◌, ℕ, zero, suc, ◌<◌, List, [], ◌∷◌, ◌++◌, refl, sym, ap, ◌∙◌, arith, false, true, Bool, not, ◌||◌, ◌&&◌, Some, None, Option, slice_index_or, map, nat_eq, inl, inr, ◌⊎◌, pos}
-use Rattle.std.specs.Prelude.{IsTrue, All, AllPairs, Contains, slice_get, ◌↔◌}
+use Rattle.std.proofs.Common.{◌≡◌, ◌≢◌, ℕ, zero, suc, ◌<◌, List, [], ◌∷◌, refl, sym, ◌∙◌, arith, false, true, Bool, not, ◌||◌, ◌&&◌, Some, None, slice_index_or, map, nat_eq, inl, inr, ◌⊎◌}
+use Rattle.std.specs.Prelude.{IsTrue, All, Contains, slice_get, ◌↔◌}
 use Rattle.std.specs.List.{list_all}
 use Rattle.std.proofs.lemmas.Bool.{and_parts, not-true, eqb-true, or_cases, both_ways, eq-eqb}
 use Rattle.std.proofs.lemmas.List.Elements.{All-nil, All-cons, All-weaker, All-from_recursion}
-use Rattle.std.proofs.lemmas.Option.{none-some, same_Some}
+use Rattle.std.proofs.lemmas.Option.{none-some}
 use Rattle.cbase.specs.declared.abi.Abi.TheVariants.{Lp64}
 use Rattle.cbase.specs.declared.place.Place.{Place}
 use Rattle.cbase.specs.declared.place.TheConstants.Place.{NONE}
@@ -13,13 +13,11 @@ use Rattle.bytes_core.specs.declared.word.Word.{Word}
 use Rattle.bytes_core.specs.declared.word.Word.TheVariants.{Plain, To}
 use Rattle.choices.specs.declared.choice.Choice.{Choice}
 use Rattle.typing.specs.ctypes.Integers.{int}
-use Rattle.c_machine.specs.declared.kind.Kind.{Kind}
 use Rattle.c_machine.specs.declared.kind.Kind.TheVariants.{Integer}
-use Rattle.c_machine.specs.declared.object.Object.{Object}
 use Rattle.c_machine.specs.declared.task.Task.TheVariants.{Execute, Test, Again, EndOfBody}
 use Rattle.c_machine.specs.Run.{Leads}
 use Rattle.c_machine.specs.State.{TaskIn}
-use Rattle.c_machine.specs.Text.{Standing, ObjectStands, Form, Name as NameForm, Known, Assign, Clause, Eval, While, Braces, Function, Text}
+use Rattle.c_machine.specs.Text.{ObjectStands, Form, Name as NameForm, Known, Assign, Clause, Eval, While, Braces, Function, Text}
 use Rattle.c_machine.specs.Words.{as_kind}
 use Rattle.flow.specs.declared.instruction.Instr.{Instr}
 use Rattle.flow.specs.declared.instruction.Instr.TheVariants as i
@@ -29,15 +27,14 @@ use Rattle.flow.specs.declared.flow_graph.FlowFunction.{FlowFunction}
 use Rattle.flow.specs.declared.flow_graph.Standing.{Standing as FlowStanding}
 use Rattle.flow.specs.Memories.{HasInitialOffset}
 use Rattle.flow.specs.Standing.{stands_at, stands_after}
-use Rattle.flow.specs.Valid.{IsFlow, AreSeparate, Reached, HasReturn, AreApart, is_close, is_local, is_scalar_size, is_object_size, has_sizes, ascend, names_what_is_there, are_distinct, is_parameter, calls_rightly, reads_what_stands, tests_one_size, has_scope, is_initial, exit_of, is_call_of}
+use Rattle.flow.specs.Valid.{IsFlow, HasReturn, is_close, is_local, is_scalar_size, is_object_size, has_sizes, ascend, names_what_is_there, are_distinct, is_parameter, calls_rightly, reads_what_stands, tests_one_size, has_scope, is_initial, exit_of, is_call_of}
 use Rattle.flow.specs.Walks.{is_return}
-use Rattle.simulation.specs.Functions.{AreFunctionsLowered, IsMainLowered}
 use Rattle.simulation.specs.Laws.{GraphLeads}
 use Rattle.simulation.specs.Lowered.{Stop, First, Lowered, Ends, Loop, Passes, Executes, Tests, Values, Addresses, Statics, Loads, Asks, Branches, Numbers, Converts, Stores, Finishes, Repeats, EndsMain, Makes, Returns}
 use Rattle.simulation.specs.Names.{Name}
 use Rattle.simulation.specs.Running.{Setting, Running, Gives, GivesNothing}
-use Rattle.simulation.specs.Slots.{Suits, KnownAs, Gone, InRegister}
-use Rattle.simulation.specs.Starting.{AreStaticsLowered, IsProgramLowered}
+use Rattle.simulation.specs.Slots.{Suits, Gone, InRegister}
+use Rattle.simulation.specs.Starting.{IsProgramLowered}
 use Rattle.simulation.proofs.Starting.{programs_meet}
 
 -- the program

@@ -2,7 +2,7 @@
 --
 -- There is a rule for each thing that is to be done, and some for what the graph does alone. What is spoken of is the function that runs alone: its blocks,
 -- what it has to do up to its end, and the operands that its own unfinished expressions hold. The first operand of a list was computed last.
-use Rattle.std.specs.Prelude.{◌≡◌, ℕ, suc, ◌+◌, ◌*◌, ◌^◌, Bool, true, false, not, List, [], ◌∷◌, ◌++◌, map, length, nat_eq, if◌then◌else◌, Option, None, Some, option_map, pos, slice_get}
+use Rattle.std.specs.Prelude.{◌≡◌, ℕ, ◌+◌, ◌*◌, ◌^◌, Bool, true, false, not, List, [], ◌∷◌, ◌++◌, map, length, nat_eq, if◌then◌else◌, Option, None, Some, option_map, pos, slice_get}
 use Rattle.std.specs.List.{list_any}
 use Rattle.cbase.specs.declared.place.Place.{Place}
 use Rattle.cbase.specs.declared.tree.operators.BinaryOp.{BinaryOp}
