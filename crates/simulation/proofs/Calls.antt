@@ -246,9 +246,9 @@ module _ (t : Text) (flow : Flow) (setting : Setting) (valid : IsFlow flow) wher
   module _ (functions : AreFunctionsLowered t flow setting) where
     abbrev pub AreFunctionsGood : ℕ → Type 0
     AreFunctionsGood n =
-        (number : ℕ) (function : Function t.Stmt) (stands : slice_get t.functions number ≡ Some function) (base : ℕ) →
-        Good t flow setting valid n (record { base = base; closes = false; gives = setting.gives number }) ((functions number function stands).names ∷ [])
-        (body_tasks t function base) [] (functions number function stands).there.entry
+        (number called : ℕ) (function : Function t.Stmt) (stands : slice_get t.functions number ≡ Some function) (is : setting.called number ≡ Some called) (base : ℕ) →
+        Good t flow setting valid n (record { base = base; closes = false; gives = setting.gives number }) ((functions number called function stands is).names ∷ [])
+        (body_tasks t function base) [] (functions number called function stands is).there.entry
 
     -- behind the call the caller goes on
     goes_behind : (n : ℕ) (running : Running) (scopes : List (List Name)) (tasks : List (TaskIn t)) (slots : List Slot) (gives : Result) (into : Option ℕ) (to : ℕ) (operands : List Word)
@@ -266,15 +266,15 @@ module _ (t : Text) (flow : Flow) (setting : Setting) (valid : IsFlow flow) wher
         (holds-put memory into size word plain registers slots operands free is (holds memory)) alike goes
 
     pub calls : (n : ℕ) (running : Running) (scopes : List (List Name)) (tasks : List (TaskIn t)) (slots : List Slot) (point : ℕ)
-        (number : ℕ) (function : Function t.Stmt) (arguments : List Argument) (into : Option ℕ) (to : ℕ) (place : Place) →
-        slice_get t.functions number ≡ Some function → AreTaken arguments function.params → are_free (registers_of arguments) slots ≡ true → is_whole slots ≡ true →
-        is_free_result into slots ≡ true → One flow point (i.Call (setting.called number) (registers_of arguments) into) to place →
+        (number called : ℕ) (function : Function t.Stmt) (arguments : List Argument) (into : Option ℕ) (to : ℕ) (place : Place) →
+        slice_get t.functions number ≡ Some function → setting.called number ≡ Some called → AreTaken arguments function.params → are_free (registers_of arguments) slots ≡ true → is_whole slots ≡ true →
+        is_free_result into slots ≡ true → One flow point (i.Call called (registers_of arguments) into) to place →
         ((m : ℕ) → suc m ≡ n → AreFunctionsGood m) →
         ((m : ℕ) → suc m ≡ n → Good t flow setting valid m running scopes tasks (result_slot (setting.gives number) into ∷ slots) to) →
         Good t flow setting valid n running scopes (CallDefined number ∷ tasks) (slots_of arguments ++ slots) point
-    calls n running scopes tasks slots point number function arguments into to place stands are free whole result_free edge good_functions good operands registers w v memory choices holds alike goes =
+    calls n running scopes tasks slots point number called function arguments into to place stands is_called are free whole result_free edge good_functions good operands registers w v memory choices holds alike goes =
         let found = taken memory registers arguments slots operands holds.stands in
-        let there = functions number function stands in
+        let there = functions number called function stands is_called in
         let count : length function.params ≡ length found.words = sym (length_held registers arguments found.words found.held ∙ length_taken arguments function.params are) in
         let holds' : Holds memory registers (slots_of arguments ++ slots) (reverse found.words ++ found.behind) = subst (λ (all : List Word). Holds memory registers (slots_of arguments ++ slots) all) found.are holds in
         let registers' : List Held = emptied (registers_of arguments) registers in
@@ -301,7 +301,7 @@ module _ (t : Text) (flow : Flow) (setting : Setting) (valid : IsFlow flow) wher
           outermost = refl;
         } in
         both_along t flow setting valid n (source t (CallDefined number ∷ tasks) operands w memory) choices point registers v memory
-        (i.Call (setting.called number) (registers_of arguments) into) to place edge
+        (i.Call called (registers_of arguments) into) to place edge
         (λ m is. rw (
           stands,
           taken',
@@ -314,7 +314,7 @@ module _ (t : Text) (flow : Flow) (setting : Setting) (valid : IsFlow flow) wher
         (unbarred t flow setting valid m _ _
         (entered m (function_tasks t function base) (map (λ param. MakeParameter param.object) function.params) (body_tasks t function base) tasks found.words (found.behind ++ w.below) w memory choices _ refl
         (parameters_made m inner there.names (body_tasks t function base) there.there.entry (w.frame ∷ w.callers) w.statics (tasks ++ w.rest) (found.behind ++ w.below)
-        (λ memory' w'' v'' choices' alike'' goes''. good_functions m is number function stands base [] [] w'' v'' memory' choices' (record { stands = tt; rooted = tt; ascending = tt }) alike'' goes'')
+        (λ memory' w'' v'' choices' alike'' goes''. good_functions m is number called function stands is_called base [] [] w'' v'' memory' choices' (record { stands = tt; rooted = tt; ascending = tt }) alike'' goes'')
         function.params arguments found.words there.names [] [] are (length_held registers arguments found.words found.held) there.made there.new (λ variable other. other) refl [] v' memory choices alike'
         (goes_behind m running scopes tasks slots (setting.gives number) into to found.behind registers' w v whole result_free
         (λ memory'. holds-memory memory memory' registers' slots found.behind whole after) alike (goes_before t flow setting valid n m running w v is goes) (good m is))))))

@@ -27,3 +27,5 @@ pub mod Simulation
 pub mod Wider
 pub mod Whole
 pub mod Starting
+pub mod Witness
+pub mod Recursion

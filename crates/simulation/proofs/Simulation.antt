@@ -277,8 +277,8 @@ module _ (t : Text) (flow : Flow) (setting : Setting) (valid : IsFlow flow) (fun
       is_nothing t flow setting valid n running scopes tasks slots point h0
   simulates {running = running} (Idles {scopes = scopes} {tasks = tasks} {slots = slots} {point = point} stmt body first semicolon close h0 h1 h2) n good good' calls' =
       idles t flow setting valid n running scopes tasks slots point stmt body first semicolon close h0 h1 h2
-  simulates {running = running} (Calls {now = now} {later = later} {scopes = scopes} {tasks = tasks} {slots = slots} {point = point} number function arguments into to place h0 h1 h2 h3 h4 h5 d0) n good good' calls' =
-      calls t flow setting valid functions n running scopes tasks slots point number function arguments into to place h0 h1 h2 h3 h4 h5 (λ m is. calls' m (omega arith))
+  simulates {running = running} (Calls {now = now} {later = later} {scopes = scopes} {tasks = tasks} {slots = slots} {point = point} number there function arguments into to place h0 h1 h2 h3 h4 h5 h6 d0) n good good' calls' =
+      calls t flow setting valid functions n running scopes tasks slots point number there function arguments into to place h0 h1 h2 h3 h4 h5 h6 (λ m is. calls' m (omega arith))
       (λ m is. simulates d0 m (at_hand n m running now later is good good') (λ k less. tt) (calls_before n m is calls'))
   simulates {running = running} (Finishes {now = now} {later = later} {scopes = scopes} {tasks = tasks} {slots = slots} {point = point} slot place gone to h0 h1 h2 h3 d0) n good good' calls' =
       finishes t flow setting valid n running scopes tasks slots point slot place gone to h0 h1 h2 h3
@@ -342,7 +342,7 @@ module _ (t : Text) (flow : Flow) (setting : Setting) (valid : IsFlow flow) (fun
   functions_good (suc n) m less =
       ⊎_elim
       (λ (same : m ≡ n). subst (λ (k : ℕ). AreFunctionsGood t flow setting valid functions k) (sym same)
-      (λ number function stands base. simulates ((functions number function stands).body base) n tt (λ k less'. tt) (functions_good n)))
+      (λ number called function stands is base. simulates ((functions number called function stands is).body base) n tt (λ k less'. tt) (functions_good n)))
       (λ (differ : m ≢ n). functions_good n m (omega arith))
       (cases_eq m n)
 

@@ -181,8 +181,8 @@ module _ (t : Text) (flow : Flow) (setting : Setting) (running : Running) where
       IsNothing h0
   wider (Idles stmt body first semicolon close h0 h1 h2) now' later' each each' =
       Idles stmt body first semicolon close h0 h1 h2
-  wider (Calls {now = now} {later = later} number function arguments into to place h0 h1 h2 h3 h4 h5 d0) now' later' each each' =
-      Calls number function arguments into to place h0 h1 h2 h3 h4 h5 (wider d0 (later' ++ now') [] (both_within t now now' later later' each each') (λ stop is. is))
+  wider (Calls {now = now} {later = later} number there function arguments into to place h0 h1 h2 h3 h4 h5 h6 d0) now' later' each each' =
+      Calls number there function arguments into to place h0 h1 h2 h3 h4 h5 h6 (wider d0 (later' ++ now') [] (both_within t now now' later later' each each') (λ stop is. is))
   wider (Finishes {now = now} {later = later} slot place gone to h0 h1 h2 h3 d0) now' later' each each' =
       Finishes slot place gone to h0 h1 h2 h3 (wider d0 (later' ++ now') [] (both_within t now now' later later' each each') (λ stop is. is))
   wider (Keeps {now = now} {later = later} place gone to h0 h1 h2 d0) now' later' each each' =

@@ -1,6 +1,6 @@
 -- The functions of a program, each from its entry on, and the main with which a run begins.
 --
--- A function that is called stands in the graph as `called` says. The main with which a run begins is the main of the graph. Where it may not return while an
+-- A function that is called stands in the graph as `called` says, and of no other is anything asked. The main with which a run begins is the main of the graph. Where it may not return while an
 -- allocated block lives it looks for such a block behind its blocks, and the program may call it as well: then it stands in the graph twice, and what is called
 -- is the one that does not look.
 use Rattle.std.specs.Prelude.{◌≡◌, ℕ, true, false, List, [], ◌∷◌, map, Some, slice_get}
@@ -13,9 +13,9 @@ use Rattle.simulation.specs.Names.{Name, variables_of, are_new, AreMade}
 use Rattle.simulation.specs.Running.{Setting, Result}
 
 -- behind its parameters, and up to the edge out of its exit, whatever the callers hold
-pub record IsFunctionLowered (t : Text) (flow : Flow) (setting : Setting) (number : ℕ) (function : Function t.Stmt) : Type 0 where
+pub record IsFunctionLowered (t : Text) (flow : Flow) (setting : Setting) (number called : ℕ) (function : Function t.Stmt) : Type 0 where
   pub there : FlowFunction
-  pub stands : slice_get flow.functions (setting.called number) ≡ Some there
+  pub stands : slice_get flow.functions called ≡ Some there
   pub names : List Name
   pub parameters : there.parameters ≡ variables_of names
   pub made : AreMade flow (map (λ param. param.object) function.params) names
@@ -25,7 +25,8 @@ pub record IsFunctionLowered (t : Text) (flow : Flow) (setting : Setting) (numbe
 
 abbrev pub AreFunctionsLowered : (t : Text) → Flow → Setting → Type 0
 AreFunctionsLowered t flow setting =
-    (number : ℕ) (function : Function t.Stmt) → slice_get t.functions number ≡ Some function → IsFunctionLowered t flow setting number function
+    (number called : ℕ) (function : Function t.Stmt) → slice_get t.functions number ≡ Some function → setting.called number ≡ Some called →
+    IsFunctionLowered t flow setting number called function
 
 pub record IsMainLowered (t : Text) (flow : Flow) (setting : Setting) (main : Function t.Stmt) : Type 0 where
   pub there : FlowFunction

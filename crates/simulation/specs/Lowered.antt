@@ -441,9 +441,10 @@ pub data Lowered (t : Text) (flow : Flow) (setting : Setting) (running : Running
       → Lowered t flow setting running now later scopes (Test stmt ∷ tasks) slots point
   -- calls of functions that the program defines
   Calls : {now later : List (Stop t)} {scopes : List (List Name)} {tasks : List (TaskIn t)} {slots : List Slot} {point : ℕ}
-      (number : ℕ) (function : Function t.Stmt) (arguments : List Argument) (into : Option ℕ) (to : ℕ) (place : Place)
-      → slice_get t.functions number ≡ Some function → AreTaken arguments function.params → are_free (registers_of arguments) slots ≡ true → is_whole slots ≡ true
-      → is_free_result into slots ≡ true → One flow point (i.Call (setting.called number) (registers_of arguments) into) to place
+      (number there : ℕ) (function : Function t.Stmt) (arguments : List Argument) (into : Option ℕ) (to : ℕ) (place : Place)
+      → slice_get t.functions number ≡ Some function → setting.called number ≡ Some there → AreTaken arguments function.params
+      → are_free (registers_of arguments) slots ≡ true → is_whole slots ≡ true → is_free_result into slots ≡ true
+      → One flow point (i.Call there (registers_of arguments) into) to place
       → Lowered t flow setting running (later ++ now) [] scopes tasks (result_slot (setting.gives number) into ∷ slots) to
       → Lowered t flow setting running now later scopes (CallDefined number ∷ tasks) (slots_of arguments ++ slots) point
   -- ends of full expressions, and of conditions

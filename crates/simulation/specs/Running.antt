@@ -9,10 +9,11 @@ pub data Result : Type 0 where
   GivesNothing : Result
   Gives : (size : ℕ) (plain : Bool) → Result
 
--- the static variables, by the order in which they were declared; which function of the graph stands for one of the text where that is called, and what it gives
+-- the static variables, by the order in which they were declared; which function of the graph stands for one of the text where that is called, if it is, and what
+-- it gives
 pub record Setting : Type 0 where
   pub statics : List Name
-  pub called : ℕ → ℕ
+  pub called : ℕ → Option ℕ
   pub gives : ℕ → Result
 
 -- the function that runs: how many operands the unfinished expressions of all its callers hold; whether it is the main with which a run begins and may not
