@@ -1,0 +1,9 @@
+pub mod Names
+pub mod Kinds
+pub mod Known
+pub mod LetGo
+pub mod Moves
+pub mod Table
+pub mod Placing
+pub mod Initials
+pub mod Lowering
