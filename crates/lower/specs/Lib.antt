@@ -7,3 +7,5 @@ pub mod Table
 pub mod Placing
 pub mod Initials
 pub mod Lowering
+pub mod Examples
+pub mod Rows
