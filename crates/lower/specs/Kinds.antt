@@ -8,6 +8,8 @@ use Rattle.typing.specs.ctypes.Integers.{int, promoted, common}
 use Rattle.c_machine.specs.declared.kind.Kind.{Kind}
 use Rattle.c_machine.specs.declared.kind.Kind.TheVariants.{Integer, Pointer, Void}
 use Rattle.c_machine.specs.Words.{is_same, kind_after, scalar_bytes}
+use Rattle.lower.specs.declared.conversion.Conversion.{Conversion}
+use Rattle.lower.specs.declared.conversion.Conversion.TheVariants.{Nothing, Resized, Tested, Dropped, Unknown}
 
 -- a pointer and an address have 8 bytes
 abbrev pub width : Kind → ℕ
@@ -32,15 +34,6 @@ fits Void asked = is_void asked
 fits made Void = false
 fits made asked = true
 
--- what a conversion is: nothing; one to so many bytes, by the sign of the value that is converted; a test, for `_Bool`; the value is let go of; or the
--- machine knows none
-pub data Conversion : Type 0 where
-  Nothing : Conversion
-  Resized : (bytes : ℕ) (signed : Bool) → Conversion
-  Tested : Conversion
-  Dropped : Conversion
-  NoConversion : Conversion
-
 -- an integer: one of a type to itself is nothing
 abbrev pub between_integers : IntegerType → IntegerType → Conversion
 between_integers from to = if is_same from to then Nothing else (if to.truth then Tested else Resized to.bytes from.signed)
@@ -53,8 +46,8 @@ abbrev pub conversion : Kind → Kind → Conversion
 conversion from Void = Dropped
 conversion (Integer from) (Integer to) = between_integers from to
 conversion (Integer from) (Pointer bytes) = Resized 8 from.signed
-conversion (Integer from) to = NoConversion
-conversion Void to = NoConversion
+conversion (Integer from) to = Unknown
+conversion Void to = Unknown
 conversion from (Integer to) = to_integer to
 conversion from to = Nothing
 

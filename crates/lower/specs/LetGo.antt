@@ -16,7 +16,9 @@ use Rattle.c_machine.specs.declared.kind.Kind.TheVariants.{Integer, Struct}
 use Rattle.c_machine.specs.Text.{Standing, BuiltInStands, BodyStands, Form, Name, Known, Unary, Binary, Assign, Count, Choose, Cast, Index, Member, Call, Inner, AssertFail, Function, Text}
 use Rattle.c_machine.specs.Expressions.{value_kind, built_in}
 use Rattle.c_machine.specs.Words.{scalar_bytes}
-use Rattle.lower.specs.Kinds.{is_void, Conversion, Nothing, Resized, Tested, Dropped, NoConversion, conversion}
+use Rattle.lower.specs.Kinds.{is_void, conversion}
+use Rattle.lower.specs.declared.conversion.Conversion.{Conversion}
+use Rattle.lower.specs.declared.conversion.Conversion.TheVariants.{Nothing, Resized, Tested, Dropped, Unknown}
 
 -- what is wanted of an expression: its value, or its address, each in the spare register or not; that it is done; or a test of it
 pub data Wanted : Type 0 where
@@ -31,7 +33,7 @@ left_converted t left expr in_spare Nothing = left (AsValue in_spare) expr
 left_converted t left expr in_spare (Resized bytes signed) = left (AsValue false) expr
 left_converted t left expr in_spare Tested = left AsTest expr
 left_converted t left expr in_spare Dropped = left AsWork expr
-left_converted t left expr in_spare NoConversion = 0
+left_converted t left expr in_spare Unknown = 0
 
 abbrev pub left_as : (t : Text) → (Wanted → t.Expr → ℕ) → t.Expr → Bool → Kind → ℕ
 left_as t left expr in_spare kind = left_converted t left expr in_spare (conversion (value_kind t expr) kind)

@@ -9,3 +9,6 @@ pub mod Initials
 pub mod Lowering
 pub mod Examples
 pub mod Rows
+pub mod Samples
+pub mod Programs
+pub mod Built

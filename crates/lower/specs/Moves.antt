@@ -13,7 +13,9 @@ use Rattle.c_machine.specs.declared.object.Object.{Object}
 use Rattle.c_machine.specs.Text.{Text}
 use Rattle.flow.specs.declared.instruction.Instr.{Instr}
 use Rattle.flow.specs.declared.instruction.Instr.TheVariants as i
-use Rattle.lower.specs.Kinds.{Conversion, Nothing, Resized, Tested, Sides, sides, meeting}
+use Rattle.lower.specs.Kinds.{Sides, sides, meeting}
+use Rattle.lower.specs.declared.conversion.Conversion.{Conversion}
+use Rattle.lower.specs.declared.conversion.Conversion.TheVariants.{Nothing, Resized, Tested}
 
 -- Registers: `into` gets the value, and `spare` is the first of those of the full expression that hold what is let go of.
 pub data Move (t : Text) : Type 0 where

@@ -98,7 +98,7 @@ pub record AreGraphs : Type 0 where
   pub end_of_pointer : HasGraph (own (main (eval (call 1 (Pointer 1) []) ∷ met ∷ []) ∷ function (Pointer 1) [] [] ∷ []))
   pub end_of_truth : HasGraph (own (main (eval (call 1 a_truth []) ∷ met ∷ []) ∷ function a_truth [] [] ∷ []))
   -- static int x; int main(void) { if (x == 0) { x = 1; if (main() == 0) «1»..; } }    main that is called answers 0 at its `}`, too, and the run goes on
-  pub main_is_called : HasGraph (record { declarations = []; statics = record { token = Some 1; bytes = 4 } ∷ []; functions = main (where_true (binary an_int Equal x (number 0)) (block (eval (set_to x (number 1)) ∷ if_equal (call 0 an_int []) 0 ∷ [])) ∷ []) ∷ []; strict = false; })
+  pub main_is_called : HasGraph (record { declarations = []; statics = record { token = Some 1; bytes = 4 } ∷ []; functions = main (where_true (binary an_int Equal x (number 0)) (block (eval (set_to x (number 1)) ∷ if_equal (call 0 an_int []) 0 ∷ [])) ∷ []) ∷ []; strict = false })
 
 pub record DoExpressionsRun : Type 0 where
   -- b = 2; if (b == 1) «1»..    what is stored is converted
@@ -205,4 +205,4 @@ pub record DoCallsRun : Type 0 where
   pub end_of_pointer : GraphComesTo (own (main (eval (call 1 (Pointer 1) []) ∷ met ∷ []) ∷ function (Pointer 1) [] [] ∷ [])) (Input (2 ^ 64 - 1) ∷ []) (Faulted 1 (token 7))
   pub end_of_truth : GraphComesTo (own (main (eval (call 1 a_truth []) ∷ met ∷ []) ∷ function a_truth [] [] ∷ [])) (Input 2 ∷ []) Ended
   -- static int x; int main(void) { if (x == 0) { x = 1; if (main() == 0) «1»..; } }    main that is called answers 0 at its `}`, too, and the run goes on
-  pub main_is_called : GraphComesTo (record { declarations = []; statics = record { token = Some 1; bytes = 4 } ∷ []; functions = main (where_true (binary an_int Equal x (number 0)) (block (eval (set_to x (number 1)) ∷ if_equal (call 0 an_int []) 0 ∷ [])) ∷ []) ∷ []; strict = false; }) (zeros 16 4 ∷ []) (Faulted 1 (token 7))
+  pub main_is_called : GraphComesTo (record { declarations = []; statics = record { token = Some 1; bytes = 4 } ∷ []; functions = main (where_true (binary an_int Equal x (number 0)) (block (eval (set_to x (number 1)) ∷ if_equal (call 0 an_int []) 0 ∷ [])) ∷ []) ∷ []; strict = false }) (zeros 16 4 ∷ []) (Faulted 1 (token 7))

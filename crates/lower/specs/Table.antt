@@ -20,7 +20,9 @@ use Rattle.c_machine.specs.Expressions.{value_kind, built_in}
 use Rattle.c_machine.specs.Step.{counting}
 use Rattle.c_machine.specs.Words.{kind_after, scalar_bytes, is_pointer}
 use Rattle.flow.specs.declared.instruction.Instr.TheVariants as i
-use Rattle.lower.specs.Kinds.{width, is_void, is_address, fits, Conversion, Nothing, Resized, Tested, Dropped, NoConversion, conversion, between_integers, is_plain_operator, made_by}
+use Rattle.lower.specs.Kinds.{width, is_void, is_address, fits, conversion, between_integers, is_plain_operator, made_by}
+use Rattle.lower.specs.declared.conversion.Conversion.{Conversion}
+use Rattle.lower.specs.declared.conversion.Conversion.TheVariants.{Nothing, Resized, Tested, Dropped, Unknown}
 use Rattle.lower.specs.Known.{size_as, product_as}
 use Rattle.lower.specs.LetGo.{leaves_nothing}
 use Rattle.lower.specs.Moves.{Move, Emits, Pairs, Evaluates, Converts, Answers, Locates, Works, Stops, Fails, Line, taking, resizes, adapts, stands_in, combines, operates}
@@ -303,7 +305,7 @@ converted_line t expr spare into r (Resized bytes signed) =
     taking 1 (Evaluates expr spare r ∷ Emits (i.Convert into r bytes signed) (t.place expr) ∷ [])
 converted_line t expr spare into r Tested = taking 0 (Answers expr spare into 1 ∷ [])
 converted_line t expr spare into r Dropped = taking 0 (Works expr spare ∷ [])
-converted_line t expr spare into r NoConversion = taking 0 (Fails ∷ [])
+converted_line t expr spare into r Unknown = taking 0 (Fails ∷ [])
 
 -- The kind of what a form makes, where that is not said by the kind of the expression itself.
 abbrev pub result_of : (t : Text) → Standing → Kind

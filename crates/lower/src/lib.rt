@@ -4,4 +4,9 @@
 //! `specs/Placing.antt` numbers points and registers. It knows what the source machine asks of a program, and no token, no scope and no text.
 #![tactic(auto)]
 
+mod builder;
+mod conversion;
 pub mod examples;
+
+pub use builder::Builder;
+pub use conversion::Conversion;
