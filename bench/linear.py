@@ -18,10 +18,11 @@ flow         crates/flow_rows is given flow graphs of 125,000 to 1,000,000 edges
              `mixed` in no order, where the ratios are somewhat more than 1. In `tree` main is a chain whose points each fork to the next point and to the last one; in `star` all
              edges but one begin at one point. A graph is asked for a loop head (which reads it and looks no further), for its form and for its walks; the time of the first is taken
              from the other two.
-graph        crates/graph_rows is given graphs of 1,250 to 10,000 objects, each with five edges, and as many registers, ports and unequal pairs together as objects, in no order; and one
-             object of 8,192 to 65,536 bytes with an edge in each 8 of them. A graph is built from its parts and copied, the copy is taken apart, and its objects and values are
-             counted. The time of an empty row is taken off. Beside it stands how many times as long that is as python3 takes to put the same row into dicts, to look
-             each key up there, and to copy the dicts.
+graph        crates/graph_rows is given graphs of 1,000 to 10,000 objects of 24 bytes, one third of them segments with two edges and a link in each node, the others with three edges, and a
+             third as many variables, registers, ports and unequal pairs each; and one object of 8,192 to 65,536 bytes with an edge in each 8 of them. The row is read, and a graph is
+             built of its parts; it is copied and the copy's parts are made; it is copied and the copy is taken apart. The time of a row that says nothing is taken off what it takes to
+             read one, the time to read one off what it takes to build, and that off the other two. Beside it stands how many times as long all but the last are as
+             python3 takes to put the same row into dicts, to look each key up there, and to copy the dicts.
 """
 import random
 import re
@@ -237,19 +238,38 @@ def flow(measure, folder, sizes):
             print(f"{text}, {count:,} edges, per edge against {sizes[0]:,}: {ratios}", flush=True)
 
 
-def graph_row(objects, edges):
-    """The row of a graph with so many objects and edges."""
-    each = edges // objects
-    words = ["counted"]
+def target_of(key, objects):
+    """The object to which the value with a key leads, and the name of such an address: of a segment it is that of its first node."""
+    object = key * 7919 % objects
+    return ("first" if object % 3 == 2 else "address"), object
+
+
+def graph_row(kind, objects):
+    """The row of a graph with so many objects, of which each third one is a segment. Object k has the values 4 k to 4 k + 3."""
+    words = [kind]
     for key in range(objects):
-        words.append(f"object={2 * key}:{8 * each}:{('heap', 'static')[key % 2]}:live class={8 * each}:2")
-        words.extend(f"edge={8 * (at * 7 % each)}:8:{key * each + at}" for at in range(each))
-    words.extend(f"address={key}:{2 * (key * 7919 % objects)}:0" for key in range(edges))
-    words.extend(f"number={key}:8" for key in range(edges, edges + objects // 2))
-    words.extend(f"variable={key * 7919 % 1000003}:{2 * key}" for key in range(1, objects, 2))
-    words.extend(f"register={key * 7919 % 1000003}:{key}" for key in range(objects // 3))
-    words.extend(f"port={key * 31 % edges}" for key in range(objects // 3))
-    words.extend(f"unequal={edges + key}:{edges + key + 1}" for key in range(objects // 3))
+        value = 4 * key
+        words.append(f"object={key}:24:{('static', 'heap')[key % 3 != 1]}:live")
+        if key % 3 == 2:
+            words.append(f"singly=0:0:0:0:1:{value}:{value + 3} class=24:2 edge=8:8:{value + 1} edge=16:8:{value + 2}")
+        else:
+            words.append(f"class=24:2 edge=0:8:{value} edge=8:8:{value + 1} edge=16:8:{value + 2}")
+    for key in range(4 * objects):
+        name, object = target_of(key, objects)
+        last = f"const={key}:0:8" if key // 4 % 3 == 2 else f"number={key}:8"
+        words.append(last if key % 4 == 3 else f"{name}={key}:{object}:0")
+    words.extend(f"variable={key}:{key}" for key in range(1, objects, 3))
+    words.extend(f"register={3 * key}:{4 * key}" for key in range(objects // 3))
+    words.extend(f"port={key * 31 % (4 * objects)}" for key in range(objects // 3))
+    words.extend(f"unequal={12 * key + 3}:{12 * key + 7}" for key in range(objects // 3))
+    return " ".join(words)
+
+
+def one_object_row(kind, edges):
+    """The row of a graph with one object, and so many edges."""
+    words = [kind, f"object=0:{8 * edges}:heap:live class={8 * edges}:2"]
+    words.extend(f"edge={8 * at}:8:{at * 7 % edges}" for at in range(edges))
+    words.extend(f"address={key}:0:0" for key in range(edges))
     return " ".join(words)
 
 
@@ -261,13 +281,15 @@ def in_dicts(text):
         fields = fields.split(":")
         if name == "object":
             last = objects[int(fields[0])] = [fields[1:]]
-        elif name in ("class", "edge"):
+        elif name in ("class", "edge", "singly"):
             last.append(fields)
             if name == "edge":
                 asked.append((values, int(fields[2])))
-        elif name in ("address", "number"):
+            elif name == "singly":
+                asked.extend(((values, int(fields[5])), (values, int(fields[6]))))
+        elif name in ("address", "first", "number", "const"):
             values[int(fields[0])] = fields[1:]
-            if name == "address":
+            if name in ("address", "first"):
                 asked.append((objects, int(fields[1])))
         elif name == "variable":
             asked.append((objects, int(fields[1])))
@@ -291,16 +313,20 @@ def by_python(text):
 def graph(folder):
     """Prints what graphs of some sizes take, and python3."""
     idle = cost(seconds, folder, "counted", is_graph)
-    sizes = {"graphs,": [(count, 5 * count) for count in (1_250, 2_500, 5_000, 10_000)], "one object,": [(1, count) for count in (1_024, 2_048, 4_096, 8_192)]}
-    for what, both in sizes.items():
+    rows = {"objects": (graph_row, (1_000, 2_500, 5_000, 10_000)), "edges of one object": (one_object_row, (1_024, 2_048, 4_096, 8_192))}
+    for what, (row, sizes) in rows.items():
         first = None
-        for objects, edges in both:
-            text = graph_row(objects, edges)
-            took, by_dicts = cost(seconds, folder, text, is_graph) - idle, by_python(text)
-            each = 1e6 * took / edges
+        for count in sizes:
+            kept, counted, taken = (cost(seconds, folder, row(kind, count), is_graph) for kind in ("kept", "counted", "taken"))
+            # the keys of these parts do not ascend, and so they are only read
+            read = cost(seconds, folder, row("kept", count) + " object=0:0:heap:live", "keys do not ascend".__eq__)
+            each = [1e6 * took / count for took in (read - idle, kept - read, counted - kept, taken - kept)]
             first = first or each
-            print(f"{what} {objects:6,} objects, {edges:6,} edges: {took:.3f} s, {each:.2f} us an edge, {each / first:.2f} times the first; "
-                  f"{took / by_dicts:.2f} times python3's {by_dicts:.3f} s", flush=True)
+            shown = ", ".join(
+                f"{name} {one:.2f} us ({one / other:.2f})"
+                for name, one, other in zip(("read", "built", "copied and its parts made", "copied and taken apart"), each, first)
+            )
+            print(f"{count:6,} {what}: {shown}; {(counted - idle) / by_python(row('counted', count)):.2f} times python3", flush=True)
 
 
 def is_graph(answer):

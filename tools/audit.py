@@ -21,7 +21,7 @@ from definitions import HOME, Sources, SpecSource, closure
 PAGE = HOME / "docs" / "audit.md"
 BEGIN, END = "<!-- audit.py: begin -->\n", "<!-- audit.py: end -->\n"
 TOP_CRATE, TOP_FILE, TOP = "verdicts", "top.rt", "predator"
-# What answers mean: the crate of these laws, and by each of its files the call that gives the answers.
+# What answers mean: the crate of these laws, and by each file of them the call that gives the answers.
 MEANINGS, CALLS = "claims", {"judging": ("verdicts", "predator"), "replaying": ("replay", "replay")}
 NO_CLAIMS = ("*_rows", "*_tests", "predator")
 # Laws that are rows worked out by hand: their files of code, and their names.
@@ -238,8 +238,8 @@ def page(sources):
     """The tables of docs/audit.md."""
     top = top_claim(sources)
     text = f"{sizes(sources, top)}.\n\n{group_list(top)}\n"
-    text += "## What each answer rests on\n\nA law of `claims` says of each answer what it means, with no more definitions than it needs, from the clause of the top call.\n\n| answer | its law | lines of definitions and types |\n|---|---|---|\n"
-    text += "".join(f"| `tools/audit.py --answer {name}` | `{meaning.words}` | {meaning.all_lines():,} |\n" for name, meaning in meanings(sources).items())
+    text += "## What each answer rests on\n\nA law of `claims` says of each answer what it means, with no more definitions than it needs, from a clause of the call that gives it.\n\n| answer | its law | of the call | lines of definitions and types |\n|---|---|---|---|\n"
+    text += "".join(f"| `tools/audit.py --answer {name}` | `{meaning.words}` | `{'::'.join(meaning.call)}` | {meaning.all_lines():,} |\n" for name, meaning in meanings(sources).items())
     text += "\n## What each further claim rests on\n\nThe lists are printed by `tools/audit.py CRATE`.\n\n| crate | what | names | lines of definitions | of types |\n|---|---|---|---|---|\n"
     claims = [claim for crate in reversed(units(sources)) for claim in claims_of(sources, crate)]
     text += "".join(claim_row(sources, claim) for claim in claims if claim.names != top.names)
@@ -267,7 +267,7 @@ class Meaning(Claim):
 
 def meanings(sources):
     """What each answer means, by its name."""
-    laws = [(source, name, head) for source in sources.code(MEANINGS) for name, head, is_law in source.functions() if is_law]
+    laws = [(source, name, head) for source in sources.code(MEANINGS) for name, head, is_law in source.functions() if is_law and name.endswith("_means")]
     return {name.removesuffix("_means"): Meaning(source, name, head) for source, name, head in laws}
 
 

@@ -167,7 +167,8 @@ wider : (count : ℕ) (byte : Byte) → NamesBelow count byte → NamesBelow (co
 wider count (Num number) names = tt
 wider count (Part block offset k) names = (omega (arith, names.0), names.1)
 
-compatible_back : (p q a b : Bool) → (not p || (not q || (a || b))) ≡ true → (not q || (not p || (b || a))) ≡ true
+-- whether two blocks may stand in one memory does not depend on their order
+pub compatible_back : (p q a b : Bool) → (not p || (not q || (a || b))) ≡ true → (not q || (not p || (b || a))) ≡ true
 compatible_back false false a b is = refl
 compatible_back false true a b is = refl
 compatible_back true false a b is = refl

@@ -14,4 +14,5 @@ pub mod Addresses
 pub mod Copies
 pub mod Marked
 pub mod Living
+pub mod Indexed
 pub mod Unmarked

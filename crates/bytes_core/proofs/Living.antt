@@ -1,27 +1,23 @@
 -- The list of the live blocks, where a block is put behind the others and where one ends.
-use Rattle.std.proofs.Common.{◌≡◌, ◌≢◌, ℕ, zero, suc, ◌<◌, Bool, true, false, not, List, [], ◌∷◌, ◌++◌, length, get_or, set, nat_eq, Option, None, Some, ◌⊎◌, inl, inr, refl, sym, ap, ◌∙◌, subst, arith}
-use Rattle.std.proofs.lemmas.Bool.{cases_eq, and_parts, and_from, false≢true, or_right, eqb-true, eq-eqb}
-use Rattle.std.proofs.lemmas.Bool.Decides.{same_from_decides}
+use Rattle.std.proofs.Common.{◌≡◌, ◌≢◌, ℕ, zero, suc, ◌<◌, Bool, true, false, List, [], ◌∷◌, ◌++◌, length, set, nat_eq, Option, None, Some, ◌⊎◌, inl, inr, refl, sym, ap, ◌∙◌, subst, arith}
+use Rattle.std.proofs.lemmas.Bool.{cases_eq, and_parts, and_from, false≢true, eqb-true, eq-eqb}
 use Rattle.std.proofs.lemmas.List.{length-set, length_push}
-use Rattle.std.proofs.lemmas.Option.{none-some, same_Some, slice_get_within, slice_get-map, slice_get-get_or}
+use Rattle.std.proofs.lemmas.Option.{none-some, same_Some, slice_get_within, slice_get-get_or}
 use Rattle.std.specs.List.{slice_get, list_all}
-use Rattle.std.specs.Option.{option_map}
 use Rattle.std.specs.Prelude.{if◌then◌else◌}
-use Rattle.bytes_core.specs.declared.block.Block.{Block}
-use Rattle.bytes_core.specs.Placement.{are_compatible}
-use Rattle.bytes_core.specs.Living.{lives, AreLive, stands_there, own_place, place_of, fits_there}
+use Rattle.bytes_core.specs.Living.{lives, AreLive, stands_there, own_place, place_of}
 
 -- what stands in a list behind which an item is put
-pushed_old : {X : Type 0} (xs : List X) (x y : X) (i : ℕ) → slice_get xs i ≡ Some y → slice_get (xs ++ x ∷ []) i ≡ Some y
+pub pushed_old : {X : Type 0} (xs : List X) (x y : X) (i : ℕ) → slice_get xs i ≡ Some y → slice_get (xs ++ x ∷ []) i ≡ Some y
 pushed_old [] x y i stands = absurd (none-some y stands)
 pushed_old (first ∷ rest) x y zero stands = stands
 pushed_old (first ∷ rest) x y (suc i) stands = pushed_old rest x y i stands
 
-pushed_new : {X : Type 0} (xs : List X) (x : X) → slice_get (xs ++ x ∷ []) (length xs) ≡ Some x
+pub pushed_new : {X : Type 0} (xs : List X) (x : X) → slice_get (xs ++ x ∷ []) (length xs) ≡ Some x
 pushed_new [] x = refl
 pushed_new (first ∷ rest) x = pushed_new rest x
 
-pushed_cases : {X : Type 0} (xs : List X) (x y : X) (i : ℕ) → slice_get (xs ++ x ∷ []) i ≡ Some y → (slice_get xs i ≡ Some y) ⊎ ((i ≡ length xs) × (x ≡ y))
+pub pushed_cases : {X : Type 0} (xs : List X) (x y : X) (i : ℕ) → slice_get (xs ++ x ∷ []) i ≡ Some y → (slice_get xs i ≡ Some y) ⊎ ((i ≡ length xs) × (x ≡ y))
 pushed_cases [] x y zero stands = inr (refl, same_Some x y stands)
 pushed_cases [] x y (suc i) stands = absurd (none-some y stands)
 pushed_cases (first ∷ rest) x y zero stands = inl stands
@@ -32,19 +28,19 @@ pushed_cases (first ∷ rest) x y (suc i) stands = more (pushed_cases rest x y i
     more (inr (last, same)) = inr (ap suc last, same)
 
 -- what stands in a list of which an item is set
-put_same : {X : Type 0} (xs : List X) (x y : X) (i : ℕ) → slice_get xs i ≡ Some y → slice_get (set xs i x) i ≡ Some x
+pub put_same : {X : Type 0} (xs : List X) (x y : X) (i : ℕ) → slice_get xs i ≡ Some y → slice_get (set xs i x) i ≡ Some x
 put_same [] x y i stands = absurd (none-some y stands)
 put_same (first ∷ rest) x y zero stands = refl
 put_same (first ∷ rest) x y (suc i) stands = put_same rest x y i stands
 
-put_other : {X : Type 0} (xs : List X) (x : X) (i j : ℕ) → j ≢ i → slice_get (set xs i x) j ≡ slice_get xs j
+pub put_other : {X : Type 0} (xs : List X) (x : X) (i j : ℕ) → j ≢ i → slice_get (set xs i x) j ≡ slice_get xs j
 put_other [] x i j differ = refl
 put_other (first ∷ rest) x zero zero differ = absurd (differ refl)
 put_other (first ∷ rest) x zero (suc j) differ = refl
 put_other (first ∷ rest) x (suc i) zero differ = refl
 put_other (first ∷ rest) x (suc i) (suc j) differ = put_other rest x i j (λ same. differ (ap suc same))
 
-put_cases : {X : Type 0} (xs : List X) (x y : X) (i j : ℕ) → slice_get (set xs i x) j ≡ Some y → ((j ≡ i) × (x ≡ y)) ⊎ ((j ≢ i) × (slice_get xs j ≡ Some y))
+pub put_cases : {X : Type 0} (xs : List X) (x y : X) (i j : ℕ) → slice_get (set xs i x) j ≡ Some y → ((j ≡ i) × (x ≡ y)) ⊎ ((j ≢ i) × (slice_get xs j ≡ Some y))
 put_cases xs x y i j stands = by_cases (cases_eq j i)
   where
     within : j < length xs
@@ -66,7 +62,7 @@ AreLive-none = record {
 }
 
 -- a block behind the others, which lives or not
-AreLive-more : (alive : List Bool) (numbers places : List ℕ) (new : Bool) → AreLive alive numbers places →
+pub AreLive-more : (alive : List Bool) (numbers places : List ℕ) (new : Bool) → AreLive alive numbers places →
     AreLive (alive ++ new ∷ []) (if new then numbers ++ length places ∷ [] else numbers) (places ++ length numbers ∷ [])
 AreLive-more alive numbers places true are = record {
   size = let same = are.size in omega (arith, length_push places (length numbers), length_push alive true);
@@ -230,59 +226,14 @@ counted_out alive numbers places rest number place last own is are =
     let (lives, at) = are.alone place number (number_at numbers number place (slice_get places number) own) in
     AreLive-fewer alive numbers places rest number place last is at lives are
 
--- which blocks live where one is put behind the others
-lives-push : (memory : List Block) (block : Block) → lives (memory ++ block ∷ []) ≡ lives memory ++ block.live ∷ []
-lives-push [] block = refl
-lives-push (first ∷ rest) block = ap (λ (more : List Bool). first.live ∷ more) (lives-push rest block)
-
-pub AreLive-placed : (memory : List Block) (block : Block) (numbers places : List ℕ) → AreLive (lives memory) numbers places →
-    AreLive (lives (memory ++ block ∷ [])) (if block.live then numbers ++ length places ∷ [] else numbers) (places ++ length numbers ∷ [])
-AreLive-placed memory block numbers places are = rw (lives-push memory block) (AreLive-more (lives memory) numbers places block.live are)
-
--- which blocks live where one of a memory has become another
-pub lives-set : (memory : List Block) (number : ℕ) (new : Block) → lives (set memory number new) ≡ set (lives memory) number new.live
-lives-set [] number new = refl
-lives-set (first ∷ rest) zero new = refl
-lives-set (first ∷ rest) (suc number) new = ap (λ (more : List Bool). first.live ∷ more) (lives-set rest number new)
-
-pub lives_kept : (memory : List Block) (number : ℕ) (old new : Block) → number < length memory → old ≡ get_or memory number old → new.live ≡ old.live → lives (set memory number new) ≡ lives memory
-lives_kept [] number old new inside is same = refl
-lives_kept (first ∷ rest) zero old new inside is same = ap (λ (live : Bool). live ∷ lives rest) (same ∙ ap (λ (block : Block). block.live) is)
-lives_kept (first ∷ rest) (suc number) old new inside is same = ap (λ (more : List Bool). first.live ∷ more) (lives_kept rest number old new (omega arith) is same)
-
 -- a test that passes at each item of a list
-passes_at : {X : Type 0} (test : X → Bool) (xs : List X) → list_all test xs ≡ true → (i : ℕ) (x : X) → slice_get xs i ≡ Some x → test x ≡ true
+pub passes_at : {X : Type 0} (test : X → Bool) (xs : List X) → list_all test xs ≡ true → (i : ℕ) (x : X) → slice_get xs i ≡ Some x → test x ≡ true
 passes_at test [] all i x stands = absurd (none-some x stands)
 passes_at test (first ∷ rest) all zero x stands =
     subst (λ (item : _). test item ≡ true) (same_Some first x stands) (and_parts (test first) (list_all test rest) all).0
 passes_at test (first ∷ rest) all (suc i) x stands = passes_at test rest (and_parts (test first) (list_all test rest) all).1 i x stands
 
-at_passes : {X : Type 0} (test : X → Bool) (xs : List X) → ((i : ℕ) (x : X) → slice_get xs i ≡ Some x → test x ≡ true) → list_all test xs ≡ true
+pub at_passes : {X : Type 0} (test : X → Bool) (xs : List X) → ((i : ℕ) (x : X) → slice_get xs i ≡ Some x → test x ≡ true) → list_all test xs ≡ true
 at_passes test [] each = refl
 at_passes test (first ∷ rest) each =
     and_from (test first) (list_all test rest) (each 0 first refl) (at_passes test rest (λ i x stands. each (suc i) x stands))
-
--- a block may stand with all blocks where it may with the live ones
-pub fits_beside_live : (memory : List Block) (numbers places : List ℕ) (block : Block) → AreLive (lives memory) numbers places →
-    list_all (λ number. fits_there block (slice_get memory number)) numbers ≡ list_all (are_compatible block) memory
-fits_beside_live memory numbers places block are =
-    same_from_decides (list_all (λ number. fits_there block (slice_get memory number)) numbers) (list_all (are_compatible block) memory) (there, back) (λ h. h, λ h. h)
-  where
-    beside : list_all (λ number. fits_there block (slice_get memory number)) numbers ≡ true → (number : ℕ) (other : Block) → slice_get memory number ≡ Some other →
-        (live : Bool) → other.live ≡ live → are_compatible block other ≡ true
-    beside all number other stands false dead = rw dead (or_right (not block.live) true refl)
-    beside all number other stands true alive =
-        let lived : slice_get (lives memory) number ≡ Some true =
-        slice_get-map (λ (b : Block). b.live) memory number ∙ ap (option_map (λ (b : Block). b.live)) stands ∙ ap Some alive in
-        let (place, own, listed) = are.listed number lived in
-        sym (ap (fits_there block) stands) ∙ passes_at (λ n. fits_there block (slice_get memory n)) numbers all place number listed
-
-    there : list_all (λ number. fits_there block (slice_get memory number)) numbers ≡ true → list_all (are_compatible block) memory ≡ true
-    there all = at_passes (are_compatible block) memory (λ number other stands. beside all number other stands other.live refl)
-
-    found : (number : ℕ) → list_all (are_compatible block) memory ≡ true → (at : Option Block) → slice_get memory number ≡ at → fits_there block at ≡ true
-    found number all None stands = refl
-    found number all (Some other) stands = passes_at (are_compatible block) memory all number other stands
-
-    back : list_all (are_compatible block) memory ≡ true → list_all (λ number. fits_there block (slice_get memory number)) numbers ≡ true
-    back all = at_passes (λ number. fits_there block (slice_get memory number)) numbers (λ place number stands. found number all (slice_get memory number) refl)

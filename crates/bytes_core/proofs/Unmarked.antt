@@ -1,13 +1,11 @@
 -- The live blocks whose places are marked are just those to which chains lead.
 use Rattle.std.proofs.Common.{◌≡◌, ℕ, zero, suc, ◌+◌, Bool, true, false, ◌&&◌, not, List, [], ◌∷◌, length, Option, None, Some, ◌⊎◌, inl, inr, refl, sym, ap, ◌∙◌, subst, arith}
 use Rattle.std.specs.Prelude.{Contains, slice_get, if◌then◌else◌, IsTrue}
-use Rattle.std.specs.List.{list_any}
 use Rattle.std.specs.Option.{option_to_list, option_map}
 use Rattle.std.proofs.lemmas.Bool.{and_parts, and_from, or_cases, or_left, or_right, false≢true, not-true, not_from_false, false_from_ne_true}
 use Rattle.std.proofs.lemmas.Bool.Decides.{same_from_decides}
 use Rattle.std.proofs.lemmas.List.{get_or_default}
 use Rattle.std.proofs.lemmas.List.Elements.{Contains-append_left, Contains-append_right, Contains-append_cases, Contains-push}
-use Rattle.std.proofs.lemmas.Map.Keys.{any_passes_from_place}
 use Rattle.std.proofs.lemmas.Option.{none-some, same_Some, slice_get_within, slice_get-map}
 use Rattle.bytes_core.specs.declared.block.Block.{Block}
 use Rattle.bytes_core.specs.Release.{is_heap}
@@ -154,18 +152,6 @@ block_from_lives memory number alive heap = at (slice_get memory number) refl (s
         (block : Block) × (slice_get memory number ≡ Some block) × IsTrue (is_heap block.kind) × IsTrue block.live
     at None is live kind = absurd (false≢true kind)
     at (Some block) is live kind = (block, is, kind, same_Some block.live true live)
-
--- where no live block is of the heap none is lost
-pub none_of_heap : (memory : List Block) (roots numbers places : List ℕ) → AreLive (lives memory) numbers places →
-    list_any (λ number. is_heap_block (slice_get memory number)) numbers ≡ false → is_lost memory roots ≡ false
-none_of_heap memory roots numbers places live none =
-    false_from_ne_true (is_lost memory roots) (λ lost. let found = (lost_by_chains memory roots).0 lost in at found.0 found.1 found.2)
-  where
-    at : (number : ℕ) (block : Block) → IsLostBlock memory roots number block → ⊥
-    at number block lost =
-        let (place, own, stands) = live.listed number (lived memory number block lost.stands lost.live) in
-        false≢true (sym none
-        ∙ any_passes_from_place (λ n. is_heap_block (slice_get memory n)) numbers place number stands (ap is_heap_block lost.stands ∙ lost.allocated))
 
 -- where no place waits, some live heap block is not marked just where one is lost
 pub marks_end : (memory : List Block) (roots numbers places : List ℕ) (marks : List Bool) → AreLive (lives memory) numbers places →

@@ -8,6 +8,7 @@ pub mod Release
 pub mod Loss
 pub mod Marking
 pub mod Living
+pub mod Indexed
 pub mod Valid
 pub mod Laws
 pub mod Examples

@@ -50,6 +50,10 @@ reached_within (suc links) memory roots target =
 abbrev pub is_reached : List Block → List ℕ → ℕ → Bool
 is_reached memory roots target = reached_within (length memory) memory roots target
 
+-- whether a block is of the heap and lives
+abbrev pub is_live_heap : Block → Bool
+is_live_heap block = is_heap block.kind && block.live
+
 -- whether some block is lost
 abbrev pub is_lost : List Block → List ℕ → Bool
 is_lost memory roots = some_block (λ number block. is_heap block.kind && (block.live && not (is_reached memory roots number))) 0 memory

@@ -2,7 +2,7 @@ ghost use Rattle.std.specs.Prelude.{◌≡◌, ◌<◌, Some, None, IfOk, OnOk, 
 ghost use Rattle.bytes_core.specs.Access.{access_fault, bytes_at};
 ghost use Rattle.bytes_core.specs.Answer.{answer};
 ghost use Rattle.bytes_core.specs.Copying.{share_byte, copy_fault, copied};
-ghost use Rattle.bytes_core.specs.Living.{lives};
+ghost use Rattle.bytes_core.specs.Indexed.{heads};
 ghost use Rattle.bytes_core.specs.Valid.{IsMemory};
 
 use crate::access::bytes_at;
@@ -72,7 +72,7 @@ pub(crate) fn copy_at(
     ensures copied { IfOk result (λ copy. OnOk copy (blocks.new.items ≡ copied blocks.old.items to from count)) }
     ensures fault { IfOk result (λ copy. OnErr copy (blocks.new.items ≡ blocks.old.items)) }
     ensures err { OnErr result (blocks.new.items ≡ blocks.old.items) }
-    ensures lives { lives blocks.new.items ≡ lives blocks.old.items }
+    ensures heads { heads blocks.new.items ≡ heads blocks.old.items }
     ensures memory { IsMemory blocks.old.items → IsMemory blocks.new.items }
 {
     if count == 0 {

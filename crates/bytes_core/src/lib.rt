@@ -11,6 +11,7 @@ mod block;
 mod byte;
 mod copying;
 mod fault;
+mod index;
 pub mod laws;
 mod live;
 mod loss;

@@ -1,7 +1,7 @@
 ghost use Rattle.std.specs.Prelude.{◌≡◌, ◌+◌, ◌<◌, ◌&&◌, ◌^◌, ◌≤◌, Bool, List as Items, ℕ, [], drop, take, length, replicate, false, slice_get, IfOk, IfSome, IsTrue, OnOk, Option, Some, None};
-ghost use Rattle.std.specs.List.{list_any};
 ghost use Rattle.std.specs.Option.{option_to_list};
-ghost use Rattle.bytes_core.specs.Living.{lives, AreLive, place_of, places_of};
+ghost use Rattle.bytes_core.specs.Indexed.{heads, IsIndexed};
+ghost use Rattle.bytes_core.specs.Living.{place_of, places_of};
 ghost use Rattle.bytes_core.specs.Loss.{is_lost};
 ghost use Rattle.bytes_core.specs.Release.{is_heap};
 ghost use Rattle.bytes_core.specs.Marking.{front_target, targets, block_targets, place_targets, marking, is_open, with_mark, with_marks, AreMarks, is_heap_block, some_unmarked};
@@ -9,6 +9,7 @@ ghost use Rattle.bytes_core.specs.Marking.{front_target, targets, block_targets,
 use crate::access::block_at;
 use crate::block::Block;
 use crate::byte::Byte;
+use crate::index::Index;
 use crate::live::{Live, place_of};
 use crate::release::is_heap;
 use crate::value::are_parts;
@@ -222,28 +223,22 @@ fn some_unmarked(blocks: &[Block], numbers: &[usize], marks: &[bool]) -> bool
     false
 }
 
-/// Whether some of the blocks of these numbers is of the heap.
-fn some_heap(blocks: &[Block], numbers: &[usize]) -> bool
-    ensures { result ≡ list_any (λ number. is_heap_block (slice_get blocks.now number)) numbers.now }
-{
-    numbers.iter().any(|number| is_heap_block(blocks, *number))
-}
-
-/// Whether some live heap block is reached from none of the roots. It takes time for the live blocks and, where one of
-/// them is of the heap, for their bytes and the roots.
+/// Whether some live heap block is reached from none of the roots. Where no block of the heap lives it takes no time for
+/// the blocks, and else time for the live ones, their bytes and the roots.
 pub(crate) fn some_lost(
     alloc: Global,
     blocks: &[Block],
-    live: &Live,
+    index: &Index,
     roots: &[u32],
 ) -> Result<bool, NoMemory>
-    requires { AreLive (lives blocks.now) live.now.numbers.items live.now.places.items }
+    requires { IsIndexed (heads blocks.now) index.now.live.numbers.items index.now.live.places.items index.now.bases index.now.heap }
     ensures { IfOk result (λ lost. lost ≡ is_lost blocks.now roots.now) }
 {
-    let numbers = live.numbers.as_slice();
-    if !some_heap(blocks, numbers) {
+    if index.heap == 0 {
         return Ok(false);
     }
+    let live = &index.live;
+    let numbers = live.numbers.as_slice();
     let mut marks: Vec<bool> = vec![in alloc; false; numbers.len()]?;
     let mut waiting: Vec<usize> = Vec::new(alloc);
     mark_all(live, &mut marks, &mut waiting, roots)?;

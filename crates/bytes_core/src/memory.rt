@@ -1,8 +1,9 @@
-ghost use Rattle.std.specs.Prelude.{◌≡◌, ◌+◌, ◌≤◌, [], All, length, map, option_map, slice_get, IfOk, IfNone, IsTrue, OnErr, OnOk, OnSome};
+ghost use Rattle.std.specs.Prelude.{◌≡◌, ℕ, ◌+◌, ◌≤◌, ◌<◌, ◌++◌, ◌∷◌, List as Items, [], false, vec_len, vec_capacity, All, length, map, option_map, slice_get, IfOk, IfNone, IsTrue, OnErr, OnOk, OnSome};
 ghost use Rattle.bytes_core.specs.Access.{access_fault, range_fault, loaded, stored, filled};
 ghost use Rattle.bytes_core.specs.Answer.{answer};
 ghost use Rattle.bytes_core.specs.Copying.{copy_fault, copied};
-ghost use Rattle.bytes_core.specs.Loss.{is_lost};
+ghost use Rattle.std.specs.List.{list_any};
+ghost use Rattle.bytes_core.specs.Loss.{is_live_heap, is_lost};
 ghost use Rattle.bytes_core.specs.Placement.{can_be_placed, next_number, placed};
 ghost use Rattle.bytes_core.specs.Release.{free_fault, freed, without};
 ghost use Rattle.bytes_core.specs.Valid.{NamesBelow, WordNamesBelow};
@@ -11,7 +12,7 @@ ghost use Rattle.bytes_core.specs.Value.{address_number};
 use crate::access::{base_of, load_at};
 use crate::block::Block;
 use crate::copying::copy_at;
-use crate::live::{Live, count_in, make_room, none_live};
+use crate::index::{Index, empty_index, enter};
 use crate::loss::some_lost;
 use crate::placement::can_be_placed;
 use crate::release::{end_block, free_at};
@@ -29,20 +30,31 @@ use std::marker::Model;
 #[derive(Drop)]
 pub struct Memory {
     blocks: Vec<Block>,
-    live: Live,
+    index: Index,
 }
 
 impl Model for Memory {
     ghost use Rattle.std.specs.Prelude.{List as Items};
     ghost use Rattle.bytes_core.specs.declared.block.Block.{Block};
-    ghost use Rattle.bytes_core.specs.Living.{lives, AreLive};
+    ghost use Rattle.bytes_core.specs.Indexed.{heads, IsIndexed};
     ghost use Rattle.bytes_core.specs.Valid.{IsMemory};
 
     ghost Value = { Items Block };
 
     ghost view = { λ m. m.blocks.items };
 
-    ghost invariant = { λ m. IsMemory m.blocks.items × AreLive (lives m.blocks.items) m.live.numbers.items m.live.places.items };
+    ghost invariant = { λ m. IsMemory m.blocks.items × IsIndexed (heads m.blocks.items) m.index.live.numbers.items m.index.live.places.items m.index.bases m.index.heap };
+}
+
+/// Puts a block behind the others, where there is room for it.
+fn put(blocks: &mut Vec<Block>, block: Block)
+    requires { vec_len blocks.old < vec_capacity blocks.old }
+    ensures { blocks.new.items ≡ blocks.old.items ++ block ∷ [] }
+{
+    match blocks.push(block) {
+        Ok(()) => {}
+        Err(_) => unreachable!(),
+    }
 }
 
 impl Memory {
@@ -52,18 +64,18 @@ impl Memory {
     {
         Memory {
             blocks: Vec::new(alloc),
-            live: none_live(alloc),
+            index: empty_index(alloc),
         }
     }
 
     /// Whether a block may be put into the memory: it lies where a block may lie, and shares no address with a live
     /// one if it lives.
     ///
-    /// It takes time for the live blocks of the memory, and no memory.
+    /// It takes time for a logarithm of how many blocks of the memory live, and no memory.
     pub fn can_place(&self, block: &Block) -> bool
         ensures { result ≡ can_be_placed self.now block.now }
     {
-        can_be_placed(&self.blocks, &self.live, block)
+        can_be_placed(&self.blocks, &self.index, block)
     }
 
     /// Puts a block behind the others, and gives its number.
@@ -82,10 +94,9 @@ impl Memory {
         let Ok(number) = u32::try_from(self.blocks.len()) else {
             return Ok(None);
         };
-        make_room(&mut self.live)?;
-        let lives = block.live;
-        self.blocks.push(block)?;
-        count_in(&mut self.live, lives);
+        self.blocks.reserve(1)?;
+        enter(&mut self.index, self.blocks.as_slice(), &block)?;
+        put(&mut self.blocks, block);
         Ok(Some(number))
     }
 
@@ -155,7 +166,7 @@ impl Memory {
         ensures freed { OnOk result (self.new ≡ freed self.old at) }
         ensures err { OnErr result (self.new ≡ self.old) }
     {
-        free_at(&mut self.blocks, &mut self.live, at)
+        free_at(&mut self.blocks, &mut self.index, at)
     }
 
     /// Ends the life of a block, as of an object whose scope is left (C11 6.2.4p5). A number that names no block changes
@@ -163,7 +174,7 @@ impl Memory {
     pub fn end(&mut self, block: u32)
         ensures { self.new ≡ without self.old block (slice_get self.old block) }
     {
-        end_block(&mut self.blocks, &mut self.live, block as usize);
+        end_block(&mut self.blocks, &mut self.index, block as usize);
     }
 
     /// The base of a block: the address of its first byte. `None` where the number names no block.
@@ -180,14 +191,22 @@ impl Memory {
         address_of(&self.blocks, word)
     }
 
+    /// Whether a block of the heap lives: where none does none is lost, whatever the roots are. It takes no time for the blocks.
+    pub fn has_heap(&self) -> bool
+        ensures is { result ≡ list_any is_live_heap self.now }
+        ensures lost { result ≡ false → (roots : Items ℕ) → is_lost self.now roots ≡ false }
+    {
+        self.index.heap > 0
+    }
+
     /// Whether a live heap block is lost: no chain of whole stored pointers leads to it from the root blocks, through
     /// live blocks.
     ///
-    /// It takes time for the live blocks of the memory and, where one of them is of the heap, for their bytes and the
-    /// roots.
+    /// Where no block of the heap lives it takes no time for the blocks, and else time for the live blocks of the memory,
+    /// their bytes and the roots.
     pub fn lost(&self, alloc: Global, roots: &[u32]) -> Result<bool, NoMemory>
         ensures { IfOk result (λ lost. lost ≡ is_lost self.now roots.now) }
     {
-        some_lost(alloc, &self.blocks, &self.live, roots)
+        some_lost(alloc, &self.blocks, &self.index, roots)
     }
 }

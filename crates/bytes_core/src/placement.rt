@@ -1,11 +1,13 @@
-ghost use Rattle.std.specs.Prelude.{◌≡◌, ◌+◌, nat_le, slice_get};
+ghost use Rattle.std.specs.Prelude.{◌≡◌, ◌+◌, nat_le, slice_get, IsTrue};
 ghost use Rattle.std.specs.List.{list_all};
-ghost use Rattle.bytes_core.specs.Living.{lives, AreLive, fits_there};
+ghost use Rattle.bytes_core.specs.Indexed.{heads, IsIndexed};
+ghost use Rattle.bytes_core.specs.Living.{fits_there};
 ghost use Rattle.bytes_core.specs.Placement.{extent, is_placed, are_apart, are_compatible, can_be_placed};
+ghost use Rattle.bytes_core.specs.Valid.{IsMemory};
 
 use crate::access::block_at;
 use crate::block::Block;
-use crate::live::Live;
+use crate::index::{Index, last_before};
 
 /// Where the addresses of blocks end: 2^47.
 const END: u64 = 0x8000_0000_0000;
@@ -69,22 +71,36 @@ fn fits_there(blocks: &[Block], number: usize, block: &Block) -> bool
     }
 }
 
-/// Whether a block may stand in one memory with each of those of these numbers.
-fn fits_beside(blocks: &[Block], numbers: &[usize], block: &Block) -> bool
-    ensures { result ≡ list_all (λ number. fits_there block.now (slice_get blocks.now number)) numbers.now }
+/// Where the addresses of a block end that lies where a block may lie.
+fn end_of(block: &Block) -> u64
+    requires { IsTrue (is_placed block.now) }
+    ensures { result ≡ block.now.base + extent block.now }
 {
-    numbers
-        .iter()
-        .all(|number| fits_there(blocks, *number, block))
+    block.base + extent(block) as u64
 }
 
-/// Whether a block may be put into a memory. It takes time for the live blocks.
-pub(crate) fn can_be_placed(blocks: &[Block], live: &Live, block: &Block) -> bool
-    requires { AreLive (lives blocks.now) live.now.numbers.items live.now.places.items }
+/// Whether a block that lies where a block may lie may stand in one memory with all blocks: with the one that begins last of
+/// those before its end, since the others there end before that one begins.
+fn fits_beside(blocks: &[Block], index: &Index, block: &Block) -> bool
+    requires memory { IsMemory blocks.now }
+    requires indexed { IsIndexed (heads blocks.now) index.now.live.numbers.items index.now.live.places.items index.now.bases index.now.heap }
+    requires placed { IsTrue (is_placed block.now) }
+    ensures { result ≡ list_all (are_compatible block.now) blocks.now }
+{
+    match last_before(&index.bases, end_of(block)) {
+        None => true,
+        Some(number) => fits_there(blocks, number, block),
+    }
+}
+
+/// Whether a block may be put into a memory. It takes a logarithm of how many blocks live.
+pub(crate) fn can_be_placed(blocks: &[Block], index: &Index, block: &Block) -> bool
+    requires memory { IsMemory blocks.now }
+    requires indexed { IsIndexed (heads blocks.now) index.now.live.numbers.items index.now.live.places.items index.now.bases index.now.heap }
     ensures { result ≡ can_be_placed blocks.now block.now }
 {
     if !is_placed(block) {
         return false;
     }
-    fits_beside(blocks, live.numbers.as_slice(), block)
+    fits_beside(blocks, index, block)
 }

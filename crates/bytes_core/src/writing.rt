@@ -2,7 +2,7 @@ ghost use Rattle.std.specs.Prelude.{◌≡◌, ◌+◌, ◌≤◌, All, length, 
 ghost use Rattle.bytes_core.specs.declared.byte.Byte.TheVariants.{Num};
 ghost use Rattle.bytes_core.specs.Access.{access_fault, range_fault, overwritten, written_at, filled, stored};
 ghost use Rattle.bytes_core.specs.Answer.{answer};
-ghost use Rattle.bytes_core.specs.Living.{lives};
+ghost use Rattle.bytes_core.specs.Indexed.{heads};
 ghost use Rattle.bytes_core.specs.Valid.{NamesBelow, WordNamesBelow, IsMemory};
 
 use crate::access::spot_at;
@@ -37,7 +37,7 @@ pub(crate) fn write_at(blocks: &mut Vec<Block>, at: Word, written: &[Byte]) -> R
     ensures answer { result ≡ answer (access_fault blocks.old.items at (length written.now)) tt }
     ensures written { OnOk result (blocks.new.items ≡ written_at blocks.old.items at written.now) }
     ensures err { OnErr result (blocks.new.items ≡ blocks.old.items) }
-    ensures lives { lives blocks.new.items ≡ lives blocks.old.items }
+    ensures heads { heads blocks.new.items ≡ heads blocks.old.items }
     ensures memory { IsMemory blocks.old.items → All (NamesBelow (length blocks.old.items)) written.now → IsMemory blocks.new.items }
 {
     let spot = spot_at(blocks.as_slice(), at, written.len())?;
@@ -52,7 +52,7 @@ pub(crate) fn store_at(blocks: &mut Vec<Block>, at: Word, size: usize, word: Wor
     ensures answer { result ≡ answer (access_fault blocks.old.items at size) tt }
     ensures stored { OnOk result (blocks.new.items ≡ stored blocks.old.items at size word) }
     ensures err { OnErr result (blocks.new.items ≡ blocks.old.items) }
-    ensures lives { lives blocks.new.items ≡ lives blocks.old.items }
+    ensures heads { heads blocks.new.items ≡ heads blocks.old.items }
     ensures memory { IsMemory blocks.old.items → WordNamesBelow (length blocks.old.items) word → IsMemory blocks.new.items }
 {
     let bytes = bytes_of(word);
@@ -82,7 +82,7 @@ fn fill_some(blocks: &mut Vec<Block>, at: Word, number: u8, count: usize) -> Res
     ensures answer { result ≡ answer (access_fault blocks.old.items at count) tt }
     ensures filled { OnOk result (blocks.new.items ≡ filled blocks.old.items at number count) }
     ensures err { OnErr result (blocks.new.items ≡ blocks.old.items) }
-    ensures lives { lives blocks.new.items ≡ lives blocks.old.items }
+    ensures heads { heads blocks.new.items ≡ heads blocks.old.items }
     ensures memory { IsMemory blocks.old.items → IsMemory blocks.new.items }
 {
     let spot = spot_at(blocks.as_slice(), at, count)?;
@@ -97,7 +97,7 @@ pub(crate) fn fill_at(blocks: &mut Vec<Block>, at: Word, number: u8, count: usiz
     ensures answer { result ≡ answer (range_fault blocks.old.items at count) tt }
     ensures filled { OnOk result (blocks.new.items ≡ filled blocks.old.items at number count) }
     ensures err { OnErr result (blocks.new.items ≡ blocks.old.items) }
-    ensures lives { lives blocks.new.items ≡ lives blocks.old.items }
+    ensures heads { heads blocks.new.items ≡ heads blocks.old.items }
     ensures memory { IsMemory blocks.old.items → IsMemory blocks.new.items }
 {
     if count == 0 {

@@ -40,7 +40,7 @@ done_keeps t (suc steps) state choices is =
     (then_keeps (step t state choices) (done_within steps t) (step_keeps t state choices is) (done_keeps t steps))
 
 -- a state in which nothing is made
-blank_is : (t : Text) (tasks : List (TaskIn t)) → IsState (blank t tasks)
+pub blank_is : (t : Text) (tasks : List (TaskIn t)) → IsState (blank t tasks)
 blank_is t tasks = record {
   memory = record {
     placed = All-nil (λ (one : Block). IsTrue (is_placed one));

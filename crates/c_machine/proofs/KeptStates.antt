@@ -140,7 +140,7 @@ fresh_misses kind memory (number ∷ rest) live =
     (λ same. absurd (omega arith), fresh_misses kind memory rest live.1)
 
 -- the objects of all functions, with one more in the innermost block
-inserted : (frame : Frame) (others : Scope) (variable : Variable) → (one : Scope) × (other : Scope) ×
+pub inserted : (frame : Frame) (others : Scope) (variable : Variable) → (one : Scope) × (other : Scope) ×
     (objects_of frame ++ others ≡ one ++ other) × (objects_of (in_innermost variable frame) ++ others ≡ one ++ variable ∷ other)
 inserted [] others variable = ([], others, refl, refl)
 inserted (scope ∷ scopes) others variable = (

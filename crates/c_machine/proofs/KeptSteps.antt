@@ -214,7 +214,7 @@ object_made_so token state base contents is made =
     (fresh_misses storage.Local state.memory (own_blocks state) is.objects)
 
 -- a parameter gets its argument
-whole_block : (memory : List Block) (kind : BlockKind) (base size : ℕ) (contents : List ℕ) → length contents ≡ size →
+pub whole_block : (memory : List Block) (kind : BlockKind) (base size : ℕ) (contents : List ℕ) → length contents ≡ size →
     access_fault (placed memory (new_block kind base contents)) (To (length memory) (pos 0)) size ≡ Nothing
 whole_block memory kind base size contents long =
     ap (λ (found : Option Block). block_fault found (pos 0) size) (pushed_new memory (new_block kind base contents))

@@ -149,15 +149,15 @@ few_in_block None offset count = omega arith
 few_in_block (Some block) (pos from) count = omega (arith, length-take count (drop from block.bytes))
 few_in_block (Some block) (negsuc before) count = omega arith
 
-few_bytes : (memory : List Block) (at : Word) (count : ℕ) → length (bytes_at memory at count) ≤ count
+pub few_bytes : (memory : List Block) (at : Word) (count : ℕ) → length (bytes_at memory at count) ≤ count
 few_bytes memory (Plain number) count = omega arith
 few_bytes memory (To block offset) count = few_in_block (slice_get memory block) offset count
 
-none_first : (one other : Option ℕ) → first_fault one other ≡ None → one ≡ None
+pub none_first : (one other : Option ℕ) → first_fault one other ≡ None → one ≡ None
 none_first None other is = refl
 none_first (Some kind) other is = is
 
-none_later : (one other : Option ℕ) → first_fault one other ≡ None → other ≡ None
+pub none_later : (one other : Option ℕ) → first_fault one other ≡ None → other ≡ None
 none_later None other is = is
 none_later (Some kind) other is = absurd cc
 

@@ -11,3 +11,16 @@ pub mod KeptWords
 pub mod KeptStates
 pub mod KeptSteps
 pub mod KeptRuns
+pub mod FittingTexts
+pub mod FittingTasks
+pub mod FittingWords
+pub mod KeptSizes
+pub mod FittingSteps
+pub mod AwaitingTasks
+pub mod AwaitingParts
+pub mod AwaitingSteps
+pub mod StandingParts
+pub mod RunStateLaws
+pub mod LackingLaws
+pub mod WitnessLaws
+pub mod SizedNames

@@ -12,7 +12,7 @@ use Rattle.c_machine.specs.Statements.{branch_place, branch_tasks}
 use Rattle.c_machine.specs.Step.{step_of, unless_lost}
 use Rattle.c_machine.specs.Text.{Text}
 use Rattle.c_machine.specs.Words.{is_true}
-use Rattle.c_run.specs.text.Kept.{kept}
+use Rattle.c_text.specs.Kept.{kept}
 use Rattle.c_run.specs.tasks.Room.{are_kept, is_there}
 use Rattle.c_run.proofs.tasks.KeptKinds.{is_kept}
 use Rattle.c_run.proofs.tasks.MakingRoom.{two_there}

@@ -19,7 +19,7 @@ use Rattle.c_run.specs.declared.stepped.Stepped.{Stepped}
 use Rattle.c_run.specs.declared.stepped.Stepped.TheVariants.{Came, NotKept as NoAnswer}
 use Rattle.c_run.specs.Stepped.{IsCallOf, IsStepOf, stepped_by}
 use Rattle.c_run.specs.tasks.Room.{MakesRoom, are_kept, kinds_in, kinds_of}
-use Rattle.c_run.specs.text.Kept.{is_sized}
+use Rattle.c_text.specs.Kept.{is_sized}
 use Rattle.c_run.proofs.DefinedFunctions.{each_object}
 use Rattle.c_run.proofs.Rooms.{Tasks, both_kept, objects_kept}
 use Rattle.cbase.specs.declared.tree.expr.Expr.{Expr}

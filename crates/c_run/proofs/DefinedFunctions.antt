@@ -7,7 +7,7 @@ use Rattle.c_machine.specs.declared.object.Object.{Object}
 use Rattle.c_machine.specs.Program.{Program, FunctionItem, functions_in, main_in}
 use Rattle.c_machine.specs.Text.{Parameter}
 use Rattle.c_machine.specs.Trees.{function_as, kind_in, parameter_of, text_of}
-use Rattle.c_run.specs.text.Functions.{parameter_object}
+use Rattle.c_text.specs.Functions.{parameter_object}
 
 -- the kinds and the objects of parameters
 pub kinds_of_rows : (p : Program) (rows : List ParameterRow) → map (λ (param : Parameter). param.kind) (map (parameter_of p) rows)

@@ -13,7 +13,7 @@ use Rattle.c_machine.specs.State.{State, doing}
 use Rattle.c_run.specs.declared.tasks.room.Room.{Room}
 use Rattle.c_run.specs.declared.tasks.room.Room.TheVariants.{Made, NotKept}
 use Rattle.c_run.specs.tasks.Room.{MakesRoom, are_kept, is_there, kinds_in, kinds_of}
-use Rattle.c_run.specs.text.Kept.{is_sized, kept, kept_objects}
+use Rattle.c_text.specs.Kept.{is_sized, kept, kept_objects}
 
 -- what is to be done in a program, and its states
 abbrev pub Tasks : Type 0

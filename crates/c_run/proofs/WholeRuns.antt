@@ -17,7 +17,7 @@ use Rattle.c_run.specs.Stepped.{goes_on, IsRun}
 use Rattle.c_steps.specs.declared.outcome.Outcome.{Outcome as Answer}
 use Rattle.c_steps.specs.declared.outcome.Outcome.TheVariants.{Went, Waits, Ended, Faulted, Stuck}
 use Rattle.c_steps.specs.ComesTo.{comes_to}
-use Rattle.c_run.specs.text.Stands.{StandsFor}
+use Rattle.c_text.specs.Stands.{StandsFor}
 use Rattle.expressions.specs.Context.{Context}
 use Rattle.expressions.specs.Numbers.{Numbering}
 use Rattle.c_run.specs.Started.{IsStart}

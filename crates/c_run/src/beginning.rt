@@ -4,16 +4,16 @@ ghost use Rattle.expressions.specs.Numbers.{Numbering};
 ghost use Rattle.c_machine.specs.Program.{Program, functions_in};
 ghost use Rattle.c_machine.specs.Run.{blank};
 ghost use Rattle.c_machine.specs.Trees.{function_as, nodes_in, text_of};
-ghost use Rattle.c_run.specs.text.Stands.{StandsFor};
+ghost use Rattle.c_text.specs.Stands.{StandsFor};
 ghost use Rattle.c_run.specs.Started.{Calls, IsStart, IsStartOf};
 
 use crate::finishing::{finish, goes_on};
 use crate::starting::{main_tasks, static_tasks};
-use crate::statics::{StaticSets, static_sets};
 use crate::stepped::Stepped;
 use crate::tasks::{Room, TreeState};
-use crate::text::{FunctionItem, Functions, TypedText};
 use c_steps::{Choices, Outcome, State};
+use c_text::statics::{StaticSets, static_sets};
+use c_text::{FunctionItem, Functions, TypedText};
 use cbase::{Item, NoMemory};
 use std::alloc::Global;
 

@@ -6,13 +6,13 @@ ghost use Rattle.c_machine.specs.Calls.{body_tasks, function_tasks};
 ghost use Rattle.c_machine.specs.Program.{Program};
 ghost use Rattle.c_machine.specs.Trees.{function_as, text_of};
 ghost use Rattle.c_run.specs.tasks.Room.{MakesRoom};
-ghost use Rattle.c_run.specs.text.Kept.{is_sized};
-ghost use Rattle.c_run.specs.text.Stands.{StandsFor};
+ghost use Rattle.c_text.specs.Kept.{is_sized};
+ghost use Rattle.c_text.specs.Stands.{StandsFor};
 
 use crate::doing::{execute_each, make_parameters};
 use crate::tasks::{Room, TreeState, entered};
-use crate::text::{FunctionItem, TypedText};
 use c_machine::{Object, Task};
+use c_text::{FunctionItem, TypedText};
 use cbase::NoMemory;
 
 /// The body of a function is to be executed up to its `}`: its automatic objects are made, all of them, before anything in it runs (C11 6.2.4p6). Unfinished

@@ -6,16 +6,16 @@ ghost use Rattle.c_machine.specs.declared.task.Task.TheVariants.{CallDefined};
 ghost use Rattle.c_machine.specs.Program.{Program, functions_in};
 ghost use Rattle.c_machine.specs.Trees.{function_as, text_of};
 ghost use Rattle.std.specs.List.{list_all};
-ghost use Rattle.c_run.specs.text.Kept.{is_sized};
-ghost use Rattle.c_run.specs.text.Stands.{StandsFor};
+ghost use Rattle.c_text.specs.Kept.{is_sized};
+ghost use Rattle.c_text.specs.Stands.{StandsFor};
 ghost use Rattle.c_run.specs.Stepped.{IsCallOf, IsStepOf};
 
 use crate::bodies::function_tasks;
 use crate::stepped::{Stepped, stepped_by};
 use crate::tasks::TreeState;
-use crate::text::{FunctionItem, Functions, TypedText};
 use c_machine::Object;
 use c_steps::Outcome;
+use c_text::{FunctionItem, Functions, TypedText};
 use cbase::NoMemory;
 use std::alloc::Global;
 

@@ -9,16 +9,16 @@ ghost use Rattle.c_machine.specs.Step.{unless_lost};
 ghost use Rattle.c_machine.specs.Trees.{text_of};
 ghost use Rattle.c_steps.specs.ComesTo.{comes_to};
 ghost use Rattle.expressions.specs.Numbers.{Numbering};
-ghost use Rattle.c_run.specs.text.Stands.{StandsFor};
+ghost use Rattle.c_text.specs.Stands.{StandsFor};
 ghost use Rattle.c_run.specs.Stepped.{IsStepOf};
 
 use crate::stepped::{Stepped, came, stepped_by};
 use crate::tasks::{TreeState, again_tasks, branch_place, branch_tasks, test_tasks, value_kind};
-use crate::text::TypedText;
 use c_machine::Kind;
 use c_steps::branches::pick;
 use c_steps::words::is_true;
 use c_steps::{Outcome, Tree, keep};
+use c_text::TypedText;
 use cbase::{Expr, NoMemory, Stmt};
 use std::alloc::Global;
 

@@ -3,10 +3,10 @@ ghost use Rattle.std.specs.Prelude.{◌≡◌, map, OnOk};
 ghost use Rattle.c_machine.specs.declared.task.Task.TheVariants.{Execute, Initialise, MakeObject, MakeParameter, MakeStatic};
 ghost use Rattle.c_machine.specs.State.{doing};
 
-use crate::statics::StaticSet;
 use crate::tasks::TreeState;
 use c_machine::{Object, Task};
 use c_steps::Tree;
+use c_text::statics::StaticSet;
 use cbase::{NoMemory, Stmt};
 
 /// Objects of a block are made (C11 6.2.4p6).

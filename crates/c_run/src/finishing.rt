@@ -3,15 +3,15 @@ ghost use Rattle.std.specs.Prelude.{◌≡◌, ◌↔◌, [], true, IfOk, IsTrue
 ghost use Rattle.expressions.specs.Numbers.{Numbering};
 ghost use Rattle.c_machine.specs.Program.{Program, functions_in};
 ghost use Rattle.c_machine.specs.Trees.{text_of};
-ghost use Rattle.c_run.specs.text.Stands.{StandsFor};
+ghost use Rattle.c_text.specs.Stands.{StandsFor};
 ghost use Rattle.c_run.specs.Started.{IsDone};
 ghost use Rattle.c_run.specs.Stepped.{goes_on};
 
 use crate::stepped::Stepped;
 use crate::stepping::step;
 use crate::tasks::TreeState;
-use crate::text::{Functions, TypedText};
 use c_steps::{Choices, Outcome};
+use c_text::{Functions, TypedText};
 use cbase::NoMemory;
 use std::alloc::Global;
 

@@ -3,7 +3,7 @@
 //!
 //! A step takes the first thing to do off a state and does it, as the definitions of `c_machine` say, for each program that the text stands for. What a
 //! tree makes room for is said in `tasks`, and all else is done by `c_steps`: the modules beside them say which of them is asked. What the items of a
-//! program hold is said in `statics`, and what typing says of the parts of a program in `text`.
+//! program hold, and what typing says of the parts of a program, is said in `c_text`.
 #![tactic(auto)]
 
 mod beginning;
@@ -16,11 +16,9 @@ mod jumps;
 mod program_run;
 mod running;
 mod starting;
-mod statics;
 mod stepped;
 mod stepping;
 mod tasks;
-mod text;
 mod trees;
 
 pub use beginning::{Started, start};
@@ -29,4 +27,3 @@ pub use running::run;
 pub use starting::{main_tasks, static_tasks};
 pub use stepped::Stepped;
 pub use stepping::step;
-pub use text::{FunctionItem, Functions, TypedText};

@@ -8,7 +8,7 @@ ghost use Rattle.c_machine.specs.Trees.{text_of};
 ghost use Rattle.c_run.specs.declared.stepped.Stepped.TheVariants.{Came};
 ghost use Rattle.c_steps.specs.declared.outcome.Outcome.{Outcome as Answer};
 ghost use Rattle.c_steps.specs.ComesTo.{comes_to};
-ghost use Rattle.c_run.specs.text.Stands.{StandsFor};
+ghost use Rattle.c_text.specs.Stands.{StandsFor};
 ghost use Rattle.expressions.specs.Numbers.{Numbering};
 
 use crate::beginning::start_from;
@@ -16,8 +16,8 @@ use crate::finishing::goes_on;
 use crate::running::run;
 use crate::stepped::Stepped;
 use crate::tasks::TreeState;
-use crate::text::{Functions, TypedText};
 use c_steps::{Choices, Outcome, State};
+use c_text::{Functions, TypedText};
 use cbase::{Item, NoMemory};
 use choices::Choice;
 use std::alloc::Global;
@@ -25,7 +25,7 @@ use std::alloc::Global;
 /// What a run of the program of these items comes to within so many steps from its start, with these choices. It is `Went` where the run still goes on.
 ///
 /// It is that run of the machine for each program that the text stands for. `strict` says whether main may not return while an allocated block lives. Where a
-/// step speaks of a type that is not kept, as `crate::text::type_kind` says, the answer is want of memory: that a program which passes the check has none such is
+/// step speaks of a type that is not kept, as `c_text::type_kind` says, the answer is want of memory: that a program which passes the check has none such is
 /// not proved.
 pub fn run_program(
     alloc: Global,

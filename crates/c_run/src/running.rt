@@ -2,14 +2,14 @@ ghost use Rattle.std.specs.Prelude.{◌≡◌, IfOk};
 ghost use Rattle.c_machine.specs.Program.{Program, functions_in};
 ghost use Rattle.c_machine.specs.Trees.{text_of};
 ghost use Rattle.expressions.specs.Numbers.{Numbering};
-ghost use Rattle.c_run.specs.text.Stands.{StandsFor};
+ghost use Rattle.c_text.specs.Stands.{StandsFor};
 ghost use Rattle.c_run.specs.Stepped.{IsRun};
 
 use crate::stepped::{Stepped, goes_on};
 use crate::stepping::step;
 use crate::tasks::TreeState;
-use crate::text::{Functions, TypedText};
 use c_steps::{Choices, Outcome};
+use c_text::{Functions, TypedText};
 use cbase::NoMemory;
 use std::alloc::Global;
 

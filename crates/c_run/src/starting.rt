@@ -5,17 +5,17 @@ ghost use Rattle.expressions.specs.Numbers.{Numbering};
 ghost use Rattle.c_machine.specs.Program.{Program};
 ghost use Rattle.c_machine.specs.Run.{main_tasks};
 ghost use Rattle.c_machine.specs.Trees.{function_as, text_of};
-ghost use Rattle.c_run.specs.text.Stands.{StandsFor};
+ghost use Rattle.c_text.specs.Stands.{StandsFor};
 ghost use Rattle.c_run.specs.Started.{MakesStatics};
 ghost use Rattle.c_run.specs.tasks.Room.{MakesRoom};
-ghost use Rattle.c_run.specs.text.Kept.{is_sized};
+ghost use Rattle.c_text.specs.Kept.{is_sized};
 
 use crate::bodies::body_tasks;
 use crate::doing::{initialise_each, make_objects, make_statics};
-use crate::statics::StaticSet;
 use crate::tasks::{Room, TreeState};
-use crate::text::{FunctionItem, TypedText};
 use c_machine::{Object, Task};
+use c_text::statics::StaticSet;
+use c_text::{FunctionItem, TypedText};
 use cbase::NoMemory;
 use std::alloc::Global;
 

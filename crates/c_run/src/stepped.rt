@@ -11,7 +11,7 @@ use cbase::NoMemory;
 pub enum Stepped {
     /// It is done, and came to that.
     Came(Outcome),
-    /// It speaks of a type that is not kept, as `crate::text::type_kind` says. The state is of no use.
+    /// It speaks of a type that is not kept, as `c_text::type_kind` says. The state is of no use.
     NotKept,
 }
 

@@ -3,7 +3,7 @@ ghost use Rattle.c_machine.specs.Program.{Program, functions_in};
 ghost use Rattle.c_machine.specs.Trees.{text_of};
 ghost use Rattle.c_steps.specs.PlainStep.{plain_step};
 ghost use Rattle.expressions.specs.Numbers.{Numbering};
-ghost use Rattle.c_run.specs.text.Stands.{StandsFor};
+ghost use Rattle.c_text.specs.Stands.{StandsFor};
 ghost use Rattle.c_run.specs.Stepped.{IsStep, IsStepOf};
 
 use crate::calling::call_step;
@@ -11,10 +11,10 @@ use crate::conditions::{again_step, branch_step, pick_step, test_step};
 use crate::jumps::{break_step, continue_step, return_step};
 use crate::stepped::{Stepped, came};
 use crate::tasks::TreeState;
-use crate::text::{Functions, TypedText};
 use crate::trees::{address_step, initialiser_step, statement_step, value_step};
 use c_machine::Task;
 use c_steps::{Choices, Outcome, Tree, plain_step};
+use c_text::{Functions, TypedText};
 use cbase::{Expr, Init, NoMemory, Stmt};
 use std::alloc::Global;
 

@@ -5,12 +5,12 @@ ghost use Rattle.c_machine.specs.declared.task.Task.TheVariants.{AddressOf, Exec
 ghost use Rattle.c_machine.specs.Program.{Program, functions_in};
 ghost use Rattle.c_machine.specs.Trees.{text_of};
 ghost use Rattle.expressions.specs.Numbers.{Numbering};
-ghost use Rattle.c_run.specs.text.Stands.{StandsFor};
+ghost use Rattle.c_text.specs.Stands.{StandsFor};
 ghost use Rattle.c_run.specs.Stepped.{IsStepOf};
 
 use crate::stepped::{Stepped, stepped_by};
 use crate::tasks::{TreeState, address_tasks, initialiser_tasks, statement_tasks, value_tasks};
-use crate::text::{Functions, TypedText};
+use c_text::{Functions, TypedText};
 use cbase::{Expr, Init, NoMemory, Place, Stmt};
 
 /// The value of an expression.

@@ -223,6 +223,9 @@ impl<E: Drop, S: Drop, I: Drop> State<E, S, I> {
         ensures { IfOk result (λ lost. lost ≡ is_lost self.now.memory (roots self.now)) }
     {
         let mut found = Vec::new(alloc);
+        if !self.memory.has_heap() {
+            return Ok(false);
+        }
         add_roots(
             &mut found,
             &self.frame,

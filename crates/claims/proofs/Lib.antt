@@ -1,1 +1,3 @@
 pub mod Meanings
+pub mod Playing
+pub mod OfItems

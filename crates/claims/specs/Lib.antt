@@ -7,3 +7,6 @@ pub mod NotYet
 pub mod TooLong
 pub mod Words
 pub mod ReadFault
+pub mod Played
+pub mod NoChoices
+pub mod OfItems

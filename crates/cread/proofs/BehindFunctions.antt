@@ -1,5 +1,5 @@
 -- Behind a function's definition: its scope is left, and its name is declared behind what stands before its parameters.
-use Rattle.std.proofs.Common.{◌≡◌, ℕ, Bool, List, [], ◌∷◌, ◌++◌, codes, ap, sym, ◌∙◌, subst}
+use Rattle.std.proofs.Common.{◌≡◌, refl, ℕ, Bool, List, [], ◌∷◌, ◌++◌, codes, ap, sym, ◌∙◌, subst}
 use Rattle.cbase.specs.declared.tree.decl.Declared.{Declared}
 use Rattle.cbase.specs.declared.tree.decl.Storage.{Storage}
 use Rattle.cbase.specs.declared.tree.item.Item.TheVariants.{Function}
@@ -9,11 +9,18 @@ use Rattle.cgrammar.proofs.Contexts.{scopes_kept}
 use Rattle.cgrammar.specs.Grammar.{Spells, declaring, outside}
 use Rattle.cgrammar.specs.Phrases.{Context, Specifiers, FunctionDeclarator, BlockItems, scoped}
 use Rattle.cgrammar.specs.ReadDeclarations.{leaving}
-use Rattle.cgrammar.specs.Scope.{Names, declared}
+use Rattle.cgrammar.specs.Scope.{Names, declared, declared_around, left}
 use Rattle.cgrammar.specs.Terminals.{Terminal, IsMark}
 use Rattle.cgrammar.specs.TypeWords.{declares_typedef}
-use Rattle.cread.proofs.WithNames.{left_around}
 use Rattle.cread.specs.Items.{SpellsItem, FunctionDefinition, in_body}
+
+-- outside the innermost scope, a name that is declared around it is declared
+pub left_around : (name : List ℕ) (typedef : Bool) (scopes : List Names) → left (declared_around name typedef scopes) ≡ declared name typedef (left scopes)
+left_around name typedef [] = refl
+left_around name typedef (only ∷ []) = refl
+left_around name typedef (around ∷ (innermost ∷ [])) = refl
+left_around name typedef (outer ∷ (around ∷ (innermost ∷ []))) = refl
+left_around name typedef (outer ∷ (next ∷ (inner ∷ (more ∷ others)))) = ap (λ (n : List Names). outer ∷ n) (left_around name typedef (next ∷ (inner ∷ (more ∷ others))))
 
 -- what the reader leaves is what the definition has behind it
 pub behind_function : (middle within last : Context) (ys zs : List Terminal) (name : List ℕ) (typedef : Bool) (head : Declared) (body : List Stmt)

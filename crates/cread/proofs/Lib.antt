@@ -1,4 +1,3 @@
-pub mod WithNames
 pub mod BehindFunctions
 pub mod Complete
 pub mod Sound
@@ -10,8 +9,4 @@ pub mod FoundItems
 pub mod UnreadItems
 pub mod OneAnswer
 pub mod InOrder
-pub mod Turns
-pub mod NamesOfParts
-pub mod NamesOfTrees
-pub mod NamesSpelled
 pub mod Numbered

@@ -9,6 +9,4 @@ pub mod RowItems
 pub mod ItemAnswers
 pub mod Named
 pub mod InOrder
-pub mod NamesAfter
-pub mod SpelledNames
 pub mod Numbered

@@ -4,20 +4,12 @@ ghost use Rattle.cread.specs.ItemAnswers.{HasOneAnswer};
 ghost use Rattle.cread.specs.InOrder.{HaveOneReading};
 ghost use Rattle.cread.specs.Numbered.{ItemsAreNumbered, ReadItemsAreNumbered};
 ghost use Rattle.cread.specs.OneItem.{IsOneItem};
-ghost use Rattle.cread.specs.SpelledNames.{AreNamesSpelled};
 
 /// A row of tokens is one item where the same names are in scope: no row is a declaration and a definition, and none has
 /// two trees (C11 6.9).
 #[tactic(auto, using(crate::proofs::Complete::one_item))]
 pub fn each_row_is_one_item()
     ensures { IsOneItem }
-{}
-
-/// The names behind a row of tokens that is an item are those before it and those that the item leaves: its enumerators
-/// and declared names, in the order of the text, and nothing of its parameters and blocks (C11 6.2.1p4, 6.2.1p7).
-#[tactic(auto, using(crate::proofs::NamesSpelled::names_spelled))]
-pub fn names_after_are_spelled()
-    ensures { AreNamesSpelled }
 {}
 
 /// The expressions of an item are numbered one by one in the order of the text, from the count of those before it up to the count

@@ -5,16 +5,13 @@
 #![tactic(auto)]
 
 mod laws;
-mod names_after;
 mod reading_item;
 mod tables;
 mod unread;
 
 pub use laws::{
-    each_row_is_one_item, expressions_are_numbered, items_have_one_reading,
-    names_after_are_spelled, one_item_answer,
+    each_row_is_one_item, expressions_are_numbered, items_have_one_reading, one_item_answer,
 };
-pub use names_after::scope_after;
 pub use reading_item::{ItemBehind, ItemRead, read_item};
 pub use tables::table_of_items;
 pub use unread::Unread;

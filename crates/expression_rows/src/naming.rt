@@ -109,7 +109,7 @@ fn declare_row(
             )
         }
         Kind::Incomplete => {
-            context.declare_struct(alloc, name)?;
+            context.declare_struct(alloc, name, false)?;
             Ok(())
         }
     }
@@ -123,7 +123,7 @@ pub fn structure(
     rows: &[(&[u8], Written)],
 ) -> Result<(), NoMemory> {
     let alloc = context.alloc;
-    let number = context.declare_struct(alloc, tag)?;
+    let number = context.declare_struct(alloc, tag, true)?;
     let mut members = List::new(alloc);
     members_of(context, abi, rows, &mut members)?;
     context.complete(alloc, number, members)?;

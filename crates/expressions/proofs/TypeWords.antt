@@ -158,9 +158,9 @@ module _ (abi : Abi) (old new : Context) where
   untyped_name name entity broken number found numbers meant = name_words name entity (record { ctype = number; found = Some broken }) found numbers.only_types numbers.below
       (λ n agrees. meant n ∙ ap (λ (t : CType). record { ctype = t; found = Some broken }) (sym (numbers.meant n agrees)))
 
-  pub struct_words : (tag : Identifier) (of number : ℕ) → tag_found Mentioned tag.name old.environment ≡ Some (Struct of) → Numbers (λ n. StructType of) old new number
+  pub struct_words : (tag : Identifier) (of : ℕ) (listed : Bool) (number : ℕ) → tag_found Mentioned tag.name old.environment ≡ Some (Struct of listed) → Numbers (λ n. StructType of) old new number
       → Passed (SaysWords (StructWords (Some tag) None)) a_type old new (whole_at number)
-  struct_words tag of number found numbers = named_there (SaysWords (StructWords (Some tag) None)) old new (λ n. StructType of) number numbers
+  struct_words tag of listed number found numbers = named_there (SaysWords (StructWords (Some tag) None)) old new (λ n. StructType of) number numbers
       (λ n. StructSpecifier (ap (option_map tag_at) found))
 
   pub enum_words : (tag : Identifier) (listed : Bool) (number : ℕ) → tag_found Mentioned tag.name old.environment ≡ Some (Enum listed) → Numbers (λ n. int_type) old new number
@@ -190,9 +190,9 @@ module _ (abi : Abi) (old new : Context) where
       → Stopped (SaysWords (StructWords (Some tag) None)) old old (fault tag.place (Rule 2))
   struct_of_enum tag listed found = record { grows = grows_same old; found = λ n agrees. StructIsEnum (ap (option_map tag_at) found) }
 
-  pub enum_of_struct : (tag : Identifier) (number : ℕ) → tag_found Mentioned tag.name old.environment ≡ Some (Struct number)
+  pub enum_of_struct : (tag : Identifier) (number : ℕ) (listed : Bool) → tag_found Mentioned tag.name old.environment ≡ Some (Struct number listed)
       → Stopped (SaysWords (EnumWords (Some tag) None)) old old (fault tag.place (Rule 2))
-  enum_of_struct tag number found = record { grows = grows_same old; found = λ n agrees. EnumIsStruct (ap (option_map tag_at) found) }
+  enum_of_struct tag number listed found = record { grows = grows_same old; found = λ n agrees. EnumIsStruct (ap (option_map tag_at) found) }
 
   -- neither a tag nor braces
   pub nothing_named : (words : Words) (number : ℕ) → Numbers (λ n. VoidType) old new number → ((n : Numbering) → SaysWords words n (declared old) (Passes no_type []) (declared old))

@@ -20,7 +20,7 @@ use Rattle.typing.specs.declared.fault.Fault.{Fault}
 use Rattle.typing.specs.Braces.{Opens, struct_opening}
 use Rattle.typing.specs.NamedTypes.{NamedType, whole}
 use Rattle.typing.specs.Outcomes.{Outcome, Passes, Refused}
-use Rattle.typing.specs.Typing.{WordsAre, MembersAre, Finds, StructWithMembers, StructCompletedInside, MembersRefused, StructTwice}
+use Rattle.typing.specs.Typing.{WordsAre, MembersAre, Finds, StructWithMembers, MembersRefused, StructTwice}
 use Rattle.expressions.specs.declared.found.Found.{Found}
 use Rattle.expressions.specs.declared.found.Found.TheVariants.{Passes as FoundToPass, Refused as FoundRefused}
 use Rattle.expressions.specs.declared.handed_row.HandedRow.{HandedRow}
@@ -118,8 +118,8 @@ module _ (abi : Abi) (name : Option Identifier) (fields : List FieldDecl) where
           found = λ n agrees. MembersRefused (opens_to n) (in_braces n (Refused first) (stopped.found n agrees));
         }
 
-    -- behind its members the struct is complete, or its tag is refused there
-    closes : (told : Unit {0}) (new : Context) (found : Found NamedByNumber) → walk ≡ FoundToPass told → IsClosed name number after late new found → Walked SaysStruct a_type old new found
+    -- behind its members the struct is complete
+    closes : (told : Unit {0}) (new : Context) (found : Found NamedByNumber) → walk ≡ FoundToPass told → IsClosed number after late new found → Walked SaysStruct a_type old new found
     closes told new (FoundToPass named) is closed =
         let passed = passed_of (SaysBy abi (λ n o. MembersAre (fields_at n before) items o)) (some_members after) inside late told walk is walked in
         let only = closed.numbers.only_types in
@@ -137,7 +137,7 @@ module _ (abi : Abi) (name : Option Identifier) (fields : List FieldDecl) where
           below = closed.numbers.below;
           found = λ n agrees.
               let there : Agrees n late = agrees_before late new n later agrees in
-              let finds = StructWithMembers (opens_to n) (in_braces n (Passes (fields_at n after) (map (handed_at n) passed.rows)) (passed.found n there)) closed.closes in
+              let finds = StructWithMembers (opens_to n) (in_braces n (Passes (fields_at n after) (map (handed_at n) passed.rows)) (passed.found n there)) in
               let fields_same : fields_at n after ≡ fields_of late.types after = fields_at_are n late after there passed.below in
               let ends : struct_completed number (fields_at n after) (declared late) ≡ declared new =
               ap (λ (these : List Field). struct_completed number these (declared late)) fields_same ∙ (sym closed.declared ∙ declared_by_types closed.middle new only) in
@@ -146,23 +146,18 @@ module _ (abi : Abi) (name : Option Identifier) (fields : List FieldDecl) where
               subst (λ (t : NamedType). SaysStruct n (declared old) (Passes t (map (handed_at n) passed.rows)) (declared new)) means
               (subst (λ (end : Declared). SaysStruct n (declared old) (Passes (whole (StructType number)) (map (handed_at n) passed.rows)) end) ends finds);
         }
-    closes told new (FoundRefused first) is closed =
-        let passed = passed_of (SaysBy abi (λ n o. MembersAre (fields_at n before) items o)) (some_members after) inside late told walk is walked in
-        subst (λ (context : Context). Stopped SaysStruct old context first) (sym closed.1) (record {
-          grows = grows_trans old inside late opens_grow passed.grows;
-          found = λ n agrees. StructCompletedInside (opens_to n) (in_braces n (Passes (fields_at n after) (map (handed_at n) passed.rows)) (passed.found n agrees)) closed.0;
-        })
+    closes told new (FoundRefused first) is closed = absurd closed
 
     struct_closes : (told : Unit {0}) (new : Context) (members : List Member) (r : Result (Found NamedByNumber) NoMemory) → walk ≡ FoundToPass told → members ≡ after
-        → IfOk r (λ found. IsClosed name number members late new found) → IfOk r (λ found. Walked SaysStruct a_type old new found)
-    struct_closes told new members (Ok found) is all closed = closes told new found is (subst (λ (these : List Member). IsClosed name number these late new found) all closed)
+        → IfOk r (λ found. IsClosed number members late new found) → IfOk r (λ found. Walked SaysStruct a_type old new found)
+    struct_closes told new members (Ok found) is all closed = closes told new found is (subst (λ (these : List Member). IsClosed number these late new found) all closed)
     struct_closes told new members (Err error) is all closed = tt
 
   -- what is found of the members, where memory is there, is found of the struct
   pub struct_ends : (old inside late new : Context) (number : ℕ) (tag : Found ℕ) → tag ≡ FoundToPass number → IsStructOpened abi name old inside tag
       → (before after members : List Member) (items : List FieldDecl) → before ≡ [] → items ≡ fields → members ≡ after → (walk : Result (Found (Unit {0})) NoMemory)
       → IfOk walk (λ found. Walked (SaysBy abi (λ n o. MembersAre (fields_at n before) items o)) (some_members after) inside late found) → (r : Result (Found NamedByNumber) NoMemory)
-      → (walk ≡ Ok (FoundToPass tt) → IfOk r (λ found. IsClosed name number members late new found))
+      → (walk ≡ Ok (FoundToPass tt) → IfOk r (λ found. IsClosed number members late new found))
       → ((first : Fault) → walk ≡ Ok (FoundRefused first) → IfOk r (λ found. (found ≡ FoundRefused first) × (new ≡ late)))
       → ((error : NoMemory) → walk ≡ Err error → IfOk r (λ found. ⊥))
       → IfOk r (λ found. Walked SaysStruct a_type old new found)

@@ -4,13 +4,11 @@ use Rattle.cbase.specs.declared.abi.Abi.{Abi}
 use Rattle.cbase.specs.declared.ctype.CType.TheVariants.{Struct}
 use Rattle.cbase.specs.declared.place.Place.{Place}
 use Rattle.cbase.specs.declared.tree.expr.ExprForm.TheViews.{out-FieldName}
-use Rattle.cbase.specs.declared.tree.identifier.Identifier.{Identifier}
 use Rattle.cbase.specs.declared.tree.spec.FieldName.{FieldName}
-use Rattle.cbase.specs.Completing.{is_open}
 use Rattle.typing.specs.declared.ctypes.structs.Member.{Member}
 use Rattle.typing.specs.ctypes.Structs.{fields_of}
 use Rattle.typing.specs.declared.size.Size.{Size}
-use Rattle.typing.specs.Braces.{closing, faults_of_member, fixed_size, name_or_none}
+use Rattle.typing.specs.Braces.{faults_of_member, fixed_size, name_or_none}
 use Rattle.typing.specs.Faults.{IsFirst}
 use Rattle.typing.specs.Outcomes.{Passes, Refused}
 use Rattle.expressions.specs.declared.found.Found.{Found}
@@ -34,16 +32,15 @@ IsMemberTaken abi context before after name named (FoundToPass told) =
 IsMemberTaken abi context before after name named (FoundRefused first) =
     (n : Numbering) → Agrees n context → IsFirst (faults_of_member abi context.structs (fields_at n before) (out-FieldName name) (named_at n named)) first
 
--- a struct behind its members has its number as a type, or its tag is refused
-pub record ClosesTo (name : Option Identifier) (number : ℕ) (members : List Member) (old new : Context) (named : NamedByNumber) : Type 0 where
+-- a struct behind its members has its number as a type
+pub record ClosesTo (number : ℕ) (members : List Member) (old new : Context) (named : NamedByNumber) : Type 0 where
   pub middle : Context
-  pub closes : closing name (is_open (slice_get old.structs number)) ≡ None
   pub declared : declared middle ≡ struct_completed number (fields_of old.types members) (declared old)
   pub types : middle.types ≡ old.types
   pub handed : middle.handed ≡ old.handed
   pub numbers : Numbers (λ n. Struct number) middle new named.ctype
   pub found : named.found ≡ None
 
-abbrev pub IsClosed : Option Identifier → ℕ → List Member → Context → Context → Found NamedByNumber → Type 0
-IsClosed name number members old new (FoundToPass named) = ClosesTo name number members old new named
-IsClosed name number members old new (FoundRefused first) = (closing name (is_open (slice_get old.structs number)) ≡ Some first) × (new ≡ old)
+abbrev pub IsClosed : ℕ → List Member → Context → Context → Found NamedByNumber → Type 0
+IsClosed number members old new (FoundToPass named) = ClosesTo number members old new named
+IsClosed number members old new (FoundRefused first) = ⊥

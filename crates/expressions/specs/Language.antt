@@ -30,12 +30,15 @@ use Rattle.expressions.specs.Numbers.{Numbering, entity_at, tag_at, tag_here_at,
 abbrev pub struct_added : List ℕ → Declared → Declared
 struct_added name before = record before { structs = before.structs ++ fieldless name ∷ [] }
 
--- a struct that a tag declares
-abbrev pub struct_declared : List ℕ → Declared → Declared
-struct_declared name before = record {
-  environment = tag_declared name (Struct (length before.structs)) before.environment;
+-- a struct that a tag declares, whose members are listed from here on or not
+abbrev pub struct_tagged : Bool → List ℕ → Declared → Declared
+struct_tagged listed name before = record {
+  environment = tag_declared name (Struct (length before.structs) listed) before.environment;
   structs = before.structs ++ fieldless name ∷ [];
 }
+
+abbrev pub struct_declared : List ℕ → Declared → Declared
+struct_declared name before = struct_tagged false name before
 
 abbrev pub enum_declared : List ℕ → Declared → Declared
 enum_declared name before = record before { environment = tag_declared name (Enum false) before.environment }
@@ -49,7 +52,11 @@ left before = record before { environment = scope_left before.environment }
 -- a struct whose members follow, with its tag or without one
 abbrev pub struct_opened : Option (List ℕ) → Declared → Declared
 struct_opened None before = struct_added [] before
-struct_opened (Some name) before = struct_declared name before
+struct_opened (Some name) before = struct_tagged true name before
+
+-- a struct of that number, whose tag stands here without members, and whose members follow
+abbrev pub struct_listed : List ℕ → ℕ → Declared → Declared
+struct_listed name number before = record before { environment = tag_declared name (Struct number true) before.environment }
 
 -- a struct with its members, where it may have them: it has none yet, and each of them has a size
 abbrev pub struct_completed : ℕ → List Field → Declared → Declared
@@ -148,6 +155,7 @@ language abi n = record {
   left = left;
   tag_here = λ name before. option_map tag_here_at (tag_found DeclaredHere name before.environment);
   struct_opened = struct_opened;
+  struct_listed = struct_listed;
   struct_completed = struct_completed;
   enum_listed = enum_listed;
   is_declared_here = λ name before. is_some (found_here name before.environment.names);

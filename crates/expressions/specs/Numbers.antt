@@ -74,12 +74,12 @@ entity_at n (Function signature defined built_in) = FunctionIs (function_at n (n
 
 -- what a tag stands for
 abbrev pub tag_at : TagByNumber → Tag
-tag_at (Struct number) = StructTag number
+tag_at (Struct number listed) = StructTag number
 tag_at (Enum listed) = EnumTag
 
 -- what a tag of the innermost scope stands for
 abbrev pub tag_here_at : TagByNumber → TagHere
-tag_here_at (Struct number) = StructHere number
+tag_here_at (Struct number listed) = StructHere number listed
 tag_here_at (Enum listed) = EnumHere listed
 
 -- the type that a declaration gave

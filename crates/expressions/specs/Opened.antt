@@ -3,16 +3,13 @@ use Rattle.std.specs.Prelude.{◌≡◌, ℕ, List, Option, None, Some, slice_ge
 use Rattle.cbase.specs.declared.abi.Abi.{Abi}
 use Rattle.cbase.specs.declared.structs.StructDef.{StructDef}
 use Rattle.cbase.specs.declared.tree.identifier.Identifier.{Identifier}
-use Rattle.cbase.specs.Completing.{is_open}
-use Rattle.typing.specs.declared.ctypes.structs.Member.{Member}
-use Rattle.typing.specs.ctypes.Structs.{fields_of}
 use Rattle.typing.specs.declared.fault.Fault.{Fault}
-use Rattle.typing.specs.Braces.{Opens, IsTwice, struct_opening, enum_opening, closing}
+use Rattle.typing.specs.Braces.{Opens, IsTwice, struct_opening, enum_opening}
 use Rattle.expressions.specs.declared.found.Found.{Found}
 use Rattle.expressions.specs.declared.found.Found.TheVariants.{Passes, Refused}
 use Rattle.expressions.specs.Context.{Context, declared}
 use Rattle.expressions.specs.Numbers.{Numbering}
-use Rattle.expressions.specs.Language.{language, struct_completed}
+use Rattle.expressions.specs.Language.{language}
 
 -- the struct whose members follow
 pub record StructOpens (abi : Abi) (name : Option Identifier) (old new : Context) (number : ℕ) : Type 0 where
@@ -37,14 +34,3 @@ pub record EnumOpens (abi : Abi) (name : Option Identifier) (old new : Context) 
 abbrev pub IsEnumOpened : Abi → Option Identifier → Context → Context → Option Fault → Type 0
 IsEnumOpened abi name old new None = EnumOpens abi name old new
 IsEnumOpened abi name old new (Some first) = ((n : Numbering) → enum_opening (language abi n) name (declared old) ≡ IsTwice first) × (new ≡ old)
-
--- a struct behind its members
-pub record StructCloses (name : Option Identifier) (number : ℕ) (members : List Member) (old new : Context) : Type 0 where
-  pub closes : closing name (is_open (slice_get old.structs number)) ≡ None
-  pub declared : declared new ≡ struct_completed number (fields_of old.types members) (declared old)
-  pub types : new.types ≡ old.types
-  pub handed : new.handed ≡ old.handed
-
-abbrev pub IsStructClosed : Option Identifier → ℕ → List Member → Context → Context → Option Fault → Type 0
-IsStructClosed name number members old new None = StructCloses name number members old new
-IsStructClosed name number members old new (Some first) = (closing name (is_open (slice_get old.structs number)) ≡ Some first) × (new ≡ old)

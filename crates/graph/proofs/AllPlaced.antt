@@ -28,7 +28,7 @@ value_keys_from from (value ∷ rest) zero entry is = sym (ap (λ (e : KeyedValu
 value_keys_from from (value ∷ rest) (suc place) entry is = value_keys_from (from + 1) rest place entry is ∙ (let e : from + 1 + place ≡ from + suc place = omega arith in e)
 
 -- what is kept has its places for keys
-HasPlaces-entries : (contents : Contents) → HasPlaces (entries_of contents)
+pub HasPlaces-entries : (contents : Contents) → HasPlaces (entries_of contents)
 HasPlaces-entries contents = record {
   objects = λ place entry is. object_keys_from 0 contents.objects place entry is ∙ (let e : 0 + place ≡ place = omega arith in e);
   values = λ place entry is. value_keys_from 0 contents.values place entry is ∙ (let e : 0 + place ≡ place = omega arith in e);

@@ -21,14 +21,14 @@ take_more_get items place item is =
 pub take_whole : {T : Type 0} (items : List T) (count : ℕ) → length items ≤ count → take count items ≡ items
 take_whole items count all = take_all count items all
 
-objects_push : (first : ℕ) (objects : List Object) (object : Object) → objects_from first (objects ++ object ∷ []) ≡ objects_from first objects ++ record { key = first + length objects; object = object } ∷ []
+pub objects_push : (first : ℕ) (objects : List Object) (object : Object) → objects_from first (objects ++ object ∷ []) ≡ objects_from first objects ++ record { key = first + length objects; object = object } ∷ []
 objects_push first [] object =
     let here : first + 0 ≡ first = omega arith in rw here refl
 objects_push first (other ∷ objects) object =
     let shift : (first + 1) + length objects ≡ first + suc (length objects) = omega arith in
     ap (λ (t : List KeyedObject). record { key = first; object = other } ∷ t) (objects_push (first + 1) objects object ∙ rw shift refl)
 
-values_push : (first : ℕ) (values : List Value) (value : Value) → values_from first (values ++ value ∷ []) ≡ values_from first values ++ record { key = first + length values; value = value } ∷ []
+pub values_push : (first : ℕ) (values : List Value) (value : Value) → values_from first (values ++ value ∷ []) ≡ values_from first values ++ record { key = first + length values; value = value } ∷ []
 values_push first [] value =
     let here : first + 0 ≡ first = omega arith in rw here refl
 values_push first (other ∷ values) value =

@@ -45,3 +45,7 @@ pub mod Ranges
 pub mod AtPlaces
 pub mod PlaceAmong
 pub mod AllPlaced
+pub mod OwnPlaces
+pub mod AllMarked
+pub mod HowLarge
+pub mod Premises

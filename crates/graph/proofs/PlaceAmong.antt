@@ -1,7 +1,8 @@
 -- Places of keys among keys, and lists that are mapped one item at a time.
-use Rattle.std.proofs.Common.{◌≡◌, ℕ, ◌+◌, ◌<◌, ◌≤◌, true, false, List, [], ◌∷◌, ◌++◌, length, take, drop, map, get_or, refl, ap, sym, ◌∙◌, arith}
+use Rattle.std.proofs.Common.{◌≡◌, ℕ, zero, suc, ◌+◌, ◌<◌, ◌≤◌, true, false, List, [], ◌∷◌, ◌++◌, length, take, drop, map, get_or, refl, ap, sym, ◌∙◌, arith}
 use Rattle.std.specs.Prelude.{nat_eq}
-use Rattle.std.proofs.lemmas.List.{map_more, drop_more, drop_all}
+use Rattle.std.proofs.Math.ListN.{set}
+use Rattle.std.proofs.lemmas.List.{drop_more, drop_all}
 use Rattle.std.proofs.lemmas.Bool.{eq-eqb, ne_eqb}
 use Rattle.graph.specs.Renaming.{place_among}
 
@@ -27,10 +28,9 @@ place_end keys place key end =
     let none : place_among (drop place keys) key ≡ 0 = ap (λ (t : List ℕ). place_among t key) (drop_all place keys end) in
     omega arith
 
--- a loop that maps one item after another
-pub mapped_more : {X Y : Type 0} (f : X → Y) (items : List X) (place : ℕ) (item none : X) (image : Y) (done next : List Y) → place < length items → item ≡ get_or items place none → image ≡ f item → done ≡ map f (take place items) → next ≡ done ++ image ∷ [] → next ≡ map f (take (place + 1) items)
-mapped_more f items place item none image done next inside is image_is done_is next_is =
-    next_is
-    ∙ ap (λ t. t ++ image ∷ []) done_is
-    ∙ ap (λ y. map f (take place items) ++ y ∷ []) (image_is ∙ ap f is)
-    ∙ sym (map_more f items place none inside)
+-- a loop that changes one item after another
+pub changed_more : {X : Type 0} (f : X → X) (items : List X) (at : ℕ) (none : X) → at < length items →
+    set (map f (take at items) ++ drop at items) at (f (get_or (map f (take at items) ++ drop at items) at none)) ≡ map f (take (suc at) items) ++ drop (suc at) items
+changed_more f [] at none inside = absurd (omega arith)
+changed_more f (first ∷ rest) zero none inside = refl
+changed_more f (first ∷ rest) (suc at) none inside = ap (λ xs. f first ∷ xs) (changed_more f rest at none (omega arith))

@@ -26,3 +26,6 @@ pub mod AlikeLimits
 pub mod Points
 pub mod PairCodes
 pub mod Ends
+pub mod Large
+pub mod Addressed
+pub mod Example

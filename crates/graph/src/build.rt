@@ -13,7 +13,7 @@ use std::alloc::Global;
 const TOO_MANY: usize = 1_073_741_824;
 
 /// For how many nodes an object of this shape counts.
-fn nodes_of(shape: &Shape) -> u32
+pub(crate) fn nodes_of(shape: &Shape) -> u32
     ensures { result ≡ nodes_of shape.now }
 {
     match shape.links() {

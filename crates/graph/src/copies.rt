@@ -147,6 +147,7 @@ fn copy_objects(alloc: Global, objects: &Objects, copy: &mut Objects) -> Result<
     requires { copy.old ≡ [] }
     ensures { OnOk result (copy.new ≡ objects.now) }
 {
+    copy.reserve(objects.len() as usize)?;
     for key in 0..objects.len() {
         match objects.get(key) {
             Some(object) => copy.push(copied_object(alloc, object)?)?,
@@ -162,6 +163,7 @@ fn copy_values(values: &Values, copy: &mut Values) -> Result<(), NoMemory>
     requires { copy.old ≡ [] }
     ensures { OnOk result (copy.new ≡ values.now) }
 {
+    copy.reserve(values.len() as usize)?;
     for key in 0..values.len() {
         match values.get(key) {
             Some(value) => copy.push(*value)?,

@@ -1,5 +1,8 @@
-ghost use Rattle.std.specs.Prelude.{◌≡◌, IfOk};
+ghost use Rattle.std.specs.Prelude.{◌≡◌, ◌<◌, length, map, IfOk};
+ghost use Rattle.std.specs.List.{AllPairs};
+ghost use Rattle.graph.specs.Renaming.{place_among, renamed_edge};
 
+use crate::places::place_edges;
 use cbase::NoMemory;
 use smallvec::SmallVec;
 use std::alloc::Global;
@@ -46,5 +49,16 @@ impl Edges {
         ensures { result.now ≡ self.now }
     {
         self.items.as_slice()
+    }
+
+    /// The same edges, which hold their values by the places among these keys. It takes no memory.
+    pub(crate) fn placed(self, keys: &[u32]) -> Edges
+        requires few { length keys.now < 4294967296 }
+        requires ascending { AllPairs (λ one other. one < other) keys.now }
+        ensures { result ≡ map (renamed_edge (place_among keys.now)) self }
+    {
+        let Edges { mut items } = self;
+        place_edges(keys, items.as_mut_slice());
+        Edges { items }
     }
 }

@@ -1,5 +1,6 @@
 ghost use Rattle.std.specs.Prelude.{◌≡◌, length, true, IfOk, IfErr};
 ghost use Rattle.std.specs.Option.{option_copied};
+ghost use Rattle.graph.specs.Large.{is_large};
 ghost use Rattle.graph.specs.Maps.{object_at, value_at};
 ghost use Rattle.graph.specs.Renaming.{numbered};
 ghost use Rattle.graph.specs.WellFormed.{HasAscendingKeys, IsWellFormed, is_within_limits};
@@ -7,6 +8,8 @@ ghost use Rattle.graph.specs.Whole.{IsGraph};
 
 use crate::contents::Contents;
 use crate::copies::{copy_contents, key_contents};
+use crate::large::is_large;
+use crate::moves::keyed_contents;
 use crate::object::Object;
 use crate::parts::{Held, Named, Pair, Parts, no_parts};
 use crate::places::place_parts;
@@ -123,6 +126,25 @@ impl Graph {
                 Err(error)
             }
         }
+    }
+
+    /// The contents of the graph, with its own keys, which ascend in both lists. Objects and lists are moved, and not copied. Where memory
+    /// is wanting the graph is given up.
+    pub fn into_parts(self, alloc: Global) -> Result<Parts, NoMemory>
+        ensures ok { IfOk result (λ parts. parts ≡ self) }
+        ensures graph { IsGraph self }
+    {
+        let Graph { contents } = self;
+        keyed_contents(alloc, contents)
+    }
+
+    /// Whether there are so many live nodes, where a segment counts for its least number and at least for one, or so many dead objects
+    /// whose address an edge, an outward link, a register or a port holds, or so many unequal pairs. A call that is lent a graph may
+    /// give up from `LARGE` on. It takes time in proportion to the graph, and memory only where there are so many dead objects.
+    pub fn is_large(&self, alloc: Global, bound: u32) -> Result<bool, NoMemory>
+        ensures { IfOk result (λ large. large ≡ is_large bound self.now) }
+    {
+        is_large(alloc, &self.contents, bound)
     }
 
     /// An equal graph with the same keys. It is never too large.

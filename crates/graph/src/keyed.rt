@@ -1,6 +1,6 @@
-ghost use Rattle.std.specs.Prelude.{◌≡◌, ◌+◌, [], ◌∷◌, ◌++◌, length, slice_get, OnOk, OnErr};
+ghost use Rattle.std.specs.Prelude.{◌≡◌, ◌+◌, ◌<◌, [], ◌∷◌, ◌++◌, length, slice_get, IfOk, OnOk, OnErr};
 ghost use Rattle.std.specs.Option.{option_copied};
-ghost use Rattle.graph.specs.Slots.{held_at, AreHeld};
+ghost use Rattle.graph.specs.Slots.{held_at, AreApart, AreHeld};
 
 use cbase::NoMemory;
 use slab::Slab;
@@ -21,7 +21,7 @@ pub struct Keyed<T> {
 impl<T> Model for Keyed<T> {
     ghost use Rattle.std.specs.Prelude.{List};
     ghost use Rattle.std.specs.Coded.{coded_list};
-    ghost use Rattle.graph.specs.Slots.{held_at, AreHeld};
+    ghost use Rattle.graph.specs.Slots.{held_at, AreApart, AreHeld};
 
     ghost Value = { List T };
 
@@ -31,7 +31,7 @@ impl<T> Model for Keyed<T> {
 
     ghost use Rattle.std.specs.Prelude.{◌<◌, length};
 
-    ghost invariant = { λ k. AreHeld k.slots.slots k.keys.items × (length k.keys.items < 4294967296) };
+    ghost invariant = { λ k. AreHeld k.slots.slots k.keys.items × AreApart k.keys.items × (length k.keys.items < 4294967296) };
 }
 
 impl<T> Keyed<T> {
@@ -73,10 +73,39 @@ impl<T: Drop> Keyed<T> {
         put(&mut self.slots, &mut self.keys, item)?;
         Ok(())
     }
+
+    /// Makes room for so many items more, and for no others.
+    pub(crate) fn reserve(&mut self, count: usize) -> Result<(), NoMemory>
+        ensures { self.new ≡ self.old }
+    {
+        make_room(&mut self.slots, &mut self.keys, count)
+    }
+
+    /// The items, in the order of their keys. None is copied.
+    #[tactic(auto, using(crate::proofs::InSlots::length_held))]
+    pub(crate) fn into_items(self, alloc: Global) -> Result<Vec<T>, NoMemory>
+        ensures items { IfOk result (λ items. items.items ≡ self) }
+        ensures few { IfOk result (λ items. length items.items < 4294967296) }
+    {
+        let Keyed { mut slots, keys } = self;
+        let taken = take_all(alloc, &mut slots, keys.as_slice());
+        drop(slots);
+        taken
+    }
 }
 
 /// How many keys there are: one is left out, so that the number of items is a `u32`.
 pub(crate) const MOST_KEYS: usize = 4_294_967_295;
+
+/// Makes room for so many items and their keys.
+fn make_room<T>(slots: &mut Slab<T>, keys: &mut Vec<usize>, count: usize) -> Result<(), NoMemory>
+    ensures slots { slots.new.slots ≡ slots.old.slots }
+    ensures keys { keys.new.items ≡ keys.old.items }
+{
+    slots.reserve_exact(count)?;
+    keys.reserve_exact(count)?;
+    Ok(())
+}
 
 /// What the slots hold at a key of this place.
 #[tactic(auto, using(crate::proofs::InSlots::held_get, crate::proofs::InSlots::held_past))]
@@ -92,17 +121,36 @@ fn find<'a, T>(slots: &'a Slab<T>, keys: &[usize], place: usize) -> Option<&'a T
 }
 
 /// Puts an item into the slots, and its key behind the others.
-#[tactic(auto, using(crate::proofs::InSlots::held_put, crate::proofs::InSlots::are_held_put))]
+#[tactic(auto, using(crate::proofs::InSlots::held_put, crate::proofs::InSlots::are_held_put, crate::proofs::InSlots::are_apart_put))]
 fn put<T: Drop>(slots: &mut Slab<T>, keys: &mut Vec<usize>, item: T) -> Result<(), NoMemory>
-    requires { AreHeld slots.old.slots keys.old.items }
+    requires held { AreHeld slots.old.slots keys.old.items }
+    requires apart { AreApart keys.old.items }
     ensures ok { OnOk result (held_at slots.new.slots keys.new.items ≡ held_at slots.old.slots keys.old.items ++ item ∷ []) }
     ensures longer { OnOk result (length keys.new.items ≡ length keys.old.items + 1) }
     ensures err { OnErr result (slots.new.slots ≡ slots.old.slots) }
     ensures err_keys { OnErr result (keys.new.items ≡ keys.old.items) }
     ensures held { AreHeld slots.new.slots keys.new.items }
+    ensures apart { AreApart keys.new.items }
 {
     slots.reserve(1)?;
     keys.push(slots.vacant_key())?;
     slots.insert_reserved(item);
     Ok(())
+}
+
+/// Takes what the slots hold at these keys, in their order.
+#[tactic(auto, using(crate::proofs::InSlots::taken_first, crate::proofs::InSlots::taken_rest))]
+fn take_all<T: Drop>(alloc: Global, slots: &mut Slab<T>, keys: &[usize]) -> Result<Vec<T>, NoMemory>
+    requires held { AreHeld slots.old.slots keys.now }
+    requires apart { AreApart keys.now }
+    ensures { IfOk result (λ items. items.items ≡ held_at slots.old.slots keys.now) }
+{
+    let mut items = Vec::with_capacity(alloc, keys.len())?;
+    for key in keys {
+        match slots.try_remove(*key) {
+            Some(item) => items.push(item)?,
+            None => unreachable!(),
+        }
+    }
+    Ok(items)
 }

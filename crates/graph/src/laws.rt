@@ -7,6 +7,7 @@ ghost use Rattle.graph.specs.Alike.{IsSeenAs};
 ghost use Rattle.graph.specs.Choices.{IsChoice, IsMadeWith};
 ghost use Rattle.graph.specs.DeadBlocks.{AbsentBlocksMayHaveOtherNumbers, AllBlocksMayBeThere, IsWithAllBlocks};
 ghost use Rattle.graph.specs.DeadObjects.{AreHeldBlocksThere};
+ghost use Rattle.graph.specs.Example.{MeetsPremises};
 ghost use Rattle.graph.specs.Laws.{IsRenaming};
 ghost use Rattle.graph.specs.Meaning.{StandsFor};
 ghost use Rattle.graph.specs.Numbers.{NumbersAreCompleted, NumbersMayBeChosen, SomeNumbersMayBeChosen};
@@ -14,6 +15,7 @@ ghost use Rattle.graph.specs.Renaming.{renamed, numbered, object_place, value_pl
 ghost use Rattle.graph.specs.State.{State, IsState};
 ghost use Rattle.graph.specs.Unheld.{MayGo, WhatNothingHoldsMayGo, WhatStaysIsAGraph, WhatStaysIsWithinLimits, with_only};
 ghost use Rattle.graph.specs.WellFormed.{IsWellFormed, HasAscendingKeys, is_within_limits};
+ghost use Rattle.graph.specs.Whole.{IsGraph};
 
 /// Other keys, one to one, leave a graph well formed.
 pub fn renaming_keeps_well_formedness()
@@ -45,6 +47,11 @@ pub fn numbering_keeps_meaning()
         HasAscendingKeys parts →
         IsWellFormed parts →
         (StandsFor (numbered parts) state ↔ StandsFor parts state) }
+{}
+
+/// Parts of a graph are what they are once more numbered: their keys are their places already.
+pub fn a_graph_is_numbered()
+    ensures { (parts : Parts) → IsGraph parts → numbered parts ≡ parts }
 {}
 
 /// A state that differs only in what a graph does not see is stood for as well.
@@ -138,4 +145,9 @@ pub fn numbers_may_be_chosen()
 /// So may the numbers of some values alone, constants among them: there are numbers for the others.
 pub fn some_numbers_may_be_chosen()
     ensures { SomeNumbersMayBeChosen }
+{}
+
+/// A graph of four objects meets the premises of these laws and of those of segments, with a state that it stands for.
+pub fn a_graph_meets_the_premises()
+    ensures { MeetsPremises }
 {}

@@ -5,6 +5,7 @@
 //! words and blocks, and nothing of C: no statement, no step and no fault.
 #![tactic(auto)]
 
+mod addressed;
 mod ascending;
 mod build;
 mod contents;
@@ -16,10 +17,12 @@ mod edges;
 mod ends;
 mod graph;
 mod keyed;
+mod large;
 pub mod laws;
 mod link_points;
 mod look_up;
 pub mod memory_laws;
+mod moves;
 mod object;
 mod object_points;
 mod parts;
@@ -36,6 +39,7 @@ pub use contents::{Objects, Values};
 pub use edges::{Edges, HasValue};
 pub use graph::Graph;
 pub use keyed::Keyed;
+pub use large::{LARGE, LARGE_WITHIN_A_STEP};
 pub use object::{Links, Object, Shape};
 pub use parts::{Held, KeyedObject, KeyedValue, Named, Pair, Parts};
 pub use post::Post;

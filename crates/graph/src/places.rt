@@ -26,7 +26,7 @@ pub(crate) fn place_of(keys: &[u32], key: u32) -> u32
     }
 }
 
-/// Puts parts, with places in place of keys, into empty contents.
+/// Puts parts, with places in place of keys, into empty contents. Objects and lists are moved, and values copied.
 pub(crate) fn place_parts(
     alloc: Global,
     parts: Parts,
@@ -127,45 +127,34 @@ fn place_under(
     } = parts;
     place_objects(alloc, values, entries, &mut contents.objects)?;
     place_values(objects, others.as_slice(), &mut contents.values)?;
-    place_variables(objects, variables.as_slice(), &mut contents.variables)?;
-    place_registers(values, registers.as_slice(), &mut contents.registers)?;
-    place_ports(values, ports.as_slice(), &mut contents.ports)?;
-    place_pairs(values, unequal.as_slice(), &mut contents.unequal)?;
+    contents.variables = placed_variables(objects, variables);
+    contents.registers = placed_registers(values, registers);
+    contents.ports = placed_ports(values, ports);
+    contents.unequal = placed_pairs(values, unequal);
     Ok(())
 }
 
-/// Edges that hold values by their places.
-fn placed_edges(alloc: Global, keys: &[u32], edges: &[HasValue]) -> Result<Edges, NoMemory>
+/// Has edges hold values by their places.
+pub(crate) fn place_edges(keys: &[u32], edges: &mut [HasValue])
     requires few { length keys.now < 4294967296 }
     requires ascending { AllPairs (λ one other. one < other) keys.now }
-    ensures { IfOk result (λ placed. placed ≡ map (renamed_edge (place_among keys.now)) edges.now) }
+    ensures { edges.new ≡ map (renamed_edge (place_among keys.now)) edges.old }
 {
-    let mut placed = Vec::new(alloc);
-    for edge in edges {
-        placed.push(HasValue {
-            at: edge.at,
-            size: edge.size,
-            value: place_of(keys, edge.value),
-        })?;
+    for edge in edges.iter_mut() {
+        edge.value = place_of(keys, edge.value);
     }
-    Edges::of(alloc, placed.as_slice())
 }
 
-/// A node whose edges hold values by their places.
-fn placed_node(alloc: Global, keys: &[u32], node: Node) -> Result<Node, NoMemory>
+/// A node whose edges hold values by their places. Nothing is copied.
+fn placed_node(keys: &[u32], node: Node) -> Node
     requires few { length keys.now < 4294967296 }
     requires ascending { AllPairs (λ one other. one < other) keys.now }
-    ensures { IfOk result (λ placed. placed ≡ renamed_node (place_among keys.now) node) }
+    ensures { result ≡ renamed_node (place_among keys.now) node }
 {
     let Node { edges, plane } = node;
-    let placed = placed_edges(alloc, keys, edges.as_slice());
-    drop(edges);
-    match placed {
-        Ok(edges) => Ok(Node { edges, plane }),
-        Err(error) => {
-            drop(plane);
-            Err(error)
-        }
+    Node {
+        edges: edges.placed(keys),
+        plane,
     }
 }
 
@@ -188,7 +177,7 @@ fn placed_shape(alloc: Global, keys: &[u32], shape: Shape) -> Result<Shape, NoMe
             prev_value,
             node,
         } => {
-            let node = placed_node(alloc, keys, node.into_node())?;
+            let node = placed_node(keys, node.into_node());
             Ok(Shape::Segment {
                 twofold,
                 head,
@@ -204,7 +193,7 @@ fn placed_shape(alloc: Global, keys: &[u32], shape: Shape) -> Result<Shape, NoMe
     }
 }
 
-/// An object that names values by their places. Its plane is moved.
+/// An object that names values by their places. Its edges and its plane are moved.
 fn placed_object(alloc: Global, keys: &[u32], object: Object) -> Result<Object, NoMemory>
     requires few { length keys.now < 4294967296 }
     requires ascending { AllPairs (λ one other. one < other) keys.now }
@@ -218,26 +207,17 @@ fn placed_object(alloc: Global, keys: &[u32], object: Object) -> Result<Object, 
         edges,
         plane,
     } = object;
-    let placed = placed_edges(alloc, keys, edges.as_slice());
-    drop(edges);
-    match placed {
-        Ok(edges) => match placed_shape(alloc, keys, shape) {
-            Ok(shape) => Ok(Object {
-                size,
-                kind,
-                live,
-                shape,
-                edges,
-                plane,
-            }),
-            Err(error) => {
-                drop(edges);
-                drop(plane);
-                Err(error)
-            }
-        },
+    match placed_shape(alloc, keys, shape) {
+        Ok(shape) => Ok(Object {
+            size,
+            kind,
+            live,
+            shape,
+            edges: edges.placed(keys),
+            plane,
+        }),
         Err(error) => {
-            drop(shape);
+            drop(edges);
             drop(plane);
             Err(error)
         }
@@ -256,6 +236,7 @@ fn place_objects(
     requires empty { placed.old ≡ [] }
     ensures { OnOk result (placed.new ≡ map (λ entry. renamed_object (place_among keys.now) entry.object) objects) }
 {
+    placed.reserve(objects.len())?;
     for entry in objects.into_vec() {
         let KeyedObject { key: _, object } = entry;
         placed.push(placed_object(alloc, keys, object)?)?;
@@ -292,77 +273,100 @@ fn place_values(keys: &[u32], values: &[KeyedValue], placed: &mut Values) -> Res
     requires empty { placed.old ≡ [] }
     ensures { OnOk result (placed.new ≡ map (λ entry. renamed_value (place_among keys.now) entry.value) values.now) }
 {
+    placed.reserve(values.len())?;
     for entry in values {
         placed.push(placed_value(keys, entry.value))?;
     }
     Ok(())
 }
 
-/// Puts variables with the places of their objects.
-fn place_variables(
-    keys: &[u32],
-    variables: &[Named],
-    placed: &mut List<Named>,
-) -> Result<(), NoMemory>
+/// Variables with the places of their objects. It takes no memory, and neither do the next three.
+fn placed_variables(keys: &[u32], variables: List<Named>) -> List<Named>
     requires few { length keys.now < 4294967296 }
     requires ascending { AllPairs (λ one other. one < other) keys.now }
-    requires empty { placed.old ≡ [] }
-    ensures { OnOk result (placed.new ≡ map {B = Named} (λ named. record { variable = named.variable; object = place_among keys.now named.object }) variables.now) }
+    ensures { result ≡ map {B = Named} (λ named. record { variable = named.variable; object = place_among keys.now named.object }) variables }
 {
-    for named in variables {
-        placed.push(Named {
-            variable: named.variable,
-            object: place_of(keys, named.object),
-        })?;
-    }
-    Ok(())
+    let mut items = variables.into_vec();
+    place_variables(keys, items.as_mut_slice());
+    List::from_vec(items)
 }
 
-/// Puts registers with the places of their values.
-fn place_registers(
-    keys: &[u32],
-    registers: &[Held],
-    placed: &mut List<Held>,
-) -> Result<(), NoMemory>
+/// Gives variables the places of their objects.
+fn place_variables(keys: &[u32], variables: &mut [Named])
     requires few { length keys.now < 4294967296 }
     requires ascending { AllPairs (λ one other. one < other) keys.now }
-    requires empty { placed.old ≡ [] }
-    ensures { OnOk result (placed.new ≡ map {B = Held} (λ held. record { register = held.register; value = place_among keys.now held.value }) registers.now) }
+    ensures { variables.new ≡ map {B = Named} (λ named. record { variable = named.variable; object = place_among keys.now named.object }) variables.old }
 {
-    for held in registers {
-        placed.push(Held {
-            register: held.register,
-            value: place_of(keys, held.value),
-        })?;
+    for named in variables.iter_mut() {
+        named.object = place_of(keys, named.object);
     }
-    Ok(())
 }
 
-/// Puts ports as the places of their values.
-fn place_ports(keys: &[u32], ports: &[u32], placed: &mut List<u32>) -> Result<(), NoMemory>
+/// Registers with the places of their values.
+fn placed_registers(keys: &[u32], registers: List<Held>) -> List<Held>
     requires few { length keys.now < 4294967296 }
     requires ascending { AllPairs (λ one other. one < other) keys.now }
-    requires empty { placed.old ≡ [] }
-    ensures { OnOk result (placed.new ≡ map (place_among keys.now) ports.now) }
+    ensures { result ≡ map {B = Held} (λ held. record { register = held.register; value = place_among keys.now held.value }) registers }
 {
-    for port in ports {
-        placed.push(place_of(keys, *port))?;
-    }
-    Ok(())
+    let mut items = registers.into_vec();
+    place_registers(keys, items.as_mut_slice());
+    List::from_vec(items)
 }
 
-/// Puts pairs of the places of values.
-fn place_pairs(keys: &[u32], pairs: &[Pair], placed: &mut List<Pair>) -> Result<(), NoMemory>
+/// Gives registers the places of their values.
+fn place_registers(keys: &[u32], registers: &mut [Held])
     requires few { length keys.now < 4294967296 }
     requires ascending { AllPairs (λ one other. one < other) keys.now }
-    requires empty { placed.old ≡ [] }
-    ensures { OnOk result (placed.new ≡ map (renamed_pair (place_among keys.now)) pairs.now) }
+    ensures { registers.new ≡ map {B = Held} (λ held. record { register = held.register; value = place_among keys.now held.value }) registers.old }
 {
-    for pair in pairs {
-        placed.push(Pair {
+    for held in registers.iter_mut() {
+        held.value = place_of(keys, held.value);
+    }
+}
+
+/// Ports as the places of their values.
+fn placed_ports(keys: &[u32], ports: List<u32>) -> List<u32>
+    requires few { length keys.now < 4294967296 }
+    requires ascending { AllPairs (λ one other. one < other) keys.now }
+    ensures { result ≡ map (place_among keys.now) ports }
+{
+    let mut items = ports.into_vec();
+    place_ports(keys, items.as_mut_slice());
+    List::from_vec(items)
+}
+
+/// Puts the places of values in place of their keys.
+fn place_ports(keys: &[u32], ports: &mut [u32])
+    requires few { length keys.now < 4294967296 }
+    requires ascending { AllPairs (λ one other. one < other) keys.now }
+    ensures { ports.new ≡ map (place_among keys.now) ports.old }
+{
+    for port in ports.iter_mut() {
+        *port = place_of(keys, *port);
+    }
+}
+
+/// Pairs of the places of values.
+fn placed_pairs(keys: &[u32], pairs: List<Pair>) -> List<Pair>
+    requires few { length keys.now < 4294967296 }
+    requires ascending { AllPairs (λ one other. one < other) keys.now }
+    ensures { result ≡ map (renamed_pair (place_among keys.now)) pairs }
+{
+    let mut items = pairs.into_vec();
+    place_pairs(keys, items.as_mut_slice());
+    List::from_vec(items)
+}
+
+/// Gives pairs the places of their values.
+fn place_pairs(keys: &[u32], pairs: &mut [Pair])
+    requires few { length keys.now < 4294967296 }
+    requires ascending { AllPairs (λ one other. one < other) keys.now }
+    ensures { pairs.new ≡ map (renamed_pair (place_among keys.now)) pairs.old }
+{
+    for pair in pairs.iter_mut() {
+        *pair = Pair {
             left: place_of(keys, pair.left),
             right: place_of(keys, pair.right),
-        })?;
+        };
     }
-    Ok(())
 }

@@ -42,45 +42,68 @@ fn answer_of_parts(alloc: Global, kind: &str, parts: Parts) -> Result<String, No
     }
 }
 
-/// What a kind answers of a graph: `built` its parts, and `kept` at how many of the keys 0 to 3 an object and a value stand. All
-/// others ask for a copy.
+/// What a kind answers of a graph: `built` its parts, `kept` at how many of the keys 0 to 3 an object and a value stand, and `large`
+/// whether it is large from 2 on. All others ask for a copy.
 fn answer_of_graph(alloc: Global, kind: &str, graph: &Graph) -> Result<String, NoMemory> {
     match kind {
         "built" => built(alloc, graph),
         "kept" => kept(alloc, graph),
+        "large" => large(alloc, graph),
         _ => match graph.copied(alloc) {
-            Ok(copy) => {
-                let answer = answer_of_copy(alloc, kind, &copy);
-                drop(copy);
-                answer
-            }
+            Ok(copy) => answer_of_copy(alloc, kind, copy),
             Err(_) => Err(NoMemory),
         },
     }
 }
 
-/// What a kind answers of a copy: `copied` its parts, and `counted` how many objects and values it has.
-fn answer_of_copy(alloc: Global, kind: &str, copy: &Graph) -> Result<String, NoMemory> {
+/// What a kind answers of a copy: `moved` the parts that it is taken apart into, `taken` how many objects and values these have. All
+/// others lend it.
+fn answer_of_copy(alloc: Global, kind: &str, copy: Graph) -> Result<String, NoMemory> {
+    match kind {
+        "moved" => spelled(alloc, copy.into_parts(alloc)?),
+        "taken" => counts(alloc, copy.into_parts(alloc)?),
+        _ => {
+            let answer = answer_of_lent(alloc, kind, &copy);
+            drop(copy);
+            answer
+        }
+    }
+}
+
+/// What a kind answers of a copy that it is lent: `copied` its parts, and `counted` how many objects and values it has.
+fn answer_of_lent(alloc: Global, kind: &str, copy: &Graph) -> Result<String, NoMemory> {
     match kind {
         "copied" => built(alloc, copy),
-        "counted" => counted(alloc, copy),
+        "counted" => counts(alloc, copy.parts(alloc)?),
         _ => said(alloc, "no row"),
     }
 }
 
 fn built(alloc: Global, graph: &Graph) -> Result<String, NoMemory> {
-    let parts = graph.parts(alloc)?;
+    spelled(alloc, graph.parts(alloc)?)
+}
+
+/// Parts as words.
+fn spelled(alloc: Global, parts: Parts) -> Result<String, NoMemory> {
     let text = shown(alloc, &parts);
     drop(parts);
     text
 }
 
-fn counted(alloc: Global, graph: &Graph) -> Result<String, NoMemory> {
-    let parts = graph.parts(alloc)?;
+/// How many objects and values parts have.
+fn counts(alloc: Global, parts: Parts) -> Result<String, NoMemory> {
     let objects = parts.objects.len();
     let values = parts.values.len();
     drop(parts);
     Ok(format!(in alloc; "graph {objects} {values}")?)
+}
+
+fn large(alloc: Global, graph: &Graph) -> Result<String, NoMemory> {
+    if graph.is_large(alloc, 2)? {
+        said(alloc, "large from 2 on")
+    } else {
+        said(alloc, "not large from 2 on")
+    }
 }
 
 fn kept(alloc: Global, graph: &Graph) -> Result<String, NoMemory> {

@@ -9,7 +9,7 @@ use Rattle.c_machine.specs.Program.{Program}
 use Rattle.c_machine.specs.Run.{run_of}
 use Rattle.c_machine.specs.State.{StateIn}
 use Rattle.c_machine.specs.Trees.{text_of}
-use Rattle.c_run.specs.text.Stands.{StandsFor}
+use Rattle.c_text.specs.Stands.{StandsFor}
 use Rattle.c_steps.specs.ComesTo.{comes_to}
 use Rattle.c_steps.specs.declared.outcome.Outcome.{Outcome}
 use Rattle.report.specs.declared.replay_answer.Replayed.{Replayed}

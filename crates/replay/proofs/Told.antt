@@ -36,7 +36,7 @@ use Rattle.ccheck.specs.declared.refusal.Refusal.TheVariants as refusal
 use Rattle.c_machine.specs.Program.{Program}
 use Rattle.c_machine.specs.Run.{run_of}
 use Rattle.c_machine.specs.Trees.{text_of}
-use Rattle.c_run.specs.text.Stands.{StandsFor}
+use Rattle.c_text.specs.Stands.{StandsFor}
 use Rattle.report.specs.ReplayReport.{HasPrintableRun}
 use Rattle.report.specs.declared.answer.Why.{Why}
 use Rattle.report.specs.declared.answer.Why.TheVariants as why

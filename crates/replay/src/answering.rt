@@ -10,7 +10,7 @@ ghost use Rattle.replay.specs.Told.{HoldsProgramOf, HoldsTyped, IsAboutBoth, IsA
 
 use crate::judging::{Answered, JudgedFile, judge, with_names};
 use crate::playing::play;
-use c_run::TypedText;
+use c_text::TypedText;
 use cbase::{Item, List, NoMemory, Text};
 use cbuild::let_go_of_items;
 use ccheck::TypedProgram;

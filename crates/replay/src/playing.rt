@@ -6,14 +6,15 @@ ghost use Rattle.c_machine.specs.Program.{Program};
 ghost use Rattle.c_machine.specs.Run.{run_of};
 ghost use Rattle.c_machine.specs.State.{StateIn};
 ghost use Rattle.c_machine.specs.Trees.{text_of};
-ghost use Rattle.c_run.specs.text.Stands.{StandsFor};
+ghost use Rattle.c_text.specs.Stands.{StandsFor};
 ghost use Rattle.c_steps.specs.ComesTo.{comes_to};
 ghost use Rattle.report.specs.ReplayReport.{HasPrintableRun};
 ghost use Rattle.replay.specs.Program.{what_of};
 
 use crate::places::place_at;
-use c_run::{TypedText, run_program};
+use c_run::run_program;
 use c_steps::Outcome;
+use c_text::TypedText;
 use cbase::{Item, NoMemory};
 use choices::Choice;
 use ctokens::Tokens;

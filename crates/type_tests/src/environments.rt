@@ -23,9 +23,13 @@ fn inner_names_hide(alloc: Global, env: &mut Environment) -> Result<bool, NoMemo
 
 /// Whether a block that mentions a tag takes that of the file, and one that declares it does not.
 fn tags_are_found_by_form(alloc: Global, env: &mut Environment) -> Result<bool, NoMemory> {
-    env.declare_tag(alloc, b"s", Tag::Struct(0))?;
+    let structure = Tag::Struct {
+        number: 0,
+        listed: false,
+    };
+    env.declare_tag(alloc, b"s", structure)?;
     env.open(alloc)?;
-    let mentioned = env.tag(TagForm::Mentioned, b"s") == Some(Tag::Struct(0));
+    let mentioned = env.tag(TagForm::Mentioned, b"s") == Some(structure);
     let declared = env.tag(TagForm::Declared, b"s").is_some();
     env.close();
     Ok(mentioned && !declared)

@@ -1,6 +1,5 @@
 -- What a derivation of each part of braces holds (C11 6.7.2.1, 6.7.2.2).
 use Rattle.std.proofs.Common.{◌≡◌, ℕ, Bool, true, false, List, [], ◌∷◌, ◌++◌, Option, Some, None, refl, sym, ap, ◌∙◌, subst}
-use Rattle.std.specs.Prelude.{slice_get}
 use Rattle.cbase.specs.declared.ctype.CType.TheVariants.{Struct as StructType}
 use Rattle.cbase.specs.declared.place.Place.{Place}
 use Rattle.cbase.specs.declared.structs.Field.{Field}
@@ -12,14 +11,13 @@ use Rattle.cbase.specs.declared.tree.identifier.Identifier.{Identifier}
 use Rattle.cbase.specs.declared.tree.spec.Enumerator.{Enumerator}
 use Rattle.cbase.specs.declared.tree.spec.FieldDecl.{FieldDecl}
 use Rattle.cbase.specs.declared.tree.spec.FieldName.{FieldName}
-use Rattle.cbase.specs.Completing.{is_open}
 use Rattle.typing.specs.declared.ctypes.found.Broken.TheVariants.{Rule}
 use Rattle.typing.specs.ctypes.Binary.{int_type}
 use Rattle.typing.specs.ctypes.Operands.{Operand}
 use Rattle.typing.specs.declared.fault.Fault.{Fault}
 use Rattle.typing.specs.declared.size.Size.{Size}
 use Rattle.typing.specs.declared.size.Size.TheVariants.{LeftOut}
-use Rattle.typing.specs.Braces.{Opening, Opens, IsTwice, struct_opening, closing, enum_opening, fixed_size, width_found, member, member_type, faults_of_member}
+use Rattle.typing.specs.Braces.{Opening, Opens, IsTwice, struct_opening, enum_opening, fixed_size, width_found, member, member_type, faults_of_member}
 use Rattle.typing.specs.Faults.{fault}
 use Rattle.typing.specs.Forms.{Words, DeclarationParts, MemberParts, EnumeratorParts}
 use Rattle.typing.specs.Known.{operand}
@@ -28,7 +26,7 @@ use Rattle.typing.specs.NamedTypes.{NamedType, whole}
 use Rattle.typing.specs.Outcomes.{Outcome, Handed, Passes, Refused, IsSettled, with_front}
 use Rattle.typing.specs.Pieces.{Loaded, SizeOfArray}
 use Rattle.typing.specs.Told.{Told, OperandIs, SizeIs}
-use Rattle.typing.specs.Typing.{Finds, PieceIs, WordsAre, MembersAre, DeclarationIs, NamesAre, MemberIs, MemberSizesAre, MemberSizeIs, WidthIs, EnumeratorsAre, ValueOfEnumerator, StructWithMembers, StructCompletedInside, MembersRefused, StructTwice, EnumWithConstants, EnumTwice, NoDeclarations, MoreDeclarations, DeclarationRefused, MembersDeclared, MemberWordsRefused, NoNames, MoreNames, NameRefused, MemberFound, MemberSizesRefused, MemberWidthRefused, NoMemberSizes, MoreMemberSizes, MemberSizeRefusedHere, MemberSizeRefusedBehind, MemberSizeLeftOut, MemberSizeGiven, MemberSizeRefused, NoWidth, WidthGiven, NoEnumerators, EnumeratorTwice, EnumeratorRefused, EnumeratorTwiceInside, MoreEnumerators, NextValue, NoNextValue, GivenValue, GivenNoInt, GivenRefused}
+use Rattle.typing.specs.Typing.{Finds, PieceIs, WordsAre, MembersAre, DeclarationIs, NamesAre, MemberIs, MemberSizesAre, MemberSizeIs, WidthIs, EnumeratorsAre, ValueOfEnumerator, StructWithMembers, MembersRefused, StructTwice, EnumWithConstants, EnumTwice, NoDeclarations, MoreDeclarations, DeclarationRefused, MembersDeclared, MemberWordsRefused, NoNames, MoreNames, NameRefused, MemberFound, MemberSizesRefused, MemberWidthRefused, NoMemberSizes, MoreMemberSizes, MemberSizeRefusedHere, MemberSizeRefusedBehind, MemberSizeLeftOut, MemberSizeGiven, MemberSizeRefused, NoWidth, WidthGiven, NoEnumerators, EnumeratorTwice, EnumeratorRefused, EnumeratorTwiceInside, MoreEnumerators, NextValue, NoNextValue, GivenValue, GivenNoInt, GivenRefused}
 use Rattle.typing.proofs.Sequences.{Given, Made, Both}
 use Rattle.typing.specs.values.Values.{int_value, next_value}
 
@@ -64,26 +62,18 @@ abbrev pub ValueFound : (l : Language) → l.Environment → Place → Option �
 ValueFound l before place next given outcome after = Finds l before (ValueOfEnumerator place next given outcome) after
 
 -- a struct
-abbrev pub IsClosed : (l : Language) → ℕ → List Field → List Handed → l.Environment → Option Fault → Outcome NamedType → l.Environment → Type 0
-IsClosed l number members handed middle None outcome after = Given (Passes (whole (StructType number)) handed) (l.struct_completed number members middle) outcome after
-IsClosed l number members handed middle (Some first) outcome after = Given (Refused first) middle outcome after
-
-abbrev pub Closes : (l : Language) → Option Identifier → ℕ → List Field → List Handed → l.Environment → Outcome NamedType → l.Environment → Type 0
-Closes l name number members handed middle outcome after =
-    IsClosed l number members handed middle (closing name (is_open (slice_get (l.structs middle) number))) outcome after
+abbrev pub Closes : (l : Language) → ℕ → List Field → List Handed → l.Environment → Outcome NamedType → l.Environment → Type 0
+Closes l number members handed middle outcome after = Given (Passes (whole (StructType number)) handed) (l.struct_completed number members middle) outcome after
 
 abbrev pub IsOpened : (l : Language) → l.Environment → Option Identifier → List FieldDecl → Opening (ℕ × l.Environment) → Outcome NamedType → l.Environment → Type 0
-IsOpened l before name fields (Opens opened) outcome after = Both (MembersFound l opened.1 [] fields) (Closes l name opened.0) outcome after
+IsOpened l before name fields (Opens opened) outcome after = Both (MembersFound l opened.1 [] fields) (Closes l opened.0) outcome after
 IsOpened l before name fields (IsTwice first) outcome after = Given (Refused first) before outcome after
 
 pub struct_braces_row : {l : Language} {before after : l.Environment} {name : Option Identifier} {fields : List FieldDecl} {outcome : Outcome NamedType}
     → Finds l before (WordsAre (Struct name (Some fields)) outcome) after → IsOpened l before name fields (struct_opening l name before) outcome after
-struct_braces_row {l} {before} {after} {name} {fields} (StructWithMembers {inside = inside} {middle = middle} {number = number} {members = members} {handed = handed} e found ends) =
-    subst (λ (o : Opening (ℕ × l.Environment)). IsOpened l before name fields o (Passes (whole (StructType number)) handed) after) (sym e)
-    (Passes members handed, middle, found, subst (λ (f : Option Fault). IsClosed l number members handed middle f (Passes (whole (StructType number)) handed) after) (sym ends) (refl, refl))
-struct_braces_row {l} {before} {after} {name} {fields} (StructCompletedInside {inside = inside} {number = number} {members = members} {handed = handed} {first = first} e found ends) =
-    subst (λ (o : Opening (ℕ × l.Environment)). IsOpened l before name fields o (Refused first) after) (sym e)
-    (Passes members handed, after, found, subst (λ (f : Option Fault). IsClosed l number members handed after f (Refused first) after) (sym ends) (refl, refl))
+struct_braces_row {l} {before} {after} {name} {fields} (StructWithMembers {inside = inside} {middle = middle} {number = number} {members = members} {handed = handed} e found) =
+    subst (λ (o : Opening (ℕ × l.Environment)). IsOpened l before name fields o (Passes (whole (StructType number)) handed) (l.struct_completed number members middle)) (sym e)
+    (Passes members handed, middle, found, (refl, refl))
 struct_braces_row {l} {before} {after} {name} {fields} (MembersRefused {first = first} e found) =
     subst (λ (o : Opening (ℕ × l.Environment)). IsOpened l before name fields o (Refused first) after) (sym e) (Refused first, after, found, (refl, refl))
 struct_braces_row {l} {before} {after} {name} {fields} (StructTwice {first = first} e) =

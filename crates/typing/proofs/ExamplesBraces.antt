@@ -38,7 +38,7 @@ use Rattle.typing.specs.NamedTypes.{NamedType, is_over, declared_type, declared,
 use Rattle.typing.specs.Outcomes.{Outcome, Handed, Passes, Refused, IsSettled}
 use Rattle.typing.specs.Rules.{UndeclaredName, ObjectName, EnumeratorName, SizeOfTypeName, AdditionOperator}
 use Rattle.typing.specs.Sample.{sample, start, Declarations, token, node, type_name, declaration, field, enumerator, opened, IsRefused, char_type}
-use Rattle.typing.specs.Typing.{Finds, EnumeratorsAre, WordsAre, MembersAre, DeclarationIs, MemberIs, MemberSizesAre, WidthIs, RefusedInside, Walked, NoPieces, MorePieces, RefusedHere, LoadedValue, LoadedRefused, TypeInside, TypeNamed, TypeRefused, WordsRefused, BasicSpecifier, TypedefSpecifier, StructSpecifier, NoSizes, SizeOfItems, SizeUnderOne, StructWithMembers, StructCompletedInside, MembersRefused, StructTwice, EnumWithConstants, EnumTwice, NoDeclarations, MoreDeclarations, DeclarationRefused, MembersDeclared, NoNames, MoreNames, NameRefused, MemberFound, MemberSizesRefused, MemberWidthRefused, NoMemberSizes, MoreMemberSizes, MemberSizeRefusedHere, MemberSizeLeftOut, MemberSizeGiven, MemberSizeRefused, NoWidth, WidthGiven, NoEnumerators, EnumeratorTwice, EnumeratorRefused, EnumeratorTwiceInside, MoreEnumerators, NextValue, NoNextValue, GivenValue, GivenNoInt}
+use Rattle.typing.specs.Typing.{Finds, EnumeratorsAre, WordsAre, MembersAre, DeclarationIs, MemberIs, MemberSizesAre, WidthIs, RefusedInside, Walked, NoPieces, MorePieces, RefusedHere, LoadedValue, LoadedRefused, TypeInside, TypeNamed, TypeRefused, WordsRefused, BasicSpecifier, TypedefSpecifier, StructSpecifier, NoSizes, SizeOfItems, SizeUnderOne, SizeRefused, StructWithMembers, MembersRefused, StructTwice, EnumWithConstants, EnumTwice, NoDeclarations, MoreDeclarations, DeclarationRefused, MembersDeclared, NoNames, MoreNames, NameRefused, MemberFound, MemberSizesRefused, MemberWidthRefused, NoMemberSizes, MoreMemberSizes, MemberSizeRefusedHere, MemberSizeLeftOut, MemberSizeGiven, MemberSizeRefused, NoWidth, WidthGiven, NoEnumerators, EnumeratorTwice, EnumeratorRefused, EnumeratorTwiceInside, MoreEnumerators, NextValue, NoNextValue, GivenValue, GivenNoInt}
 use Rattle.typing.proofs.SampleFacts.{k_int, k_unsigned, k_size, seen, operand_by, alone, int_of, unsigned_of, vn, vread, read_in, one, both, laid_4, m_0, m_3, m_70000}
 
 -- layouts, whatever is declared
@@ -171,11 +171,6 @@ w_laid =
 open_laid : layout_of Lp64 (opened (Some (codes "w")) start).structs (StructType 3) ≡ None
 open_laid = type_layout-Struct Lp64 (struct_at Lp64 4 (opened (Some (codes "w")) start).structs) 3
 
-inner_laid : layout_of Lp64 (behind_braces 3 (Some (codes "w")) (record { name = codes "b"; ctype = int_type } ∷ [])) (StructType 3) ≡ Some (record { size = 4; alignment = 4 })
-inner_laid =
-    let among : List StructDef = behind_braces 3 (Some (codes "w")) (record { name = codes "b"; ctype = int_type } ∷ []) in
-    type_layout-Struct Lp64 (struct_at Lp64 4 among) 3 ∙ ap (λ (a : Option Layout). fields_layout no_fields (a ∷ [])) (type_layout-Int Lp64 (struct_at Lp64 3 among) 4 true)
-
 -- one constant of an enum, and no more
 next_constant : (bytes : List ℕ) (at bits : ℕ) (env : Declarations) → sample.is_declared_here bytes env ≡ false
     → Finds sample env (EnumeratorsAre (Some bits) (enumerator bytes at None ∷ []) (Passes (whole int_type) [])) (sample.constant_declared bytes bits env)
@@ -184,26 +179,22 @@ next_constant bytes at bits env here = MoreEnumerators {outcome = Passes (whole 
 abbrev unnamed : Declarations
 unnamed = opened None start
 
--- the structs inside the braces of a struct without a tag, inside those of `w`, and behind the inner ones of those
+-- the structs inside the braces of a struct without a tag, and inside those of `w`
 abbrev in_unnamed : List StructDef
 in_unnamed = unnamed.structs
 
 abbrev in_w : List StructDef
 in_w = (opened (Some (codes "w")) start).structs
 
-abbrev behind_inner : List StructDef
-behind_inner = behind_braces 3 (Some (codes "w")) (record { name = codes "b"; ctype = int_type } ∷ [])
-
 pub are_braces : AreBraces
 are_braces = record {
-  members = (_, _, _, Walked (outs-SizeOfType _) (one (TypeInside (TypeNamed (out-roll-TypeName _) (outs-Struct _ _) (StructWithMembers refl (more_declared (an_int (codes "a") 5) (more_declared (declares _ (outs-Basic (Integer Char true)) BasicSpecifier (second_member a_int (whole char_type) _ (Some (scalar 4)) (Some (scalar 1)) NoMemberSizes NoWidth (int_laid in_unnamed) (char_laid in_unnamed) (refl, refl, refl))) NoDeclarations)) refl) NoSizes (ap is_over pair_laid)))) (SizeOfTypeName (ap extent_of pair_laid) (refl, refl, refl)), refl, refl);
-  completed = (_, _, _, Walked (outs-SizeOfType _) (one (TypeInside (TypeNamed (out-roll-TypeName _) (outs-Struct _ _) (StructWithMembers refl (more_declared (an_int (codes "a") 6) NoDeclarations) refl) NoSizes (ap is_over t_laid)))) (SizeOfTypeName (ap extent_of t_laid) (refl, refl, refl)), refl, refl);
-  to_itself = (_, _, _, Walked (outs-SizeOfType _) (one (TypeInside (TypeNamed (out-roll-TypeName _) (outs-Struct _ _) (StructWithMembers refl (more_declared (declares _ (outs-Struct _ _) (StructSpecifier refl) (first_member (whole (StructType 3)) _ [] (Some (scalar 8)) NoMemberSizes NoWidth (pointer_laid in_w (StructType 3)) (refl, refl, refl))) NoDeclarations) refl) NoSizes (ap is_over w_laid)))) (SizeOfTypeName (ap extent_of w_laid) (refl, refl, refl)), refl, refl);
+  members = (_, _, _, Walked (outs-SizeOfType _) (one (TypeInside (TypeNamed (out-roll-TypeName _) (outs-Struct _ _) (StructWithMembers refl (more_declared (an_int (codes "a") 5) (more_declared (declares _ (outs-Basic (Integer Char true)) BasicSpecifier (second_member a_int (whole char_type) _ (Some (scalar 4)) (Some (scalar 1)) NoMemberSizes NoWidth (int_laid in_unnamed) (char_laid in_unnamed) (refl, refl, refl))) NoDeclarations))) NoSizes (ap is_over pair_laid)))) (SizeOfTypeName (ap extent_of pair_laid) (refl, refl, refl)), refl, refl);
+  completed = (_, _, _, Walked (outs-SizeOfType _) (one (TypeInside (TypeNamed (out-roll-TypeName _) (outs-Struct _ _) (StructWithMembers refl (more_declared (an_int (codes "a") 6) NoDeclarations)) NoSizes (ap is_over t_laid)))) (SizeOfTypeName (ap extent_of t_laid) (refl, refl, refl)), refl, refl);
+  to_itself = (_, _, _, Walked (outs-SizeOfType _) (one (TypeInside (TypeNamed (out-roll-TypeName _) (outs-Struct _ _) (StructWithMembers refl (more_declared (declares _ (outs-Struct _ _) (StructSpecifier refl) (first_member (whole (StructType 3)) _ [] (Some (scalar 8)) NoMemberSizes NoWidth (pointer_laid in_w (StructType 3)) (refl, refl, refl))) NoDeclarations)) NoSizes (ap is_over w_laid)))) (SizeOfTypeName (ap extent_of w_laid) (refl, refl, refl)), refl, refl);
   twice = is_refused 0 _ (outs-Struct _ _) (StructTwice refl);
   enum_is_struct = is_refused 1 _ (outs-Enum _ _) (EnumTwice refl);
-  completed_inside = is_refused 1 _ (outs-Struct _ _) (StructCompletedInside refl (more_declared (declares _ (outs-Basic (Integer Char true)) BasicSpecifier (first_member (whole char_type) _ (Counted 4 ∷ []) (Some (repeated 4 (scalar 1)))
-      (MoreMemberSizes (MemberSizeGiven {size = Counted 4} (SizeOfItems (LoadedValue (Walked (outs-SizeOfType _) (MorePieces (TypeInside (TypeNamed (out-roll-TypeName _) (outs-Struct _ _) (StructWithMembers refl (more_declared (an_int (codes "b") 14) NoDeclarations) refl) NoSizes (ap is_over inner_laid))) NoPieces) (SizeOfTypeName (ap extent_of inner_laid) (refl, refl, refl))) refl) (seen_in behind_inner 8 false false false) refl)) NoMemberSizes)
-      NoWidth (chars_laid behind_inner 4) (refl, refl, refl))) NoDeclarations) refl);
+  inside_itself = is_refused 1 _ (outs-Struct _ _) (MembersRefused refl (DeclarationRefused (refuses _ (outs-Basic (Integer Char true)) BasicSpecifier (MemberSizesRefused (out-roll-FieldName _)
+      (MemberSizeRefusedHere (MemberSizeRefused (SizeRefused (LoadedRefused (RefusedInside (outs-SizeOfType _) (RefusedHere (TypeRefused (WordsRefused (out-roll-TypeName _) (outs-Struct _ _) (StructTwice refl)))))))))))));
   same_name = is_refused 0 _ (outs-Struct _ _) (MembersRefused refl (MoreDeclarations {outcome = Refused (fault (token 8) (Rule 2))} (an_int (codes "a") 5) (DeclarationRefused (refuses _ (outs-Basic (Integer Char true)) BasicSpecifier (second_member a_int (whole char_type) _ (Some (scalar 4)) (Some (scalar 1)) NoMemberSizes NoWidth (int_laid in_unnamed) (char_laid in_unnamed) (alone _))))));
   of_void = is_refused 0 _ (outs-Struct _ _) (MembersRefused refl (DeclarationRefused (refuses _ (outs-Basic Void) BasicSpecifier (first_member (whole VoidType) _ [] None NoMemberSizes NoWidth (void_laid in_unnamed) (alone _)))));
   of_itself = is_refused 0 _ (outs-Struct _ _) (MembersRefused refl (DeclarationRefused (refuses _ (outs-Struct _ _) (StructSpecifier refl) (first_member (whole (StructType 3)) _ [] None NoMemberSizes NoWidth open_laid (alone _)))));

@@ -23,7 +23,7 @@ use Rattle.typing.specs.Pieces.{Loaded, SizeOfArray}
 use Rattle.typing.specs.Rules.{AtNode}
 use Rattle.typing.specs.Statements.{Stored, parts_in, without_value}
 use Rattle.typing.specs.Told.{Told, OperandIs, SizeIs}
-use Rattle.typing.specs.Typing.{Saying, ExpressionIs, PieceIs, StatementIs, named, Finds, RefusedInside, Walked, NoPieces, MorePieces, RefusedHere, RefusedBehind, LoadedValue, LoadOfIncomplete, LoadedRefused, UnloadedOperand, UnloadedRefused, CalledFunction, CalledOther, CalledRefused, TypeInside, TypeRefused, IndexOfPath, IndexNotConstant, IndexRefused, SizeOfItems, SizeUnderOne, SizeRefused, BlockInside, BlockRefused, NoStatements, LastExpression, LastStruct, LastRefused, MoreStatements, StatementRefused, StatementsRefused, BasicSpecifier, TypedefSpecifier, StructSpecifier, StructDeclared, StructIsEnum, EnumSpecifier, EnumDeclared, EnumIsStruct, StructOfNothing, EnumOfNothing, StructWithMembers, StructCompletedInside, MembersRefused, StructTwice, EnumWithConstants, EnumTwice, TypeofExpression, TypeofRefused, TypeofType, NoSizes, SizeLeftOut, SizeLeftOutRefused, MoreSizes, SizesRefusedHere, SizesRefusedBehind, TypeNamed, WordsRefused, SizesRefused, NoDeclarations, MoreDeclarations, DeclarationRefused, MembersDeclared, MemberWordsRefused, NoNames, MoreNames, NameRefused, MemberFound, MemberSizesRefused, MemberWidthRefused, NoMemberSizes, MoreMemberSizes, MemberSizeRefusedHere, MemberSizeRefusedBehind, MemberSizeLeftOut, MemberSizeGiven, MemberSizeRefused, NoWidth, WidthGiven, NoEnumerators, EnumeratorTwice, EnumeratorRefused, EnumeratorTwiceInside, MoreEnumerators, NextValue, NoNextValue, GivenValue, GivenNoInt, GivenRefused, StatementOfParts, StatementInScope, NoStatementParts, MoreStatementParts, StatementPartRefused, ValueInStatement, StatementInside, BodyOfLoop, StatementOfIf, BlockOfStatements, LoopLeft, NoLoopToLeave, NothingReturned, ValueReturned, ValueTaken, ValueRefused, TagAlone, TagAloneOfOther, WordsWithNames, DeclaredWordsRefused, NoDeclarators, SomeDeclarators, NoMoreDeclarators, MoreDeclarators, DeclaratorRefused, NameWithSizesRefused, NameBroken, NameGiven, FixedSizes, AnySizes, ParametersRefused, FunctionBroken, FunctionGiven, NoParameters, MoreParameters, ParameterRefused, ParameterFound, ParameterWordsRefused, ParameterSizesRefused, NotInitialised, ObjectInitialised, ArrayInitialised, ArrayOfWrongSize, ArrayPartsRefused, ArrayByValue, LinkedInitialised, TypeInitialised, ValueStored, BracesFill, BracesTooMany, NoMoreParts, PartSets, PartRefused, NoMemberToSet, NothingToSet, SurplusValue, SurplusBraces, NoSurplusValue, SurplusPart, DeclarationInside}
+use Rattle.typing.specs.Typing.{Saying, ExpressionIs, PieceIs, StatementIs, named, Finds, RefusedInside, Walked, NoPieces, MorePieces, RefusedHere, RefusedBehind, LoadedValue, LoadOfIncomplete, LoadedRefused, UnloadedOperand, UnloadedRefused, CalledFunction, CalledOther, CalledRefused, TypeInside, TypeRefused, IndexOfPath, IndexNotConstant, IndexRefused, SizeOfItems, SizeUnderOne, SizeRefused, BlockInside, BlockRefused, NoStatements, LastExpression, LastStruct, LastRefused, MoreStatements, StatementRefused, StatementsRefused, BasicSpecifier, TypedefSpecifier, StructSpecifier, StructDeclared, StructIsEnum, EnumSpecifier, EnumDeclared, EnumIsStruct, StructOfNothing, EnumOfNothing, StructWithMembers, MembersRefused, StructTwice, EnumWithConstants, EnumTwice, TypeofExpression, TypeofRefused, TypeofType, NoSizes, SizeLeftOut, SizeLeftOutRefused, MoreSizes, SizesRefusedHere, SizesRefusedBehind, TypeNamed, WordsRefused, SizesRefused, NoDeclarations, MoreDeclarations, DeclarationRefused, MembersDeclared, MemberWordsRefused, NoNames, MoreNames, NameRefused, MemberFound, MemberSizesRefused, MemberWidthRefused, NoMemberSizes, MoreMemberSizes, MemberSizeRefusedHere, MemberSizeRefusedBehind, MemberSizeLeftOut, MemberSizeGiven, MemberSizeRefused, NoWidth, WidthGiven, NoEnumerators, EnumeratorTwice, EnumeratorRefused, EnumeratorTwiceInside, MoreEnumerators, NextValue, NoNextValue, GivenValue, GivenNoInt, GivenRefused, StatementOfParts, StatementInScope, NoStatementParts, MoreStatementParts, StatementPartRefused, ValueInStatement, StatementInside, BodyOfLoop, StatementOfIf, BlockOfStatements, LoopLeft, NoLoopToLeave, NothingReturned, ValueReturned, ValueTaken, ValueRefused, TagAlone, TagAloneOfOther, WordsWithNames, DeclaredWordsRefused, NoDeclarators, SomeDeclarators, NoMoreDeclarators, MoreDeclarators, DeclaratorRefused, NameWithSizesRefused, NameBroken, NameGiven, FixedSizes, AnySizes, ParametersRefused, FunctionBroken, FunctionGiven, NoParameters, MoreParameters, ParameterRefused, ParameterFound, ParameterWordsRefused, ParameterSizesRefused, NotInitialised, ObjectInitialised, ArrayInitialised, ArrayOfWrongSize, ArrayPartsRefused, ArrayByValue, LinkedInitialised, TypeInitialised, ValueStored, BracesFill, BracesTooMany, NoMoreParts, PartSets, PartRefused, NoMemberToSet, NothingToSet, SurplusValue, SurplusBraces, NoSurplusValue, SurplusPart, DeclarationInside}
 use Rattle.typing.specs.values.Values.{word_of, int_value, next_value}
 use Rattle.typing.proofs.OneFault.{one_settled}
 use Rattle.typing.proofs.BraceRows as braces
@@ -118,10 +118,8 @@ one l before _ after (EnumDeclared {name = name} e) = λ second other found. row
 one l before _ after (EnumIsStruct {name = name} e) = λ second other found. row.one_enum l before (Some name) _ second after other (EnumIsStruct e) found
 one l before _ after StructOfNothing = λ second other found. row.one_struct l before None _ second after other StructOfNothing found
 one l before _ after EnumOfNothing = λ second other found. row.one_enum l before None _ second after other EnumOfNothing found
-one l before _ after (StructWithMembers {inside = inside} {middle = middle} {number = number} {members = members} {handed = handed} {name = name} {fields = fields} e found ends) =
-    one_struct_closed l before inside middle number members handed name fields None _ after e (one l inside _ middle found) ends (refl, refl)
-one l before _ after (StructCompletedInside {inside = inside} {number = number} {members = members} {handed = handed} {first = first} {name = name} {fields = fields} e found ends) =
-    one_struct_closed l before inside after number members handed name fields (Some first) _ after e (one l inside _ after found) ends (refl, refl)
+one l before _ after (StructWithMembers {inside = inside} {middle = middle} {number = number} {members = members} {handed = handed} {name = name} {fields = fields} e found) =
+    one_struct_closed l before inside middle number members handed name fields e (one l inside _ middle found)
 one l before _ after (MembersRefused {inside = inside} {number = number} {first = first} {name = name} {fields = fields} e found) =
     one_members_refused l before inside after number name fields first e (one l inside _ after found)
 one l before _ after (StructTwice {first = first} {name = name} {fields = fields} e) = λ second other found.

@@ -1,7 +1,7 @@
 -- Parts of the walk, each with one outcome where what it is made of has one.
 use Rattle.std.proofs.Common.{◌≡◌, ℕ, Bool, true, false, List, [], ◌∷◌, ◌++◌, Option, Some, None, sym, ap, ◌∙◌, subst}
-use Rattle.std.specs.Prelude.{slice_get}
 use Rattle.cbase.specs.declared.ctype.CType.{CType}
+use Rattle.cbase.specs.declared.ctype.CType.TheVariants.{Struct as StructType}
 use Rattle.cbase.specs.declared.structs.Field.{Field}
 use Rattle.cbase.specs.declared.tree.decl.TypeName.{TypeName}
 use Rattle.cbase.specs.declared.tree.expr.Expr.{Expr}
@@ -12,17 +12,16 @@ use Rattle.cbase.specs.declared.tree.spec.Enumerator.{Enumerator}
 use Rattle.cbase.specs.declared.tree.spec.FieldDecl.{FieldDecl}
 use Rattle.cbase.specs.declared.tree.spec.FieldName.{FieldName}
 use Rattle.cbase.specs.declared.tree.stmt.Stmt.{Stmt}
-use Rattle.cbase.specs.Completing.{is_open}
 use Rattle.typing.specs.declared.ctypes.found.Broken.TheVariants.{Rule}
 use Rattle.typing.specs.declared.fault.Fault.{Fault}
 use Rattle.typing.specs.declared.size.Size.{Size}
-use Rattle.typing.specs.Braces.{Opening, Opens, struct_opening, closing, enum_opening, member, member_type, faults_of_member}
+use Rattle.typing.specs.Braces.{Opening, Opens, struct_opening, enum_opening, member, member_type, faults_of_member}
 use Rattle.typing.specs.Entities.{FunctionEntity, FunctionIs}
 use Rattle.typing.specs.Faults.{fault}
 use Rattle.typing.specs.Forms.{Form, Words, NameParts, MemberParts, EnumeratorParts, value_in}
 use Rattle.typing.specs.Known.{Known, behind}
 use Rattle.typing.specs.Language.{Language}
-use Rattle.typing.specs.NamedTypes.{NamedType}
+use Rattle.typing.specs.NamedTypes.{NamedType, whole}
 use Rattle.typing.specs.Nodes.{function_faults, called_of, is_last_value}
 use Rattle.typing.specs.Outcomes.{Outcome, Handed, Passes, Refused, IsSettled}
 use Rattle.typing.specs.Pieces.{Piece, Loaded, SizeOfArray, pieces_in}
@@ -205,29 +204,18 @@ pub struct_by : (l : Language) (before : l.Environment) (name : Option Identifie
 struct_by l before name fields opening second other e found =
     subst (λ (o : Opening (ℕ × l.Environment)). braces.IsOpened l before name fields o second other) e (braces.struct_braces_row found)
 
-pub one_closed : (l : Language) (name : Option Identifier) (number : ℕ) (members : List Field) (handed : List Handed) (middle : l.Environment) (closes : Option Fault) (first : Outcome NamedType) (after : l.Environment)
-    → closing name (is_open (slice_get (l.structs middle) number)) ≡ closes → braces.IsClosed l number members handed middle closes first after
-    → OneOf (braces.Closes l name number members handed middle) first after
-one_closed l name number members handed middle None first after e is second other also =
-    let it : braces.IsClosed l number members handed middle None second other = subst (λ (f : Option Fault). braces.IsClosed l number members handed middle f second other) e also in
-    (is.0 ∙ sym it.0, sym is.1 ∙ it.1)
-one_closed l name number members handed middle (Some broken) first after e is second other also =
-    let it : braces.IsClosed l number members handed middle (Some broken) second other = subst (λ (f : Option Fault). braces.IsClosed l number members handed middle f second other) e also in
-    (is.0 ∙ sym it.0, sym is.1 ∙ it.1)
-
-pub one_struct_closed : (l : Language) (before inside middle : l.Environment) (number : ℕ) (members : List Field) (handed : List Handed) (name : Option Identifier) (fields : List FieldDecl) (closes : Option Fault) (first : Outcome NamedType) (after : l.Environment)
+pub one_struct_closed : (l : Language) (before inside middle : l.Environment) (number : ℕ) (members : List Field) (handed : List Handed) (name : Option Identifier) (fields : List FieldDecl)
     → struct_opening l name before ≡ Opens (number, inside) → One l inside (MembersAre [] fields (Passes members handed)) middle
-    → closing name (is_open (slice_get (l.structs middle) number)) ≡ closes → braces.IsClosed l number members handed middle closes first after
-    → One l before (WordsAre (Struct name (Some fields)) first) after
-one_struct_closed l before inside middle number members handed name fields closes first after e one closed is second other found =
-    one_both (braces.MembersFound l inside [] fields) (braces.Closes l name number) members handed middle first after one
-    (one_closed l name number members handed middle closes first after closed is) second other (struct_by l before name fields (Opens (number, inside)) second other e found)
+    → One l before (WordsAre (Struct name (Some fields)) (Passes (whole (StructType number)) handed)) (l.struct_completed number members middle)
+one_struct_closed l before inside middle number members handed name fields e one second other found =
+    one_both (braces.MembersFound l inside [] fields) (braces.Closes l number) members handed middle (Passes (whole (StructType number)) handed) (l.struct_completed number members middle) one
+    (one_given (Passes (whole (StructType number)) handed) (l.struct_completed number members middle)) second other (struct_by l before name fields (Opens (number, inside)) second other e found)
 
 pub one_members_refused : (l : Language) (before inside after : l.Environment) (number : ℕ) (name : Option Identifier) (fields : List FieldDecl) (broken : Fault)
     → struct_opening l name before ≡ Opens (number, inside) → One l inside (MembersAre [] fields (Refused broken)) after
     → One l before (WordsAre (Struct name (Some fields)) (Refused broken)) after
 one_members_refused l before inside after number name fields broken e one second other found =
-    one_refused (braces.MembersFound l inside [] fields) (braces.Closes l name number) broken after one second other (struct_by l before name fields (Opens (number, inside)) second other e found)
+    one_refused (braces.MembersFound l inside [] fields) (braces.Closes l number) broken after one second other (struct_by l before name fields (Opens (number, inside)) second other e found)
 
 -- an enum with braces
 pub enum_by : (l : Language) (before : l.Environment) (name : Option Identifier) (values : List Enumerator) (opening : Opening l.Environment) (second : Outcome NamedType) (other : l.Environment)

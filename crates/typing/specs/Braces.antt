@@ -1,5 +1,5 @@
 -- The braces of structs and of enums (C11 6.7.2.1, 6.7.2.2 and 6.7.2.3): what they stand for by their tag, and what is found of a member.
-use Rattle.std.specs.Prelude.{ℕ, Bool, true, false, not, ◌||◌, List, [], ◌∷◌, ◌++◌, map, length, Option, None, Some, is_some, slice_get}
+use Rattle.std.specs.Prelude.{ℕ, Bool, true, false, not, ◌||◌, List, [], ◌∷◌, ◌++◌, map, length, Option, None, Some, is_some}
 use Rattle.std.specs.Str.{bytes_eq}
 use Rattle.cbase.specs.declared.abi.Abi.{Abi}
 use Rattle.cbase.specs.declared.ctype.CType.{CType}
@@ -7,7 +7,6 @@ use Rattle.cbase.specs.declared.place.Place.{Place}
 use Rattle.cbase.specs.declared.structs.Field.{Field}
 use Rattle.cbase.specs.declared.structs.StructDef.{StructDef}
 use Rattle.cbase.specs.declared.tree.identifier.Identifier.{Identifier}
-use Rattle.cbase.specs.Completing.{is_open}
 use Rattle.cbase.specs.Layout.{layout_of, fields_layout, no_fields}
 use Rattle.typing.specs.declared.ctypes.found.Broken.{Broken}
 use Rattle.typing.specs.declared.ctypes.found.Broken.TheVariants.{Construct, Rule}
@@ -27,15 +26,11 @@ pub data Opening (A : Type 0) : Type 0 where
   Opens : A → Opening A
   IsTwice : Fault → Opening A
 
--- a struct of this scope, where it has no members yet
-abbrev pub reopened : {E : Type 0} → Bool → ℕ → Identifier → E → Opening (ℕ × E)
-reopened true number name env = Opens (number, env)
-reopened false number name env = IsTwice (fault name.place (Rule 2))
-
--- a struct with a tag, by what this scope says of it
+-- a struct with a tag, by what this scope says of it: also inside its own braces it has members already
 abbrev pub tagged_struct : (l : Language) → Identifier → l.Environment → Option TagHere → Opening (ℕ × l.Environment)
 tagged_struct l name env None = Opens (length (l.structs env), l.struct_opened (Some name.name) env)
-tagged_struct l name env (Some (StructHere number)) = reopened (is_open (slice_get (l.structs env) number)) number name env
+tagged_struct l name env (Some (StructHere number true)) = IsTwice (fault name.place (Rule 2))
+tagged_struct l name env (Some (StructHere number false)) = Opens (number, l.struct_listed name.name number env)
 tagged_struct l name env (Some (EnumHere listed)) = IsTwice (fault name.place (Rule 2))
 
 -- the number of the struct whose members follow, and what is declared in front of them (C11 6.7.2.3p1, p4, p6)
@@ -43,16 +38,10 @@ abbrev pub struct_opening : (l : Language) → Option Identifier → l.Environme
 struct_opening l None env = Opens (length (l.structs env), l.struct_opened None env)
 struct_opening l (Some name) env = tagged_struct l name env (l.tag_here name.name env)
 
--- what is broken at the `}`, where the struct is open there or not: its tag is named where its members were given inside its own braces
-abbrev pub closing : Option Identifier → Bool → Option Fault
-closing None still = None
-closing (Some name) true = None
-closing (Some name) false = Some (fault name.place (Rule 2))
-
 -- the same of an enum
 abbrev pub tagged_enum : (l : Language) → Identifier → l.Environment → Option TagHere → Opening l.Environment
 tagged_enum l name env None = Opens (l.enum_listed (Some name.name) env)
-tagged_enum l name env (Some (StructHere number)) = IsTwice (fault name.place (Rule 2))
+tagged_enum l name env (Some (StructHere number listed)) = IsTwice (fault name.place (Rule 2))
 tagged_enum l name env (Some (EnumHere true)) = IsTwice (fault name.place (Rule 2))
 tagged_enum l name env (Some (EnumHere false)) = Opens (l.enum_listed (Some name.name) env)
 

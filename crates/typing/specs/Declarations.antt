@@ -35,7 +35,7 @@ tag_alone storage words names = None
 
 abbrev pub alone_by : (l : Language) → Identifier → l.Environment → Option TagHere → Opening l.Environment
 alone_by l name env None = Opens (l.struct_declared name.name env)
-alone_by l name env (Some (StructHere number)) = Opens env
+alone_by l name env (Some (StructHere number listed)) = Opens env
 alone_by l name env (Some (EnumHere listed)) = IsTwice (fault name.place (Rule 2))
 
 abbrev pub alone : (l : Language) → Identifier → l.Environment → Opening l.Environment

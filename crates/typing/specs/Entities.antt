@@ -32,9 +32,10 @@ pub data Tag : Type 0 where
   StructTag : ℕ → Tag
   EnumTag : Tag
 
--- what the innermost scope alone says of a tag: the struct of a number, or an enum, whose constants are listed or not
+-- what the innermost scope alone says of a tag: the struct of a number, whose members are listed or not, or an enum, whose constants are. They are so from the
+-- `{` in front of the first one on
 pub data TagHere : Type 0 where
-  StructHere : ℕ → TagHere
+  StructHere : ℕ → Bool → TagHere
   EnumHere : Bool → TagHere
 
 -- the type that a declaration gives: a whole one, or an array of items of a type, whose size is not known (C11 6.7.6.2p4)

@@ -347,7 +347,7 @@ pub record AreBraces : Type 0 where
   -- sizeof(enum s { y = y })
   pub enum_is_struct : IsRefused (node 1 0 (SizeOfType (type_name (EnumWords (Some (identifier (codes "s") 3)) (Some (enumerator (codes "y") 5 (Some (name (codes "y") 0 7)) ∷ []))) 0 []))) 3 (Rule 2)
   -- sizeof(struct w { char a[sizeof(struct w { int b; })]; })
-  pub completed_inside : IsRefused (node 1 0 (SizeOfType (type_name (StructWords (Some (identifier (codes "w") 3)) (Some (declaration (Basic (Integer Char true)) (field (codes "a") 6 0 (Some (node 0 8 (SizeOfType (type_name (StructWords (Some (identifier (codes "w") 11)) (Some (declaration (Basic (Integer Int true)) (field (codes "b") 14 0 [] ∷ []) ∷ []))) 0 []))) ∷ []) ∷ []) ∷ []))) 0 []))) 3 (Rule 2)
+  pub inside_itself : IsRefused (node 1 0 (SizeOfType (type_name (StructWords (Some (identifier (codes "w") 3)) (Some (declaration (Basic (Integer Char true)) (field (codes "a") 6 0 (Some (node 0 8 (SizeOfType (type_name (StructWords (Some (identifier (codes "w") 11)) (Some (declaration (Basic (Integer Int true)) (field (codes "b") 14 0 [] ∷ []) ∷ []))) 0 []))) ∷ []) ∷ []) ∷ []))) 0 []))) 11 (Rule 2)
   -- sizeof(struct { int a; char a; })
   pub same_name : IsRefused (node 0 0 (SizeOfType (type_name (StructWords None (Some (declaration (Basic (Integer Int true)) (field (codes "a") 5 0 [] ∷ []) ∷ declaration (Basic (Integer Char true)) (field (codes "a") 8 0 [] ∷ []) ∷ []))) 0 []))) 8 (Rule 2)
   -- sizeof(struct { void a; })

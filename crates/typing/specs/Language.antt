@@ -24,9 +24,10 @@ pub record Language : Type 1 where
   pub left : Environment → Environment
   -- what the innermost scope alone says of a tag
   pub tag_here : List ℕ → Environment → Option TagHere
-  -- a struct without members behind the others, whose tag, where it has one, is declared in the innermost scope; and one whose members
-  -- are these now (C11 6.7.2.1p8)
+  -- a struct without members behind the others, whose members are listed from here on, and whose tag, where it has one, is declared in the innermost scope; the
+  -- same of a struct of that number, whose tag that scope has; and a struct whose members are these now (C11 6.7.2.1p8)
   pub struct_opened : Option (List ℕ) → Environment → Environment
+  pub struct_listed : List ℕ → ℕ → Environment → Environment
   pub struct_completed : ℕ → List Field → Environment → Environment
   -- an enum whose constants are listed from here on, whose tag, where it has one, is declared in the innermost scope
   pub enum_listed : Option (List ℕ) → Environment → Environment

@@ -131,7 +131,7 @@ pub record Declarations : Type 0 where
   pub definitions : List (List ℕ × Definition)
 
 abbrev pub tag_of : TagHere → Tag
-tag_of (StructHere number) = StructTag number
+tag_of (StructHere number listed) = StructTag number
 tag_of (EnumHere listed) = EnumTag
 
 -- the first of two answers, or the second where the first is none; and that of scopes
@@ -229,10 +229,13 @@ scope_entered env = record env { scopes = [] ∷ env.scopes; tags = []; outer_ta
 abbrev pub scope_left : Declarations → Declarations
 scope_left env = record env { scopes = behind_first env.scopes; tags = first_of env.outer_tags; outer_tags = behind_first env.outer_tags }
 
--- a struct without members, with its tag where it has one
+-- a struct without members, with its tag, whose members are listed or not, or without one
+abbrev pub struct_tagged : Bool → List ℕ → Declarations → Declarations
+struct_tagged listed name env = record env { tags = (name, StructHere (length env.structs) listed) ∷ env.tags; structs = env.structs ++ fieldless name ∷ [] }
+
 abbrev pub opened : Option (List ℕ) → Declarations → Declarations
 opened None env = record env { structs = env.structs ++ fieldless [] ∷ [] }
-opened (Some name) env = record env { tags = (name, StructHere (length env.structs)) ∷ env.tags; structs = env.structs ++ fieldless name ∷ [] }
+opened (Some name) env = struct_tagged true name env
 
 abbrev pub tagged : Option (List ℕ) → TagHere → Declarations → Declarations
 tagged None tag env = env
@@ -250,7 +253,7 @@ abbrev pub start : Declarations
 start = record {
   in_loop = false;
   result = None;
-  tags = (codes "s", StructHere 0) ∷ (codes "t", StructHere 1) ∷ (codes "v", StructHere 2) ∷ [];
+  tags = (codes "s", StructHere 0 true) ∷ (codes "t", StructHere 1 false) ∷ (codes "v", StructHere 2 true) ∷ [];
   constants = [];
   scopes = [];
   outer_tags = [];
@@ -275,12 +278,13 @@ sample = record {
   entity = λ name env. entity_in env name;
   tag = λ name env. option_map tag_of (named_through (env.tags ∷ env.outer_tags) name);
   structs = λ env. env.structs;
-  struct_declared = λ name env. opened (Some name) env;
+  struct_declared = struct_tagged false;
   enum_declared = λ name env. tagged (Some name) (EnumHere false) env;
   entered = scope_entered;
   left = scope_left;
   tag_here = λ name env. named_in env.tags name;
   struct_opened = opened;
+  struct_listed = λ name number env. tagged (Some name) (StructHere number true) env;
   struct_completed = λ number members env. record env { structs = completed env.structs number members };
   enum_listed = λ name env. tagged name (EnumHere true) env;
   is_declared_here = λ name env. is_some (said_here env name);

@@ -4,7 +4,7 @@
 -- `Finds before saying after` says what is found of a part of a tree, where `before` is declared in front of it and `after` behind
 -- it. The parts of an expression are walked in the order of the text, and the expression itself behind them: what is found in a part
 -- is found of the whole, and where all parts pass, what is named of all that is broken at the expression itself.
-use Rattle.std.specs.Prelude.{◌≡◌, ℕ, suc, Bool, true, false, List, [], ◌∷◌, ◌++◌, Option, None, Some, option_and_then, length, slice_get}
+use Rattle.std.specs.Prelude.{◌≡◌, ℕ, suc, Bool, true, false, List, [], ◌∷◌, ◌++◌, Option, None, Some, option_and_then, length}
 use Rattle.cbase.specs.declared.ctype.CType.{CType}
 use Rattle.cbase.specs.declared.ctype.CType.TheVariants.{Void as VoidType, Struct as StructType, Array as ArrayType}
 use Rattle.cbase.specs.declared.place.Place.{Place}
@@ -25,14 +25,13 @@ use Rattle.cbase.specs.declared.tree.spec.Enumerator.{Enumerator}
 use Rattle.cbase.specs.declared.tree.spec.FieldDecl.{FieldDecl}
 use Rattle.cbase.specs.declared.tree.spec.FieldName.{FieldName}
 use Rattle.cbase.specs.declared.tree.stmt.Stmt.{Stmt}
-use Rattle.cbase.specs.Completing.{is_open}
 use Rattle.typing.specs.declared.ctypes.found.Broken.TheVariants.{Rule}
 use Rattle.typing.specs.ctypes.Binary.{int_type}
 use Rattle.typing.specs.ctypes.Operands.{Operand}
 use Rattle.typing.specs.declared.fault.Fault.{Fault}
 use Rattle.typing.specs.declared.size.Size.{Size}
 use Rattle.typing.specs.declared.size.Size.TheVariants.{LeftOut}
-use Rattle.typing.specs.Braces.{Opens, IsTwice, struct_opening, closing, enum_opening, fixed_size, width_found, member, member_type, faults_of_member}
+use Rattle.typing.specs.Braces.{Opens, IsTwice, struct_opening, enum_opening, fixed_size, width_found, member, member_type, faults_of_member}
 use Rattle.typing.specs.Calls.{is_struct}
 use Rattle.typing.specs.Declarations.{Given, ObjectGiven, LinkedGiven, TypeGiven, Parameter, tag_alone, alone, is_fixed_size, given, given_type, IsAgain, faults_of_name, name_declared, name_of, object_row, in_braces, initialised, told_type, told_faults, parameter, with_parameter, is_named_here, parameter_declared, faults_of_function, function_given}
 use Rattle.typing.specs.Entities.{FunctionEntity, FunctionIs, DeclaredType, WholeType, ItemsOf, Linked, StructTag, EnumTag}
@@ -550,18 +549,12 @@ pub data Finds (l : Language) : l.Environment → Saying → l.Environment → T
   -- neither a tag nor braces name no type; the grammar reads none
   StructOfNothing : {env : l.Environment} → Finds l env (WordsAre (Struct None None) (Passes no_type [])) env
   EnumOfNothing : {env : l.Environment} → Finds l env (WordsAre (Enum None None) (Passes no_type [])) env
-  -- a struct with its members (6.7.2.1): its tag decides first. It is complete behind its `}`; where it was completed inside its own braces,
-  -- its tag is rule 2, and so is one that stands in this scope for an enum or a complete struct (6.7.2.3p1)
+  -- a struct with its members (6.7.2.1): its tag decides first. It is complete behind its `}`; a tag that stands in this scope for an enum, or for a struct
+  -- whose members are listed, is rule 2, also inside the braces of that struct (6.7.2.3p1)
   StructWithMembers : {before inside middle : l.Environment} {number : ℕ} {members : List Field} {handed : List Handed} {name : Option Identifier} {fields : List FieldDecl}
       → struct_opening l name before ≡ Opens (number, inside)
       → Finds l inside (MembersAre [] fields (Passes members handed)) middle
-      → closing name (is_open (slice_get (l.structs middle) number)) ≡ None
       → Finds l before (WordsAre (Struct name (Some fields)) (Passes (whole (StructType number)) handed)) (l.struct_completed number members middle)
-  StructCompletedInside : {before inside after : l.Environment} {number : ℕ} {members : List Field} {handed : List Handed} {first : Fault} {name : Option Identifier} {fields : List FieldDecl}
-      → struct_opening l name before ≡ Opens (number, inside)
-      → Finds l inside (MembersAre [] fields (Passes members handed)) after
-      → closing name (is_open (slice_get (l.structs after) number)) ≡ Some first
-      → Finds l before (WordsAre (Struct name (Some fields)) (Refused first)) after
   MembersRefused : {before inside after : l.Environment} {number : ℕ} {first : Fault} {name : Option Identifier} {fields : List FieldDecl}
       → struct_opening l name before ≡ Opens (number, inside)
       → Finds l inside (MembersAre [] fields (Refused first)) after

@@ -19,7 +19,7 @@ use Rattle.c_machine.specs.Program.{Program}
 use Rattle.c_machine.specs.State.{doing}
 use Rattle.c_machine.specs.Text.{Clause, Declare, Eval, Block, If, While, Do, For, Break, Continue, Return, Declared as DeclaredName, Text}
 use Rattle.c_machine.specs.Trees.{clause_of, name_of, text_of}
-use Rattle.c_run.specs.text.Kept.{is_sized, kept_object}
+use Rattle.c_text.specs.Kept.{is_sized, kept_object}
 use Rattle.c_run.specs.tasks.Room.{are_kept, is_there, kinds_in}
 use Rattle.c_run.proofs.tasks.EachInFront.{item_at}
 use Rattle.c_run.proofs.tasks.MakingRoom.{Tasks, Running}

@@ -14,8 +14,8 @@ use Rattle.c_machine.specs.Expressions.{value_kind}
 use Rattle.c_machine.specs.Program.{Program}
 use Rattle.c_machine.specs.Text.{Store as Stored}
 use Rattle.c_machine.specs.Trees.{text_of}
-use Rattle.c_run.specs.declared.text.store.Store.{Store}
-use Rattle.c_run.specs.text.Kept.{is_sized, kept, kept_object, kept_store}
+use Rattle.c_text.specs.declared.store.Store.{Store}
+use Rattle.c_text.specs.Kept.{is_sized, kept, kept_object, kept_store}
 use Rattle.c_run.specs.declared.tasks.room.Room.{Room}
 use Rattle.c_run.specs.tasks.Room.{are_kept, is_there, kinds_in, MakesRoom}
 use Rattle.c_run.specs.tasks.Structs.{struct_bytes}

@@ -7,7 +7,7 @@ use Rattle.typing.specs.values.Values.{is_whole, whole_in}
 use Rattle.c_machine.specs.declared.kind.Kind.{Kind}
 use Rattle.c_machine.specs.declared.kind.Kind.TheVariants.{Integer, Pointer, Array, Struct, Void}
 use Rattle.c_machine.specs.Words.{decayed}
-use Rattle.c_run.specs.text.Kept.{kept}
+use Rattle.c_text.specs.Kept.{kept}
 
 -- what is kept of a type is that type
 bytes_of : (made : ℕ → Kind) (bytes : ℕ) (fits : Bool) (kind : Kind) → Some kind ≡ option_map made (if fits then Some bytes else None) → made bytes ≡ kind

@@ -21,7 +21,7 @@ use Rattle.c_run.specs.declared.tasks.room.Room.TheVariants.{Made}
 use Rattle.c_run.specs.tasks.Room.{are_kept, is_there, kinds_in, MakesRoom}
 use Rattle.c_run.specs.tasks.Structs.{struct_bytes}
 use Rattle.c_run.proofs.tasks.KeptKinds.{is_kept}
-use Rattle.c_run.specs.text.Kept.{kept}
+use Rattle.c_text.specs.Kept.{kept}
 
 there : (own kind : Kind) → Some kind ≡ kept own → is_there (kept own) ≡ true
 there own kind is = sym (ap is_there is)

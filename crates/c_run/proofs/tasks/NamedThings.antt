@@ -7,9 +7,9 @@ use Rattle.c_machine.specs.Expressions.{loaded, name_parts, named}
 use Rattle.c_machine.specs.Program.{Program, functions_in, number_in}
 use Rattle.c_machine.specs.Text.{Text}
 use Rattle.c_machine.specs.Trees.{body_stands, text_of}
-use Rattle.c_run.specs.declared.text.standing.Standing.{Standing as Told}
-use Rattle.c_run.specs.declared.text.standing.Standing.TheVariants.{Object, Constant, BuiltIn, Body, Nothing}
-use Rattle.c_run.specs.text.Standing.{standing_by}
+use Rattle.c_text.specs.declared.standing.Standing.{Standing as Told}
+use Rattle.c_text.specs.declared.standing.Standing.TheVariants.{Object, Constant, BuiltIn, Body, Nothing}
+use Rattle.c_text.specs.Standing.{standing_by}
 
 -- a function with a body is no object, and no constant
 named_body : (t : Text) (found : Option ℕ) → named t (body_stands found) ≡ Unknown ∷ []

@@ -6,7 +6,7 @@ use Rattle.c_run.specs.declared.tasks.room.Room.{Room}
 use Rattle.c_run.specs.declared.tasks.room.Room.TheVariants.{Made, NotKept}
 use Rattle.c_run.specs.tasks.Room.{are_kept, is_there, kinds_in, kinds_of, MakesRoom}
 use Rattle.c_run.proofs.tasks.MakingRoom.{Tasks, Running, then_false}
-use Rattle.c_run.specs.text.Kept.{kept}
+use Rattle.c_text.specs.Kept.{kept}
 
 and_behind : (one two three : Bool) → one && (two && three) ≡ (one && two) && three
 and_behind true two three = refl

@@ -7,7 +7,7 @@ use Rattle.c_machine.specs.declared.task.Task.TheVariants.{Load, Convert, Apply,
 use Rattle.c_machine.specs.State.{State, doing}
 use Rattle.c_run.specs.declared.tasks.room.Room.{Room}
 use Rattle.c_run.specs.declared.tasks.room.Room.TheVariants.{Made, NotKept}
-use Rattle.c_run.specs.text.Kept.{kept}
+use Rattle.c_text.specs.Kept.{kept}
 
 -- the types of which a thing to do speaks. What copies a struct speaks of its type, and what makes or fills an object of one of its size
 abbrev pub kinds_of : {E S I : Type 0} → Task E S I → List Kind

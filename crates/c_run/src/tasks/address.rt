@@ -6,15 +6,15 @@ ghost use Rattle.c_machine.specs.Trees.{form_of};
 ghost use Rattle.expressions.specs.Numbers.{Numbering};
 ghost use Rattle.c_machine.specs.Program.{Program};
 ghost use Rattle.c_machine.specs.Trees.{text_of};
-ghost use Rattle.c_run.specs.text.Stands.{StandsFor};
+ghost use Rattle.c_text.specs.Stands.{StandsFor};
 ghost use Rattle.c_run.specs.tasks.Room.{MakesRoom};
 
 use crate::tasks::operations::operated;
 use crate::tasks::pushes::{address_then, alone, unknown, value_alone, value_then};
 use crate::tasks::room::Room;
 use crate::tasks::state::TreeState;
-use crate::text::{Standing, TypedText};
 use c_machine::Task;
+use c_text::{Standing, TypedText};
 use cbase::{BinaryOp, Expr, ExprForm, Identifier, NoMemory, UnaryOp};
 
 /// What is to be done for the address of the lvalue that an expression is (C11 6.3.2.1p1).

@@ -6,16 +6,16 @@ ghost use Rattle.c_machine.specs.Expressions.{argument_tasks, value_kind};
 ghost use Rattle.expressions.specs.Numbers.{Numbering};
 ghost use Rattle.c_machine.specs.Program.{Program};
 ghost use Rattle.c_machine.specs.Trees.{kind_in, text_of};
-ghost use Rattle.c_run.specs.text.Parameters.{AreParameters, types_by};
-ghost use Rattle.c_run.specs.text.Stands.{StandsFor};
+ghost use Rattle.c_text.specs.Parameters.{AreParameters, types_by};
+ghost use Rattle.c_text.specs.Stands.{StandsFor};
 ghost use Rattle.c_run.specs.tasks.Room.{MakesRoom};
 
 use crate::tasks::kinds::value_kind;
 use crate::tasks::pushes::value_then;
 use crate::tasks::room::Room;
 use crate::tasks::state::TreeState;
-use crate::text::{Parameters, TypedText};
 use c_machine::Task;
+use c_text::{Parameters, TypedText};
 use cbase::{Expr, NoMemory};
 
 /// What is to be done for the arguments of a call, from left to right, each converted to its parameter (C11 6.5.2.2p4, p7).

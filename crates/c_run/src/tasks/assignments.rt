@@ -7,16 +7,16 @@ ghost use Rattle.c_machine.specs.Text.{Assign, Count};
 ghost use Rattle.expressions.specs.Numbers.{Numbering};
 ghost use Rattle.c_machine.specs.Program.{Program};
 ghost use Rattle.c_machine.specs.Trees.{text_of};
-ghost use Rattle.c_run.specs.text.Stands.{StandsFor};
+ghost use Rattle.c_text.specs.Stands.{StandsFor};
 ghost use Rattle.c_run.specs.tasks.Room.{are_kept, MakesRoom};
 
 use crate::tasks::kinds::{struct_bytes, value_kind};
 use crate::tasks::pushes::{address_alone, address_then, do_conversion};
 use crate::tasks::room::Room;
 use crate::tasks::state::TreeState;
-use crate::text::TypedText;
 use c_machine::Task;
 use c_steps::Tree;
+use c_text::TypedText;
 use cbase::{BinaryOp, Expr, NoMemory, Place};
 
 /// What is to be done for an assignment, where `op` is the operation of `+=` and its like (C11 6.5.16).

@@ -8,14 +8,14 @@ ghost use Rattle.c_machine.specs.State.{doing};
 ghost use Rattle.expressions.specs.Numbers.{Numbering};
 ghost use Rattle.c_machine.specs.Program.{Program};
 ghost use Rattle.c_machine.specs.Trees.{name_of, text_of};
-ghost use Rattle.c_run.specs.text.Stands.{StandsFor};
+ghost use Rattle.c_text.specs.Stands.{StandsFor};
 ghost use Rattle.c_run.specs.tasks.Room.{MakesRoom};
 
 use crate::tasks::pushes::{alone, do_statement, do_value};
 use crate::tasks::room::Room;
 use crate::tasks::state::TreeState;
-use crate::text::TypedText;
 use c_machine::Task;
+use c_text::TypedText;
 use cbase::{Declared, NoMemory, Place, Stmt, StmtForm};
 
 /// What is to be done for a block, which ends at the `}` of that place (C11 6.8.2).

@@ -6,8 +6,8 @@ ghost use Rattle.c_machine.specs.Text.{Call};
 ghost use Rattle.expressions.specs.Numbers.{Numbering};
 ghost use Rattle.c_machine.specs.Program.{Program, FunctionItem as OfProgram, functions_in, number_in};
 ghost use Rattle.c_machine.specs.Trees.{body_stands, function_as, text_of};
-ghost use Rattle.c_run.specs.text.Standing.{built_in_by};
-ghost use Rattle.c_run.specs.text.Stands.{StandsFor};
+ghost use Rattle.c_text.specs.Standing.{built_in_by};
+ghost use Rattle.c_text.specs.Stands.{StandsFor};
 ghost use Rattle.c_run.specs.tasks.Room.{MakesRoom};
 
 use crate::tasks::arguments::arguments;
@@ -15,8 +15,8 @@ use crate::tasks::functions::built_in;
 use crate::tasks::pushes::unknown;
 use crate::tasks::room::Room;
 use crate::tasks::state::TreeState;
-use crate::text::{Functions, Parameters, Standing, TypedText};
 use c_machine::Task;
+use c_text::{Functions, Parameters, Standing, TypedText};
 use cbase::{Expr, ExprForm, NoMemory};
 
 /// What is to be done for a call: its arguments from left to right, each converted to its parameter, and then a function that is built in, or the call of

@@ -5,13 +5,13 @@ ghost use Rattle.c_machine.specs.Blocks.{declared_tasks};
 ghost use Rattle.expressions.specs.Numbers.{Numbering};
 ghost use Rattle.c_machine.specs.Program.{Program};
 ghost use Rattle.c_machine.specs.Trees.{name_of, text_of};
-ghost use Rattle.c_run.specs.text.Stands.{StandsFor};
+ghost use Rattle.c_text.specs.Stands.{StandsFor};
 ghost use Rattle.c_run.specs.tasks.Room.{MakesRoom};
 
 use crate::tasks::initialisers::declared_tasks;
 use crate::tasks::room::Room;
 use crate::tasks::state::TreeState;
-use crate::text::TypedText;
+use c_text::TypedText;
 use cbase::{Declared, NoMemory};
 
 /// What is to be done for the names of a declaration, in order (C11 6.7). What is done last is put there first.

@@ -5,16 +5,16 @@ ghost use Rattle.c_machine.specs.Text.{Cast, Choose};
 ghost use Rattle.expressions.specs.Numbers.{Numbering};
 ghost use Rattle.c_machine.specs.Program.{Program};
 ghost use Rattle.c_machine.specs.Trees.{text_of};
-ghost use Rattle.c_run.specs.text.Stands.{StandsFor};
+ghost use Rattle.c_text.specs.Stands.{StandsFor};
 ghost use Rattle.c_run.specs.tasks.Room.{MakesRoom};
 
 use crate::tasks::kinds::value_kind;
 use crate::tasks::pushes::value_then;
 use crate::tasks::room::Room;
 use crate::tasks::state::TreeState;
-use crate::text::TypedText;
 use c_machine::Task;
 use c_steps::Tree;
+use c_text::TypedText;
 use cbase::{Expr, NoMemory};
 
 /// What is to be done for `?:` (C11 6.5.15p4).

@@ -12,17 +12,17 @@ ghost use Rattle.c_machine.specs.State.{doing};
 ghost use Rattle.expressions.specs.Numbers.{Numbering};
 ghost use Rattle.c_machine.specs.Program.{Program};
 ghost use Rattle.c_machine.specs.Trees.{name_of, text_of};
-ghost use Rattle.c_run.specs.text.Kept.{is_sized, kept};
-ghost use Rattle.c_run.specs.text.Stands.{StandsFor};
+ghost use Rattle.c_text.specs.Kept.{is_sized, kept};
+ghost use Rattle.c_text.specs.Stands.{StandsFor};
 ghost use Rattle.c_run.specs.tasks.Room.{are_kept, kinds_in, MakesRoom};
 
 use crate::tasks::kinds::{struct_bytes, value_kind};
 use crate::tasks::pushes::{alone, do_conversion, unknown};
 use crate::tasks::room::Room;
 use crate::tasks::state::{TreeState, TreeTask};
-use crate::text::{Store, TypedText};
 use c_machine::{Object, Task};
 use c_steps::Tree;
+use c_text::{Store, TypedText};
 use cbase::{Declared, Expr, Init, InitPart, NoMemory, Place};
 
 /// What is to be done for a declared name: only an automatic object with an initialiser does something (C11 6.7.9).

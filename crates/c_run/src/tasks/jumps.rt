@@ -4,15 +4,15 @@ ghost use Rattle.c_machine.specs.Statements.{return_tasks};
 ghost use Rattle.expressions.specs.Numbers.{Numbering};
 ghost use Rattle.c_machine.specs.Program.{Program};
 ghost use Rattle.c_machine.specs.Trees.{text_of};
-ghost use Rattle.c_run.specs.text.Stands.{StandsFor};
+ghost use Rattle.c_text.specs.Stands.{StandsFor};
 ghost use Rattle.c_run.specs.tasks.Room.{MakesRoom};
 
 use crate::tasks::kinds::value_kind;
 use crate::tasks::pushes::{alone, value_then};
 use crate::tasks::room::Room;
 use crate::tasks::state::TreeState;
-use crate::text::TypedText;
 use c_machine::{Kind, Task};
+use c_text::TypedText;
 use cbase::{Boxed, Expr, NoMemory, Place};
 
 /// `return`, with a value or without one (C11 6.8.6.4).

@@ -4,13 +4,13 @@ ghost use Rattle.expressions.specs.Numbers.{Numbering};
 ghost use Rattle.c_machine.specs.Expressions.{value_kind};
 ghost use Rattle.c_machine.specs.Program.{Program};
 ghost use Rattle.c_machine.specs.Trees.{text_of};
-ghost use Rattle.c_run.specs.text.Kept.{kept};
-ghost use Rattle.c_run.specs.text.Stands.{StandsFor};
+ghost use Rattle.c_text.specs.Kept.{kept};
+ghost use Rattle.c_text.specs.Stands.{StandsFor};
 ghost use Rattle.c_run.specs.tasks.Structs.{struct_bytes};
 
-use crate::text::TypedText;
 use c_machine::Kind;
 use c_steps::words::decayed;
+use c_text::TypedText;
 use cbase::Expr;
 
 /// The kind of the value of an expression, where it is kept: an array became a pointer (C11 6.3.2.1p3).

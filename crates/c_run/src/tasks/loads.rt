@@ -4,14 +4,14 @@ ghost use Rattle.c_machine.specs.Expressions.{loaded};
 ghost use Rattle.expressions.specs.Numbers.{Numbering};
 ghost use Rattle.c_machine.specs.Program.{Program};
 ghost use Rattle.c_machine.specs.Trees.{text_of};
-ghost use Rattle.c_run.specs.text.Stands.{StandsFor};
+ghost use Rattle.c_text.specs.Stands.{StandsFor};
 ghost use Rattle.c_run.specs.tasks.Room.{MakesRoom};
 
 use crate::tasks::pushes::address_then;
 use crate::tasks::room::Room;
 use crate::tasks::state::TreeState;
-use crate::text::TypedText;
 use c_machine::Task;
+use c_text::TypedText;
 use cbase::{Expr, NoMemory};
 
 /// The value of an lvalue: one load, at its place (C11 6.3.2.1p2).

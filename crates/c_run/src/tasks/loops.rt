@@ -6,7 +6,7 @@ ghost use Rattle.c_machine.specs.Statements.{again_tasks, test_tasks};
 ghost use Rattle.expressions.specs.Numbers.{Numbering};
 ghost use Rattle.c_machine.specs.Program.{Program};
 ghost use Rattle.c_machine.specs.Trees.{text_of};
-ghost use Rattle.c_run.specs.text.Stands.{StandsFor};
+ghost use Rattle.c_text.specs.Stands.{StandsFor};
 ghost use Rattle.c_run.specs.tasks.Loops.{is_for};
 ghost use Rattle.c_run.specs.tasks.Room.{MakesRoom};
 
@@ -15,9 +15,9 @@ use crate::tasks::branches::tested;
 use crate::tasks::pushes::{alone, do_statement, statement_alone, unknown, value_then};
 use crate::tasks::room::Room;
 use crate::tasks::state::TreeState;
-use crate::text::TypedText;
 use c_machine::Task;
 use c_steps::Tree;
+use c_text::TypedText;
 use cbase::{NoMemory, Stmt, StmtForm};
 
 /// What is to be done for the condition of a loop: a `for` without one goes on (C11 6.8.5p4, 6.8.5.3p2).

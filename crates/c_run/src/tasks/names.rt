@@ -6,15 +6,15 @@ ghost use Rattle.c_machine.specs.Text.{Name, Known};
 ghost use Rattle.expressions.specs.Numbers.{Numbering};
 ghost use Rattle.c_machine.specs.Program.{Program};
 ghost use Rattle.c_machine.specs.Trees.{text_of};
-ghost use Rattle.c_run.specs.text.Stands.{StandsFor};
+ghost use Rattle.c_text.specs.Stands.{StandsFor};
 ghost use Rattle.c_run.specs.tasks.Room.{MakesRoom};
 
 use crate::tasks::loads::loaded;
 use crate::tasks::pushes::{alone, unknown};
 use crate::tasks::room::Room;
 use crate::tasks::state::TreeState;
-use crate::text::{Standing, TypedText};
 use c_machine::Task;
+use c_text::{Standing, TypedText};
 use cbase::{Expr, NoMemory};
 
 /// What is to be done for the value of a name: a constant of an enum is known, and an object is loaded (C11 6.4.4.3, 6.5.1).

@@ -6,7 +6,7 @@ ghost use Rattle.c_machine.specs.Text.{Unary, Binary};
 ghost use Rattle.expressions.specs.Numbers.{Numbering};
 ghost use Rattle.c_machine.specs.Program.{Program};
 ghost use Rattle.c_machine.specs.Trees.{text_of};
-ghost use Rattle.c_run.specs.text.Stands.{StandsFor};
+ghost use Rattle.c_text.specs.Stands.{StandsFor};
 ghost use Rattle.c_run.specs.tasks.Room.{MakesRoom};
 
 use crate::tasks::kinds::value_kind;
@@ -14,9 +14,9 @@ use crate::tasks::loads::loaded;
 use crate::tasks::pushes::{address_alone, do_value, value_then};
 use crate::tasks::room::Room;
 use crate::tasks::state::TreeState;
-use crate::text::TypedText;
 use c_machine::Task;
 use c_steps::Tree;
+use c_text::TypedText;
 use cbase::{BinaryOp, Expr, NoMemory, UnaryOp};
 
 /// What is to be done for the value of a unary operator with its operand (C11 6.5.3.2, 6.5.3.3).

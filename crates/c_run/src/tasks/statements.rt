@@ -4,7 +4,7 @@ ghost use Rattle.c_machine.specs.Statements.{statement_tasks};
 ghost use Rattle.expressions.specs.Numbers.{Numbering};
 ghost use Rattle.c_machine.specs.Program.{Program};
 ghost use Rattle.c_machine.specs.Trees.{text_of};
-ghost use Rattle.c_run.specs.text.Stands.{StandsFor};
+ghost use Rattle.c_text.specs.Stands.{StandsFor};
 ghost use Rattle.c_run.specs.tasks.Room.{MakesRoom};
 
 use crate::tasks::blocks::in_block;
@@ -15,8 +15,8 @@ use crate::tasks::loops::{for_loop, test_alone, turn};
 use crate::tasks::pushes::{alone, value_then};
 use crate::tasks::room::Room;
 use crate::tasks::state::TreeState;
-use crate::text::TypedText;
 use c_machine::Task;
+use c_text::TypedText;
 use cbase::{NoMemory, Stmt, StmtForm};
 
 /// What is to be done for a statement, where unfinished expressions around it hold so many operands (C11 6.8).

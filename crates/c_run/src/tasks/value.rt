@@ -4,7 +4,7 @@ ghost use Rattle.c_machine.specs.Expressions.{value_tasks};
 ghost use Rattle.expressions.specs.Numbers.{Numbering};
 ghost use Rattle.c_machine.specs.Program.{Program, functions_in};
 ghost use Rattle.c_machine.specs.Trees.{text_of};
-ghost use Rattle.c_run.specs.text.Stands.{StandsFor};
+ghost use Rattle.c_text.specs.Stands.{StandsFor};
 ghost use Rattle.c_run.specs.tasks.Room.{MakesRoom};
 
 use crate::tasks::assignments::{assigned, counted};
@@ -17,8 +17,8 @@ use crate::tasks::operations::{binary, unary};
 use crate::tasks::pushes::alone;
 use crate::tasks::room::Room;
 use crate::tasks::state::TreeState;
-use crate::text::{Functions, TypedText};
 use c_machine::Task;
+use c_text::{Functions, TypedText};
 use cbase::{Expr, ExprForm, NoMemory};
 
 /// What is to be done for the value of an expression (C11 6.5).

@@ -6,7 +6,7 @@ ghost use Rattle.typing.specs.environment.Environment.{name_bound, tag_declared,
 ghost use Rattle.typing.specs.declared.environment.entity.Binding.TheVariants.{Own};
 ghost use Rattle.typing.specs.declared.environment.entity.Tag.TheVariants.{Struct, Enum};
 ghost use Rattle.expressions.specs.Context.{declared};
-ghost use Rattle.expressions.specs.Language.{struct_declared, enum_declared};
+ghost use Rattle.expressions.specs.Language.{struct_tagged, enum_declared};
 
 use crate::context::Context;
 use cbase::{List, NoMemory, Text};
@@ -35,19 +35,40 @@ impl Context {
         self.environment.add_signature(signature)
     }
 
-    /// Declares a tag of a struct in the innermost scope: a struct without members, whose number stands behind the others (C11 6.7.2.3p8).
+    /// Declares a tag of a struct in the innermost scope: a struct without members, whose number stands behind the others (C11 6.7.2.3p8), and whose members are
+    /// listed from here on or not.
     ///
     /// Want of memory is the only error, and nothing is said of the context then: the struct may be there, and its tag not.
-    pub fn declare_struct(&mut self, alloc: Global, name: &[u8]) -> Result<u32, NoMemory>
+    pub fn declare_struct(
+        &mut self,
+        alloc: Global,
+        name: &[u8],
+        listed: bool,
+    ) -> Result<u32, NoMemory>
         ensures number { IfOk result (λ number. number ≡ length self.old.structs) }
-        ensures ok { OnOk result (declared self.new ≡ struct_declared name.now (declared self.old)) }
+        ensures ok { OnOk result (declared self.new ≡ struct_tagged listed name.now (declared self.old)) }
         ensures types { OnOk result (self.new.types ≡ self.old.types) }
         ensures handed { OnOk result (self.new.handed ≡ self.old.handed) }
     {
         let number = self.types.declare(alloc, Text::from_slice(alloc, name)?)?;
         self.environment
-            .declare_tag(alloc, name, Tag::Struct(number))?;
+            .declare_tag(alloc, name, Tag::Struct { number, listed })?;
         Ok(number)
+    }
+
+    /// Declares a tag of a struct whose members follow, in the innermost scope (C11 6.7.2.1p8). Where memory is wanting all stays as it was.
+    pub fn list_struct(&mut self, alloc: Global, name: &[u8], number: u32) -> Result<(), NoMemory>
+        ensures ok { OnOk result (self.new ≡ record self.old { environment = tag_declared name.now (Struct number true) self.old.environment }) }
+        ensures err { OnErr result (self.new ≡ self.old) }
+    {
+        self.environment.declare_tag(
+            alloc,
+            name,
+            Tag::Struct {
+                number,
+                listed: true,
+            },
+        )
     }
 
     /// Puts a struct without members and without a tag behind the others, and gives its number (C11 6.7.2.1p8). Where memory is wanting all stays as

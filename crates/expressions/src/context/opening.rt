@@ -1,23 +1,20 @@
-ghost use Rattle.std.specs.Prelude.{◌≡◌, ◌<◌, ℕ, length, slice_get, All, IfOk, if◌then◌else◌};
+ghost use Rattle.std.specs.Prelude.{◌≡◌, IfOk};
 ghost use Rattle.cbase.specs.declared.abi.Abi.{Abi};
-ghost use Rattle.cbase.specs.Completing.{is_open};
 ghost use Rattle.typing.specs.declared.ctypes.found.Broken.TheVariants.{Rule};
-ghost use Rattle.typing.specs.Braces.{closing};
 ghost use Rattle.typing.specs.Faults.{fault};
-ghost use Rattle.expressions.specs.declared.found.Found.TheVariants.{Passes, Refused};
-ghost use Rattle.expressions.specs.Opened.{IsStructOpened, IsEnumOpened, IsStructClosed};
+ghost use Rattle.expressions.specs.Opened.{IsStructOpened, IsEnumOpened};
 
 use crate::context::Context;
 use crate::found::Found;
-use cbase::{Identifier, List, NoMemory};
+use cbase::{Identifier, NoMemory};
 use std::alloc::Global;
 use typing::Fault;
-use typing::ctypes::{Broken, Member};
+use typing::ctypes::Broken;
 use typing::environment::Tag;
 
 impl Context {
     /// The number of the struct whose members follow in braces (C11 6.7.2.3p1, p4, p6): one that this scope declares and that has none yet, or a new one.
-    /// A tag that this scope declares for an enum, or for a struct with members, is rule 2 at it.
+    /// A tag that this scope declares for an enum, or for a struct whose members are listed, is rule 2 at it, also inside the braces of that struct.
     ///
     /// Want of memory is the only error, and nothing is said of the context then.
     pub fn open_struct(
@@ -34,23 +31,22 @@ impl Context {
             };
         };
         match self.tag_here(tag.name.as_slice()) {
-            None => match self.declare_struct(alloc, tag.name.as_slice()) {
+            None => match self.declare_struct(alloc, tag.name.as_slice(), true) {
                 Ok(number) => Ok(Found::Passes(number)),
                 Err(error) => Err(error),
             },
-            Some(Tag::Struct(number)) => Ok(self.reopen(tag, number)),
-            Some(Tag::Enum { .. }) => Ok(Found::Refused(twice(tag))),
-        }
-    }
-
-    /// A struct of this scope, where it has no members yet.
-    fn reopen(&self, tag: &Identifier, number: u32) -> Found<u32>
-        ensures { result ≡ (if is_open (slice_get self.now.structs number) then Passes number else Refused (fault tag.now.place (Rule 2))) }
-    {
-        if self.is_open(number) {
-            Found::Passes(number)
-        } else {
-            Found::Refused(twice(tag))
+            Some(
+                Tag::Struct {
+                    number,
+                    listed: false,
+                },
+            ) => match self.list_struct(alloc, tag.name.as_slice(), number) {
+                Ok(()) => Ok(Found::Passes(number)),
+                Err(error) => Err(error),
+            },
+            Some(Tag::Struct { listed: true, .. }) | Some(Tag::Enum { .. }) => {
+                Ok(Found::Refused(twice(tag)))
+            }
         }
     }
 
@@ -75,39 +71,7 @@ impl Context {
                     Err(error) => Err(error),
                 }
             }
-            Some(Tag::Enum { listed: true }) | Some(Tag::Struct(_)) => Ok(Some(twice(tag))),
-        }
-    }
-
-    /// Gives a struct its members at the `}` (C11 6.7.2.1p8). Where it was given members inside its own braces, its tag is rule 2.
-    ///
-    /// Where memory is wanting all stays as it was.
-    pub fn close_struct(
-        &mut self,
-        alloc: Global,
-        name: &Option<Identifier>,
-        number: u32,
-        members: List<Member>,
-    ) -> Result<Option<Fault>, NoMemory>
-        requires { All (λ member. member.ctype < length self.old.types) members }
-        ensures { IfOk result (λ refused. IsStructClosed name.now number members self.old self.new refused) }
-    {
-        match self.twice_inside(name, number) {
-            Some(fault) => Ok(Some(fault)),
-            None => match self.complete(alloc, number, members) {
-                Ok(_) => Ok(None),
-                Err(error) => Err(error),
-            },
-        }
-    }
-
-    /// What is broken at the `}` of a struct.
-    fn twice_inside(&self, name: &Option<Identifier>, number: u32) -> Option<Fault>
-        ensures { result ≡ closing name.now (is_open (slice_get self.now.structs number)) }
-    {
-        match name {
-            Some(tag) if !self.is_open(number) => Some(twice(tag)),
-            _ => None,
+            Some(Tag::Enum { listed: true }) | Some(Tag::Struct { .. }) => Ok(Some(twice(tag))),
         }
     }
 }

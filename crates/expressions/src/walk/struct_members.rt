@@ -51,7 +51,7 @@ impl<F: Fn(&mut Context, Within, Part<'_>) -> Result<Found<Told>, NoMemory>> Che
         };
         let mut members = Members::new(alloc);
         let declared = self.declarations(alloc, context, fields.as_slice(), &mut members);
-        close(alloc, context, name, number, members.into_list(), declared)
+        close(alloc, context, number, members.into_list(), declared)
     }
 
     /// The declarations of members (C11 6.7.2.1), the words of each and its names, which are put behind those that the struct has.
@@ -221,20 +221,18 @@ fn take_member(
 fn close(
     alloc: Global,
     context: &mut Context,
-    name: &Option<Identifier>,
     number: u32,
     members: List<Member>,
     declared: Result<Found<()>, NoMemory>,
 ) -> Result<Found<NamedType>, NoMemory>
     requires { IfOk declared (λ found. WherePasses found (All (λ member. member.ctype < length context.old.types) members)) }
-    ensures passes { declared ≡ Ok (Passes tt) → IfOk result (λ found. IsClosed name.now number members context.old context.new found) }
+    ensures passes { declared ≡ Ok (Passes tt) → IfOk result (λ found. IsClosed number members context.old context.new found) }
     ensures refused { (first : Fault) → declared ≡ Ok (Refused first) → IfOk result (λ found. (found ≡ Refused first) × (context.new ≡ context.old)) }
     ensures err { (error : NoMemory) → declared ≡ Err error → IfOk result (λ found. ⊥) }
 {
     match declared {
-        Ok(Found::Passes(())) => match context.close_struct(alloc, name, number, members) {
-            Ok(Some(fault)) => Ok(Found::Refused(fault)),
-            Ok(None) => match context.structure(number) {
+        Ok(Found::Passes(())) => match context.complete(alloc, number, members) {
+            Ok(_) => match context.structure(number) {
                 Ok(ctype) => Ok(Found::Passes(NamedType { ctype, found: None })),
                 Err(error) => Err(error),
             },

@@ -137,9 +137,9 @@ fn structure(
     ensures { (abi : Abi) → IfOk result (λ found. Walked (Says abi (λ o. WordsAre (Struct (Some tag.now) None) o)) a_type context.old context.new found) }
 {
     let number = match context.tag(tag.name.as_slice()) {
-        Some(Tag::Struct(number)) => number,
+        Some(Tag::Struct { number, .. }) => number,
         Some(Tag::Enum { .. }) => return Ok(other_kind(tag)),
-        None => context.declare_struct(alloc, tag.name.as_slice())?,
+        None => context.declare_struct(alloc, tag.name.as_slice(), false)?,
     };
     match context.structure(number) {
         Ok(ctype) => Ok(whole(ctype)),
@@ -157,7 +157,7 @@ fn enumeration(
 {
     match context.tag(tag.name.as_slice()) {
         Some(Tag::Enum { .. }) => {}
-        Some(Tag::Struct(_)) => return Ok(other_kind(tag)),
+        Some(Tag::Struct { .. }) => return Ok(other_kind(tag)),
         None => context.declare_enum(alloc, tag.name.as_slice())?,
     }
     match context.integer(4, true) {

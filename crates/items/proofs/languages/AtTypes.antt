@@ -42,7 +42,7 @@ module _ (n : Numbering) where
   entity_at_types (Function signature defined built_in) = refl
 
   pub tag_at_types : (tag : TagByNumber) → tag_of (tag_here_at tag) ≡ tag_at tag
-  tag_at_types (Struct number) = refl
+  tag_at_types (Struct number listed) = refl
   tag_at_types (Enum listed) = refl
 
   pub here_at_types : (binding : BindingByNumber) → here_by (binding_at n binding) ≡ name_here_at n binding

@@ -143,7 +143,7 @@ module _ (abi : Abi) (n : Numbering) (back : LeadsBack n) where
   opened_follows : (name : Option (List ℕ)) (before : Declared) → HasSignatures n (struct_opened name before)
       → Follows (declarations_at n) (HasSignatures n) before (struct_opened name before) ((c_language abi).struct_opened name (declarations_at n before))
   opened_follows None before valid = record { valid = valid; same = refl }
-  opened_follows (Some name) before valid = record { valid = valid; same = tagged_at n name (Struct (length before.structs)) (before.structs ++ fieldless name ∷ []) before }
+  opened_follows (Some name) before valid = record { valid = valid; same = tagged_at n name (Struct (length before.structs) true) (before.structs ++ fieldless name ∷ []) before }
 
   listed_follows : (name : Option (List ℕ)) (before : Declared) → HasSignatures n (enum_listed name before)
       → Follows (declarations_at n) (HasSignatures n) before (enum_listed name before) ((c_language abi).enum_listed name (declarations_at n before))
@@ -176,10 +176,11 @@ module _ (abi : Abi) (n : Numbering) (back : LeadsBack n) where
         ∙ token_before n (value_in name before.environment.linked) 0;
     struct_declared = λ name before valid. record {
       valid = valid;
-      same = tagged_at n name (Struct (length before.structs)) (before.structs ++ fieldless name ∷ []) before;
+      same = tagged_at n name (Struct (length before.structs) false) (before.structs ++ fieldless name ∷ []) before;
     };
     enum_declared = λ name before valid. record { valid = valid; same = tagged_at n name (Enum false) before.structs before };
     struct_opened = opened_follows;
+    struct_listed = λ name number before valid. record { valid = valid; same = tagged_at n name (Struct number true) before.structs before };
     struct_completed = λ number fields before valid. record { valid = valid; same = refl };
     enum_listed = listed_follows;
     constant_declared = λ name bits before valid. record { valid = valid; same = bound_at n name (OwnByNumber (Enumerator bits)) (Own (AConstant bits)) before refl };

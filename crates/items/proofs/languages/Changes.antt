@@ -1,13 +1,11 @@
 -- What a language changes is followed by the one that it carries over to, also where it is changed by several steps or as a tag says.
 use Rattle.std.proofs.Common.{◌≡◌, ℕ, length, Bool, true, false, List, [], ◌∷◌, Option, Some, None, refl, sym, ap, ◌∙◌, subst}
-use Rattle.std.specs.Prelude.{slice_get}
 use Rattle.cbase.specs.declared.ctype.CType.{CType}
 use Rattle.cbase.specs.declared.tree.decl.Storage.{Storage}
 use Rattle.cbase.specs.declared.tree.identifier.Identifier.{Identifier}
-use Rattle.cbase.specs.Completing.{is_open}
 use Rattle.typing.specs.declared.fault.Fault.{Fault}
 use Rattle.typing.specs.declared.size.Size.{Size}
-use Rattle.typing.specs.Braces.{Opening, Opens, IsTwice, reopened, tagged_struct, struct_opening, tagged_enum, enum_opening}
+use Rattle.typing.specs.Braces.{Opening, Opens, IsTwice, tagged_struct, struct_opening, tagged_enum, enum_opening}
 use Rattle.typing.specs.Declarations.{Given, ObjectGiven, LinkedGiven, TypeGiven, Parameter, composite, hidden_items, alone_by, alone, name_declared, is_named_here, parameter_declared, function_given}
 use Rattle.typing.specs.Entities.{ObjectLinked, TagHere, StructHere, EnumHere, Definition, WholeType}
 use Rattle.typing.specs.FileNames.{definition_in, with_definition, object_type, object_declared}
@@ -80,7 +78,7 @@ module _ {l m : Language} {file : FileScope l} {other : FileScope m} {to : l.Env
       → (there : m.Environment) × (alone_by m name (to before) here ≡ Opens there) × Follows to Valid before after there
   alone_by_tag name before after None e valid =
       (m.struct_declared name.name (to before), refl, follows_as (ap (opened before) e) (c.struct_declared name.name before) valid)
-  alone_by_tag name before after (Some (StructHere number)) e valid = (to before, refl, nothing_changed (ap (opened before) e) valid)
+  alone_by_tag name before after (Some (StructHere number listed)) e valid = (to before, refl, nothing_changed (ap (opened before) e) valid)
   alone_by_tag name before after (Some (EnumHere listed)) e valid = never_opened e
 
   pub alone_follows : (name : Identifier) (before after : l.Environment) → alone (seen l m to) name before ≡ Opens after → Valid after
@@ -90,20 +88,13 @@ module _ {l m : Language} {file : FileScope l} {other : FileScope m} {to : l.Env
   twice_by_tag : (name : Identifier) (env : l.Environment) (first : Fault) (here : Option TagHere) → alone_by (seen l m to) name env here ≡ IsTwice first
       → alone_by m name (to env) here ≡ IsTwice first
   twice_by_tag name env first None e = never_twice e
-  twice_by_tag name env first (Some (StructHere number)) e = never_twice e
+  twice_by_tag name env first (Some (StructHere number listed)) e = never_twice e
   twice_by_tag name env first (Some (EnumHere listed)) e = twice_also _ first e
 
   pub alone_twice : (name : Identifier) (env : l.Environment) (first : Fault) → alone (seen l m to) name env ≡ IsTwice first → alone m name (to env) ≡ IsTwice first
   alone_twice name env first e = twice_by_tag name env first (m.tag_here name.name (to env)) e
 
   -- the braces of a struct
-  reopened_follows : (still : Bool) (number inner : ℕ) (name : Identifier) (before inside : l.Environment) → reopened still number name before ≡ Opens (inner, inside) → Valid inside
-      → (there : m.Environment) × (reopened still number name (to before) ≡ Opens (inner, there)) × Follows to Valid before inside there
-  reopened_follows true number inner name before inside e valid =
-      let both : (number, before) ≡ (inner, inside) = ap (opened (number, before)) e in
-      (to before, (λ i. Opens ((both i).0, to before)), nothing_changed (λ i. (both i).1) valid)
-  reopened_follows false number inner name before inside e valid = never_opened e
-
   tagged_follows : (name : Identifier) (inner : ℕ) (before inside : l.Environment) (here : Option TagHere) → tagged_struct (seen l m to) name before here ≡ Opens (inner, inside) → Valid inside
       → (there : m.Environment) × (tagged_struct m name (to before) here ≡ Opens (inner, there)) × Follows to Valid before inside there
   tagged_follows name inner before inside None e valid =
@@ -112,8 +103,10 @@ module _ {l m : Language} {file : FileScope l} {other : FileScope m} {to : l.Env
         (λ i. Opens ((opened (length (m.structs (to before)), before) (e i)).0, there)),
         follows_as (λ i. (opened (length (m.structs (to before)), before) (e i)).1) (c.struct_opened (Some name.name) before) valid,
       )
-  tagged_follows name inner before inside (Some (StructHere number)) e valid =
-      reopened_follows (is_open (slice_get (m.structs (to before)) number)) number inner name before inside e valid
+  tagged_follows name inner before inside (Some (StructHere number true)) e valid = never_opened e
+  tagged_follows name inner before inside (Some (StructHere number false)) e valid =
+      let there : m.Environment = m.struct_listed name.name number (to before) in
+      (there, (λ i. Opens ((opened (number, before) (e i)).0, there)), follows_as (λ i. (opened (number, before) (e i)).1) (c.struct_listed name.name number before) valid)
   tagged_follows name inner before inside (Some (EnumHere listed)) e valid = never_opened e
 
   pub struct_opening_follows : (name : Option Identifier) (inner : ℕ) (before inside : l.Environment) → struct_opening (seen l m to) name before ≡ Opens (inner, inside) → Valid inside
@@ -126,15 +119,11 @@ module _ {l m : Language} {file : FileScope l} {other : FileScope m} {to : l.Env
       )
   struct_opening_follows (Some name) inner before inside e valid = tagged_follows name inner before inside (m.tag_here name.name (to before)) e valid
 
-  reopened_twice : (still : Bool) (number : ℕ) (name : Identifier) (env : l.Environment) (first : Fault) → reopened still number name env ≡ IsTwice first
-      → reopened still number name (to env) ≡ IsTwice first
-  reopened_twice true number name env first e = never_twice e
-  reopened_twice false number name env first e = twice_also _ first e
-
   tagged_twice : (name : Identifier) (env : l.Environment) (first : Fault) (here : Option TagHere) → tagged_struct (seen l m to) name env here ≡ IsTwice first
       → tagged_struct m name (to env) here ≡ IsTwice first
   tagged_twice name env first None e = never_twice e
-  tagged_twice name env first (Some (StructHere number)) e = reopened_twice (is_open (slice_get (m.structs (to env)) number)) number name env first e
+  tagged_twice name env first (Some (StructHere number true)) e = twice_also _ first e
+  tagged_twice name env first (Some (StructHere number false)) e = never_twice e
   tagged_twice name env first (Some (EnumHere listed)) e = twice_also _ first e
 
   pub struct_opening_twice : (name : Option Identifier) (env : l.Environment) (first : Fault) → struct_opening (seen l m to) name env ≡ IsTwice first → struct_opening m name (to env) ≡ IsTwice first
@@ -146,7 +135,7 @@ module _ {l m : Language} {file : FileScope l} {other : FileScope m} {to : l.Env
       → (there : m.Environment) × (tagged_enum m name (to before) here ≡ Opens there) × Follows to Valid before inside there
   enum_tagged_follows name before inside None e valid =
       (m.enum_listed (Some name.name) (to before), refl, follows_as (ap (opened before) e) (c.enum_listed (Some name.name) before) valid)
-  enum_tagged_follows name before inside (Some (StructHere number)) e valid = never_opened e
+  enum_tagged_follows name before inside (Some (StructHere number listed)) e valid = never_opened e
   enum_tagged_follows name before inside (Some (EnumHere true)) e valid = never_opened e
   enum_tagged_follows name before inside (Some (EnumHere false)) e valid =
       (m.enum_listed (Some name.name) (to before), refl, follows_as (ap (opened before) e) (c.enum_listed (Some name.name) before) valid)
@@ -159,7 +148,7 @@ module _ {l m : Language} {file : FileScope l} {other : FileScope m} {to : l.Env
   enum_tagged_twice : (name : Identifier) (env : l.Environment) (first : Fault) (here : Option TagHere) → tagged_enum (seen l m to) name env here ≡ IsTwice first
       → tagged_enum m name (to env) here ≡ IsTwice first
   enum_tagged_twice name env first None e = never_twice e
-  enum_tagged_twice name env first (Some (StructHere number)) e = twice_also _ first e
+  enum_tagged_twice name env first (Some (StructHere number listed)) e = twice_also _ first e
   enum_tagged_twice name env first (Some (EnumHere true)) e = twice_also _ first e
   enum_tagged_twice name env first (Some (EnumHere false)) e = never_twice e
 

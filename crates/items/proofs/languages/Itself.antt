@@ -23,6 +23,7 @@ carries_itself l file = record {
   struct_declared = λ name env valid. record { valid = tt; same = refl };
   enum_declared = λ name env valid. record { valid = tt; same = refl };
   struct_opened = λ name env valid. record { valid = tt; same = refl };
+  struct_listed = λ name number env valid. record { valid = tt; same = refl };
   struct_completed = λ number fields env valid. record { valid = tt; same = refl };
   enum_listed = λ name env valid. record { valid = tt; same = refl };
   constant_declared = λ name bits env valid. record { valid = tt; same = refl };

@@ -48,12 +48,16 @@ scope_left env = record env { names = left env.names; tags = left env.tags }
 abbrev pub struct_added : List ℕ → Declarations → Declarations
 struct_added name env = record env { structs = env.structs ++ fieldless name ∷ [] }
 
+-- its members are listed from here on or not
+abbrev pub struct_tagged : Bool → List ℕ → Declarations → Declarations
+struct_tagged listed name env = struct_added name (tagged name (StructHere (length env.structs) listed) env)
+
 abbrev pub struct_declared : List ℕ → Declarations → Declarations
-struct_declared name env = struct_added name (tagged name (StructHere (length env.structs)) env)
+struct_declared name env = struct_tagged false name env
 
 abbrev pub struct_opened : Option (List ℕ) → Declarations → Declarations
 struct_opened None env = struct_added [] env
-struct_opened (Some name) env = struct_declared name env
+struct_opened (Some name) env = struct_tagged true name env
 
 -- a struct with its members, where it may have them: it has none yet, and each of them has a size (6.7.2.1p3, p8)
 abbrev pub struct_completed : ℕ → List Field → Declarations → Declarations
@@ -115,6 +119,7 @@ c_language abi = record {
   left = scope_left;
   tag_here = λ name env. found_here name env.tags;
   struct_opened = struct_opened;
+  struct_listed = λ name number env. tagged name (StructHere number true) env;
   struct_completed = struct_completed;
   enum_listed = enum_listed;
   is_declared_here = λ name env. is_some (found_here name env.names);

@@ -38,6 +38,8 @@ pub record Carries (l m : Language) (file : FileScope l) (other : FileScope m) (
       → Follows to Valid env (l.enum_declared name env) (m.enum_declared name (to env))
   pub struct_opened : (name : Option (List ℕ)) (env : l.Environment) → Valid (l.struct_opened name env)
       → Follows to Valid env (l.struct_opened name env) (m.struct_opened name (to env))
+  pub struct_listed : (name : List ℕ) (number : ℕ) (env : l.Environment) → Valid (l.struct_listed name number env)
+      → Follows to Valid env (l.struct_listed name number env) (m.struct_listed name number (to env))
   pub struct_completed : (number : ℕ) (fields : List Field) (env : l.Environment) → Valid (l.struct_completed number fields env)
       → Follows to Valid env (l.struct_completed number fields env) (m.struct_completed number fields (to env))
   pub enum_listed : (name : Option (List ℕ)) (env : l.Environment) → Valid (l.enum_listed name env)

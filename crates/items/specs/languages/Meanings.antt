@@ -89,7 +89,7 @@ visible_in name links (Some (WithLinkage None)) = option_and_then (λ link. whol
 
 -- what a tag stands for in an inner scope (6.7.2.3)
 abbrev pub tag_of : TagHere → Tag
-tag_of (StructHere number) = StructTag number
+tag_of (StructHere number listed) = StructTag number
 tag_of (EnumHere listed) = EnumTag
 
 -- what a new declaration of what has linkage keeps of those before it: by how many tokens it was declared first, where it is an object; whether it

@@ -54,10 +54,10 @@ pub(crate) fn declare_alone(
 {
     match context.tag_here(tag.name.as_slice()) {
         None => {
-            context.declare_struct(alloc, tag.name.as_slice())?;
+            context.declare_struct(alloc, tag.name.as_slice(), false)?;
             Ok(Found::Passes(()))
         }
-        Some(Tag::Struct(_)) => Ok(Found::Passes(())),
+        Some(Tag::Struct { .. }) => Ok(Found::Passes(())),
         Some(Tag::Enum { .. }) => Ok(Found::Refused(Fault {
             place: tag.place,
             broken: Broken::Rule(2),

@@ -98,8 +98,13 @@ pub enum Binding {
 /// What a tag stands for (C11 6.7.2.3).
 #[derive(Clone, Copy, PartialEq, Eq)]
 pub enum Tag {
-    /// The struct of that number.
-    Struct(u32),
+    /// A struct.
+    Struct {
+        /// Its number.
+        number: u32,
+        /// Whether its members are listed, from the `{` in front of them on (C11 6.7.2.3p4).
+        listed: bool,
+    },
     /// An enum, whose type is int.
     Enum {
         /// Whether its constants are listed already.

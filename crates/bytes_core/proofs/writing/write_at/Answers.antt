@@ -1,6 +1,6 @@
 use Rattle.std.proofs.Common.{refl}
 use Rattle.bytes_core.proofs.Kept.{IsMemory-written, room_there}
-use Rattle.bytes_core.proofs.Living.{lives_kept}
+use Rattle.bytes_core.proofs.Indexed.{heads_kept}
 use Rattle.bytes_core.proofs.writing.write_at.Goals as goal
 
 pub returns-clause-memory : goal.returns-clause-memory
@@ -11,7 +11,7 @@ returns-clause-memory c = λ valid names.
     (IsMemory-written c.args.blocks.now.items c.in_ok-spot.spot.block c.in_ok-spot.spot.from c.index_mut.result.now c.args.written.now valid inside c.index_mut.ensures.value
     (room_there c.args.blocks.now.items c.in_ok-spot.spot.block c.in_ok-spot.spot.from _ c.index_mut.result.now room inside c.index_mut.ensures.value) names)
 
-pub returns-clause-lives : goal.returns-clause-lives
-returns-clause-lives c =
+pub returns-clause-heads : goal.returns-clause-heads
+returns-clause-heads c =
     let inside = rw c.as_slice.ensures.value at c.in_ok-spot.ensures.stands in
-    rw c.overwrite_block.ensures (lives_kept c.args.blocks.now.items c.in_ok-spot.spot.block c.index_mut.result.now _ inside c.index_mut.ensures.value refl)
+    rw c.overwrite_block.ensures (heads_kept c.args.blocks.now.items c.in_ok-spot.spot.block c.index_mut.result.now _ inside c.index_mut.ensures.value refl)

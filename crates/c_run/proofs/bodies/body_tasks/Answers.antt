@@ -8,7 +8,7 @@ use Rattle.c_machine.specs.Program.{result_in}
 use Rattle.c_machine.specs.State.{doing}
 use Rattle.c_machine.specs.Trees.{function_as, kind_in, text_of}
 use Rattle.c_run.specs.declared.tasks.room.Room.TheVariants.{Made}
-use Rattle.c_run.specs.text.Kept.{kept}
+use Rattle.c_text.specs.Kept.{kept}
 use Rattle.c_run.proofs.Rooms.{in_front, none_spoken, not_behind, on_ok, same_room}
 use Rattle.c_run.proofs.tasks.MakingRoom.{lacks_one, speaks_of_one}
 use Rattle.c_run.proofs.bodies.body_tasks.Goals as goal

@@ -6,8 +6,8 @@ use Rattle.c_machine.specs.declared.task.Task.TheVariants.{MakeParameter}
 use Rattle.c_machine.specs.Calls.{body_tasks}
 use Rattle.c_machine.specs.Program.{Program, parameters_in}
 use Rattle.c_machine.specs.Trees.{function_as, text_of}
-use Rattle.c_run.specs.text.Functions.{parameter_object}
-use Rattle.c_run.specs.text.Kept.{is_sized}
+use Rattle.c_text.specs.Functions.{parameter_object}
+use Rattle.c_text.specs.Kept.{is_sized}
 use Rattle.c_run.proofs.CallsMade.{lacks_objects}
 use Rattle.c_run.proofs.DefinedFunctions.{objects_of_rows}
 use Rattle.c_run.proofs.Rooms.{objects_told, objects_not_told, on_ok}

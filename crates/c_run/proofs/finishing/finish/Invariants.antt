@@ -3,7 +3,7 @@ use Rattle.std.proofs.Common.{◌≡◌, ◌≤◌}
 use Rattle.c_machine.specs.Program.{Program, functions_in}
 use Rattle.c_machine.specs.Trees.{text_of}
 use Rattle.expressions.specs.Numbers.{Numbering}
-use Rattle.c_run.specs.text.Stands.{StandsFor}
+use Rattle.c_text.specs.Stands.{StandsFor}
 use Rattle.c_run.proofs.StepsLeft.{Finishes}
 use Rattle.c_run.proofs.finishing.finish.Given as goal
 

@@ -6,7 +6,7 @@ use Rattle.c_machine.specs.declared.kind.Kind.{Kind}
 use Rattle.c_machine.specs.declared.task.Task.TheVariants.{Convert, ValueOf}
 use Rattle.c_machine.specs.Expressions.{value_kind}
 use Rattle.c_machine.specs.Trees.{kind_in, text_of}
-use Rattle.c_run.specs.text.Kept.{kept}
+use Rattle.c_text.specs.Kept.{kept}
 use Rattle.c_run.proofs.tasks.MakingRoom.{lacks_one, lacks_second, on_ok, room_with_two}
 use Rattle.c_run.proofs.tasks.arguments.argument.Goals as goal
 

@@ -2,7 +2,7 @@
 use Rattle.std.proofs.Common.{ℕ, ◌≤◌, length, refl, subst}
 use Rattle.c_run.proofs.tasks.MakingRoom.{on_ok}
 use Rattle.c_run.proofs.tasks.EachArgument.{behind_params}
-use Rattle.c_run.specs.text.Parameters.{types_by}
+use Rattle.c_text.specs.Parameters.{types_by}
 use Rattle.c_run.proofs.tasks.arguments.arguments.Goals as goal
 
 pub returns-then-args-count : goal.returns-then-args-count

@@ -7,7 +7,7 @@ use Rattle.c_run.specs.declared.tasks.room.Room.{Room}
 use Rattle.c_run.specs.declared.tasks.room.Room.TheVariants.{Made, NotKept}
 use Rattle.c_run.specs.tasks.Room.{MakesRoom}
 use Rattle.c_run.proofs.tasks.EachArgument.{argument_before, argument_lacks}
-use Rattle.c_run.specs.text.Parameters.{types_by}
+use Rattle.c_text.specs.Parameters.{types_by}
 use Rattle.c_run.proofs.tasks.arguments.converted.Goals as goal
 
 pub loop-left-preserved : goal.loop-left-preserved

@@ -4,11 +4,11 @@ use Rattle.expressions.specs.Numbers.{Numbering}
 use Rattle.c_machine.specs.Expressions.{argument_tasks}
 use Rattle.c_machine.specs.Program.{Program}
 use Rattle.c_machine.specs.Trees.{text_of}
-use Rattle.c_run.specs.text.Stands.{StandsFor}
+use Rattle.c_text.specs.Stands.{StandsFor}
 use Rattle.c_run.specs.declared.tasks.room.Room.TheVariants.{Made}
 use Rattle.c_run.specs.tasks.Room.{MakesRoom}
 use Rattle.c_run.proofs.tasks.EachArgument.{params_by}
-use Rattle.c_run.specs.text.Parameters.{types_by}
+use Rattle.c_text.specs.Parameters.{types_by}
 use Rattle.c_run.proofs.tasks.arguments.converted.Given as goal
 
 abbrev pub invariant-loop-left : goal.invariant-loop-left

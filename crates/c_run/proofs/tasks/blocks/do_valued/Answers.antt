@@ -7,7 +7,7 @@ use Rattle.c_machine.specs.Trees.{text_of}
 use Rattle.c_run.proofs.tasks.BlocksEntered.{doing_behind, valued_at}
 use Rattle.c_run.proofs.tasks.EachInFront.{item_at}
 use Rattle.c_run.proofs.tasks.MakingRoom.{Tasks}
-use Rattle.c_run.proofs.text.Following.{then_ok}
+use Rattle.c_text.proofs.Following.{then_ok}
 use Rattle.c_run.proofs.tasks.blocks.do_valued.Goals as goal
 
 pub returns : goal.returns

@@ -4,7 +4,7 @@ use Rattle.std.specs.List.{flat_map}
 use Rattle.c_machine.specs.Blocks.{objects_in}
 use Rattle.c_machine.specs.Program.{Program}
 use Rattle.c_machine.specs.Trees.{text_of}
-use Rattle.c_run.specs.text.Stands.{StandsFor}
+use Rattle.c_text.specs.Stands.{StandsFor}
 use Rattle.expressions.specs.Numbers.{Numbering}
 use Rattle.c_run.specs.declared.tasks.room.Room.TheVariants.{Made}
 use Rattle.c_run.specs.tasks.Room.{MakesRoom}

@@ -6,8 +6,8 @@ use Rattle.c_machine.specs.declared.task.Task.TheVariants.{RunBuiltIn}
 use Rattle.c_machine.specs.Expressions.{argument_tasks, built_in}
 use Rattle.c_machine.specs.State.{doing}
 use Rattle.c_machine.specs.Trees.{kind_in, text_of}
-use Rattle.c_run.specs.declared.text.parameters.Parameters.TheVariants.{OfSignature}
-use Rattle.c_run.specs.text.Parameters.{types_by}
+use Rattle.c_text.specs.declared.parameters.Parameters.TheVariants.{OfSignature}
+use Rattle.c_text.specs.Parameters.{types_by}
 use Rattle.c_run.proofs.tasks.EachArgument.{params_by}
 use Rattle.c_run.proofs.tasks.MakingRoom.{lacks_one, on_ok, speaks_of_one}
 use Rattle.c_run.proofs.tasks.RoomBehind.{in_front, lacks_behind}

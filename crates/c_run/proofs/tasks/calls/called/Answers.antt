@@ -5,8 +5,8 @@ use Rattle.typing.specs.Forms.{name_in}
 use Rattle.c_machine.specs.Expressions.{call_parts}
 use Rattle.c_machine.specs.Program.{FunctionItem, functions_in, number_in}
 use Rattle.c_machine.specs.Trees.{body_stands, text_of}
-use Rattle.c_run.specs.declared.text.standing.Standing.{Standing as Told}
-use Rattle.c_run.specs.text.Standing.{body_by, built_in_by, standing_by, StandingBelow}
+use Rattle.c_text.specs.declared.standing.Standing.{Standing as Told}
+use Rattle.c_text.specs.Standing.{body_by, built_in_by, standing_by, StandingBelow}
 use Rattle.c_run.proofs.tasks.MakingRoom.{on_ok, same_room}
 use Rattle.c_run.proofs.tasks.calls.called.Goals as goal
 

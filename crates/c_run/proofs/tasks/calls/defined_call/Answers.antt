@@ -6,7 +6,7 @@ use Rattle.c_machine.specs.declared.task.Task.TheVariants.{CallDefined}
 use Rattle.c_machine.specs.Expressions.{argument_tasks}
 use Rattle.c_machine.specs.Program.{parameters_in}
 use Rattle.c_machine.specs.Trees.{text_of}
-use Rattle.c_run.specs.text.Parameters.{types_by}
+use Rattle.c_text.specs.Parameters.{types_by}
 use Rattle.c_run.proofs.DefinedFunctions.{kinds_of_rows}
 use Rattle.c_run.proofs.tasks.EachArgument.{params_by}
 use Rattle.c_run.proofs.tasks.MakingRoom.{on_ok, same_room}

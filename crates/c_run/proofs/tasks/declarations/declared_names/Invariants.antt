@@ -2,7 +2,7 @@
 use Rattle.std.proofs.Common.{◌≤◌, drop, length}
 use Rattle.expressions.specs.Numbers.{Numbering}
 use Rattle.c_machine.specs.Program.{Program}
-use Rattle.c_run.specs.text.Stands.{StandsFor}
+use Rattle.c_text.specs.Stands.{StandsFor}
 use Rattle.c_run.specs.declared.tasks.room.Room.TheVariants.{Made}
 use Rattle.c_run.specs.tasks.Room.{MakesRoom}
 use Rattle.c_run.proofs.tasks.EachName.{names_tasks}

@@ -5,7 +5,7 @@ use Rattle.cbase.specs.declared.tree.expr.ExprForm.TheViews.{out-ExprForm}
 use Rattle.c_machine.specs.declared.task.Task.TheVariants.{Push}
 use Rattle.c_machine.specs.Expressions.{name_parts}
 use Rattle.c_machine.specs.Trees.{text_of}
-use Rattle.c_run.specs.text.Standing.{standing_by}
+use Rattle.c_text.specs.Standing.{standing_by}
 use Rattle.c_run.proofs.tasks.MakingRoom.{on_ok, same_room}
 use Rattle.c_run.proofs.tasks.NamedThings.{no_constant}
 use Rattle.c_run.proofs.tasks.names.named_value.Goals as goal

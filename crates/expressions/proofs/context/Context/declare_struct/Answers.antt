@@ -6,7 +6,7 @@ use Rattle.typing.proofs.environment.Bounds.{tagged_below}
 use Rattle.typing.specs.declared.environment.entity.Tag.TheVariants.{Struct}
 use Rattle.typing.specs.environment.Environment.{tag_declared}
 use Rattle.expressions.specs.Context.{Context, declared}
-use Rattle.expressions.specs.Language.{struct_declared}
+use Rattle.expressions.specs.Language.{struct_tagged}
 use Rattle.expressions.proofs.context.Context.declare_struct.Goals as goal
 
 pub invariant_of-self : goal.invariant_of-self
@@ -20,16 +20,16 @@ invariant_of-self-in_err-declare_tag c = rw (c.declare.ensures.types, c.in_err-d
 
 pub invariant_of-self-2 : goal.invariant_of-self-2
 invariant_of-self-2 c = rw (c.declare.ensures.types, c.in_ok-declare_tag.ensures.ok)
-    (tagged_below (length c.self.inside.types.types) c.args.name.now (Struct c.in_ok-number.number) c.self.inside.environment c.self.invariant)
+    (tagged_below (length c.self.inside.types.types) c.args.name.now (Struct c.in_ok-number.number c.args.listed) c.self.inside.environment c.self.invariant)
 
 pub returns-clause-number : goal.returns-clause-number
 returns-clause-number c = c.in_ok-number.ensures.number ∙ ap (λ (context : Context). length context.structs) c.self.view_is
 
 pub returns-clause-ok : goal.returns-clause-ok
 returns-clause-ok c = (λ i. record {
-  environment = (c.in_ok-declare_tag.ensures.ok ∙ ap (λ (number : ℕ). tag_declared c.args.name.now (Struct number) c.self.inside.environment) c.in_ok-number.ensures.number) i;
+  environment = (c.in_ok-declare_tag.ensures.ok ∙ ap (λ (number : ℕ). tag_declared c.args.name.now (Struct number c.args.listed) c.self.inside.environment) c.in_ok-number.ensures.number) i;
   structs = (c.in_ok-number.ensures.ok ∙ ap (λ (text : List ℕ). c.self.inside.types.structs ++ fieldless text ∷ []) c.in_ok-from_slice.ensures) i;
-}) ∙ ap (λ (context : Context). struct_declared c.args.name.now (declared context)) c.self.view_is
+}) ∙ ap (λ (context : Context). struct_tagged c.args.listed c.args.name.now (declared context)) c.self.view_is
 
 pub returns-clause-types : goal.returns-clause-types
 returns-clause-types c = c.declare.ensures.types ∙ ap (λ (context : Context). context.types) c.self.view_is

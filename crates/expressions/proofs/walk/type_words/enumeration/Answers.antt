@@ -21,7 +21,7 @@ returns-in-Some-Struct c = λ abi.
     let old = c.args.context.now in
     let arm = c.in-Some-Struct in
     walked_as (Says abi (λ o. WordsAre (EnumWords (Some tag) None) o)) a_type old old c.other_kind.result (Refused (fault tag.place (Rule 2))) c.other_kind.ensures
-    (enum_of_struct abi old old tag arm.field-0-0
+    (enum_of_struct abi old old tag arm.field-0-0 arm.field-0-1
     (tag_known old.environment tag.name _ c.tag.result _ c.as_slice.ensures c.tag.ensures (arm.is ∙ ap Some arm.field-0-is)))
 
 pub returns-in-Ok : goal.returns-in-Ok

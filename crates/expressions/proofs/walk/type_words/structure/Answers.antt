@@ -36,8 +36,8 @@ returns-in-Ok c = λ abi.
     (elim c.match-tag.branch [
       | in-Some-Struct w ↦
           let arm = w.in-Some-Struct in
-          struct_words abi old new tag c.match-tag.number number
-          (tag_known old.environment tag.name _ c.tag.result _ c.as_slice.ensures c.tag.ensures (arm.is ∙ ap Some (arm.field-0-is ∙ ap Struct (sym (w.number-is ∙ arm.number-is)))))
+          struct_words abi old new tag c.match-tag.number arm.field-0-1 number
+          (tag_known old.environment tag.name _ c.tag.result _ c.as_slice.ensures c.tag.ensures (arm.is ∙ ap Some (arm.field-0-is ∙ ap (λ (of : ℕ). Struct of arm.field-0-1) (sym (w.number-is ∙ arm.number-is)))))
           (subst (λ (mid : Context). Numbers (λ n. StructType c.match-tag.number) mid new number) w.context-is numbers)
       | in-None+in_ok-number-in-None w ↦
           let after = w.in_ok-number-in-None.ensures in

@@ -1,0 +1,10 @@
+-- A name has linkage where it has a link.
+use Rattle.std.proofs.Common.{None, Some, sym, ◌∙◌}
+use Rattle.c_text.proofs.LinksFound.{linked_is}
+use Rattle.c_text.proofs.typed_text.TypedText.is_linked.Goals as goal
+
+pub returns-in-None : goal.returns-in-None
+returns-in-None c = λ n p stands. linked_is n c.args.self.now p c.args.token None stands (sym c.link.ensures ∙ c.in-None.is)
+
+pub returns-in-Some : goal.returns-in-Some
+returns-in-Some c = λ n p stands. linked_is n c.args.self.now p c.args.token (Some c.in-Some.field-0) stands (sym c.link.ensures ∙ c.in-Some.is)

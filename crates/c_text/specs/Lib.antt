@@ -1,0 +1,15 @@
+pub mod FirstRows
+pub mod Fixed
+pub mod Functions
+pub mod Numbered
+pub mod Parameters
+pub mod Results
+pub mod Kept
+pub mod Links
+pub mod Objects
+pub mod Rows
+pub mod Standing
+pub mod Stands
+pub mod Stores
+pub mod Tables
+pub mod statics
