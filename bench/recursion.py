@@ -8,11 +8,11 @@ would give 2, 4 and 8. It takes the proved program; with --unproved one that is 
 deepest recursion is, and --functions how many functions the longest chain has, and --runs how often each program is run.
 
 chain        functions that each call the one before it and add 1, read and checked (CHOICES is empty, so the run waits at once)
-chain_run    the same, run to its end; the time of `chain` is taken off
+chain_run    the same, read, checked and run to its end with all choices
 down         a function with an object of one byte that calls itself for ever, each object behind the one before: the run waits for a choice at its deepest level
 descending   the same, each object in front of the one before
 scattered    the same, the objects in no order
-back         a recursion of a fifth of these depths that returns from each level: a look for loss at each
+back         a recursion of half these depths that returns from each level, with looks for loss at each; a run of 1,000,000 steps comes no deeper than some 60,000 and back
 held         the same with a block of the heap that main holds meanwhile: a look goes over all that lives, so this goes with the square, and it is taken at a hundredth of the depths
 """
 import argparse
@@ -66,7 +66,7 @@ def recursion(depth, before, behind):
 
 
 def back(depth):
-    depth //= 5
+    depth //= 2
     return recursion(depth, "", ""), [block(1, 4), *(block(at + 2, 1) for at in range(depth + 1))], "ended"
 
 
@@ -101,8 +101,6 @@ def measured(program, part, most, runs):
     first = None
     for count in (most // share for share in SHARES):
         took = seconds(program, PARTS[part](count), runs)
-        if part == "chain_run":
-            took -= seconds(program, unrun(count), runs)
         each = took / count
         first = first or each
         print(f"{part}, {count:,}: {took:.3f} s, {each / first:.2f}", flush=True)

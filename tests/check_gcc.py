@@ -6,7 +6,8 @@ A program has declarations of objects, functions, types, tags and constants, one
 them. Names are few, so scopes hide and repeat them. In three of five programs one mistake is made: a token or a line left out, put in, moved or
 exchanged. gcc takes a text where it has no error, with those warnings as errors that C11 calls constraints; `./predator` takes it where it answers `not yet`
 or a verdict. Where both refuse it, gcc has an error in the line that `./predator` names, too. What is given up, and what is refused as syntax, is counted and not
-compared. A difference is cut down, line by line and token by token, as long as it stays the same, and printed; those that the documents name are listed in
+compared. For each third seed there is another program besides, in which main uses a name that an item defines whose first word it is: gcc, asked for the
+C of 1989, defines it, and `./predator` has to refuse that item as syntax. A difference is cut down, line by line and token by token, as long as it stays the same, and printed; those that the documents name are listed in
 `LET` and `ASKED` below, and counted alone. The status is 1 where there is another one. The environment variable PREDATOR may name another program.
 """
 import os
@@ -432,9 +433,19 @@ class Writer:
         name = f"w{self.chance.randrange(1000)}"
         return f"{storage} struct {{ {members}}} {name} = {{ {', '.join(parts)} }};".strip()
 
+    def nested_tag(self):
+        """A struct, a line for each of its members, of which one lists members of the struct's own tag, or of another one."""
+        name = f"k{self.chance.randrange(1000)}"
+        front = self.pick(("", "", f"struct {name}; ", f"struct {name} *{name}p; "))
+        tag = self.pick((name, name, name + "x"))
+        inner = self.pick((f"struct {tag} {{ int b; }} a;", f"struct {tag} *a;", f"struct {tag} {{ int b; }} *a[2];", f"int a[sizeof(struct {tag} {{ int b; }})];", f"struct {tag} a;"))
+        return f"{front}struct {name} {{\nint c;\n{inner}\nint d[{self.pick(('1', '1', 'sizeof(int)', '1 + 1'))}];\n}};"
+
     def declaration(self, block):
         if self.one_in(12):
             return self.array_again()
+        if self.one_in(60):
+            return self.nested_tag()
         if self.one_in(60):
             return self.surplus(block)
         if self.one_in(60):
@@ -600,6 +611,22 @@ class Writer:
         return self.lines
 
 
+def untyped(chance):
+    """A program in which main uses a name that an item behind it defines whose first word is that name, and the line of that item."""
+    pick, name = chance.choice, chance.choice(NAMES)
+    storage, value = pick(("", "", "static ", "extern ")), chance.randrange(10)
+    prototype = f"{'static ' if storage == 'static ' else pick(('', 'extern '))}int {name}(void);"
+    front, use, item = pick((
+        (prototype, f"{name}()", f"{storage}{name}(void) {{ return {value}; }}"),
+        (f"int {name}(int);", f"{name}({value})", f"{name}({pick(('v', 'w'))}) {{ return {value}; }}"),
+        (f"extern int {name};", name, pick((f"{name};", f"{name} = {value};", f"{name}, {name}2;", f"{name}2 = 1, {name};"))),
+        (f"extern int {name}[2];", f"{name}[0]", f"{name}[2];"),
+    ))
+    more = [pick(("int z;", "struct s { int m; };", "typedef int Y;", "static int y = 1;")) for _ in range(chance.randrange(3))]
+    lines = [*dict.fromkeys(more), front, f"int main(void) {{ return {use}; }}", item]
+    return "\n".join(lines) + "\n", len(lines)
+
+
 def tokens(line):
     return TOKEN.findall(line)
 
@@ -672,6 +699,11 @@ class Asker:
             return "passes", None
         found = re.fullmatch(r"t\.c: (?:not read: )?(.*?)(?: at t\.c:(\d+):\d+)?", last)
         return (found[1], found[2]) if found else (last, None)
+
+    def undefined(self, text):
+        """Whether gcc, which takes a name alone for an int here, leaves a name of the text without a definition, or refuses it."""
+        made = subprocess.run(["gcc", "-std=gnu89", "-w", "-fno-builtin", "-x", "c", "-c", "-", "-o", self.folder / "u.o"], input=text, capture_output=True, text=True)
+        return bool(made.returncode or subprocess.run(["nm", "-u", self.folder / "u.o"], capture_output=True, text=True, check=True).stdout.strip())
 
     def whole(self, text):
         """The text with what stands in main for all names, where it stands there."""
@@ -749,10 +781,20 @@ def known(found, text):
     return next((why for (rule, form), why in ASKED.items() if found[0] == rule and found[1] in (None, "elsewhere") and re.search(form, text)), None)
 
 
+def untyped_unlike(asker, seed):
+    """Whether the two differ on the program of a seed with a name alone: gcc defines the name, and here that item is refused as syntax, and no name is without a definition."""
+    text, line = untyped(random.Random(seed))
+    ours = asker.by_predator(text)
+    if ours == ("syntax", str(line)) and not asker.undefined(text):
+        return 0
+    print(f"seed {seed}: {' at line '.join(map(str, ours))} here, and not syntax at line {line}, or not defined by gcc: {text}", flush=True)
+    return 1
+
+
 def main():
     count = int(sys.argv[1]) if len(sys.argv) > 1 else 1000
     seed = int(sys.argv[2]) if len(sys.argv) > 2 else 1
-    answers, shown, let = Counter(), {}, Counter()
+    answers, shown, let, unlike = Counter(), {}, Counter(), 0
     with tempfile.TemporaryDirectory() as folder:
         asker = Asker(folder)
         for number in range(seed, seed + count):
@@ -761,6 +803,7 @@ def main():
             if chance.randrange(5) < 3:
                 lines = mistaken(lines, chance)
             text = "\n".join(lines) + "\n"
+            unlike += untyped_unlike(asker, number) if number % 3 == 0 else 0
             ours, theirs, found = asker.answers(text)
             answers[(ours.split(":")[0], "taken by gcc" if theirs is None else "refused by gcc")] += 1
             if not found:
@@ -780,8 +823,8 @@ def main():
         print(f"{times:6} {ours}, {theirs}")
     for why, times in sorted(let.items()):
         print(f"{times:6} {why}")
-    print(f"check: {count} random programs, {sum(shown.values())} differ in what no document says")
-    return 1 if shown else 0
+    print(f"check: {count} random programs, {sum(shown.values()) + unlike} differ in what no document says")
+    return 1 if shown or unlike else 0
 
 
 if __name__ == "__main__":

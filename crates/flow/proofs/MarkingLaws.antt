@@ -1,14 +1,14 @@
 -- What marks of points tell of the edges and functions of a graph.
-use Rattle.std.proofs.Common.{◌≡◌, ◌≢◌, ℕ, ◌+◌, ◌<◌, ◌⊎◌, inl, inr, List, [], ◌∷◌, ◌++◌, length, take, map, refl, sym, ap, ◌∙◌, Bool, true, false, not, ◌||◌, nat_eq, cond, Some}
+use Rattle.std.proofs.Common.{◌≡◌, ◌≢◌, ℕ, zero, suc, ◌+◌, ◌<◌, ◌⊎◌, inl, inr, List, [], ◌∷◌, ◌++◌, length, take, map, refl, sym, ap, subst, ◌∙◌, arith, Bool, true, false, not, ◌||◌, nat_eq, cond, Some}
 use Rattle.std.specs.Prelude.{All, Contains, IsTrue, slice_get, slice_set, slice_index_or}
 use Rattle.std.specs.List.{list_all, list_any}
 use Rattle.std.proofs.lemmas.Bool.{cases_eq, cases_Bool, eq-eqb, eqb-true, eqb-false, ne_eqb, both_ways, not-true, not_from_false, false_from_ne_true, or_cases, or_left, or_right}
-use Rattle.std.proofs.lemmas.List.{get_or-set_same, get_or-set_other, append-nil}
-use Rattle.std.proofs.lemmas.List.Elements.{All-weaker, filter_more}
+use Rattle.std.proofs.lemmas.List.{get_or-set_same, get_or-set_other, append-nil, take_more, length-take-le}
+use Rattle.std.proofs.lemmas.List.Elements.{All-weaker, filter-append}
 use Rattle.std.proofs.lemmas.List.Folds.{list_any_at, list_any_none}
 use Rattle.std.proofs.lemmas.List.Sums.{AllPass-from_list_all, list_all-from_AllPass}
 use Rattle.std.proofs.lemmas.Map.Views.{Contains-from_any}
-use Rattle.std.proofs.lemmas.Option.{slice_get_within, get_or_from_slice_get}
+use Rattle.std.proofs.lemmas.Option.{slice_get_within, get_or_from_slice_get, none-some}
 use Rattle.flow.specs.declared.flow_graph.FlowEdge.{FlowEdge}
 use Rattle.flow.specs.declared.flow_graph.FlowFunction.{FlowFunction}
 use Rattle.flow.specs.declared.outs.Out.{Out}
@@ -84,43 +84,61 @@ returns_told edges exits marks told is are = (forth, back)
         (λ edge. (not (is_return edge.instr) || slice_index_or marks edge.from false) ≡ true)
         (λ edge leaves. by_return edge leaves (cases_Bool (is_return edge.instr))) edges all)
 
--- what is noted of the edges out of a point, with one edge more
-says_more : (edges first more : List FlowEdge) (number : ℕ) (edge : FlowEdge) (point : ℕ) (old : Out) → slice_get edges number ≡ Some edge →
-    out_of more point ≡ out_of first point ++ edge ∷ [] → SaysOut edges first point old → SaysOut edges more point (noted number old)
-says_more edges first more number edge point Nothing stands is says = (edge, stands, is ∙ ap (λ (es : List FlowEdge). es ++ edge ∷ []) says)
-says_more edges first more number edge point (One at) stands is (one, there, only) =
-    (one, edge, there, stands, is ∙ ap (λ (es : List FlowEdge). es ++ edge ∷ []) only)
-says_more edges first more number edge point (Two at at') stands is (one, other, there, there', are) =
+-- the edges of a list keep their numbers where one more stands behind them, and it has the next one
+slice_get-front : {X : Type 0} (xs ys : List X) (at : ℕ) (x : X) → slice_get xs at ≡ Some x → slice_get (xs ++ ys) at ≡ Some x
+slice_get-front [] ys at x is = absurd (none-some x is)
+slice_get-front (first ∷ xs) ys zero x is = is
+slice_get-front (first ∷ xs) ys (suc at) x is = slice_get-front xs ys at x is
+
+slice_get-last : {X : Type 0} (xs : List X) (x : X) → slice_get (xs ++ x ∷ []) (length xs) ≡ Some x
+slice_get-last [] x = refl
+slice_get-last (first ∷ xs) x = slice_get-last xs x
+
+-- what is noted of the edges out of a point, with one edge more, out of it or not
+says_more : (edges : List FlowEdge) (edge : FlowEdge) (point : ℕ) (old : Out) → out_of (edges ++ edge ∷ []) point ≡ out_of edges point ++ edge ∷ [] →
+    SaysOut edges point old → SaysOut (edges ++ edge ∷ []) point (noted (length edges) old)
+says_more edges edge point Nothing is says = (edge, slice_get-last edges edge, is ∙ ap (λ (es : List FlowEdge). es ++ edge ∷ []) says)
+says_more edges edge point (One at) is (one, there, only) =
+    (one, edge, slice_get-front edges (edge ∷ []) at one there, slice_get-last edges edge, is ∙ ap (λ (es : List FlowEdge). es ++ edge ∷ []) only, slice_get_within edges at one there)
+says_more edges edge point (Two at at') is (one, other, there, there', are, before) =
     (one, other, edge, ([], is ∙ ap (λ (es : List FlowEdge). es ++ edge ∷ []) are))
-says_more edges first more number edge point More stands is (one, other, third, (rest, are)) =
+says_more edges edge point More is (one, other, third, (rest, are)) =
     (one, other, third, (rest ++ edge ∷ [], is ∙ ap (λ (es : List FlowEdge). es ++ edge ∷ []) are))
 
-says_kept : (edges first more : List FlowEdge) (point : ℕ) (old : Out) → out_of more point ≡ out_of first point →
-    SaysOut edges first point old → SaysOut edges more point old
-says_kept edges first more point Nothing is says = is ∙ says
-says_kept edges first more point (One at) is (one, there, only) = (one, there, is ∙ only)
-says_kept edges first more point (Two at at') is (one, other, there, there', are) = (one, other, there, there', is ∙ are)
-says_kept edges first more point More is (one, other, third, (rest, are)) = (one, other, third, (rest, is ∙ are))
+says_kept : (edges : List FlowEdge) (edge : FlowEdge) (point : ℕ) (old : Out) → out_of (edges ++ edge ∷ []) point ≡ out_of edges point →
+    SaysOut edges point old → SaysOut (edges ++ edge ∷ []) point old
+says_kept edges edge point Nothing is says = is ∙ says
+says_kept edges edge point (One at) is (one, there, only) = (one, slice_get-front edges (edge ∷ []) at one there, is ∙ only)
+says_kept edges edge point (Two at at') is (one, other, there, there', are, before) =
+    (one, other, slice_get-front edges (edge ∷ []) at one there, slice_get-front edges (edge ∷ []) at' other there', is ∙ are, before)
+says_kept edges edge point More is (one, other, third, (rest, are)) = (one, other, third, (rest, is ∙ are))
 
-pub outs_more : (edges : List FlowEdge) (number : ℕ) (edge : FlowEdge) (outs : List Out) → slice_get edges number ≡ Some edge →
-    edge.from < length outs → AreOuts edges (take number edges) outs →
-    AreOuts edges (take (number + 1) edges) (slice_set outs edge.from (noted number (slice_index_or outs edge.from Nothing)))
-outs_more edges number edge outs stands below are = record { says = λ point. by_point point (cases_eq edge.from point) }
+outs_behind : (edges : List FlowEdge) (edge : FlowEdge) (outs : List Out) → edge.from < length outs → AreOuts edges outs →
+    AreOuts (edges ++ edge ∷ []) (slice_set outs edge.from (noted (length edges) (slice_index_or outs edge.from Nothing)))
+outs_behind edges edge outs below are = record { says = λ point. by_point point (cases_eq edge.from point) }
   where
-    step : (point : ℕ) → out_of (take (number + 1) edges) point ≡ out_of (take number edges) point ++ cond (nat_eq edge.from point) (edge ∷ []) []
-    step point = rw (get_or_from_slice_get edges number edge edge stands) at
-        (filter_more (λ one. nat_eq one.from point) edges number edge (slice_get_within edges number edge stands))
-
-    new : Out
-    new = noted number (slice_index_or outs edge.from Nothing)
+    step : (point : ℕ) → out_of (edges ++ edge ∷ []) point ≡ out_of edges point ++ cond (nat_eq edge.from point) (edge ∷ []) []
+    step point = filter-append (λ (one : FlowEdge). nat_eq one.from point) edges (edge ∷ [])
 
     by_point : (point : ℕ) → (edge.from ≡ point) ⊎ (edge.from ≡ point → ⊥) →
-        SaysOut edges (take (number + 1) edges) point (slice_index_or (slice_set outs edge.from (noted number (slice_index_or outs edge.from Nothing))) point Nothing)
+        SaysOut (edges ++ edge ∷ []) point (slice_index_or (slice_set outs edge.from (noted (length edges) (slice_index_or outs edge.from Nothing))) point Nothing)
     by_point point (inl same) =
-        rw (sym same) (rw (get_or-set_same outs edge.from (noted number (slice_index_or outs edge.from Nothing)) Nothing below)
-        (says_more edges (take number edges) (take (number + 1) edges) number edge edge.from (slice_index_or outs edge.from Nothing) stands
+        rw (sym same) (rw (get_or-set_same outs edge.from (noted (length edges) (slice_index_or outs edge.from Nothing)) Nothing below)
+        (says_more edges edge edge.from (slice_index_or outs edge.from Nothing)
         (step edge.from ∙ rw (eq-eqb edge.from edge.from refl) refl) (are.says edge.from)))
     by_point point (inr other) =
-        rw (get_or-set_other outs edge.from point (noted number (slice_index_or outs edge.from Nothing)) Nothing (λ e. other (sym e)))
-        (says_kept edges (take number edges) (take (number + 1) edges) point (slice_index_or outs point Nothing)
-        (step point ∙ rw (ne_eqb edge.from point other) (append-nil (out_of (take number edges) point))) (are.says point))
+        rw (get_or-set_other outs edge.from point (noted (length edges) (slice_index_or outs edge.from Nothing)) Nothing (λ e. other (sym e)))
+        (says_kept edges edge point (slice_index_or outs point Nothing)
+        (step point ∙ rw (ne_eqb edge.from point other) (append-nil (out_of edges point))) (are.says point))
+
+pub outs_more : (edges : List FlowEdge) (number : ℕ) (edge : FlowEdge) (outs : List Out) → slice_get edges number ≡ Some edge →
+    edge.from < length outs → AreOuts (take number edges) outs →
+    AreOuts (take (number + 1) edges) (slice_set outs edge.from (noted number (slice_index_or outs edge.from Nothing)))
+outs_more edges number edge outs stands below are =
+    let inside : number < length edges = slice_get_within edges number edge stands in
+    let front : take (number + 1) edges ≡ take number edges ++ edge ∷ [] =
+    take_more edges number edge inside ∙ ap (λ (e : FlowEdge). take number edges ++ e ∷ []) (get_or_from_slice_get edges number edge edge stands) in
+    let long : length (take number edges) ≡ number = length-take-le number edges (omega arith) in
+    subst (λ (es : List FlowEdge). AreOuts es (slice_set outs edge.from (noted number (slice_index_or outs edge.from Nothing)))) (sym front)
+    (subst (λ (n : ℕ). AreOuts (take number edges ++ edge ∷ []) (slice_set outs edge.from (noted n (slice_index_or outs edge.from Nothing)))) long
+    (outs_behind (take number edges) edge outs below are))

@@ -1,12 +1,12 @@
 -- Graphs in which no state has a choice of edges: out of a point leads one edge, or two of which one is barred where the other is not.
-use Rattle.std.specs.Prelude.{◌≡◌, ℕ, Bool, true, false, ◌&&◌, List, [], ◌∷◌, length, nat_eq, IsTrue, All, Contains}
+use Rattle.std.specs.Prelude.{◌≡◌, ℕ, Bool, true, false, ◌&&◌, List, [], ◌∷◌, length, nat_eq, IsTrue, All, Contains, ◌⊎◌}
 use Rattle.cbase.specs.declared.place.Place.{Place}
 use Rattle.choices.specs.declared.choice.Choice.{Choice}
 use Rattle.flow.specs.declared.instruction.Instr.{Instr}
 use Rattle.flow.specs.declared.instruction.Instr.TheVariants.{IfSame, IfDifferent, Allocate, AllocateNone}
 use Rattle.flow.specs.declared.flow_graph.Flow.{Flow}
 use Rattle.flow.specs.declared.flow_graph.FlowEdge.{FlowEdge}
-use Rattle.flow.specs.Machine.{State, Went, Faulted, step_along, step_among, step}
+use Rattle.flow.specs.Machine.{State, Went, Barred, Waits, Ended, Faulted, step_along, step_among, step}
 use Rattle.flow.specs.Runs.{run}
 use Rattle.flow.specs.Choosing.{run_along}
 use Rattle.flow.specs.Valid.{edges_out}
@@ -51,12 +51,28 @@ pub record IsExclusive (flow : Flow) : Type 0 where
 abbrev pub DoStepsLookOut : Type 0
 DoStepsLookOut = (flow : Flow) (state : State) (choices : List Choice) → step flow state choices ≡ step_among flow (edges_out flow state.point) state choices
 
--- where a graph is exclusive, what an edge of it leads to, or faults with, its machine does
+-- the machine goes along another edge, which excludes the one that is barred, and does what that edge does
+pub record GoesAlongOther (flow : Flow) (edge : FlowEdge) (state : State) (choices : List Choice) : Type 0 where
+  pub other : FlowEdge
+  pub stands : Contains flow.edges other
+  pub from : other.from ≡ state.point
+  pub excludes : IsTrue (exclude edge.instr other.instr)
+  pub steps : step flow state choices ≡ step_along flow other state choices
+
+-- where a graph is exclusive, what an edge of it comes to its machine does
 pub record DoEdgesStep : Type 0 where
   pub goes : (flow : Flow) (edge : FlowEdge) (state next : State) (choices rest : List Choice) → IsExclusive flow → Contains flow.edges edge →
       step_along flow edge state choices ≡ Went next rest → step flow state choices ≡ Went next rest
   pub faults : (flow : Flow) (edge : FlowEdge) (state : State) (choices : List Choice) (kind : ℕ) (place : Place) → IsExclusive flow → Contains flow.edges edge →
       step_along flow edge state choices ≡ Faulted kind place → step flow state choices ≡ Faulted kind place
+  pub waits : (flow : Flow) (edge : FlowEdge) (state : State) (choices : List Choice) → IsExclusive flow → Contains flow.edges edge →
+      step_along flow edge state choices ≡ Waits → step flow state choices ≡ Waits
+  pub ends : (flow : Flow) (edge : FlowEdge) (state : State) (choices : List Choice) → IsExclusive flow → Contains flow.edges edge →
+      step_along flow edge state choices ≡ Ended → step flow state choices ≡ Ended
+  -- where an edge out of its point is barred, it goes along the other one; where there is none the run is over
+  pub bars : (flow : Flow) (edge : FlowEdge) (state : State) (choices : List Choice) → IsExclusive flow → Contains flow.edges edge → edge.from ≡ state.point →
+      step_along flow edge state choices ≡ Barred →
+      ((edges_out flow state.point ≡ edge ∷ []) × (step flow state choices ≡ Ended)) ⊎ GoesAlongOther flow edge state choices
 
 -- and so a run along edges of it is a run of its machine of as many steps
 pub record DoEdgesRun : Type 0 where
@@ -64,3 +80,7 @@ pub record DoEdgesRun : Type 0 where
       run_along flow edges state choices ≡ Went next rest → run (length edges) flow state choices ≡ Went next rest
   pub faults : (flow : Flow) (edges : List FlowEdge) (state : State) (choices : List Choice) (kind : ℕ) (place : Place) → IsExclusive flow →
       All (Contains flow.edges) edges → run_along flow edges state choices ≡ Faulted kind place → run (length edges) flow state choices ≡ Faulted kind place
+  pub waits : (flow : Flow) (edges : List FlowEdge) (state : State) (choices : List Choice) → IsExclusive flow → All (Contains flow.edges) edges →
+      run_along flow edges state choices ≡ Waits → run (length edges) flow state choices ≡ Waits
+  pub ends : (flow : Flow) (edges : List FlowEdge) (state : State) (choices : List Choice) → IsExclusive flow → All (Contains flow.edges) edges →
+      run_along flow edges state choices ≡ Ended → run (length edges) flow state choices ≡ Ended

@@ -80,7 +80,7 @@ fn exclude_each_other(edges: &[FlowEdge], one: usize, other: usize) -> bool
 
 /// Whether the edges out of a point are one, or two that exclude each other.
 fn is_exclusive_at(edges: &[FlowEdge], outs: &[Out], point: u32) -> bool
-    requires { AreOuts edges.now edges.now outs.now }
+    requires { AreOuts edges.now outs.now }
     ensures { result ≡ are_exclusive (out_of edges.now point) }
 {
     match out_at(outs, point) {
@@ -110,7 +110,7 @@ pub fn is_exclusive(alloc: Global, flow: &Flow) -> Result<bool, NoMemory>
 pub fn edges_by_point(alloc: Global, flow: &Flow) -> Result<List<Out>, NoMemory>
     requires { IsInRange flow.now }
     ensures points { IfOk result (λ outs. length outs ≡ flow.now.points) }
-    ensures says { IfOk result (λ outs. AreOuts flow.now.edges flow.now.edges outs) }
+    ensures says { IfOk result (λ outs. AreOuts flow.now.edges outs) }
 {
     let outs = outs_of(alloc, flow.edges.as_slice(), flow.points)?;
     Ok(List::from_vec(outs))

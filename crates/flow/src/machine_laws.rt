@@ -116,7 +116,8 @@ pub fn a_step_looks_at_the_edges_out_of_its_point()
     ensures { DoStepsLookOut }
 {}
 
-/// Where one edge leads out of each point, or two that exclude each other, the machine goes along each edge that is not barred.
+/// Where one edge leads out of each point, or two that exclude each other, the machine does what an edge that is not barred does: it goes along it, meets its
+/// fault, waits or ends. Where one is barred it goes along the other one, if there is one.
 #[tactic(auto, using(crate::proofs::ExclusiveLaws::edges_step))]
 pub fn an_edge_of_an_exclusive_graph_is_a_step()
     ensures { DoEdgesStep }

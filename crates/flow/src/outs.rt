@@ -39,7 +39,7 @@ fn noted(out: Out, number: usize) -> Out
 pub fn outs_of(alloc: Global, edges: &[FlowEdge], points: u32) -> Result<Vec<Out>, NoMemory>
     requires { AreEndsBelow edges.now points }
     ensures points { IfOk result (λ outs. length outs.items ≡ points) }
-    ensures says { IfOk result (λ outs. AreOuts edges.now edges.now outs.items) }
+    ensures says { IfOk result (λ outs. AreOuts edges.now outs.items) }
 {
     let mut outs: Vec<Out> = vec![in alloc; Out::Nothing; points as usize]?;
     for (at, edge) in edges.iter().enumerate() {
@@ -100,7 +100,7 @@ fn is_end(outs: &[Out], point: u32) -> bool
 /// Whether the one edge out of a function's exit is its return, which leads to a point without edges out, and only the register
 /// of the return stands at the exit.
 fn has_return(flow: &Flow, outs: &[Out], function: &FlowFunction) -> bool
-    requires { AreOuts flow.now.edges flow.now.edges outs.now }
+    requires { AreOuts flow.now.edges outs.now }
     ensures { IsTrue result ↔ HasReturn flow.now function.now }
 {
     let Out::One(at) = out_at(outs, function.exit) else {

@@ -18,6 +18,6 @@ Says flow ask.Walks Outside = IsInRange flow → ⊥
 Says flow (ask.Head point) (Head holds) = IsTrue holds ↔ ((point < flow.points) × Contains flow.heads point)
 Says flow ask.Exclusive (Exclusive holds) = IsTrue holds ↔ IsExclusive flow
 Says flow ask.Exclusive Outside = IsInRange flow → ⊥
-Says flow (ask.Out point) (Out out) = SaysOut flow.edges flow.edges point out
+Says flow (ask.Out point) (Out out) = SaysOut flow.edges point out
 Says flow (ask.Out point) Outside = IsInRange flow → ⊥
 Says flow asked answer = ⊥

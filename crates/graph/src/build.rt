@@ -50,7 +50,7 @@ fn is_within_limits(parts: &Parts) -> bool
 }
 
 /// The graph with these parts, in the same order. In place of its key each object and each value has its place
-/// in its list. Planes and nodes are moved, and not copied.
+/// in its list. Planes, nodes, edges and lists are moved, and not copied.
 ///
 /// `Large` comes exactly where there are 2^30 nodes or more, or 2^30 unequal pairs or more.
 pub fn built(alloc: Global, parts: Parts) -> Result<Graph, Stop>

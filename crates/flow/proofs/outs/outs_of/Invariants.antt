@@ -3,4 +3,4 @@ use Rattle.flow.specs.Marked.{AreOuts}
 use Rattle.flow.proofs.outs.outs_of.Given as goal
 
 abbrev pub invariant-loop-at : goal.invariant-loop-at
-invariant-loop-at l = (length l.outs.items ≡ l.points) × AreOuts l.edges (take l.at l.edges) l.outs.items
+invariant-loop-at l = (length l.outs.items ≡ l.points) × AreOuts (take l.at l.edges) l.outs.items

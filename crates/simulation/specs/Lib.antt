@@ -1,0 +1,11 @@
+pub mod Slots
+pub mod Names
+pub mod Running
+pub mod Edges
+pub mod Turning
+pub mod Worlds
+pub mod Agreeing
+pub mod Lowered
+pub mod Functions
+pub mod Starting
+pub mod Laws
