@@ -11,7 +11,7 @@ use Rattle.c_machine.specs.Words.{scalar_bytes}
 use Rattle.flow.specs.declared.flow_graph.Initial.{Initial}
 use Rattle.flow.specs.declared.flow_graph.InitialWord.{InitialWord}
 use Rattle.flow.specs.declared.flow_graph.InitialWord.TheVariants as initial
-use Rattle.lower.specs.Names.{Name, variable_in}
+use Rattle.simulation.specs.Names.{Name, variable_in}
 use Rattle.lower.specs.Known.{known_word, word_as}
 
 abbrev pub initial_word : Word → InitialWord
@@ -53,7 +53,7 @@ initials_within (suc levels) t statics place init = initials_by t statics (initi
 
 -- scalars of which none that stands behind is the same
 abbrev pub is_same_scalar : Initial → Initial → Bool
-is_same_scalar one other = nat_eq one.variable other.variable && nat_eq one.at other.at
+is_same_scalar one other = nat_eq one.variable other.variable && (nat_eq one.at other.at && nat_eq one.size other.size)
 
 abbrev pub latest : List Initial → List Initial
 latest [] = []

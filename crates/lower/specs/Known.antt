@@ -14,7 +14,7 @@ use Rattle.c_machine.specs.declared.kind.Kind.TheVariants.{Integer, Pointer, Arr
 use Rattle.c_machine.specs.Text.{Standing, ObjectStands, ConstantStands, Form, Name as NameForm, Known, Unary, Binary, Choose, Cast, Index, Member, Text}
 use Rattle.c_machine.specs.Words.{is_true, told, as_kind, applied, operated}
 use Rattle.c_machine.specs.Expressions.{value_kind}
-use Rattle.lower.specs.Names.{Name, variable_in}
+use Rattle.simulation.specs.Names.{Name, variable_in}
 
 -- what the value, and what the address of an expression is asked for
 pub data Asked : Type 0 where

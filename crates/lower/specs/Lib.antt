@@ -1,4 +1,3 @@
-pub mod Names
 pub mod Kinds
 pub mod Known
 pub mod LetGo

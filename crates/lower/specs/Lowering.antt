@@ -1,5 +1,5 @@
 -- The flow graph of a program of C.
-use Rattle.std.specs.Prelude.{ℕ, suc, ◌+◌, Bool, true, false, ◌&&◌, List, [], ◌∷◌, ◌++◌, map, length, Option, None, Some, option_map, if◌then◌else◌}
+use Rattle.std.specs.Prelude.{ℕ, suc, ◌+◌, Bool, true, false, List, [], ◌∷◌, ◌++◌, map, length, Option, None, Some, option_map, if◌then◌else◌}
 use Rattle.cbase.specs.declared.abi.Abi.{Abi}
 use Rattle.cbase.specs.declared.place.Place.{Place}
 use Rattle.c_machine.specs.declared.kind.Kind.{Kind}
@@ -12,11 +12,11 @@ use Rattle.flow.specs.declared.flow_graph.Flow.{Flow}
 use Rattle.flow.specs.declared.flow_graph.FlowFunction.{FlowFunction}
 use Rattle.flow.specs.declared.flow_graph.Initial.{Initial}
 use Rattle.flow.specs.declared.flow_graph.Standing.{Standing}
-use Rattle.lower.specs.Names.{Name}
+use Rattle.simulation.specs.Names.{Name, variables_of}
 use Rattle.lower.specs.Kinds.{width, is_void}
 use Rattle.lower.specs.Moves.{Move, Emits, Does}
 use Rattle.lower.specs.Table.{receives, result_into}
-use Rattle.lower.specs.Placing.{Made, Around, emit, with_point, with_registers, with_objects, named_from, variables_of, objects_in, enters, function_leaves, along, go}
+use Rattle.lower.specs.Placing.{Made, Around, emit, with_point, with_registers, with_objects, named_from, objects_in, enters, function_leaves, along, go}
 use Rattle.lower.specs.Initials.{latest, initials_of}
 
 -- Functions. A body is one block with its parameters; at its `}` main answers 0, and another function with a result any input of it (5.1.2.2.3, 6.9.1p12).
@@ -42,15 +42,15 @@ at_exit kind register = record { variables = []; registers = if is_void kind the
 abbrev pub nothing : Standing
 nothing = record { variables = []; registers = [] }
 
-abbrev pub around_body : Text → List Name → List Name → Kind → Bool → ℕ → ℕ → Around
-around_body t statics names kind is_main exit result = record {
+abbrev pub around_body : List Name → List Name → Kind → Bool → ℕ → ℕ → Around
+around_body statics names kind closes exit result = record {
   scopes = names ∷ [];
   statics = statics;
   loop = None;
   exit = exit;
   kind = kind;
   result = result;
-  closes = is_main && t.strict;
+  closes = closes;
 }
 
 abbrev pub parameter_objects : (t : Text) → Function t.Stmt → List Object
@@ -62,16 +62,16 @@ place_body t around made function names entry exit =
     exit (i.Return (result_into function.result around.result)) (suc exit) function.close
 
 -- the first register is that of the result
-abbrev pub place_named : (t : Text) → List Name → Made → Function t.Stmt → List Name → List Name → Made
-place_named t statics made function params names =
-    place_body t (around_body t statics (params ++ names) function.result function.is_main (suc made.points) made.registers)
+abbrev pub place_named : (t : Text) → List Name → Bool → Made → Function t.Stmt → List Name → List Name → Made
+place_named t statics closes made function params names =
+    place_body t (around_body statics (params ++ names) function.result closes (suc made.points) made.registers)
     (with_registers 1 (with_point nothing (with_point (at_exit function.result made.registers) (with_point (at_entry params)
     (with_objects false (objects_in t function.body) (with_objects false (parameter_objects t function) made))))))
     function names made.points (suc made.points)
 
-abbrev pub place_function : (t : Text) → List Name → Made → Function t.Stmt → Made
-place_function t statics made function =
-    place_named t statics made function (named_from (length made.variables) (parameter_objects t function))
+abbrev pub place_function : (t : Text) → List Name → Bool → Made → Function t.Stmt → Made
+place_function t statics closes made function =
+    place_named t statics closes made function (named_from (length made.variables) (parameter_objects t function))
     (named_from (length made.variables + length function.params) (objects_in t function.body))
 
 abbrev pub flow_function : (t : Text) → Made → Function t.Stmt → FlowFunction
@@ -89,12 +89,26 @@ pub record Functions : Type 0 where
 abbrev pub place_functions : (t : Text) → List Name → List (Function t.Stmt) → Made → List FlowFunction → Functions
 place_functions t statics [] made placed = record { made = made; functions = placed }
 place_functions t statics (function ∷ functions) made placed =
-    place_functions t statics functions (place_function t statics made function) (placed ++ flow_function t made function ∷ [])
+    place_functions t statics functions (place_function t statics false made function) (placed ++ flow_function t made function ∷ [])
+
+-- Where main may not return while an allocated block lives, the main with which the program begins stands behind all functions once more: it looks for such a
+-- block at its end, and the one that is called does not.
+abbrev pub with_main : (t : Text) → List Name → Option (Function t.Stmt) → Functions → Functions
+with_main t statics None placed = placed
+with_main t statics (Some main) placed =
+    record { made = place_function t statics true placed.made main; functions = placed.functions ++ flow_function t placed.made main ∷ [] }
+
+abbrev pub place_all : (t : Text) → List Name → Made → Functions
+place_all t statics made =
+    if t.strict then with_main t statics t.main (place_functions t statics t.functions made []) else place_functions t statics t.functions made []
 
 -- the function with which the program begins
 abbrev pub main_number : {S : Type 0} → List (Function S) → Option ℕ
 main_number [] = None
 main_number (function ∷ functions) = if function.is_main then Some 0 else option_map suc (main_number functions)
+
+abbrev pub first_number : (t : Text) → Option ℕ → Option ℕ
+first_number t number = if t.strict then option_map (λ main. length t.functions) number else number
 
 -- The graph: static objects are the first variables.
 abbrev pub nothing_made : Made
@@ -120,7 +134,7 @@ graph_where abi t placed initial main = None
 
 abbrev pub graph_with : Abi → (t : Text) → List Name → Option Flow
 graph_with abi t statics =
-    graph_where abi t (place_functions t statics t.functions (with_objects true t.statics nothing_made) []) (initials_of t statics) (main_number t.functions)
+    graph_where abi t (place_all t statics (with_objects true t.statics nothing_made)) (initials_of t statics) (first_number t (main_number t.functions))
 
 -- of a text: where each size comes to a number of at most 65,536, each static value to one that lies in its object, and each name stands for something
 abbrev pub flow_in : Abi → Text → Option Flow

@@ -27,12 +27,12 @@ use Rattle.flow.specs.declared.flow_graph.Width.{Width}
 use Rattle.flow.specs.Holding.{put_width, emptied_widths}
 use Rattle.flow.specs.Standing.{stands_after}
 use Rattle.flow.specs.Valid.{is_object_size}
-use Rattle.lower.specs.Names.{Name, names_of, variable_in}
+use Rattle.simulation.specs.Names.{Name, names_of, variables_of, variable_in}
 use Rattle.lower.specs.Kinds.{width, is_void, conversion, Sides, sides}
 use Rattle.lower.specs.declared.conversion.Conversion.{Conversion}
 use Rattle.lower.specs.LetGo.{AsValue, AsPlace, AsWork, AsTest, left_of, left_as}
 use Rattle.lower.specs.Moves.{Move, Emits, Pairs, Parts, Evaluates, Converts, Answers, Tells, Locates, Works, Asks, Does, Clears, Initialises, Stops, Fails, Line, resizes, adapts, stands_in, pads, run_of}
-use Rattle.lower.specs.Table.{object_moves, shifts, shifted_in, copies, value_line, place_line, work_line, converted_line, last_of, kind_of_last, is_made}
+use Rattle.lower.specs.Table.{object_moves, shifts, shifted_in, copies, value_line, place_line, work_line, converted_line, last_of, kind_of_last, kind_made, is_made}
 
 -- what is made so far, and whether there is a graph
 pub record Made : Type 0 where
@@ -140,9 +140,6 @@ objects_of t stmt = flat_map (objects_of_name t) (names_in (t.clause stmt))
 abbrev pub objects_in : (t : Text) → List t.Stmt → List Object
 objects_in t body = flat_map (objects_of t) body
 
-abbrev pub variables_of : List Name → List ℕ
-variables_of names = map (λ name. name.variable) names
-
 abbrev pub within : List Name → Around → Around
 within names around = record around { scopes = names ∷ around.scopes }
 
@@ -229,17 +226,22 @@ begins t around standing (move ∷ moves) to = begin_by (way_of t around standin
 abbrev pub Go : Text → Type 0
 Go t = Made → ℕ → Move t → ℕ → Made
 
--- moves one behind the other, the last one to the end
+-- moves one behind the other, the last one to the end; a move without an edge is not placed
 abbrev pub along_from : (t : Text) → (Made → ℕ → Made) → Go t → Made → ℕ → Move t → Standing → Way → Begin → Made
-along_from t rest go made from move standing Idle begin = rest (go made from move from) from
-along_from t rest go made from move standing way (Here point) = rest (go made from move point) point
-along_from t rest go made from move standing way New = rest (go (with_point standing made) from move made.points) made.points
+along_from t rest go made from move standing Idle begin = rest made from
+along_from t rest go made from move standing (Leads at) (Here point) = rest made point
+along_from t rest go made from move standing (Leads at) New = rest (with_point standing made) made.points
+along_from t rest go made from move standing Goes (Here point) = rest (go made from move point) point
+along_from t rest go made from move standing Goes New = rest (go (with_point standing made) from move made.points) made.points
+
+abbrev pub along_at : (t : Text) → Around → Go t → Made → ℕ → Standing → List (Move t) → ℕ → Made
+along_at t around go made from standing [] to = made
+along_at t around go made from standing (move ∷ moves) to =
+    along_from t (λ made' point. along_at t around go made' point (after t move standing) moves to) go made from move (after t move standing)
+    (way_of t around standing move) (begins t around (after t move standing) moves to)
 
 abbrev pub along : (t : Text) → Around → Go t → Made → ℕ → List (Move t) → ℕ → Made
-along t around go made from [] to = made
-along t around go made from (move ∷ moves) to =
-    along_from t (λ made' point. along t around go made' point moves to) go made from move (after t move (stands_at made from))
-    (way_of t around (stands_at made from) move) (begins t around (after t move (stands_at made from)) moves to)
+along t around go made from moves to = along_at t around go made from (stands_at made from) moves to
 
 abbrev pub along_line : (t : Text) → Around → Go t → Made → ℕ → Line t → ℕ → Made
 along_line t around go made from line to = along t around go (with_registers line.registers made) from line.moves to
@@ -386,7 +388,8 @@ place_void t go around made from expr spare to form = along_line t around (go ar
 
 abbrev pub place_work : (t : Text) → (Around → Go t) → Around → Made → ℕ → t.Expr → ℕ → ℕ → Form t.Expr t.Stmt → Made
 place_work t go around made from expr spare to form =
-    if is_void (value_kind t expr) then place_void t go around made from expr spare to form
+    if is_void (value_kind t expr)
+    then (if is_void (kind_made t expr form) then place_void t go around made from expr spare to form else failed made)
     else along_line t around (go around) made from (work_line t expr spare made.registers form) to
 
 -- Statements. Behind a condition its registers go, once on each side.

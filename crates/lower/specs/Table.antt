@@ -235,25 +235,37 @@ abbrev pub result_into : Kind → ℕ → Option ℕ
 result_into Void into = None
 result_into kind into = Some into
 
--- an argument has the size of its parameter; where main looks for blocks that were never freed it is not called
+-- an argument has the size of its parameter
 abbrev pub are_sized : List Parameter → Bool
 are_sized [] = true
 are_sized (param ∷ params) = nat_eq (width param.kind) param.object.bytes && are_sized params
 
-abbrev pub may_be_called : (t : Text) → Function t.Stmt → Bool
-may_be_called t function = are_sized function.params && not (t.strict && function.is_main)
 
 abbrev pub body_line : (t : Text) → List t.Expr → ℕ → ℕ → ℕ → ℕ → Place → Option (Function t.Stmt) → Line t
 body_line t args number spare into r place None = taking 0 (Fails ∷ [])
 body_line t args number spare into r place (Some function) =
-    if may_be_called t function
+    if are_sized function.params
     then taking (length args) (argument_moves t args (map (λ param. param.kind) function.params) spare r
     ++ Emits (i.Call number (registers_from r args) (result_into function.result into)) place ∷ [])
     else taking 0 (Fails ∷ [])
 
+-- whether the result of a built-in function is of the kind of what it makes
+abbrev pub gives : BuiltIn → List Kind → Kind → Bool
+gives Malloc params result = is_address result
+gives Calloc params result = is_address result
+gives Free params result = is_void result
+gives Memset (param ∷ params) result = is_address param && is_address result
+gives Memcpy (param ∷ params) result = is_address param && is_address result
+gives Memmove (param ∷ params) result = is_address param && is_address result
+gives EndsRun params result = true
+gives Assume params result = is_void result
+gives Expect (param ∷ params) result = fits param result
+gives GivesInput params result = true
+gives what params result = false
+
 abbrev pub call_line : (t : Text) → t.Expr → List t.Expr → ℕ → Option ℕ → ℕ → ℕ → Standing → Line t
 call_line t callee args spare kept into r (BuiltInStands name params result) =
-    built_in_line t (built_in name) args params result spare kept r (t.place callee)
+    if gives (built_in name) params result then built_in_line t (built_in name) args params result spare kept r (t.place callee) else taking 0 (Fails ∷ [])
 call_line t callee args spare kept into r (BodyStands number) = body_line t args number spare into r (t.place callee) (slice_get t.functions number)
 call_line t callee args spare kept into r other = taking 0 (Fails ∷ [])
 
