@@ -7,6 +7,7 @@
 mod builder;
 mod conversion;
 pub mod examples;
+pub mod kinds;
 
 pub use builder::Builder;
 pub use conversion::Conversion;
