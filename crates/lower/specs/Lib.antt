@@ -12,3 +12,4 @@ pub mod Rows
 pub mod Samples
 pub mod Programs
 pub mod Built
+pub mod Graphs

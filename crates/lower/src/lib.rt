@@ -8,6 +8,7 @@ mod builder;
 mod conversion;
 pub mod examples;
 pub mod kinds;
+pub mod words;
 
 pub use builder::Builder;
 pub use conversion::Conversion;
