@@ -1,2 +1,3 @@
 mod Meeting
 mod WorkedOut
+mod Written

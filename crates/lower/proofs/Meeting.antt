@@ -1,7 +1,7 @@
 -- The programs hold by computation.
 use Rattle.std.proofs.Common.{refl}
 use Rattle.bytes_core.specs.Loss.{reached_within}
-use Rattle.lower.specs.Programs.{DoUpdatesMeet, DoCountsMeet, DoTestsMeet, DoChoicesMeet, DoOperatorsMeet, DoMembersMeet, DoCallsMeet, DoLoopsMeet, DoJumpsMeet, DoReturnsMeet, DoObjectsMeet}
+use Rattle.lower.specs.Programs.{DoUpdatesMeet, DoCountsMeet, DoTestsMeet, DoChoicesMeet, DoOperatorsMeet, DoMembersMeet, DoCallsMeet, DoLoopsMeet, DoJumpsMeet, DoReturnsMeet, DoObjectsMeet, DoStaticsMeet}
 
 pub do_updates_meet : DoUpdatesMeet
 unfolding reached_within
@@ -118,4 +118,13 @@ do_objects_meet = record {
   malloc_block = record { source = refl; along = refl; fits = record { told = refl; leads = refl; fit = refl } };
   braces_are = record { source = refl; along = refl; fits = record { told = refl; leads = refl; fit = refl } };
   member_set = record { source = refl; along = refl; fits = record { told = refl; leads = refl; fit = refl } };
+}
+
+pub do_statics_meet : DoStaticsMeet
+unfolding reached_within
+do_statics_meet = record {
+  initial = refl;
+  numbers_are = record { source = refl; along = refl; fits = record { told = refl; leads = refl; fit = refl } };
+  truth_is = record { source = refl; along = refl; fits = record { told = refl; leads = refl; fit = refl } };
+  later_stands = record { source = refl; along = refl; fits = record { told = refl; leads = refl; fit = refl } };
 }

@@ -1,11 +1,9 @@
 -- Programs with their graphs, worked out by hand: the edges in their order. Where the graph runs with choices it comes to what the program comes to.
-use Rattle.std.specs.Prelude.{◌≡◌, ℕ, Bool, true, false, ◌&&◌, List, [], ◌∷◌, map, length, Option, None, Some}
+use Rattle.std.specs.Prelude.{◌≡◌, Bool, true, ◌&&◌, List, map, length, Option, None, Some}
 use Rattle.std.specs.List.{list_all}
 use Rattle.cbase.specs.declared.abi.Abi.TheVariants.{Lp64}
-use Rattle.cbase.specs.declared.place.Place.{Place}
 use Rattle.choices.specs.declared.choice.Choice.{Choice}
 use Rattle.c_machine.specs.Script.{Script, text_in}
-use Rattle.flow.specs.declared.instruction.Instr.{Instr}
 use Rattle.flow.specs.declared.flow_graph.Flow.{Flow}
 use Rattle.flow.specs.declared.flow_graph.FlowEdge.{FlowEdge}
 use Rattle.flow.specs.Machine as graph

@@ -11,3 +11,4 @@ pub mod Rows
 pub mod Samples
 pub mod Programs
 pub mod Built
+pub mod Graphs

@@ -1,6 +1,6 @@
 -- Programs with graphs: what each comes to, in the source and along its graph, and that what stands at each point is what each edge leaves there. Each declares
 -- what stands in `begun`, and ends with a test that holds, behind which a null pointer is followed at token 7.
-use Rattle.std.specs.Prelude.{◌≡◌, ℕ, ◌-◌, ◌^◌, true, false, List, [], ◌∷◌, ◌++◌, replicate, None, Some}
+use Rattle.std.specs.Prelude.{◌≡◌, ℕ, Option, pos, ◌-◌, ◌^◌, true, false, List, [], ◌∷◌, replicate, None, Some}
 use Rattle.cbase.specs.declared.abi.Abi.TheVariants.{Lp64}
 use Rattle.cbase.specs.declared.tree.operators.BinaryOp.TheVariants.{Add, Sub, Left, Less, Greater, GreaterEqual, Equal, Both, Either, Comma}
 use Rattle.cbase.specs.declared.tree.operators.UnaryOp.TheVariants.{Address, Follow, Plus, Minus, Flip, Not}
@@ -12,9 +12,12 @@ use Rattle.c_machine.specs.Run.{run_of}
 use Rattle.c_machine.specs.State.{Faulted as SourceFaulted}
 use Rattle.c_machine.specs.Text.{NothingStands, Function}
 use Rattle.flow.specs.Machine.{Faulted}
+use Rattle.flow.specs.declared.flow_graph.Flow.{Flow}
+use Rattle.flow.specs.declared.flow_graph.Initial.{Initial}
+use Rattle.flow.specs.declared.flow_graph.InitialWord.TheVariants as held
 use Rattle.lower.specs.Examples.{IsGraph, comes_to}
 use Rattle.lower.specs.Lowering.{flow_in}
-use Rattle.lower.specs.Samples.{Tree, AnExpr, AValue, AnAssertion, Sample, text_in, an_int, a_char, a_long, a_truth, number, variable, unary, binary, set_to, copied_to, update, counted, choice, cast_to, index, member, inner, null, at, malloc, memset, memcpy, expect, assume, abort, any_int, call, eval, give, give_nothing, leave, go_on, block, where_true, where_either, while_true, do_while, for_each, nothing, declare, declare_as, declare_braces, local_at, parameter, main, function}
+use Rattle.lower.specs.Samples.{Tree, AnExpr, AValue, SomeBraces, trees, AnAssertion, Sample, text_in, an_int, a_char, a_long, a_truth, number, variable, unary, binary, set_to, copied_to, update, counted, choice, cast_to, index, member, inner, null, at, malloc, memset, memcpy, expect, assume, abort, any_int, call, eval, give, give_nothing, leave, go_on, block, where_true, where_either, while_true, do_while, for_each, nothing, declare, declare_as, declare_braces, local_at, parameter, main, function}
 
 abbrev pub x : Tree
 x = variable an_int 1
@@ -57,6 +60,7 @@ begun body functions = record {
   statics = [];
   sets = [];
   functions = main (declare 1 ∷ declare 2 ∷ declare 3 ∷ declare 4 ∷ declare 5 ∷ declare 6 ∷ declare 9 ∷ declare 10 ∷ declare 11 ∷ body) ∷ functions;
+  enough = 30;
   strict = false;
 }
 
@@ -219,3 +223,51 @@ pub record DoObjectsMeet : Type 0 where
   pub braces_are : Comes (block (declare_braces 13 (AValue 0 an_int (number 3) ∷ []) ∷ eval (set_to (index an_int a (number 0)) (binary an_int Add (index an_int (variable (Array 4) 13) (number 0)) (index an_int (variable (Array 4) 13) (number 1)))) ∷ []) ∷ check (index an_int a (number 0)) 3 ∷ []) [] (zeros 512 8 ∷ [])
   -- { int d[2] = { [1] = 3 }; d[1] == 3 }
   pub member_set : Comes (block (declare_braces 13 (AValue 4 an_int (number 3) ∷ []) ∷ check (index an_int (variable (Array 4) 13) (number 1)) 3 ∷ []) ∷ []) [] (zeros 512 8 ∷ [])
+
+-- static int y = 3; static _Bool z = 3; static int v[2] = { 1, [1] = 2, [1] = 5 }; static int *w = &y, *u = &v[1];
+abbrev pub y : Tree
+y = variable an_int 21
+
+abbrev pub z : Tree
+z = variable a_truth 22
+
+abbrev pub v : Tree
+v = variable (Array 4) 23
+
+abbrev pub w : Tree
+w = variable (Pointer 4) 24
+
+abbrev pub u : Tree
+u = variable (Pointer 4) 25
+
+abbrev pub with_statics : List Tree → Sample
+with_statics body = record {
+  locals = [];
+  statics = record { token = Some 21; bytes = 4 } ∷ record { token = Some 22; bytes = 1 } ∷ record { token = Some 23; bytes = 8 }
+      ∷ record { token = Some 24; bytes = 8 } ∷ record { token = Some 25; bytes = 8 } ∷ [];
+  sets = record { place = token 21; init = AValue 0 an_int (number 3) } ∷ record { place = token 22; init = AValue 0 a_truth (number 3) }
+      ∷ record { place = token 23; init = SomeBraces (trees (AValue 0 an_int (number 1) ∷ AValue 4 an_int (number 2) ∷ AValue 4 an_int (number 5) ∷ [])) }
+      ∷ record { place = token 24; init = AValue 0 (Pointer 4) (unary (Pointer 4) Address y) }
+      ∷ record { place = token 25; init = AValue 0 (Pointer 4) (unary (Pointer 4) Address (index an_int v (number 1))) } ∷ [];
+  functions = main body ∷ [];
+  enough = 200;
+  strict = false;
+}
+
+abbrev pub initial_in : Option Flow → List Initial
+initial_in None = []
+initial_in (Some flow) = flow.initial
+
+abbrev pub five_blocks : List Choice
+five_blocks = zeros 16 4 ∷ zeros 48 1 ∷ zeros 80 8 ∷ zeros 112 8 ∷ zeros 144 8 ∷ []
+
+pub record DoStaticsMeet : Type 0 where
+  -- a scalar each, and of the one that is set twice the later one
+  pub initial : initial_in (flow_in Lp64 (text_in (with_statics []))) ≡
+      record { variable = 0; at = 0; size = 4; word = held.Number 3 } ∷ record { variable = 1; at = 0; size = 1; word = held.Number 1 }
+      ∷ record { variable = 2; at = 0; size = 4; word = held.Number 1 } ∷ record { variable = 2; at = 4; size = 4; word = held.Number 5 }
+      ∷ record { variable = 3; at = 0; size = 8; word = held.Address 0 (pos 0) } ∷ record { variable = 4; at = 0; size = 8; word = held.Address 2 (pos 4) } ∷ []
+  -- *w == 3, z == 1, *u == 5
+  pub numbers_are : Meets (with_statics (check (unary an_int Follow w) 3 ∷ [])) five_blocks
+  pub truth_is : Meets (with_statics (check z 1 ∷ [])) five_blocks
+  pub later_stands : Meets (with_statics (check (unary an_int Follow u) 5 ∷ [])) five_blocks

@@ -1,11 +1,11 @@
 -- The worked programs of the source machine, run along their graphs: with the same choices each comes to the same.
-use Rattle.std.specs.Prelude.{true, false, List, [], ◌∷◌, ◌-◌, ◌^◌, None, Some}
+use Rattle.std.specs.Prelude.{true, false, [], ◌∷◌, ◌-◌, ◌^◌, None, Some}
 use Rattle.cbase.specs.declared.tree.operators.BinaryOp.TheVariants.{Add, Sub, Equal}
 use Rattle.choices.specs.declared.choice.Choice.TheVariants.{Block as NewBlock, Input}
 use Rattle.typing.specs.Sample.{token}
 use Rattle.c_machine.specs.declared.kind.Kind.TheVariants.{Pointer, Array, Void}
 use Rattle.c_machine.specs.Examples.{met, if_equal, x, i, b, q, a, own, int_parameter}
-use Rattle.c_machine.specs.Script.{Script, Tree, an_int, a_char, a_truth, number, variable, enumerator, address, follow, binary, comma, set_to, inner, null, at, malloc, calloc, free, any_int, call, eval, give, leave, block, where_true, while_true, do_while, for_each, nothing, declare, declare_as, declare_braces, ends, int_at, truth_at, pointer_at, parameter, main, function, closes, program, zeros}
+use Rattle.c_machine.specs.Script.{Script, an_int, a_truth, number, variable, enumerator, address, follow, binary, comma, set_to, inner, at, malloc, calloc, free, any_int, call, eval, give, leave, block, where_true, while_true, do_while, for_each, nothing, declare, declare_as, declare_braces, ends, parameter, main, function, closes, zeros}
 use Rattle.flow.specs.Machine.{Waits, Ended, Faulted}
 use Rattle.lower.specs.Examples.{GraphComesTo, HasGraph}
 

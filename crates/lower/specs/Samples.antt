@@ -5,10 +5,10 @@ use Rattle.cbase.specs.declared.tree.operators.BinaryOp.{BinaryOp}
 use Rattle.cbase.specs.declared.tree.operators.UnaryOp.{UnaryOp}
 use Rattle.typing.specs.ctypes.Integers.{integer, truth}
 use Rattle.typing.specs.Sample.{token}
-use Rattle.c_machine.specs.declared.kind.Kind.TheVariants.{Integer, Pointer, Struct, Void}
+use Rattle.c_machine.specs.declared.kind.Kind.TheVariants.{Integer, Pointer, Void}
 use Rattle.c_machine.specs.declared.kind.Kind.{Kind}
 use Rattle.c_machine.specs.declared.object.Object.{Object}
-use Rattle.c_machine.specs.Text.{Standing, ObjectStands, BuiltInStands, BodyStands, NothingStands, Form, Name, Known, Unary, Binary, Assign, Count, Choose, Cast, Index, Member, Call, Inner, AssertFail, Clause, Declare, Eval, Block, If, While, Do, For, Break, Continue, Return, Initialiser, Value, Braces, Parameter, Function, Store, Set, Text}
+use Rattle.c_machine.specs.Text.{Standing, ObjectStands, BuiltInStands, BodyStands, NothingStands, Form, Name, Known, Unary, Binary, Assign, Count, Choose, Cast, Index, Member, Call, Inner, AssertFail, Clause, Declare, Eval, Block, If, While, Do, For, Break, Continue, Return, Initialiser, Value, Braces, Parameter, Function, Set, Text}
 
 mutual
   -- an expression, with its type, its place and what its name stands for; a statement, with its first and its last token; and an initialiser, whose value sets
@@ -72,12 +72,14 @@ pub record Local : Type 0 where
   pub name : ℕ
   pub bytes : ℕ
 
--- a program: the objects inside its functions, those that live as long as it runs with their initialisers, and its functions, of which the first is main
+-- a program: the objects inside its functions, those that live as long as it runs with their initialisers, its functions, of which the first is main, and a number
+-- of steps in which those initialisers are written
 pub record Sample : Type 0 where
   pub locals : List Local
   pub statics : List Object
   pub sets : List (Set Tree)
   pub functions : List (Function Tree)
+  pub enough : ℕ
   pub strict : Bool
 
 abbrev pub local_in : List Local → ℕ → Option Object
@@ -167,7 +169,7 @@ text_in sample = record {
   store = λ place expr. Some (record { offset = place_in expr; kind = kind_in expr });
   statics = sample.statics;
   sets = sample.sets;
-  enough = 30;
+  enough = sample.enough;
   functions = sample.functions;
   main = first_function sample.functions;
   strict = sample.strict;

@@ -195,7 +195,7 @@ copy_moves t to kind from kind' spare kept r disjoint place (Some count) =
 abbrev pub receives : {t : Text} → Option ℕ → Kind → Place → List (Move t)
 receives (Some into) (Integer of) place = Emits (i.Input into of.bytes of.signed of.truth) place ∷ []
 receives (Some into) (Pointer bytes) place = Emits (i.Input into 8 false false) place ∷ []
-receives kept kind place = Stops ∷ []
+receives kept kind place = Fails ∷ []
 
 -- the second argument of `__builtin_expect` is let go of: in the spare register, or behind it where the first one is there
 abbrev pub beside : ℕ → ℕ → ℕ

@@ -1,5 +1,6 @@
 //! Worked programs with their graphs. Each table is the contract of a function that does nothing.
-ghost use Rattle.lower.specs.Programs.{DoCallsMeet, DoChoicesMeet, DoCountsMeet, DoJumpsMeet, DoLoopsMeet, DoMembersMeet, DoObjectsMeet, DoOperatorsMeet, DoReturnsMeet, DoTestsMeet, DoUpdatesMeet};
+ghost use Rattle.lower.specs.Graphs.{AreWritten};
+ghost use Rattle.lower.specs.Programs.{DoCallsMeet, DoChoicesMeet, DoCountsMeet, DoJumpsMeet, DoLoopsMeet, DoMembersMeet, DoObjectsMeet, DoOperatorsMeet, DoReturnsMeet, DoStaticsMeet, DoTestsMeet, DoUpdatesMeet};
 ghost use Rattle.lower.specs.Rows.{AreGraphs, DoCallsRun, DoExpressionsRun, DoStatementsRun};
 
 /// In the graphs of these programs each edge leads from what stands at its one end to what stands at its other end.
@@ -75,4 +76,14 @@ pub fn returns_meet()
 /// Allocations and initialisers.
 pub fn objects_meet()
     ensures { DoObjectsMeet }
+{}
+
+/// Whole graphs, written out.
+pub fn graphs_are_written()
+    ensures { AreWritten }
+{}
+
+/// What static objects hold at the start.
+pub fn statics_meet()
+    ensures { DoStaticsMeet }
 {}

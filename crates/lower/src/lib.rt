@@ -7,6 +7,8 @@
 mod builder;
 mod conversion;
 pub mod examples;
+pub mod kinds;
+pub mod words;
 
 pub use builder::Builder;
 pub use conversion::Conversion;
