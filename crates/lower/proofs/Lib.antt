@@ -1,0 +1,3 @@
+mod Meeting
+mod WorkedOut
+mod Written

@@ -1,0 +1,14 @@
+pub mod Kinds
+pub mod Known
+pub mod LetGo
+pub mod Moves
+pub mod Table
+pub mod Placing
+pub mod Initials
+pub mod Lowering
+pub mod Examples
+pub mod Rows
+pub mod Samples
+pub mod Programs
+pub mod Built
+pub mod Graphs

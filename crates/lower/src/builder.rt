@@ -1,0 +1,116 @@
+//! What is made of a graph so far.
+ghost use Rattle.std.specs.Prelude.{◌≡◌, ◌<◌, ◌+◌, ◌^◌, OnOk, IfOk};
+ghost use Rattle.lower.specs.Built.{made_of};
+ghost use Rattle.lower.specs.Lowering.{nothing_made};
+ghost use Rattle.lower.specs.Placing.{emit, with_head, with_point, with_registers, stands_at};
+
+use cbase::{List, NoMemory, Place};
+use flow::{FlowEdge, Instr, Standing, Variable};
+use std::alloc::Global;
+
+/// What is made of a graph so far: points and registers are numbered from 0.
+#[derive(Drop)]
+pub struct Builder {
+    /// How many points there are.
+    pub points: u32,
+    /// How many registers there are.
+    pub registers: u32,
+    /// The edges, in the order in which they were made.
+    pub edges: List<FlowEdge>,
+    /// What stands at each point.
+    pub stands: List<Standing>,
+    /// The variables.
+    pub variables: List<Variable>,
+    /// The loop heads.
+    pub heads: List<u32>,
+}
+
+impl Builder {
+    /// Nothing is made. It takes no memory.
+    pub fn new(alloc: Global) -> Builder
+        ensures { made_of result ≡ nothing_made }
+    {
+        Builder {
+            points: 0,
+            registers: 0,
+            edges: List::new(alloc),
+            stands: List::new(alloc),
+            variables: List::new(alloc),
+            heads: List::new(alloc),
+        }
+    }
+
+    /// An edge more.
+    pub fn emit(&mut self, from: u32, instr: Instr, to: u32, place: Place) -> Result<(), NoMemory>
+        ensures { OnOk result (made_of self.new ≡ emit (made_of self.old) from instr to place) }
+    {
+        self.edges.push(FlowEdge {
+            from,
+            to,
+            instr,
+            place,
+        })
+    }
+
+    /// A point more, at which this stands. It answers its number; where there are more than can be numbered, memory is wanting.
+    pub fn point(&mut self, standing: Standing) -> Result<u32, NoMemory>
+        ensures { IfOk result (λ point. (point ≡ self.old.points) × (made_of self.new ≡ with_point standing (made_of self.old))) }
+    {
+        let point = self.points;
+        match point.checked_add(1) {
+            None => Err(NoMemory),
+            Some(points) => {
+                self.stands.push(standing)?;
+                self.points = points;
+                Ok(point)
+            }
+        }
+    }
+
+    /// So many registers more. It answers the number of the first one; where there are more than can be numbered, memory is wanting.
+    pub fn registers(&mut self, count: u32) -> Result<u32, NoMemory>
+        ensures is { IfOk result (λ first. (first ≡ self.old.registers) × (made_of self.new ≡ with_registers count (made_of self.old))) }
+        ensures fits { IfOk result (λ first. first + count < 2 ^ 32) }
+    {
+        let first = self.registers;
+        match first.checked_add(count) {
+            None => Err(NoMemory),
+            Some(registers) => {
+                self.registers = registers;
+                Ok(first)
+            }
+        }
+    }
+
+    /// A loop head more.
+    pub fn head(&mut self, point: u32) -> Result<(), NoMemory>
+        ensures { OnOk result (made_of self.new ≡ with_head point (made_of self.old)) }
+    {
+        self.heads.push(point)
+    }
+
+    /// What stands at a point. It takes time and memory for what stands there.
+    pub fn stands_at(&self, alloc: Global, point: u32) -> Result<Standing, NoMemory>
+        ensures { IfOk result (λ standing. standing ≡ stands_at (made_of self.now) point) }
+    {
+        match self.stands.as_slice().get(point as usize) {
+            None => Ok(Standing {
+                variables: List::new(alloc),
+                registers: List::new(alloc),
+            }),
+            Some(standing) => copied(alloc, standing),
+        }
+    }
+}
+
+/// The same variables and registers.
+fn copied(alloc: Global, standing: &Standing) -> Result<Standing, NoMemory>
+    ensures { IfOk result (λ copy. copy ≡ standing.now) }
+{
+    let variables = standing.variables.as_slice().to_vec(alloc)?;
+    let registers = standing.registers.as_slice().to_vec(alloc)?;
+    Ok(Standing {
+        variables: List::from_vec(variables),
+        registers: List::from_vec(registers),
+    })
+}
