@@ -11,7 +11,6 @@ ghost use Rattle.claims.specs.Played.{OfBoth, MeansFault, MeansEnded, MeansWaits
 ghost use Rattle.claims.specs.NoChoices.{MeansNoChoices};
 
 /// A fault: the bytes of FILE hold a program, those of CHOICES spell choices, and with these a run of it meets a fault of this kind within the steps of the words, at the token that stands at the place.
-#[tactic(auto, using(crate::proofs::Playing::fault))]
 pub fn fault_means()
     ensures { (tells : Bool) (content other : Option (Items ℕ)) (command : ReplayCommand) (names : Items (Items ℕ)) (kind : ℕ) (place : Place)
         → IsAnswered tells content other command names (ReplayAnswer.Played (Replayed.Fault kind place))
@@ -19,7 +18,6 @@ pub fn fault_means()
 {}
 
 /// `ended`: the run is over within these steps, and met no fault.
-#[tactic(auto, using(crate::proofs::Playing::ended))]
 pub fn ended_means()
     ensures { (tells : Bool) (content other : Option (Items ℕ)) (command : ReplayCommand) (names : Items (Items ℕ))
         → IsAnswered tells content other command names (ReplayAnswer.Played Replayed.Ended)
@@ -27,7 +25,6 @@ pub fn ended_means()
 {}
 
 /// `waits`: within these steps the run asks for a choice, and each of those of CHOICES is taken.
-#[tactic(auto, using(crate::proofs::Playing::waits))]
 pub fn waits_means()
     ensures { (tells : Bool) (content other : Option (Items ℕ)) (command : ReplayCommand) (names : Items (Items ℕ))
         → IsAnswered tells content other command names (ReplayAnswer.Played Replayed.Waits)
@@ -35,7 +32,6 @@ pub fn waits_means()
 {}
 
 /// `still running`: behind so many steps the run goes on, and met no fault.
-#[tactic(auto, using(crate::proofs::Playing::still_running))]
 pub fn still_running_means()
     ensures { (tells : Bool) (content other : Option (Items ℕ)) (command : ReplayCommand) (names : Items (Items ℕ))
         → IsAnswered tells content other command names (ReplayAnswer.Played Replayed.Running)
@@ -43,7 +39,6 @@ pub fn still_running_means()
 {}
 
 /// `gave up: no step`: the run comes where the machine has no step.
-#[tactic(auto, using(crate::proofs::Playing::no_step))]
 pub fn no_step_means()
     ensures { (tells : Bool) (content other : Option (Items ℕ)) (command : ReplayCommand) (names : Items (Items ℕ))
         → IsAnswered tells content other command names (ReplayAnswer.Played Replayed.Stuck)
