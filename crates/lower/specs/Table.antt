@@ -240,7 +240,6 @@ abbrev pub are_sized : List Parameter → Bool
 are_sized [] = true
 are_sized (param ∷ params) = nat_eq (width param.kind) param.object.bytes && are_sized params
 
-
 abbrev pub body_line : (t : Text) → List t.Expr → ℕ → ℕ → ℕ → ℕ → Place → Option (Function t.Stmt) → Line t
 body_line t args number spare into r place None = taking 0 (Fails ∷ [])
 body_line t args number spare into r place (Some function) =
