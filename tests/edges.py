@@ -306,7 +306,7 @@ def replay_of_a_refused_file_without_choices(folder):
 
 def replay_of_a_call_without_choices(folder):
     Path(folder, "t.c").write_bytes(b"int f(void) { return 1; }\nint main(void) {\n  return f();\n}\n")
-    return ran(["replay", "t.c", "missing"], folder), (3, b"t.c: not read: not yet at t.c:3:10\n")
+    return ran(["replay", "t.c", "missing"], folder), (5, b"")
 
 
 def replay_where_the_choices_are_a_folder(folder):

@@ -21,9 +21,10 @@ class Program:
         self.file = sources.PROGRAM if self.is_proved else unproved.program()
 
     def becomes(self, words):
-        """This process becomes the proved program."""
-        sys.stdout.flush()
-        sys.stderr.flush()
+        """This process becomes the proved program. A stream that was closed is none here."""
+        for stream in (sys.stdout, sys.stderr):
+            if stream is not None:
+                stream.flush()
         os.execv(self.file, [os.fsencode(self.file), *words])
 
     def answer(self, words, **more):
