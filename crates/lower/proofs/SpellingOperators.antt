@@ -1,5 +1,5 @@
 -- What is placed for operators is what the rest of a run wants: the conversions of the sides, each in a register of its own, and the operation.
-use Rattle.std.proofs.Common.{◌≡◌, ◌≢◌, ◌<◌, ◌≤◌, ℕ, zero, suc, ◌+◌, ◌*◌, ◌^◌, ◌%◌, pos, List, [], ◌∷◌, ◌++◌, Bool, true, false, not, refl, sym, ap, ◌∙◌, arith, Option, None, Some, option_map, subst, ◌&&◌, nat_eq, if◌then◌else◌}
+use Rattle.std.proofs.Common.{◌≡◌, ◌≢◌, ◌<◌, ◌≤◌, ℕ, zero, suc, ◌+◌, ◌^◌, List, [], ◌∷◌, ◌++◌, Bool, true, false, not, refl, sym, ap, ◌∙◌, arith, Option, None, Some, option_map, subst, ◌&&◌, nat_eq, if◌then◌else◌}
 use Rattle.std.specs.Prelude.{nat_lt}
 use Rattle.std.proofs.Math.Nat.{mod-eq_of_lt}
 use Rattle.std.proofs.lemmas.Bool.{false≢true, eqb-true, and_parts}
@@ -33,7 +33,7 @@ use Rattle.flow.specs.declared.instruction.Instr.TheVariants as i
 use Rattle.flow.specs.Machine.{size_after}
 use Rattle.simulation.specs.Edges.{One}
 use Rattle.simulation.specs.Running.{Setting, Running}
-use Rattle.simulation.specs.Slots.{Slot, InRegister, is_free, is_whole, Suits, IsPlainWhere}
+use Rattle.simulation.specs.Slots.{Slot, InRegister, is_free, is_whole, Suits}
 use Rattle.simulation.specs.Turning.{Turns, Stays, Turned, Combines, Computed, ComputedAround, Calculates, Calculated}
 use Rattle.simulation.specs.Lowered.{Stop, Lowered, Values, Operates}
 use Rattle.lower.specs.Kinds.{width, is_void, fits, Sides, sides, between_integers, made_by}
