@@ -11,6 +11,15 @@ use Rattle.arithmetic.specs.declared.op.Op.TheVariants as op
 use Rattle.arithmetic.specs.Computing.{computed}
 use Rattle.arithmetic.specs.Conversion.{converted, truth}
 use Rattle.arithmetic.specs.Value.{modulus, value}
+use Rattle.std.specs.Prelude.{ℤ, pos, ◌*◌, negsuc, ◌+ℤ◌, ◌*ℤ◌}
+use Rattle.std.proofs.lemmas.Int.{ints}
+use borrow.Author.Differences.{up, down}
+use Rattle.arithmetic.specs.declared.size.Size.TheVariants.{Eight}
+use Rattle.arithmetic.specs.Value.{residue}
+use Rattle.arithmetic.proofs.Inverse.{value-multiples}
+use Rattle.arithmetic.proofs.Residues.{residue-same, multiples-product}
+use Rattle.bytes_core.specs.Value.{wrapped, moved}
+use Rattle.std.specs.Int.{w64, cast_signed}
 use Rattle.arithmetic.proofs.Residues.{residue-is, value-is}
 use Rattle.typing.specs.declared.ctypes.kind.IntegerType.{IntegerType}
 use Rattle.typing.specs.ctypes.Integers.{promoted, common, integer}
@@ -21,9 +30,9 @@ use Rattle.bytes_core.specs.declared.word.Word.TheVariants.{Plain, To}
 use Rattle.bytes_core.specs.Value.{address_number}
 use Rattle.c_machine.specs.declared.kind.Kind.{Kind}
 use Rattle.c_machine.specs.declared.kind.Kind.TheVariants.{Integer, Pointer, Array, Struct, Void}
-use Rattle.c_machine.specs.declared.task.Task.TheVariants.{ValueOf, Operate}
-use Rattle.c_machine.specs.Text.{Form, Binary, Text}
-use Rattle.c_machine.specs.Expressions.{value_kind, value_parts}
+use Rattle.c_machine.specs.declared.task.Task.TheVariants.{ValueOf, AddressOf, Operate}
+use Rattle.c_machine.specs.Text.{Form, Binary, Index, Text}
+use Rattle.c_machine.specs.Expressions.{value_kind, value_parts, address_parts}
 use Rattle.c_machine.specs.State.{TaskIn}
 use Rattle.c_machine.specs.Words.{is_same, are_alike, operated}
 use Rattle.flow.specs.declared.flow_graph.Flow.{Flow}
@@ -34,14 +43,14 @@ use Rattle.flow.specs.Machine.{size_after}
 use Rattle.simulation.specs.Edges.{One}
 use Rattle.simulation.specs.Running.{Setting, Running}
 use Rattle.simulation.specs.Slots.{Slot, InRegister, is_free, is_whole, Suits}
-use Rattle.simulation.specs.Turning.{Turns, Stays, Turned, Combines, Computed, ComputedAround, Calculates, Calculated}
-use Rattle.simulation.specs.Lowered.{Stop, Lowered, Values, Operates}
-use Rattle.lower.specs.Kinds.{width, is_void, fits, Sides, sides, between_integers, made_by}
+use Rattle.simulation.specs.Turning.{Turns, Stays, Turned, Combines, Computed, ComputedAround, Moved, MovedAround, Calculates, Calculated}
+use Rattle.simulation.specs.Lowered.{Stop, Lowered, Values, Addresses, Operates}
+use Rattle.lower.specs.Kinds.{width, is_void, is_address, as_count, fits, Sides, sides, between_integers, made_by}
 use Rattle.lower.specs.declared.conversion.Conversion.{Conversion}
 use Rattle.lower.specs.declared.conversion.Conversion.TheVariants.{Nothing, Resized, Tested, Dropped, Unknown as NoConversion}
-use Rattle.lower.specs.Moves.{Move, Emits, Evaluates, Fails, resizes, stands_in, of_integers, operates}
-use Rattle.lower.specs.Table.{is_made}
-use Rattle.lower.specs.Placing.{Made, Around, Begin, New, begins, with_point, with_registers, stands_at, after, along, along_at, along_from, Goes, go}
+use Rattle.lower.specs.Moves.{Move, Emits, Evaluates, Fails, resizes, stands_in, of_integers, combines, operates}
+use Rattle.lower.specs.Table.{is_made, place_line}
+use Rattle.lower.specs.Placing.{Made, Around, Begin, New, begins, with_point, with_registers, stands_at, after, along, along_line, variable_of, along_at, along_from, Goes, go}
 use Rattle.lower.proofs.Placings.{IsSpelled, spelled_registers}
 use Rattle.lower.proofs.Spelling as spelling
 use Rattle.lower.proofs.Spelling.{AreBelow, IsAround, IsAsPlain, below_more, free_below, free_beside, fitted, not_holds}
@@ -109,6 +118,37 @@ common_whole : (left right : IntegerType) → (promoted left).truth ≡ false �
 common_whole left right whole whole' =
     one_whole (nat_lt (promoted left).bytes (promoted right).bytes) (nat_lt (promoted right).bytes (promoted left).bytes) (promoted left) (promoted right)
     (integer (promoted left).bytes ((promoted left).signed && (promoted right).signed)) whole whole' refl
+
+-- an address is moved by whole numbers that multiples of 2^64 make one to the same place
+wrapped_residue : (z : ℤ) → wrapped z ≡ residue (2 ^ 64) z
+wrapped_residue (pos number) = refl
+wrapped_residue (negsuc before) = refl
+
+wrapped_same : (a b : ℤ) (j k : ℕ) → a +ℤ pos (j * 2 ^ 64) ≡ b +ℤ pos (k * 2 ^ 64) → wrapped a ≡ wrapped b
+wrapped_same a b j k e = wrapped_residue a ∙ (residue-same (2 ^ 64) a b j k (omega arith) e ∙ sym (wrapped_residue b))
+
+moved_same : (word : Word) (a b : ℤ) (j k : ℕ) → a +ℤ pos (j * 2 ^ 64) ≡ b +ℤ pos (k * 2 ^ 64) → moved word a ≡ moved word b
+moved_same (Plain number) a b j k e = ap Plain (wrapped_same (pos number +ℤ a) (pos number +ℤ b) j k (omega (arith, ints)))
+moved_same (To block offset) a b j k e = ap (λ (n : ℕ). To block (cast_signed w64 n)) (wrapped_same (offset +ℤ a) (offset +ℤ b) j k (omega (arith, ints)))
+
+-- a number of 8 bytes beside a pointer is the value of the integer, but for a multiple of 2^64
+counted : (of : IntegerType) (eight : Bool) → nat_eq of.bytes 8 ≡ eight → (memory : List Block) (word : Word) →
+    (j : ℕ) × (k : ℕ) × (value 8 true (address_number memory (turn_of (if eight then Nothing else Resized 8 of.signed) of.bytes memory word)) +ℤ pos (j * 2 ^ 64) ≡ value of.bytes of.signed (address_number memory word) +ℤ pos (k * 2 ^ 64))
+counted of true is memory word =
+    let number : ℕ = address_number memory word in
+    let one = value-is 8 true number in
+    let other = value-is 8 of.signed number in
+    (one.0, other.0, one.1 ∙ (sym other.1 ∙ ap (λ (bytes : ℕ). value bytes of.signed number +ℤ pos (other.0 * 2 ^ 64)) (sym (eqb-true of.bytes 8 is))))
+counted of false is memory word = value-multiples Eight true (value of.bytes of.signed (address_number memory word))
+
+moved_times : (at : Word) (of : IntegerType) (memory : List Block) (word : Word) (bytes : ℕ) →
+    moved at (value 8 true (address_number memory (turn_of (as_count of) of.bytes memory word)) *ℤ pos bytes) ≡ moved at (value of.bytes of.signed (address_number memory word) *ℤ pos bytes)
+moved_times at of memory word bytes =
+    let same = counted of (nat_eq of.bytes 8) refl memory word in
+    let one : ℤ = value 8 true (address_number memory (turn_of (as_count of) of.bytes memory word)) in
+    let other : ℤ = value of.bytes of.signed (address_number memory word) in
+    moved_same at (one *ℤ pos bytes) (other *ℤ pos bytes) (same.0 * up (pos bytes) + same.1 * down (pos bytes)) (same.1 * up (pos bytes) + same.0 * down (pos bytes))
+    (multiples-product (2 ^ 64) one other (pos bytes) same.0 same.1 same.2)
 
 -- registers of a form of its own
 first_differs : (change : Conversion) (r : ℕ) → (stands_in change r (r + 2) ≢ r + 1) × (stands_in change r (r + 2) ≢ r + 3)
@@ -455,3 +495,122 @@ module _ (t : Text) (flow : Flow) (setting : Setting) (running : Running) where
   integers_form levels at Both left right computing number number' around good made from expr spare into to is shown spelled now later tasks slots whole below lower lower' free free' cont = absurd (false≢true computing)
   integers_form levels at Either left right computing number number' around good made from expr spare into to is shown spelled now later tasks slots whole below lower lower' free free' cont = absurd (false≢true computing)
   integers_form levels at Comma left right computing number number' around good made from expr spare into to is shown spelled now later tasks slots whole below lower lower' free free' cont = absurd (false≢true computing)
+
+  -- a pointer and an integer
+  pointer_plus : (levels : ℕ) (around : Around) (made : Made) (from : ℕ) (standing : Stood) (bytes : ℕ) (right : IntegerType) (r into to : ℕ) (plain plain' : Bool) (place : Place) →
+      Spells levels around made from standing (operates Add (Pointer bytes) (Integer right) r (r + 1) (r + 2) (r + 3) into place) to →
+      (now later : List (Stop t)) (tasks : List (TaskIn t)) (slots : List Slot) → AreBelow r slots → is_free into slots ≡ true → Rest around now later tasks (InRegister into 8 false ∷ slots) to →
+      Rest around now later (Operate Add (Pointer bytes) (Integer right) ∷ tasks) (InRegister (r + 1) right.bytes plain' ∷ InRegister r 8 plain ∷ slots) from
+  pointer_plus levels around made from standing bytes right r into to plain plain' place spelled now later tasks slots below free cont =
+      let change : Conversion = as_count right in
+      let combined : List Block → Word → Word → Option Word = λ memory first second. Some (moved first (value 8 true (address_number memory second) *ℤ pos bytes)) in
+      Operates Add (Pointer bytes) (Integer right) r 8 (r + 1) right.bytes into 8 to plain plain' false
+      (λ memory first second. option_map (λ word. word) (combined memory (turn_of Nothing 8 memory first) (turn_of change right.bytes memory second)))
+      (calculates levels around made from standing Nothing change r 8 right.bytes into 8 to plain plain' false (i.ShiftBy into r (stands_in change (r + 1) (r + 3)) (pos bytes)) place slots combined below free
+      (λ point one. Moved (pos bytes) to into place one) spelled)
+      (λ memory first second suits suits'. ap Some (sym (moved_times first right memory second bytes))) cont
+
+  plus_pointer : (levels : ℕ) (around : Around) (made : Made) (from : ℕ) (standing : Stood) (left : IntegerType) (bytes r into to : ℕ) (plain plain' : Bool) (place : Place) →
+      Spells levels around made from standing (operates Add (Integer left) (Pointer bytes) r (r + 1) (r + 2) (r + 3) into place) to →
+      (now later : List (Stop t)) (tasks : List (TaskIn t)) (slots : List Slot) → AreBelow r slots → is_free into slots ≡ true → Rest around now later tasks (InRegister into 8 false ∷ slots) to →
+      Rest around now later (Operate Add (Integer left) (Pointer bytes) ∷ tasks) (InRegister (r + 1) 8 plain' ∷ InRegister r left.bytes plain ∷ slots) from
+  plus_pointer levels around made from standing left bytes r into to plain plain' place spelled now later tasks slots below free cont =
+      let change : Conversion = as_count left in
+      let combined : List Block → Word → Word → Option Word = λ memory first second. Some (moved second (value 8 true (address_number memory first) *ℤ pos bytes)) in
+      Operates Add (Integer left) (Pointer bytes) r left.bytes (r + 1) 8 into 8 to plain plain' false
+      (λ memory first second. option_map (λ word. word) (combined memory (turn_of change left.bytes memory first) (turn_of Nothing 8 memory second)))
+      (calculates levels around made from standing change Nothing r left.bytes 8 into 8 to plain plain' false (i.ShiftBy into (r + 1) (stands_in change r (r + 2)) (pos bytes)) place slots combined below free
+      (λ point one. MovedAround (pos bytes) to into place one) spelled)
+      (λ memory first second suits suits'. ap Some (sym (moved_times second left memory first bytes))) cont
+
+  plus_new : (around : Around) (kind kind' : Kind) (one other into : ℕ) (place : Place) (to : ℕ) → AreNew around (combines Add kind kind' one other into place) to
+  plus_new around (Integer left) (Integer right) one other into place to = λ standing. refl
+  plus_new around (Integer left) (Pointer item') one other into place to = λ standing. refl
+  plus_new around (Integer left) (Array item') one other into place to = λ standing. refl
+  plus_new around (Integer left) (Struct size') one other into place to = λ standing. refl
+  plus_new around (Integer left) Void one other into place to = λ standing. refl
+  plus_new around (Pointer item) (Integer right) one other into place to = λ standing. refl
+  plus_new around (Pointer item) (Pointer item') one other into place to = λ standing. refl
+  plus_new around (Pointer item) (Array item') one other into place to = λ standing. refl
+  plus_new around (Pointer item) (Struct size') one other into place to = λ standing. refl
+  plus_new around (Pointer item) Void one other into place to = λ standing. refl
+  plus_new around (Array item) (Integer right) one other into place to = λ standing. refl
+  plus_new around (Array item) (Pointer item') one other into place to = λ standing. refl
+  plus_new around (Array item) (Array item') one other into place to = λ standing. refl
+  plus_new around (Array item) (Struct size') one other into place to = λ standing. refl
+  plus_new around (Array item) Void one other into place to = λ standing. refl
+  plus_new around (Struct size) (Integer right) one other into place to = λ standing. refl
+  plus_new around (Struct size) (Pointer item') one other into place to = λ standing. refl
+  plus_new around (Struct size) (Array item') one other into place to = λ standing. refl
+  plus_new around (Struct size) (Struct size') one other into place to = λ standing. refl
+  plus_new around (Struct size) Void one other into place to = λ standing. refl
+  plus_new around Void (Integer right) one other into place to = λ standing. refl
+  plus_new around Void (Pointer item') one other into place to = λ standing. refl
+  plus_new around Void (Array item') one other into place to = λ standing. refl
+  plus_new around Void (Struct size') one other into place to = λ standing. refl
+  plus_new around Void Void one other into place to = λ standing. refl
+
+  adds_new : (around : Around) (kind kind' : Kind) (r into : ℕ) (place : Place) (to : ℕ) → AreNew around (operates Add kind kind' r (r + 1) (r + 2) (r + 3) into place) to
+  adds_new around kind kind' r into place to =
+      let between : Sides = sides Add kind kind' in
+      let last : List (Move t) = combines Add kind kind' (stands_in between.left r (r + 2)) (stands_in between.right (r + 1) (r + 3)) into place in
+      resizes_new around between.left r (r + 2) place (resizes between.right (r + 1) (r + 3) place ++ last) to
+      (resizes_new around between.right (r + 1) (r + 3) place last to (plus_new around kind kind' (stands_in between.left r (r + 2)) (stands_in between.right (r + 1) (r + 3)) into place to))
+
+  index_by : (levels : ℕ) (around : Around) (made : Made) (from : ℕ) (standing : Stood) (kind kind' : Kind) (r into to : ℕ) (plain plain' : Bool) (place : Place) → is_address (made_by Add kind kind') ≡ true →
+      Spells levels around made from standing (operates Add kind kind' r (r + 1) (r + 2) (r + 3) into place) to →
+      (now later : List (Stop t)) (tasks : List (TaskIn t)) (slots : List Slot) → AreBelow r slots → is_free into slots ≡ true → Rest around now later tasks (InRegister into 8 false ∷ slots) to →
+      Rest around now later (Operate Add kind kind' ∷ tasks) (InRegister (r + 1) (width kind') plain' ∷ InRegister r (width kind) plain ∷ slots) from
+  index_by levels around made from standing (Pointer bytes) (Integer right) r into to plain plain' place is spelled now later tasks slots below free cont =
+      pointer_plus levels around made from standing bytes right r into to plain plain' place spelled now later tasks slots below free cont
+  index_by levels around made from standing (Integer left) (Pointer bytes) r into to plain plain' place is spelled now later tasks slots below free cont =
+      plus_pointer levels around made from standing left bytes r into to plain plain' place spelled now later tasks slots below free cont
+  index_by levels around made from standing (Integer left) (Integer right) r into to plain plain' place is spelled now later tasks slots below free cont = absurd (false≢true is)
+  index_by levels around made from standing (Integer left) (Array item') r into to plain plain' place is spelled now later tasks slots below free cont = fails_behind levels around made from standing Nothing Nothing r to place spelled
+  index_by levels around made from standing (Integer left) (Struct size') r into to plain plain' place is spelled now later tasks slots below free cont = fails_behind levels around made from standing Nothing Nothing r to place spelled
+  index_by levels around made from standing (Integer left) Void r into to plain plain' place is spelled now later tasks slots below free cont = fails_behind levels around made from standing Nothing Nothing r to place spelled
+  index_by levels around made from standing (Pointer item) (Pointer item') r into to plain plain' place is spelled now later tasks slots below free cont = fails_behind levels around made from standing Nothing Nothing r to place spelled
+  index_by levels around made from standing (Pointer item) (Array item') r into to plain plain' place is spelled now later tasks slots below free cont = fails_behind levels around made from standing Nothing Nothing r to place spelled
+  index_by levels around made from standing (Pointer item) (Struct size') r into to plain plain' place is spelled now later tasks slots below free cont = fails_behind levels around made from standing Nothing Nothing r to place spelled
+  index_by levels around made from standing (Pointer item) Void r into to plain plain' place is spelled now later tasks slots below free cont = fails_behind levels around made from standing Nothing Nothing r to place spelled
+  index_by levels around made from standing (Array item) (Integer right) r into to plain plain' place is spelled now later tasks slots below free cont = fails_behind levels around made from standing Nothing Nothing r to place spelled
+  index_by levels around made from standing (Array item) (Pointer item') r into to plain plain' place is spelled now later tasks slots below free cont = fails_behind levels around made from standing Nothing Nothing r to place spelled
+  index_by levels around made from standing (Array item) (Array item') r into to plain plain' place is spelled now later tasks slots below free cont = fails_behind levels around made from standing Nothing Nothing r to place spelled
+  index_by levels around made from standing (Array item) (Struct size') r into to plain plain' place is spelled now later tasks slots below free cont = fails_behind levels around made from standing Nothing Nothing r to place spelled
+  index_by levels around made from standing (Array item) Void r into to plain plain' place is spelled now later tasks slots below free cont = fails_behind levels around made from standing Nothing Nothing r to place spelled
+  index_by levels around made from standing (Struct size) (Integer right) r into to plain plain' place is spelled now later tasks slots below free cont = fails_behind levels around made from standing Nothing Nothing r to place spelled
+  index_by levels around made from standing (Struct size) (Pointer item') r into to plain plain' place is spelled now later tasks slots below free cont = fails_behind levels around made from standing Nothing Nothing r to place spelled
+  index_by levels around made from standing (Struct size) (Array item') r into to plain plain' place is spelled now later tasks slots below free cont = fails_behind levels around made from standing Nothing Nothing r to place spelled
+  index_by levels around made from standing (Struct size) (Struct size') r into to plain plain' place is spelled now later tasks slots below free cont = fails_behind levels around made from standing Nothing Nothing r to place spelled
+  index_by levels around made from standing (Struct size) Void r into to plain plain' place is spelled now later tasks slots below free cont = fails_behind levels around made from standing Nothing Nothing r to place spelled
+  index_by levels around made from standing Void (Integer right) r into to plain plain' place is spelled now later tasks slots below free cont = fails_behind levels around made from standing Nothing Nothing r to place spelled
+  index_by levels around made from standing Void (Pointer item') r into to plain plain' place is spelled now later tasks slots below free cont = fails_behind levels around made from standing Nothing Nothing r to place spelled
+  index_by levels around made from standing Void (Array item') r into to plain plain' place is spelled now later tasks slots below free cont = fails_behind levels around made from standing Nothing Nothing r to place spelled
+  index_by levels around made from standing Void (Struct size') r into to plain plain' place is spelled now later tasks slots below free cont = fails_behind levels around made from standing Nothing Nothing r to place spelled
+  index_by levels around made from standing Void Void r into to plain plain' place is spelled now later tasks slots below free cont = fails_behind levels around made from standing Nothing Nothing r to place spelled
+
+  index_where : (levels : ℕ) → spelling.IsAt t flow setting running levels → (around : Around) → IsAround setting around → (made : Made) (from : ℕ) (expr base index : t.Expr) (spare into to : ℕ) (is : Bool) →
+      is_address (made_by Add (value_kind t base) (value_kind t index)) ≡ is →
+      IsSpelled flow made from (along_line t around (go levels t around) made from (if is
+      then (record { registers = 4; moves = Evaluates base spare made.registers ∷ Evaluates index spare (made.registers + 1)
+      ∷ operates Add (value_kind t base) (value_kind t index) made.registers (made.registers + 1) (made.registers + 2) (made.registers + 3) into (t.place expr) })
+      else (record { registers = 0; moves = Fails ∷ [] })) to) →
+      (now later : List (Stop t)) (tasks : List (TaskIn t)) (slots : List Slot) → is_whole slots ≡ true → AreBelow made.registers slots → spare < made.registers → is_free into slots ≡ true → is_free spare slots ≡ true →
+      ((plain : Bool) → Rest around (later ++ now) [] tasks (InRegister into 8 plain ∷ slots) to) →
+      Rest around now later (ValueOf base ∷ ValueOf index ∷ Operate Add (value_kind t base) (value_kind t index) ∷ tasks) slots from
+  index_where levels at around good made from expr base index spare into to false is spelled now later tasks slots whole below lower free free' cont =
+      spelling.never t flow setting running levels around (with_registers 0 made) from to (spelled_registers 0 spelled)
+  index_where levels at around good made from expr base index spare into to true is spelled now later tasks slots whole below lower free free' cont =
+      two_values levels at around good made from base index (operates Add (value_kind t base) (value_kind t index) made.registers (made.registers + 1) (made.registers + 2) (made.registers + 3) into (t.place expr)) spare to
+      (adds_new around (value_kind t base) (value_kind t index) made.registers into (t.place expr) to) spelled now later (Operate Add (value_kind t base) (value_kind t index) ∷ tasks) slots whole below lower free'
+      (λ made' point standing plain plain' plainly plainly' end.
+      index_by levels around made' point standing (value_kind t base) (value_kind t index) made.registers into to plain plain' (t.place expr) is end (later ++ now) [] tasks slots below free (cont false))
+
+  -- the address of an item of an array
+  pub index_place : (levels : ℕ) → spelling.IsAt t flow setting running levels → (around : Around) → IsAround setting around → (made : Made) (from : ℕ) (expr base index : t.Expr) (spare into to : ℕ) → t.form expr ≡ Index base index →
+      IsSpelled flow made from (along_line t around (go levels t around) made from (place_line t (variable_of around) expr spare into made.registers (Index base index)) to) →
+      (now later : List (Stop t)) (tasks : List (TaskIn t)) (slots : List Slot) → is_whole slots ≡ true → AreBelow made.registers slots → spare < made.registers → is_free into slots ≡ true → is_free spare slots ≡ true →
+      ((plain : Bool) → Rest around (later ++ now) [] tasks (InRegister into 8 plain ∷ slots) to) → Rest around now later (AddressOf expr ∷ tasks) slots from
+  index_place levels at around good made from expr base index spare into to is spelled now later tasks slots whole below lower free free' cont =
+      Addresses expr (subst (λ (f : Form t.Expr t.Stmt). Rest around now later (address_parts t expr f ++ tasks) slots from) (sym is)
+      (index_where levels at around good made from expr base index spare into to (is_address (made_by Add (value_kind t base) (value_kind t index))) refl spelled now later tasks slots whole below lower free free' cont))
