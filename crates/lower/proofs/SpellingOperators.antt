@@ -150,6 +150,13 @@ moved_times at of memory word bytes =
     moved_same at (one *ℤ pos bytes) (other *ℤ pos bytes) (same.0 * up (pos bytes) + same.1 * down (pos bytes)) (same.1 * up (pos bytes) + same.0 * down (pos bytes))
     (multiples-product (2 ^ 64) one other (pos bytes) same.0 same.1 same.2)
 
+address_wide : (kind : Kind) → is_address kind ≡ true → width kind ≡ 8
+address_wide (Integer of) is = absurd (false≢true is)
+address_wide (Pointer item) is = refl
+address_wide (Array item) is = refl
+address_wide (Struct size) is = refl
+address_wide Void is = absurd (false≢true is)
+
 -- registers of a form of its own
 first_differs : (change : Conversion) (r : ℕ) → (stands_in change r (r + 2) ≢ r + 1) × (stands_in change r (r + 2) ≢ r + 3)
 first_differs Nothing r = (λ same. absurd (omega arith), λ same. absurd (omega arith))
@@ -614,3 +621,29 @@ module _ (t : Text) (flow : Flow) (setting : Setting) (running : Running) where
   index_place levels at around good made from expr base index spare into to is spelled now later tasks slots whole below lower free free' cont =
       Addresses expr (subst (λ (f : Form t.Expr t.Stmt). Rest around now later (address_parts t expr f ++ tasks) slots from) (sym is)
       (index_where levels at around good made from expr base index spare into to (is_address (made_by Add (value_kind t base) (value_kind t index))) refl spelled now later tasks slots whole below lower free free' cont))
+
+  -- the value of a pointer and an integer that is added
+  plus_value : (levels : ℕ) → spelling.IsAt t flow setting running levels → (around : Around) → IsAround setting around → (made : Made) (from : ℕ) (expr left right : t.Expr) (spare into to : ℕ) →
+      is_address (made_by Add (value_kind t left) (value_kind t right)) ≡ true → is_made t expr (Binary Add left right) ≡ true →
+      IsSpelled flow made from (along t around (go levels t around) (with_registers 4 made) from (Evaluates left spare made.registers ∷ Evaluates right spare (made.registers + 1)
+      ∷ operates Add (value_kind t left) (value_kind t right) made.registers (made.registers + 1) (made.registers + 2) (made.registers + 3) into (t.place expr)) to) →
+      (now later : List (Stop t)) (tasks : List (TaskIn t)) (slots : List Slot) → is_whole slots ≡ true → AreBelow made.registers slots → spare < made.registers →
+      is_free into slots ≡ true → is_free spare slots ≡ true →
+      ((plain : Bool) → IsAsPlain (value_kind t expr) plain → Rest around (later ++ now) [] tasks (InRegister into (width (value_kind t expr)) plain ∷ slots) to) →
+      Rest around now later (ValueOf left ∷ ValueOf right ∷ Operate Add (value_kind t left) (value_kind t right) ∷ tasks) slots from
+  plus_value levels at around good made from expr left right spare into to address shown spelled now later tasks slots whole below lower free free' cont =
+      let kind : Kind = made_by Add (value_kind t left) (value_kind t right) in
+      let parts = and_parts (not (is_void (value_kind t expr))) (fits kind (value_kind t expr)) shown in
+      let gives = fitted kind (value_kind t expr) parts.1 (not_holds (is_void (value_kind t expr)) parts.0) in
+      two_values levels at around good made from left right (operates Add (value_kind t left) (value_kind t right) made.registers (made.registers + 1) (made.registers + 2) (made.registers + 3) into (t.place expr)) spare to
+      (adds_new around (value_kind t left) (value_kind t right) made.registers into (t.place expr) to) spelled now later (Operate Add (value_kind t left) (value_kind t right) ∷ tasks) slots whole below lower free'
+      (λ made' point standing plain plain' plainly plainly' end.
+      index_by levels around made' point standing (value_kind t left) (value_kind t right) made.registers into to plain plain' (t.place expr) address end (later ++ now) [] tasks slots below free
+      (subst (λ (n : ℕ). Rest around (later ++ now) [] tasks (InRegister into n false ∷ slots) to) (sym gives.0 ∙ address_wide kind address)
+      (cont false (λ asked. absurd (false≢true (sym (gives.1 asked) ∙ address))))))
+
+  pub pointer_form : (levels : ℕ) → spelling.IsAt t flow setting running levels → (left right : t.Expr) → is_address (made_by Add (value_kind t left) (value_kind t right)) ≡ true →
+      spelling.FormIs t flow setting running levels (Binary Add left right)
+  pointer_form levels at left right address around good made from expr spare into to is shown spelled now later tasks slots whole below lower lower' free free' cont =
+      Values expr (subst (λ (f : Form t.Expr t.Stmt). Rest around now later (value_parts t expr f ++ tasks) slots from) (sym is)
+      (plus_value levels at around good made from expr left right spare into to address shown spelled now later tasks slots whole below lower' free free' cont))
