@@ -599,8 +599,11 @@ module _ (t : Text) (flow : Flow) (setting : Setting) (running : Running) where
   index_where : (levels : ℕ) → spelling.IsAt t flow setting running levels → (around : Around) → IsAround setting around → (made : Made) (from : ℕ) (expr base index : t.Expr) (spare into to : ℕ) (is : Bool) →
       is_address (made_by Add (value_kind t base) (value_kind t index)) ≡ is →
       IsSpelled flow made from (along_line t around (go levels t around) made from (if is
-      then (record { registers = 4; moves = Evaluates base spare made.registers ∷ Evaluates index spare (made.registers + 1)
-      ∷ operates Add (value_kind t base) (value_kind t index) made.registers (made.registers + 1) (made.registers + 2) (made.registers + 3) into (t.place expr) })
+      then (record {
+        registers = 4;
+        moves = Evaluates base spare made.registers ∷ Evaluates index spare (made.registers + 1)
+            ∷ operates Add (value_kind t base) (value_kind t index) made.registers (made.registers + 1) (made.registers + 2) (made.registers + 3) into (t.place expr);
+      })
       else (record { registers = 0; moves = Fails ∷ [] })) to) →
       (now later : List (Stop t)) (tasks : List (TaskIn t)) (slots : List Slot) → is_whole slots ≡ true → AreBelow made.registers slots → spare < made.registers → is_free into slots ≡ true → is_free spare slots ≡ true →
       ((plain : Bool) → Rest around (later ++ now) [] tasks (InRegister into 8 plain ∷ slots) to) →
