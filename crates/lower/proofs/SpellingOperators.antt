@@ -11,7 +11,8 @@ use Rattle.arithmetic.specs.declared.op.Op.TheVariants as op
 use Rattle.arithmetic.specs.Computing.{computed}
 use Rattle.arithmetic.specs.Conversion.{converted, truth}
 use Rattle.arithmetic.specs.Value.{modulus, value}
-use Rattle.std.specs.Prelude.{ℤ, pos, ◌*◌, negsuc, ◌+ℤ◌, ◌*ℤ◌}
+use lib.IntN.{*ℤ-negsuc}
+use Rattle.std.specs.Prelude.{ℤ, pos, neg_ℤ, ◌*◌, negsuc, ◌+ℤ◌, ◌*ℤ◌}
 use Rattle.std.proofs.lemmas.Int.{ints}
 use borrow.Author.Differences.{up, down}
 use Rattle.arithmetic.specs.declared.size.Size.TheVariants.{Eight}
@@ -149,6 +150,20 @@ moved_times at of memory word bytes =
     let other : ℤ = value of.bytes of.signed (address_number memory word) in
     moved_same at (one *ℤ pos bytes) (other *ℤ pos bytes) (same.0 * up (pos bytes) + same.1 * down (pos bytes)) (same.1 * up (pos bytes) + same.0 * down (pos bytes))
     (multiples-product (2 ^ 64) one other (pos bytes) same.0 same.1 same.2)
+
+times_less : (z : ℤ) (bytes : ℕ) → z *ℤ neg_ℤ (pos bytes) ≡ neg_ℤ (z *ℤ pos bytes)
+times_less z zero = omega (arith, ints)
+times_less z (suc bytes) = *ℤ-negsuc z bytes
+
+moved_back : (at : Word) (of : IntegerType) (memory : List Block) (word : Word) (bytes : ℕ) →
+    moved at (value 8 true (address_number memory (turn_of (as_count of) of.bytes memory word)) *ℤ neg_ℤ (pos bytes)) ≡ moved at (neg_ℤ (value of.bytes of.signed (address_number memory word) *ℤ pos bytes))
+moved_back at of memory word bytes =
+    let same = counted of (nat_eq of.bytes 8) refl memory word in
+    let one : ℤ = value 8 true (address_number memory (turn_of (as_count of) of.bytes memory word)) in
+    let other : ℤ = value of.bytes of.signed (address_number memory word) in
+    let scale : ℤ = neg_ℤ (pos bytes) in
+    moved_same at (one *ℤ scale) (other *ℤ scale) (same.0 * up scale + same.1 * down scale) (same.1 * up scale + same.0 * down scale) (multiples-product (2 ^ 64) one other scale same.0 same.1 same.2)
+    ∙ ap (λ (z : ℤ). moved at z) (times_less other bytes)
 
 address_wide : (kind : Kind) → is_address kind ≡ true → width kind ≡ 8
 address_wide (Integer of) is = absurd (false≢true is)
@@ -650,3 +665,109 @@ module _ (t : Text) (flow : Flow) (setting : Setting) (running : Running) where
   pointer_form levels at left right address around good made from expr spare into to is shown spelled now later tasks slots whole below lower lower' free free' cont =
       Values expr (subst (λ (f : Form t.Expr t.Stmt). Rest around now later (value_parts t expr f ++ tasks) slots from) (sym is)
       (plus_value levels at around good made from expr left right spare into to address shown spelled now later tasks slots whole below lower' free free' cont))
+
+  -- a pointer and an integer that is taken away
+  pointer_minus : (levels : ℕ) (around : Around) (made : Made) (from : ℕ) (standing : Stood) (bytes : ℕ) (right : IntegerType) (r into to : ℕ) (plain plain' : Bool) (place : Place) →
+      Spells levels around made from standing (operates Sub (Pointer bytes) (Integer right) r (r + 1) (r + 2) (r + 3) into place) to →
+      (now later : List (Stop t)) (tasks : List (TaskIn t)) (slots : List Slot) → AreBelow r slots → is_free into slots ≡ true → Rest around now later tasks (InRegister into 8 false ∷ slots) to →
+      Rest around now later (Operate Sub (Pointer bytes) (Integer right) ∷ tasks) (InRegister (r + 1) right.bytes plain' ∷ InRegister r 8 plain ∷ slots) from
+  pointer_minus levels around made from standing bytes right r into to plain plain' place spelled now later tasks slots below free cont =
+      let change : Conversion = as_count right in
+      let scale : ℤ = neg_ℤ (pos bytes) in
+      let combined : List Block → Word → Word → Option Word = λ memory first second. Some (moved first (value 8 true (address_number memory second) *ℤ scale)) in
+      Operates Sub (Pointer bytes) (Integer right) r 8 (r + 1) right.bytes into 8 to plain plain' false
+      (λ memory first second. option_map (λ word. word) (combined memory (turn_of Nothing 8 memory first) (turn_of change right.bytes memory second)))
+      (calculates levels around made from standing Nothing change r 8 right.bytes into 8 to plain plain' false (i.ShiftBy into r (stands_in change (r + 1) (r + 3)) scale) place slots combined below free
+      (λ point one. Moved scale to into place one) spelled)
+      (λ memory first second suits suits'. ap Some (sym (moved_back first right memory second bytes))) cont
+
+  minus_new : (around : Around) (kind kind' : Kind) (one other into : ℕ) (place : Place) (to : ℕ) → AreNew around (combines Sub kind kind' one other into place) to
+  minus_new around (Integer left) (Integer right) one other into place to = λ standing. refl
+  minus_new around (Integer left) (Pointer item') one other into place to = λ standing. refl
+  minus_new around (Integer left) (Array item') one other into place to = λ standing. refl
+  minus_new around (Integer left) (Struct size') one other into place to = λ standing. refl
+  minus_new around (Integer left) Void one other into place to = λ standing. refl
+  minus_new around (Pointer item) (Integer right) one other into place to = λ standing. refl
+  minus_new around (Pointer item) (Pointer item') one other into place to = λ standing. refl
+  minus_new around (Pointer item) (Array item') one other into place to = λ standing. refl
+  minus_new around (Pointer item) (Struct size') one other into place to = λ standing. refl
+  minus_new around (Pointer item) Void one other into place to = λ standing. refl
+  minus_new around (Array item) (Integer right) one other into place to = λ standing. refl
+  minus_new around (Array item) (Pointer item') one other into place to = λ standing. refl
+  minus_new around (Array item) (Array item') one other into place to = λ standing. refl
+  minus_new around (Array item) (Struct size') one other into place to = λ standing. refl
+  minus_new around (Array item) Void one other into place to = λ standing. refl
+  minus_new around (Struct size) (Integer right) one other into place to = λ standing. refl
+  minus_new around (Struct size) (Pointer item') one other into place to = λ standing. refl
+  minus_new around (Struct size) (Array item') one other into place to = λ standing. refl
+  minus_new around (Struct size) (Struct size') one other into place to = λ standing. refl
+  minus_new around (Struct size) Void one other into place to = λ standing. refl
+  minus_new around Void (Integer right) one other into place to = λ standing. refl
+  minus_new around Void (Pointer item') one other into place to = λ standing. refl
+  minus_new around Void (Array item') one other into place to = λ standing. refl
+  minus_new around Void (Struct size') one other into place to = λ standing. refl
+  minus_new around Void Void one other into place to = λ standing. refl
+
+  takes_new : (around : Around) (kind kind' : Kind) (r into : ℕ) (place : Place) (to : ℕ) → AreNew around (operates Sub kind kind' r (r + 1) (r + 2) (r + 3) into place) to
+  takes_new around kind kind' r into place to =
+      let between : Sides = sides Sub kind kind' in
+      let last : List (Move t) = combines Sub kind kind' (stands_in between.left r (r + 2)) (stands_in between.right (r + 1) (r + 3)) into place in
+      resizes_new around between.left r (r + 2) place (resizes between.right (r + 1) (r + 3) place ++ last) to
+      (resizes_new around between.right (r + 1) (r + 3) place last to (minus_new around kind kind' (stands_in between.left r (r + 2)) (stands_in between.right (r + 1) (r + 3)) into place to))
+
+  minus_by : (levels : ℕ) (around : Around) (made : Made) (from : ℕ) (standing : Stood) (kind kind' : Kind) (r into to : ℕ) (plain plain' : Bool) (place : Place) → is_address (made_by Sub kind kind') ≡ true →
+      Spells levels around made from standing (operates Sub kind kind' r (r + 1) (r + 2) (r + 3) into place) to →
+      (now later : List (Stop t)) (tasks : List (TaskIn t)) (slots : List Slot) → AreBelow r slots → is_free into slots ≡ true → Rest around now later tasks (InRegister into 8 false ∷ slots) to →
+      Rest around now later (Operate Sub kind kind' ∷ tasks) (InRegister (r + 1) (width kind') plain' ∷ InRegister r (width kind) plain ∷ slots) from
+  minus_by levels around made from standing (Pointer bytes) (Integer right) r into to plain plain' place is spelled now later tasks slots below free cont =
+      pointer_minus levels around made from standing bytes right r into to plain plain' place spelled now later tasks slots below free cont
+  minus_by levels around made from standing (Integer left) (Integer right) r into to plain plain' place is spelled now later tasks slots below free cont = absurd (false≢true is)
+  minus_by levels around made from standing (Integer left) (Pointer item') r into to plain plain' place is spelled now later tasks slots below free cont = fails_behind levels around made from standing Nothing Nothing r to place spelled
+  minus_by levels around made from standing (Integer left) (Array item') r into to plain plain' place is spelled now later tasks slots below free cont = fails_behind levels around made from standing Nothing Nothing r to place spelled
+  minus_by levels around made from standing (Integer left) (Struct size') r into to plain plain' place is spelled now later tasks slots below free cont = fails_behind levels around made from standing Nothing Nothing r to place spelled
+  minus_by levels around made from standing (Integer left) Void r into to plain plain' place is spelled now later tasks slots below free cont = fails_behind levels around made from standing Nothing Nothing r to place spelled
+  minus_by levels around made from standing (Pointer item) (Pointer item') r into to plain plain' place is spelled now later tasks slots below free cont = fails_behind levels around made from standing Nothing Nothing r to place spelled
+  minus_by levels around made from standing (Pointer item) (Array item') r into to plain plain' place is spelled now later tasks slots below free cont = fails_behind levels around made from standing Nothing Nothing r to place spelled
+  minus_by levels around made from standing (Pointer item) (Struct size') r into to plain plain' place is spelled now later tasks slots below free cont = fails_behind levels around made from standing Nothing Nothing r to place spelled
+  minus_by levels around made from standing (Pointer item) Void r into to plain plain' place is spelled now later tasks slots below free cont = fails_behind levels around made from standing Nothing Nothing r to place spelled
+  minus_by levels around made from standing (Array item) (Integer right) r into to plain plain' place is spelled now later tasks slots below free cont = fails_behind levels around made from standing Nothing Nothing r to place spelled
+  minus_by levels around made from standing (Array item) (Pointer item') r into to plain plain' place is spelled now later tasks slots below free cont = fails_behind levels around made from standing Nothing Nothing r to place spelled
+  minus_by levels around made from standing (Array item) (Array item') r into to plain plain' place is spelled now later tasks slots below free cont = fails_behind levels around made from standing Nothing Nothing r to place spelled
+  minus_by levels around made from standing (Array item) (Struct size') r into to plain plain' place is spelled now later tasks slots below free cont = fails_behind levels around made from standing Nothing Nothing r to place spelled
+  minus_by levels around made from standing (Array item) Void r into to plain plain' place is spelled now later tasks slots below free cont = fails_behind levels around made from standing Nothing Nothing r to place spelled
+  minus_by levels around made from standing (Struct size) (Integer right) r into to plain plain' place is spelled now later tasks slots below free cont = fails_behind levels around made from standing Nothing Nothing r to place spelled
+  minus_by levels around made from standing (Struct size) (Pointer item') r into to plain plain' place is spelled now later tasks slots below free cont = fails_behind levels around made from standing Nothing Nothing r to place spelled
+  minus_by levels around made from standing (Struct size) (Array item') r into to plain plain' place is spelled now later tasks slots below free cont = fails_behind levels around made from standing Nothing Nothing r to place spelled
+  minus_by levels around made from standing (Struct size) (Struct size') r into to plain plain' place is spelled now later tasks slots below free cont = fails_behind levels around made from standing Nothing Nothing r to place spelled
+  minus_by levels around made from standing (Struct size) Void r into to plain plain' place is spelled now later tasks slots below free cont = fails_behind levels around made from standing Nothing Nothing r to place spelled
+  minus_by levels around made from standing Void (Integer right) r into to plain plain' place is spelled now later tasks slots below free cont = fails_behind levels around made from standing Nothing Nothing r to place spelled
+  minus_by levels around made from standing Void (Pointer item') r into to plain plain' place is spelled now later tasks slots below free cont = fails_behind levels around made from standing Nothing Nothing r to place spelled
+  minus_by levels around made from standing Void (Array item') r into to plain plain' place is spelled now later tasks slots below free cont = fails_behind levels around made from standing Nothing Nothing r to place spelled
+  minus_by levels around made from standing Void (Struct size') r into to plain plain' place is spelled now later tasks slots below free cont = fails_behind levels around made from standing Nothing Nothing r to place spelled
+  minus_by levels around made from standing Void Void r into to plain plain' place is spelled now later tasks slots below free cont = fails_behind levels around made from standing Nothing Nothing r to place spelled
+
+  -- the value of a pointer and an integer that is taken away
+  minus_value : (levels : ℕ) → spelling.IsAt t flow setting running levels → (around : Around) → IsAround setting around → (made : Made) (from : ℕ) (expr left right : t.Expr) (spare into to : ℕ) →
+      is_address (made_by Sub (value_kind t left) (value_kind t right)) ≡ true → is_made t expr (Binary Sub left right) ≡ true →
+      IsSpelled flow made from (along t around (go levels t around) (with_registers 4 made) from (Evaluates left spare made.registers ∷ Evaluates right spare (made.registers + 1)
+      ∷ operates Sub (value_kind t left) (value_kind t right) made.registers (made.registers + 1) (made.registers + 2) (made.registers + 3) into (t.place expr)) to) →
+      (now later : List (Stop t)) (tasks : List (TaskIn t)) (slots : List Slot) → is_whole slots ≡ true → AreBelow made.registers slots → spare < made.registers →
+      is_free into slots ≡ true → is_free spare slots ≡ true →
+      ((plain : Bool) → IsAsPlain (value_kind t expr) plain → Rest around (later ++ now) [] tasks (InRegister into (width (value_kind t expr)) plain ∷ slots) to) →
+      Rest around now later (ValueOf left ∷ ValueOf right ∷ Operate Sub (value_kind t left) (value_kind t right) ∷ tasks) slots from
+  minus_value levels at around good made from expr left right spare into to address shown spelled now later tasks slots whole below lower free free' cont =
+      let kind : Kind = made_by Sub (value_kind t left) (value_kind t right) in
+      let parts = and_parts (not (is_void (value_kind t expr))) (fits kind (value_kind t expr)) shown in
+      let gives = fitted kind (value_kind t expr) parts.1 (not_holds (is_void (value_kind t expr)) parts.0) in
+      two_values levels at around good made from left right (operates Sub (value_kind t left) (value_kind t right) made.registers (made.registers + 1) (made.registers + 2) (made.registers + 3) into (t.place expr)) spare to
+      (takes_new around (value_kind t left) (value_kind t right) made.registers into (t.place expr) to) spelled now later (Operate Sub (value_kind t left) (value_kind t right) ∷ tasks) slots whole below lower free'
+      (λ made' point standing plain plain' plainly plainly' end.
+      minus_by levels around made' point standing (value_kind t left) (value_kind t right) made.registers into to plain plain' (t.place expr) address end (later ++ now) [] tasks slots below free
+      (subst (λ (n : ℕ). Rest around (later ++ now) [] tasks (InRegister into n false ∷ slots) to) (sym gives.0 ∙ address_wide kind address)
+      (cont false (λ asked. absurd (false≢true (sym (gives.1 asked) ∙ address))))))
+
+  pub pointer_back_form : (levels : ℕ) → spelling.IsAt t flow setting running levels → (left right : t.Expr) → is_address (made_by Sub (value_kind t left) (value_kind t right)) ≡ true →
+      spelling.FormIs t flow setting running levels (Binary Sub left right)
+  pointer_back_form levels at left right address around good made from expr spare into to is shown spelled now later tasks slots whole below lower lower' free free' cont =
+      Values expr (subst (λ (f : Form t.Expr t.Stmt). Rest around now later (value_parts t expr f ++ tasks) slots from) (sym is)
+      (minus_value levels at around good made from expr left right spare into to address shown spelled now later tasks slots whole below lower' free free' cont))
