@@ -109,7 +109,7 @@ fits_pointer bytes (Struct size) is = refl
 fits_pointer bytes Void is = absurd (false≢true is)
 
 -- a value that is made as one kind is as wide as one of another, and as plain
-fitted : (made asked : Kind) → fits made asked ≡ true → is_void asked ≡ false → (width made ≡ width asked) × (is_address asked ≡ false → is_address made ≡ false)
+pub fitted : (made asked : Kind) → fits made asked ≡ true → is_void asked ≡ false → (width made ≡ width asked) × (is_address asked ≡ false → is_address made ≡ false)
 fitted (Integer of) (Integer of') is void = (eqb-true of.bytes of'.bytes is, λ number. refl)
 fitted (Integer of) (Pointer item) is void = absurd (false≢true is)
 fitted (Integer of) (Array item) is void = absurd (false≢true is)
@@ -132,7 +132,7 @@ fitted (Pointer item) Void is void = absurd (false≢true (sym void))
 fitted (Array item) Void is void = absurd (false≢true (sym void))
 fitted (Struct size) Void is void = absurd (false≢true (sym void))
 
-not_holds : (b : Bool) → not b ≡ true → b ≡ false
+pub not_holds : (b : Bool) → not b ≡ true → b ≡ false
 not_holds true is = absurd (false≢true is)
 not_holds false is = refl
 
