@@ -11,6 +11,7 @@ pub mod Placed
 pub mod PlacedForms
 pub mod Placings
 pub mod Spelling
+pub mod SpellingConditions
 pub mod StartSteps
 pub mod StaticsMade
 pub mod StaticsWritten

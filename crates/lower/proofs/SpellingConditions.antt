@@ -1,0 +1,110 @@
+-- What is placed for conditions: `!`, `&&` and `||`, and their values as 1 or 0.
+use Rattle.std.proofs.Common.{◌≡◌, ◌≢◌, ◌<◌, ◌≤◌, ℕ, zero, suc, ◌+◌, ◌-◌, List, [], ◌∷◌, ◌++◌, Bool, true, false, not, refl, sym, ap, ◌∙◌, inl, inr, arith, subst}
+use Rattle.std.proofs.lemmas.Bool.{false≢true}
+use Rattle.cbase.specs.declared.place.Place.{Place}
+use Rattle.cbase.specs.declared.tree.operators.BinaryOp.TheVariants.{Both, Either}
+use Rattle.cbase.specs.declared.tree.operators.UnaryOp.TheVariants.{Not}
+use Rattle.c_machine.specs.declared.task.Task.TheVariants.{ValueOf, Answer, AndThen, OrElse}
+use Rattle.c_machine.specs.Text.{Form, Unary, Binary, Text}
+use Rattle.c_machine.specs.State.{TaskIn}
+use Rattle.c_machine.specs.Expressions.{value_parts}
+use Rattle.flow.specs.declared.flow_graph.Flow.{Flow}
+use Rattle.flow.specs.declared.flow_graph.Standing.{Standing as Stood}
+use Rattle.flow.specs.declared.instruction.Instr.TheVariants as i
+use Rattle.simulation.specs.Running.{Setting, Running}
+use Rattle.simulation.specs.Slots.{Slot, InRegister, KnownAs, Truth, is_free, is_whole}
+use Rattle.simulation.specs.Lowered.{Stop, Lowered, Puts, Makes, Values, Answers as AnswersOf, AndsOn, AndsOff, OrsOn, OrsOff, IsTrues}
+use Rattle.lower.specs.LetGo.{AsTest, left_of}
+use Rattle.lower.specs.Moves.{Move, Emits, Asks, Answers, zeros, pads}
+use Rattle.lower.specs.Placing.{Made, Around, emit, with_point, with_spares, stands_at, after, along, along_at, two_tests, place_test, place_answer, go}
+use Rattle.lower.proofs.Placings.{outs, IsSound, IsPlacing, then_placing, point_placing, emit_placing, IsSpelled, spelled_point, spelled_first, spelled_rest, emit_spelled}
+use Rattle.lower.proofs.PlacedForms.{along_placing}
+use Rattle.lower.proofs.Placed.{go_placing}
+use Rattle.lower.proofs.Spelling.{AreBelow, below_more, IsAround, Rest, AskIs, IsAt, mid, head_spelled, tail_spelled, one_at}
+
+-- two points taken in front, a part from the point that was there, and a part from each of the two
+pub spelled_three : {flow : Flow} {made made3 made4 made5 : Made} {from : ℕ} (standing : Stood) → IsPlacing (with_point standing (with_point standing made)) from made3 →
+    IsPlacing made3 (suc made.points) made4 → IsPlacing made4 made.points made5 → IsSpelled flow made from made5 →
+    IsSpelled flow (with_point standing (with_point standing made)) from made3 × IsSpelled flow made3 (suc made.points) made4 × IsSpelled flow made4 made.points made5
+spelled_three {flow = flow} {made = made} {made3 = made3} {made4 = made4} {made5 = made5} {from = from} standing three four five spelled =
+    let inside = spelled.inside in
+    let h = three.points in
+    let k = four.points in
+    let one = point_placing standing made from spelled.sound in
+    let two = point_placing standing (with_point standing made) from one.sound in
+    let to_three = then_placing (then_placing one two (inl refl)) three (inl refl) in
+    let to_four = then_placing to_three four (inr (omega arith)) in
+    let open_on : outs made3.edges (suc made.points) ≡ [] = three.touches (suc made.points) (omega arith) (λ same. absurd (omega arith)) ∙ spelled.sound.fresh (suc made.points) (omega arith) in
+    let open_off : outs made4.edges made.points ≡ [] =
+        four.touches made.points (omega arith) (λ same. absurd (omega arith))
+        ∙ (three.touches made.points (omega arith) (λ same. absurd (omega arith)) ∙ spelled.sound.fresh made.points (omega arith)) in
+    (
+      spelled_first (spelled_first (spelled_point standing (spelled_point standing spelled)) five (omega arith) (λ same. absurd (omega arith))) four (omega arith) (λ same. absurd (omega arith)),
+      spelled_first (spelled_rest spelled to_three (omega arith) (omega arith) open_on) five (omega arith) (λ same. absurd (omega arith)),
+      spelled_rest spelled to_four (omega arith) (omega arith) open_off,
+    )
+
+module _ (t : Text) (flow : Flow) (setting : Setting) (running : Running) where
+  abbrev Goes_on : Around → List (Stop t) → List (Stop t) → List (TaskIn t) → List Slot → ℕ → Type 0
+  Goes_on around now later tasks slots point = Rest t flow setting running around now later tasks slots point
+
+  -- registers that are filled with 0 on the way
+  pub zeros_at : (levels : ℕ) (around : Around) (count : ℕ) (made : Made) (from to start : ℕ) (standing : Stood) (place : Place) →
+      IsSpelled flow made from (along_at t around (go levels t around) made from standing (zeros start (suc count) place) to) →
+      (now later : List (Stop t)) (tasks : List (TaskIn t)) (slots : List Slot) → ((register : ℕ) → start ≤ register → register < start + suc count → is_free register slots ≡ true) →
+      Goes_on around now later tasks slots to → Goes_on around now later tasks slots from
+  zeros_at levels around zero made from to start standing place spelled now later tasks slots free rest =
+      Puts start 0 8 to place (one_at t flow setting running levels around made from to (i.Number start 0 8) place spelled) (free start (omega arith) (omega arith)) rest
+  zeros_at levels around (suc count) made from to start standing place spelled now later tasks slots free rest =
+      let move : Move t = Emits (i.Number start 0 8) place in
+      let standing' : Stood = after t move standing in
+      let first = head_spelled t flow setting running levels around made from standing' move (zeros (suc start) (suc count) place) to spelled in
+      let behind = tail_spelled t flow setting running levels around made from standing' move (zeros (suc start) (suc count) place) to spelled in
+      Puts start 0 8 made.points place (one_at t flow setting running levels around (with_point standing' made) from made.points (i.Number start 0 8) place first) (free start (omega arith) (omega arith))
+      (zeros_at levels around count (mid t flow setting running levels around made from standing' move) made.points to (suc start) standing' place behind now later tasks slots
+      (λ register above below. free register (omega arith) (omega arith)) rest)
+
+  -- a condition as a number of so many bytes
+  pub answer_form : (levels : ℕ) (around : Around) (made : Made) (from : ℕ) (expr : t.Expr) (spare into size : ℕ) (standing : Stood) (to : ℕ) →
+      IsSpelled flow made from (place_answer t (go levels t around) made from expr spare into size standing to) →
+      (now : List (Stop t)) (tasks : List (TaskIn t)) (slots : List Slot) → is_free into slots ≡ true →
+      Goes_on around now [] tasks (InRegister into size true ∷ slots) to → (C : Type 0) →
+      ((made' : Made) (off on : ℕ) → made.registers ≤ made'.registers → IsSpelled flow made' from (go levels t around made' from (Asks expr spare off on) to) →
+      Goes_on around now [] tasks (KnownAs 0 ∷ slots) off → Goes_on around now [] tasks (KnownAs 1 ∷ slots) on → C) → C
+  answer_form levels around made from expr spare into size standing to spelled now tasks slots free rest C ask =
+      let inside = spelled.inside in
+      let made1 : Made = with_point standing made in
+      let made2 : Made = with_point standing made1 in
+      let off : ℕ = made.points in
+      let on : ℕ = suc made.points in
+      let made3 : Made = go levels t around made2 from (Asks expr spare off on) to in
+      let made4 : Made = emit made3 on (i.Number into 1 size) to (t.place expr) in
+      let one = point_placing standing made from spelled.sound in
+      let two = point_placing standing made1 from one.sound in
+      let three = go_placing levels t around made2 from (Asks expr spare off on) to (omega arith) two.sound in
+      let h = three.points in
+      let four = emit_placing made3 on to (i.Number into 1 size) (t.place expr) (omega arith) three.sound in
+      let five = emit_placing made4 off to (i.Number into 0 size) (t.place expr) (omega arith) four.sound in
+      let parts = spelled_three standing three four five spelled in
+      ask made2 off on (omega arith) parts.0
+      (Makes 0 into size to (t.place expr) (emit_spelled to (i.Number into 0 size) (t.place expr) parts.2) free rest)
+      (Makes 1 into size to (t.place expr) (emit_spelled to (i.Number into 1 size) (t.place expr) parts.1) free rest)
+
+  -- a condition whose value is 1 or 0: what follows knows it
+  abbrev pub KnowIs : ℕ → Form t.Expr t.Stmt → Type 0
+  KnowIs levels form =
+      (around : Around) → IsAround setting around → (made : Made) (from : ℕ) (expr : t.Expr) (spare off on : ℕ) → t.form expr ≡ form →
+      IsSpelled flow made from (place_test t around (go levels t around) made from expr spare off on form) →
+      (now later : List (Stop t)) (tasks : List (TaskIn t)) (slots : List Slot) → is_whole slots ≡ true → AreBelow made.registers slots → spare < made.registers → is_free spare slots ≡ true →
+      Goes_on around (later ++ now) [] tasks (KnownAs 0 ∷ slots) off → Goes_on around (later ++ now) [] tasks (KnownAs 1 ∷ slots) on → Goes_on around now later (ValueOf expr ∷ tasks) slots from
+
+  opened_up : (around : Around) (now later : List (Stop t)) (tasks : List (TaskIn t)) (slots : List Slot) (from : ℕ) (expr : t.Expr) (form : Form t.Expr t.Stmt) → t.form expr ≡ form →
+      Goes_on around now later (value_parts t expr form ++ tasks) slots from → Goes_on around now later (ValueOf expr ∷ tasks) slots from
+  opened_up around now later tasks slots from expr form is rest =
+      Values expr (subst (λ (f : Form t.Expr t.Stmt). Goes_on around now later (value_parts t expr f ++ tasks) slots from) (sym is) rest)
+
+  pub not_known : (levels : ℕ) → AskIs t flow setting running levels → (arg : t.Expr) → KnowIs levels (Unary Not arg)
+  not_known levels ask arg around good made from expr spare off on is spelled now later tasks slots whole below lower free fails holds =
+      opened_up around now later tasks slots from expr (Unary Not arg) is
+      (ask around good made from arg spare on off off spelled now later (Answer false ∷ tasks) slots whole below lower free
+      (AnswersOf false false 1 refl holds) (AnswersOf false true 0 refl fails))
