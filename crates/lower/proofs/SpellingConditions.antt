@@ -108,3 +108,97 @@ module _ (t : Text) (flow : Flow) (setting : Setting) (running : Running) where
       opened_up around now later tasks slots from expr (Unary Not arg) is
       (ask around good made from arg spare on off off spelled now later (Answer false ∷ tasks) slots whole below lower free
       (AnswersOf false false 1 refl holds) (AnswersOf false true 0 refl fails))
+
+  -- what is known is true or not
+  pub ask_known : (levels : ℕ) (form : Form t.Expr t.Stmt) → KnowIs levels form → (around : Around) → IsAround setting around → (made : Made) (from : ℕ) (expr : t.Expr) (spare off on : ℕ) → t.form expr ≡ form →
+      IsSpelled flow made from (place_test t around (go levels t around) made from expr spare off on form) →
+      (now later : List (Stop t)) (tasks : List (TaskIn t)) (slots : List Slot) → is_whole slots ≡ true → AreBelow made.registers slots → spare < made.registers → is_free spare slots ≡ true →
+      Goes_on around (later ++ now) [] tasks (Truth false ∷ slots) off → Goes_on around (later ++ now) [] tasks (Truth true ∷ slots) on → Goes_on around now later (ValueOf expr ∷ tasks) slots from
+  ask_known levels form known around good made from expr spare off on is spelled now later tasks slots whole below lower free fails holds =
+      known around good made from expr spare off on is spelled now later tasks slots whole below lower free (IsTrues 0 fails) (IsTrues 1 holds)
+
+  -- two tests, where the way from the first one to the end of both may fill registers
+  tests_at : (levels : ℕ) (around : Around) (made : Made) (from : ℕ) (first : ℕ → ℕ → Move t) (second : Move t) (standing : Stood) (start count : ℕ) (place : Place) (end : ℕ) →
+      IsSpelled flow made from (two_tests t around (go levels t around) made from first second standing (zeros start count place) end) →
+      (now : List (Stop t)) (tasks : List (TaskIn t)) (kept : List Slot) → ((register : ℕ) → start ≤ register → register < start + count → is_free register kept ≡ true) →
+      Goes_on around now [] tasks kept end → (B C : Type 0) →
+      ((made' : Made) → made.registers ≤ made'.registers → IsSpelled flow made' made.points (go levels t around made' made.points second end) → B) →
+      ((made' : Made) (early : ℕ) → made.registers ≤ made'.registers → IsSpelled flow made' from (go levels t around made' from (first early made.points) end) → Goes_on around now [] tasks kept early → B → C) → C
+  tests_at levels around made from first second standing start zero place end spelled now tasks kept free rest B C behind ask =
+      let inside = spelled.inside in
+      let made1 : Made = with_point standing made in
+      let move : Move t = first end made.points in
+      let made2 : Made = go levels t around made1 from move end in
+      let one = point_placing standing made from spelled.sound in
+      let two = go_placing levels t around made1 from move end (omega arith) one.sound in
+      let h = two.points in
+      let k = two.registers in
+      let three = go_placing levels t around made2 made.points second end (omega arith) two.sound in
+      let open_between : outs made2.edges made.points ≡ [] = two.touches made.points (omega arith) (λ same. absurd (omega arith)) ∙ spelled.sound.fresh made.points (omega arith) in
+      ask made1 end (omega arith) (spelled_first (spelled_point standing spelled) three (omega arith) (λ same. absurd (omega arith))) rest
+      (behind made2 (omega arith) (spelled_rest spelled (then_placing one two (inl refl)) (omega arith) (omega arith) open_between))
+  tests_at levels around made from first second standing start (suc count) place end spelled now tasks kept free rest B C behind ask =
+      let inside = spelled.inside in
+      let made1 : Made = with_point standing made in
+      let made2 : Made = with_point standing made1 in
+      let early : ℕ = suc made.points in
+      let move : Move t = first early made.points in
+      let made3 : Made = go levels t around made2 from move end in
+      let made4 : Made = along t around (go levels t around) made3 early (zeros start (suc count) place) end in
+      let one = point_placing standing made from spelled.sound in
+      let two = point_placing standing made1 from one.sound in
+      let three = go_placing levels t around made2 from move end (omega arith) two.sound in
+      let h = three.points in
+      let h' = three.registers in
+      let four = along_placing t around (go levels t around) (go_placing levels t around) made3 early (zeros start (suc count) place) end (omega arith) three.sound in
+      let k = four.points in
+      let k' = four.registers in
+      let five = go_placing levels t around made4 made.points second end (omega arith) four.sound in
+      let parts = spelled_three standing three four five spelled in
+      ask made2 early (omega arith) parts.0
+      (zeros_at levels around count made3 early end start (stands_at made3 early) place parts.1 now [] tasks kept free rest)
+      (behind made4 (omega arith) parts.2)
+
+  -- the registers of what is let go of are free
+  abbrev pub AreSpare : ℕ → ℕ → List Slot → Type 0
+  AreSpare spare count slots = (register : ℕ) → spare ≤ register → register < spare + count → is_free register slots ≡ true
+
+  filled : (spare have want register : ℕ) → spare + have ≤ register → register < (spare + have) + (want - have) → register < spare + want
+  filled spare zero want register above less = omega arith
+  filled spare (suc have) zero register above less = absurd (omega arith)
+  filled spare (suc have) (suc want) register above less = let h = filled (suc spare) have want register (omega arith) (omega arith) in omega arith
+
+  -- `&&` and `||`
+  pub both_known : (levels : ℕ) → AskIs t flow setting running levels → (left right : t.Expr) (around : Around) → IsAround setting around → (made : Made) (from : ℕ) (expr : t.Expr) (spare off on : ℕ) →
+      t.form expr ≡ Binary Both left right → IsSpelled flow made from (place_test t around (go levels t around) made from expr spare off on (Binary Both left right)) →
+      (now later : List (Stop t)) (tasks : List (TaskIn t)) (slots : List Slot) → is_whole slots ≡ true → AreBelow made.registers slots → spare < made.registers → is_free spare slots ≡ true →
+      AreSpare spare (left_of t AsTest right) slots →
+      Goes_on around (later ++ now) [] tasks (KnownAs 0 ∷ slots) off → Goes_on around (later ++ now) [] tasks (KnownAs 1 ∷ slots) on → Goes_on around now later (ValueOf expr ∷ tasks) slots from
+  both_known levels ask left right around good made from expr spare off on is spelled now later tasks slots whole below lower free all_free fails holds =
+      let have : ℕ = left_of t AsTest left in
+      let want : ℕ = left_of t AsTest right in
+      opened_up around now later tasks slots from expr (Binary Both left right) is
+      (tests_at levels around made from (λ early between. Asks left spare early between) (Asks right spare off on) (with_spares spare have (stands_at made from)) (spare + have) (want - have) (t.place expr) off spelled
+      (later ++ now) tasks (KnownAs 0 ∷ slots) (λ register above less. all_free register (omega arith) (filled spare have want register above less)) fails
+      (Goes_on around (later ++ now) [] (AndThen right ∷ tasks) (Truth true ∷ slots) made.points) (Goes_on around now later (ValueOf left ∷ AndThen right ∷ tasks) slots from)
+      (λ made' more behind. AndsOn right (ask around good made' made.points right spare off on off behind (later ++ now) [] (Answer true ∷ tasks) slots whole
+      (below_more made.registers made'.registers slots more below) (omega arith) free (AnswersOf true false 0 refl fails) (AnswersOf true true 1 refl holds)))
+      (λ made' early more first at_end between. ask around good made' from left spare early made.points off first now later (AndThen right ∷ tasks) slots whole
+      (below_more made.registers made'.registers slots more below) (omega arith) free (AndsOff right at_end) between))
+
+  pub either_known : (levels : ℕ) → AskIs t flow setting running levels → (left right : t.Expr) (around : Around) → IsAround setting around → (made : Made) (from : ℕ) (expr : t.Expr) (spare off on : ℕ) →
+      t.form expr ≡ Binary Either left right → IsSpelled flow made from (place_test t around (go levels t around) made from expr spare off on (Binary Either left right)) →
+      (now later : List (Stop t)) (tasks : List (TaskIn t)) (slots : List Slot) → is_whole slots ≡ true → AreBelow made.registers slots → spare < made.registers → is_free spare slots ≡ true →
+      AreSpare spare (left_of t AsTest right) slots →
+      Goes_on around (later ++ now) [] tasks (KnownAs 0 ∷ slots) off → Goes_on around (later ++ now) [] tasks (KnownAs 1 ∷ slots) on → Goes_on around now later (ValueOf expr ∷ tasks) slots from
+  either_known levels ask left right around good made from expr spare off on is spelled now later tasks slots whole below lower free all_free fails holds =
+      let have : ℕ = left_of t AsTest left in
+      let want : ℕ = left_of t AsTest right in
+      opened_up around now later tasks slots from expr (Binary Either left right) is
+      (tests_at levels around made from (λ early between. Asks left spare between early) (Asks right spare off on) (with_spares spare have (stands_at made from)) (spare + have) (want - have) (t.place expr) on spelled
+      (later ++ now) tasks (KnownAs 1 ∷ slots) (λ register above less. all_free register (omega arith) (filled spare have want register above less)) holds
+      (Goes_on around (later ++ now) [] (OrElse right ∷ tasks) (Truth false ∷ slots) made.points) (Goes_on around now later (ValueOf left ∷ OrElse right ∷ tasks) slots from)
+      (λ made' more behind. OrsOff right (ask around good made' made.points right spare off on on behind (later ++ now) [] (Answer true ∷ tasks) slots whole
+      (below_more made.registers made'.registers slots more below) (omega arith) free (AnswersOf true false 0 refl fails) (AnswersOf true true 1 refl holds)))
+      (λ made' early more first at_end between. ask around good made' from left spare made.points early on first now later (OrElse right ∷ tasks) slots whole
+      (below_more made.registers made'.registers slots more below) (omega arith) free between (OrsOn right at_end)))
