@@ -1,26 +1,31 @@
 -- What is placed for conditions: `!`, `&&` and `||`, and their values as 1 or 0.
 use Rattle.std.proofs.Common.{◌≡◌, ◌≢◌, ◌<◌, ◌≤◌, ℕ, zero, suc, ◌+◌, ◌-◌, List, [], ◌∷◌, ◌++◌, Bool, true, false, not, refl, sym, ap, ◌∙◌, inl, inr, arith, subst}
-use Rattle.std.proofs.lemmas.Bool.{false≢true}
+use Rattle.std.proofs.lemmas.Bool.{false≢true, eqb-true, and_parts}
 use Rattle.cbase.specs.declared.place.Place.{Place}
 use Rattle.cbase.specs.declared.tree.operators.BinaryOp.TheVariants.{Both, Either}
 use Rattle.cbase.specs.declared.tree.operators.UnaryOp.TheVariants.{Not}
+use Rattle.typing.specs.ctypes.Integers.{int}
+use Rattle.c_machine.specs.declared.kind.Kind.{Kind}
+use Rattle.c_machine.specs.declared.kind.Kind.TheVariants.{Integer, Pointer, Array, Struct, Void}
 use Rattle.c_machine.specs.declared.task.Task.TheVariants.{ValueOf, Answer, AndThen, OrElse}
 use Rattle.c_machine.specs.Text.{Form, Unary, Binary, Text}
 use Rattle.c_machine.specs.State.{TaskIn}
-use Rattle.c_machine.specs.Expressions.{value_parts}
+use Rattle.c_machine.specs.Expressions.{value_kind, value_parts}
 use Rattle.flow.specs.declared.flow_graph.Flow.{Flow}
 use Rattle.flow.specs.declared.flow_graph.Standing.{Standing as Stood}
 use Rattle.flow.specs.declared.instruction.Instr.TheVariants as i
 use Rattle.simulation.specs.Running.{Setting, Running}
 use Rattle.simulation.specs.Slots.{Slot, InRegister, KnownAs, Truth, is_free, is_whole}
 use Rattle.simulation.specs.Lowered.{Stop, Lowered, Puts, Makes, Values, Answers as AnswersOf, AndsOn, AndsOff, OrsOn, OrsOff, IsTrues}
+use Rattle.lower.specs.Kinds.{width, is_void, fits}
 use Rattle.lower.specs.LetGo.{AsTest, left_of}
-use Rattle.lower.specs.Moves.{Move, Emits, Asks, Answers, zeros, pads}
-use Rattle.lower.specs.Placing.{Made, Around, emit, with_point, with_spares, stands_at, after, along, along_at, two_tests, place_test, place_answer, go}
-use Rattle.lower.proofs.Placings.{outs, IsSound, IsPlacing, then_placing, point_placing, emit_placing, IsSpelled, spelled_point, spelled_first, spelled_rest, emit_spelled}
+use Rattle.lower.specs.Moves.{Move, Emits, Asks, Answers, taking, zeros, pads}
+use Rattle.lower.specs.Table.{is_made, kind_made}
+use Rattle.lower.specs.Placing.{Made, Around, emit, with_point, with_registers, with_spares, stands_at, after, along, along_at, along_line, two_tests, place_test, place_answer, place_value_form, go}
+use Rattle.lower.proofs.Placings.{outs, IsSound, IsPlacing, then_placing, point_placing, emit_placing, IsSpelled, spelled_point, spelled_registers, spelled_first, spelled_rest, emit_spelled}
 use Rattle.lower.proofs.PlacedForms.{along_placing}
 use Rattle.lower.proofs.Placed.{go_placing}
-use Rattle.lower.proofs.Spelling.{AreBelow, below_more, IsAround, Rest, AskIs, IsAt, mid, head_spelled, tail_spelled, one_at}
+use Rattle.lower.proofs.Spelling.{AreBelow, below_more, IsAround, IsAsPlain, Rest, AskIs, FormIs, mid, head_spelled, tail_spelled, one_at}
 
 -- two points taken in front, a part from the point that was there, and a part from each of the two
 pub spelled_three : {flow : Flow} {made made3 made4 made5 : Made} {from : ℕ} (standing : Stood) → IsPlacing (with_point standing (with_point standing made)) from made3 →
@@ -43,6 +48,14 @@ spelled_three {flow = flow} {made = made} {made3 = made3} {made4 = made4} {made5
       spelled_first (spelled_rest spelled to_three (omega arith) (omega arith) open_on) five (omega arith) (λ same. absurd (omega arith)),
       spelled_rest spelled to_four (omega arith) (omega arith) open_off,
     )
+
+-- a condition is an int of 4 bytes
+int_width : (asked : Kind) → fits (Integer int) asked ≡ true → width asked ≡ 4
+int_width (Integer of) is = sym (eqb-true 4 of.bytes is)
+int_width (Pointer item) is = absurd (false≢true is)
+int_width (Array item) is = absurd (false≢true is)
+int_width (Struct size) is = absurd (false≢true is)
+int_width Void is = absurd (false≢true is)
 
 module _ (t : Text) (flow : Flow) (setting : Setting) (running : Running) where
   abbrev Goes_on : Around → List (Stop t) → List (Stop t) → List (TaskIn t) → List Slot → ℕ → Type 0
@@ -202,3 +215,55 @@ module _ (t : Text) (flow : Flow) (setting : Setting) (running : Running) where
       (below_more made.registers made'.registers slots more below) (omega arith) free (AnswersOf true false 0 refl fails) (AnswersOf true true 1 refl holds)))
       (λ made' early more first at_end between. ask around good made' from left spare made.points early on first now later (OrElse right ∷ tasks) slots whole
       (below_more made.registers made'.registers slots more below) (omega arith) free between (OrsOn right at_end)))
+
+  -- the value of a condition
+  value_by : (levels : ℕ) (around : Around) (made : Made) (from : ℕ) (expr : t.Expr) (spare into size to : ℕ) (form : Form t.Expr t.Stmt) → t.form expr ≡ form →
+      IsSpelled flow made from (along_line t around (go (suc (suc levels)) t around) made from (taking 0 (Answers expr spare into size ∷ [])) to) →
+      (now : List (Stop t)) (tasks : List (TaskIn t)) (slots : List Slot) → is_free into slots ≡ true → Goes_on around now [] tasks (InRegister into size true ∷ slots) to → (C : Type 0) →
+      ((made' : Made) (off on : ℕ) → made.registers ≤ made'.registers → IsSpelled flow made' from (place_test t around (go levels t around) made' from expr spare off on form) →
+      Goes_on around now [] tasks (KnownAs 0 ∷ slots) off → Goes_on around now [] tasks (KnownAs 1 ∷ slots) on → C) → C
+  value_by levels around made from expr spare into size to form is spelled now tasks slots free rest C ask =
+      let made1 : Made = with_registers 0 made in
+      answer_form (suc levels) around made1 from expr spare into size (with_spares spare (left_of t AsTest expr) (stands_at made1 from)) to (spelled_registers 0 spelled) now tasks slots free rest C
+      (λ made' off on more spelled' fails holds. ask made' off on (omega arith)
+      (subst (λ (f : Form t.Expr t.Stmt). IsSpelled flow made' from (place_test t around (go levels t around) made' from expr spare off on f)) is spelled') fails holds)
+
+  made_int : (expr : t.Expr) (form : Form t.Expr t.Stmt) → kind_made t expr form ≡ Integer int → is_made t expr form ≡ true → width (value_kind t expr) ≡ 4
+  made_int expr form is made_as =
+      int_width (value_kind t expr) (subst (λ (kind : Kind). fits kind (value_kind t expr) ≡ true) is (and_parts (not (is_void (value_kind t expr))) (fits (kind_made t expr form) (value_kind t expr)) made_as).1)
+
+  wanted_int : (around : Around) (now : List (Stop t)) (tasks : List (TaskIn t)) (slots : List Slot) (into to : ℕ) (kind : Kind) → width kind ≡ 4 →
+      ((plain : Bool) → IsAsPlain kind plain → Goes_on around now [] tasks (InRegister into (width kind) plain ∷ slots) to) → Goes_on around now [] tasks (InRegister into 4 true ∷ slots) to
+  wanted_int around now tasks slots into to kind is cont =
+      subst (λ (n : ℕ). Goes_on around now [] tasks (InRegister into n true ∷ slots) to) is (cont true (λ number. refl))
+
+  pub not_value : (levels : ℕ) → AskIs t flow setting running levels → (arg : t.Expr) → FormIs t flow setting running (suc (suc levels)) (Unary Not arg)
+  not_value levels ask arg around good made from expr spare into to is shown spelled now later tasks slots whole below lower lower' free free' cont =
+      value_by levels around made from expr spare into 4 to (Unary Not arg) is spelled (later ++ now) tasks slots free
+      (wanted_int around (later ++ now) tasks slots into to (value_kind t expr) (made_int expr (Unary Not arg) refl shown) cont) (Goes_on around now later (ValueOf expr ∷ tasks) slots from)
+      (λ made' off on more spelled' fails holds. not_known levels ask arg around good made' from expr spare off on is spelled' now later tasks slots whole
+      (below_more made.registers made'.registers slots more below) (omega arith) free' fails holds)
+
+  -- the forms of two conditions, where the registers of what the second one lets go of are free
+  abbrev pub SpareFormIs : ℕ → t.Expr → Form t.Expr t.Stmt → Type 0
+  SpareFormIs levels right form =
+      (around : Around) → IsAround setting around → (made : Made) (from : ℕ) (expr : t.Expr) (spare into to : ℕ) → t.form expr ≡ form → is_made t expr form ≡ true →
+      IsSpelled flow made from (place_value_form t (go levels t) around made from expr spare into to form) →
+      (now later : List (Stop t)) (tasks : List (TaskIn t)) (slots : List Slot) → is_whole slots ≡ true → AreBelow made.registers slots → into < made.registers → spare < made.registers →
+      is_free into slots ≡ true → is_free spare slots ≡ true → AreSpare spare (left_of t AsTest right) slots →
+      ((plain : Bool) → IsAsPlain (value_kind t expr) plain → Goes_on around (later ++ now) [] tasks (InRegister into (width (value_kind t expr)) plain ∷ slots) to) →
+      Goes_on around now later (ValueOf expr ∷ tasks) slots from
+
+  pub both_value : (levels : ℕ) → AskIs t flow setting running levels → (left right : t.Expr) → SpareFormIs (suc (suc levels)) right (Binary Both left right)
+  both_value levels ask left right around good made from expr spare into to is shown spelled now later tasks slots whole below lower lower' free free' all_free cont =
+      value_by levels around made from expr spare into 4 to (Binary Both left right) is spelled (later ++ now) tasks slots free
+      (wanted_int around (later ++ now) tasks slots into to (value_kind t expr) (made_int expr (Binary Both left right) refl shown) cont) (Goes_on around now later (ValueOf expr ∷ tasks) slots from)
+      (λ made' off on more spelled' fails holds. both_known levels ask left right around good made' from expr spare off on is spelled' now later tasks slots whole
+      (below_more made.registers made'.registers slots more below) (omega arith) free' all_free fails holds)
+
+  pub either_value : (levels : ℕ) → AskIs t flow setting running levels → (left right : t.Expr) → SpareFormIs (suc (suc levels)) right (Binary Either left right)
+  either_value levels ask left right around good made from expr spare into to is shown spelled now later tasks slots whole below lower lower' free free' all_free cont =
+      value_by levels around made from expr spare into 4 to (Binary Either left right) is spelled (later ++ now) tasks slots free
+      (wanted_int around (later ++ now) tasks slots into to (value_kind t expr) (made_int expr (Binary Either left right) refl shown) cont) (Goes_on around now later (ValueOf expr ∷ tasks) slots from)
+      (λ made' off on more spelled' fails holds. either_known levels ask left right around good made' from expr spare off on is spelled' now later tasks slots whole
+      (below_more made.registers made'.registers slots more below) (omega arith) free' all_free fails holds)
