@@ -1,5 +1,5 @@
 -- What is placed for conditions: `!`, `&&` and `||`, and their values as 1 or 0.
-use Rattle.std.proofs.Common.{◌≡◌, ◌≢◌, ◌<◌, ◌≤◌, ℕ, zero, suc, ◌+◌, ◌-◌, List, [], ◌∷◌, ◌++◌, Bool, true, false, not, refl, sym, ap, ◌∙◌, inl, inr, arith, subst}
+use Rattle.std.proofs.Common.{◌≡◌, ◌≢◌, ◌<◌, ◌≤◌, ℕ, zero, suc, ◌+◌, ◌-◌, List, [], ◌∷◌, ◌++◌, Bool, ◌&&◌, max, nat_eq, true, false, not, refl, sym, ap, ◌∙◌, inl, inr, arith, subst}
 use Rattle.std.proofs.lemmas.Bool.{false≢true, eqb-true, and_parts}
 use Rattle.cbase.specs.declared.place.Place.{Place}
 use Rattle.cbase.specs.declared.tree.operators.BinaryOp.TheVariants.{Both, Either}
@@ -7,8 +7,8 @@ use Rattle.cbase.specs.declared.tree.operators.UnaryOp.TheVariants.{Not}
 use Rattle.typing.specs.ctypes.Integers.{int}
 use Rattle.c_machine.specs.declared.kind.Kind.{Kind}
 use Rattle.c_machine.specs.declared.kind.Kind.TheVariants.{Integer, Pointer, Array, Struct, Void}
-use Rattle.c_machine.specs.declared.task.Task.TheVariants.{ValueOf, Answer, AndThen, OrElse}
-use Rattle.c_machine.specs.Text.{Form, Unary, Binary, Text}
+use Rattle.c_machine.specs.declared.task.Task.TheVariants.{ValueOf, Answer, AndThen, OrElse, Convert, Pick}
+use Rattle.c_machine.specs.Text.{Form, Unary, Binary, Choose, Text}
 use Rattle.c_machine.specs.State.{TaskIn}
 use Rattle.c_machine.specs.Expressions.{value_kind, value_parts}
 use Rattle.flow.specs.declared.flow_graph.Flow.{Flow}
@@ -16,16 +16,16 @@ use Rattle.flow.specs.declared.flow_graph.Standing.{Standing as Stood}
 use Rattle.flow.specs.declared.instruction.Instr.TheVariants as i
 use Rattle.simulation.specs.Running.{Setting, Running}
 use Rattle.simulation.specs.Slots.{Slot, InRegister, KnownAs, Truth, is_free, is_whole}
-use Rattle.simulation.specs.Lowered.{Stop, Lowered, Puts, Makes, Values, Answers as AnswersOf, AndsOn, AndsOff, OrsOn, OrsOff, IsTrues}
+use Rattle.simulation.specs.Lowered.{Stop, Lowered, Puts, Makes, Values, Answers as AnswersOf, AndsOn, AndsOff, OrsOn, OrsOff, IsTrues, PicksOne, PicksOther}
 use Rattle.lower.specs.Kinds.{width, is_void, fits}
-use Rattle.lower.specs.LetGo.{AsTest, left_of}
-use Rattle.lower.specs.Moves.{Move, Emits, Asks, Answers, taking, zeros, pads}
+use Rattle.lower.specs.LetGo.{AsTest, left_of, left_as}
+use Rattle.lower.specs.Moves.{Move, Emits, Asks, Answers, Converts, taking, zeros}
 use Rattle.lower.specs.Table.{is_made, kind_made}
-use Rattle.lower.specs.Placing.{Made, Around, emit, with_point, with_registers, with_spares, stands_at, after, along, along_at, along_line, two_tests, place_test, place_answer, place_value_form, go}
+use Rattle.lower.specs.Placing.{Made, Around, emit, with_point, with_registers, with_spares, stands_at, after, along, along_at, along_line, two_tests, place_test, place_answer, place_value_form, in_front, place_arms, place_choose, go}
 use Rattle.lower.proofs.Placings.{outs, IsSound, IsPlacing, then_placing, point_placing, emit_placing, IsSpelled, spelled_point, spelled_registers, spelled_first, spelled_rest, emit_spelled}
 use Rattle.lower.proofs.PlacedForms.{along_placing}
 use Rattle.lower.proofs.Placed.{go_placing}
-use Rattle.lower.proofs.Spelling.{AreBelow, below_more, IsAround, IsAsPlain, Rest, AskIs, FormIs, mid, head_spelled, tail_spelled, one_at}
+use Rattle.lower.proofs.Spelling.{AreBelow, below_more, IsAround, IsAsPlain, slot_of, Rest, AskIs, ConvertIs, FormIs, mid, head_spelled, tail_spelled, one_at}
 
 -- two points taken in front, a part from the point that was there, and a part from each of the two
 pub spelled_three : {flow : Flow} {made made3 made4 made5 : Made} {from : ℕ} (standing : Stood) → IsPlacing (with_point standing (with_point standing made)) from made3 →
@@ -267,3 +267,86 @@ module _ (t : Text) (flow : Flow) (setting : Setting) (running : Running) where
       (wanted_int around (later ++ now) tasks slots into to (value_kind t expr) (made_int expr (Binary Either left right) refl shown) cont) (Goes_on around now later (ValueOf expr ∷ tasks) slots from)
       (λ made' off on more spelled' fails holds. either_known levels ask left right around good made' from expr spare off on is spelled' now later tasks slots whole
       (below_more made.registers made'.registers slots more below) (omega arith) free' all_free fails holds)
+
+  -- registers that are filled behind a value are none that it stands in
+  abbrev pub AreBeside : Kind → ℕ → ℕ → ℕ → List Slot → Type 0
+  AreBeside kind into start count slots =
+      (plain : Bool) (register : ℕ) → start ≤ register → register < start + count → is_free register (slot_of kind into plain ∷ slots) ≡ true
+
+  -- an arm of `?:`, which fills the registers that the other one does
+  arm_at : (levels : ℕ) → ConvertIs t flow setting running levels → (around : Around) → IsAround setting around → (made : Made) (from : ℕ) (arm : t.Expr) (kind : Kind) (spare into start count : ℕ) (place : Place) (to : ℕ) →
+      IsSpelled flow made from (along t around (go levels t around) made from (Converts arm kind spare into ∷ zeros start count place) to) →
+      (now : List (Stop t)) (tasks : List (TaskIn t)) (slots : List Slot) → is_whole slots ≡ true → AreBelow made.registers slots → into < made.registers → spare < made.registers →
+      is_free into slots ≡ true → is_free spare slots ≡ true → AreBeside kind into start count slots →
+      ((plain : Bool) → IsAsPlain kind plain → Goes_on around now [] tasks (slot_of kind into plain ∷ slots) to) →
+      Goes_on around now [] (ValueOf arm ∷ Convert (value_kind t arm) kind ∷ tasks) slots from
+  arm_at levels convert around good made from arm kind spare into start zero place to spelled now tasks slots whole below lower lower' free free' beside cont =
+      convert around good made from arm kind spare into to spelled now [] tasks slots whole below lower lower' free free' cont
+  arm_at levels convert around good made from arm kind spare into start (suc count) place to spelled now tasks slots whole below lower lower' free free' beside cont =
+      let move : Move t = Converts arm kind spare into in
+      let standing : Stood = after t move (stands_at made from) in
+      let first = head_spelled t flow setting running levels around made from standing move (zeros start (suc count) place) to spelled in
+      let behind = tail_spelled t flow setting running levels around made from standing move (zeros start (suc count) place) to spelled in
+      convert around good (with_point standing made) from arm kind spare into made.points first now [] tasks slots whole below lower lower' free free'
+      (λ plain number. zeros_at levels around count (mid t flow setting running levels around made from standing move) made.points to start standing place behind now [] tasks (slot_of kind into plain ∷ slots)
+      (beside plain) (cont plain number))
+
+  arms_at : (levels : ℕ) → AskIs t flow setting running levels → ConvertIs t flow setting running levels → (around : Around) → IsAround setting around → (made : Made) (from : ℕ) (test one other : t.Expr) (kind : Kind)
+      (spare into : ℕ) (standing : Stood) (start count start' count' : ℕ) (place : Place) (to : ℕ) →
+      IsSpelled flow made from (place_arms t around (go levels t around) made from test spare standing (Converts one kind spare into ∷ zeros start count place) (Converts other kind spare into ∷ zeros start' count' place) to) →
+      (now later : List (Stop t)) (tasks : List (TaskIn t)) (slots : List Slot) → is_whole slots ≡ true → AreBelow made.registers slots → into < made.registers → spare < made.registers →
+      is_free into slots ≡ true → is_free spare slots ≡ true → AreBeside kind into start count slots → AreBeside kind into start' count' slots →
+      ((plain : Bool) → IsAsPlain kind plain → Goes_on around (later ++ now) [] tasks (slot_of kind into plain ∷ slots) to) →
+      Goes_on around now later (ValueOf test ∷ Pick kind one other ∷ tasks) slots from
+  arms_at levels ask convert around good made from test one other kind spare into standing start count start' count' place to spelled now later tasks slots whole below lower lower' free free' beside beside' cont =
+      let inside = spelled.inside in
+      let off : ℕ = made.points in
+      let on : ℕ = suc made.points in
+      let made1 : Made = with_point standing made in
+      let made2 : Made = with_point standing made1 in
+      let move : Move t = Asks test spare off on in
+      let made3 : Made = go levels t around made2 from move to in
+      let moves : List (Move t) = Converts one kind spare into ∷ zeros start count place in
+      let made4 : Made = along t around (go levels t around) made3 on moves to in
+      let first = point_placing standing made from spelled.sound in
+      let second = point_placing standing made1 from first.sound in
+      let three = go_placing levels t around made2 from move to (omega arith) second.sound in
+      let h = three.points in
+      let h' = three.registers in
+      let four = along_placing t around (go levels t around) (go_placing levels t around) made3 on moves to (omega arith) three.sound in
+      let k = four.points in
+      let k' = four.registers in
+      let five = along_placing t around (go levels t around) (go_placing levels t around) made4 off (Converts other kind spare into ∷ zeros start' count' place) to (omega arith) four.sound in
+      let parts = spelled_three standing three four five spelled in
+      ask around good made2 from test spare off on to parts.0 now later (Pick kind one other ∷ tasks) slots whole below lower' free'
+      (PicksOther kind one other (arm_at levels convert around good made4 off other kind spare into start' count' place to parts.2 (later ++ now) tasks slots whole
+      (below_more made.registers made4.registers slots (omega arith) below) (omega arith) (omega arith) free free' beside' cont))
+      (PicksOne kind one other (arm_at levels convert around good made3 on one kind spare into start count place to parts.1 (later ++ now) tasks slots whole
+      (below_more made.registers made3.registers slots (omega arith) below) (omega arith) (omega arith) free free' beside cont))
+
+  -- how many registers hold what an arm of `?:` and its condition let go of, and how many do behind both arms
+  abbrev pub arm_left : t.Expr → t.Expr → ℕ → ℕ → ℕ
+  arm_left expr arm spare into = left_as t (left_of t) arm (nat_eq into spare) (value_kind t expr)
+
+  abbrev pub arm_has : t.Expr → t.Expr → t.Expr → ℕ → ℕ → ℕ
+  arm_has expr test arm spare into = in_front (nat_eq into spare && not (is_void (value_kind t expr))) (max (left_of t AsTest test) (arm_left expr arm spare into))
+
+  abbrev pub arms_want : t.Expr → t.Expr → t.Expr → t.Expr → ℕ → ℕ → ℕ
+  arms_want expr test one other spare into = max (left_of t AsTest test) (max (arm_left expr one spare into) (arm_left expr other spare into))
+
+  -- `?:`, where the registers that an arm fills are free
+  pub choose_form : (levels : ℕ) → AskIs t flow setting running levels → ConvertIs t flow setting running levels → (around : Around) → IsAround setting around → (made : Made) (from : ℕ) (expr test one other : t.Expr)
+      (spare into to : ℕ) → t.form expr ≡ Choose test one other →
+      IsSpelled flow made from (place_choose t around (go levels t around) made from expr test one other spare into to) →
+      (now later : List (Stop t)) (tasks : List (TaskIn t)) (slots : List Slot) → is_whole slots ≡ true → AreBelow made.registers slots → into < made.registers → spare < made.registers →
+      is_free into slots ≡ true → is_free spare slots ≡ true →
+      AreBeside (value_kind t expr) into (spare + arm_has expr test one spare into) (arms_want expr test one other spare into - arm_has expr test one spare into) slots →
+      AreBeside (value_kind t expr) into (spare + arm_has expr test other spare into) (arms_want expr test one other spare into - arm_has expr test other spare into) slots →
+      ((plain : Bool) → IsAsPlain (value_kind t expr) plain → Goes_on around (later ++ now) [] tasks (slot_of (value_kind t expr) into plain ∷ slots) to) →
+      Goes_on around now later (ValueOf expr ∷ tasks) slots from
+  choose_form levels ask convert around good made from expr test one other spare into to is spelled now later tasks slots whole below lower lower' free free' beside beside' cont =
+      opened_up around now later tasks slots from expr (Choose test one other) is
+      (arms_at levels ask convert around good made from test one other (value_kind t expr) spare into (with_spares spare (left_of t AsTest test) (stands_at made from))
+      (spare + arm_has expr test one spare into) (arms_want expr test one other spare into - arm_has expr test one spare into)
+      (spare + arm_has expr test other spare into) (arms_want expr test one other spare into - arm_has expr test other spare into)
+      (t.place expr) to spelled now later tasks slots whole below lower lower' free free' beside beside' cont)
