@@ -41,9 +41,8 @@ spelled_three {flow = flow} {made = made} {made3 = made3} {made4 = made4} {made5
     let to_four = then_placing to_three four (inr (omega arith)) in
     let open_on : outs made3.edges (suc made.points) ≡ [] = three.touches (suc made.points) (omega arith) (λ same. absurd (omega arith)) ∙ spelled.sound.fresh (suc made.points) (omega arith) in
     let open_off : outs made4.edges made.points ≡ [] =
-        four.touches made.points (omega arith) (λ same. absurd (omega arith))
-        ∙ (three.touches made.points (omega arith) (λ same. absurd (omega arith)) ∙ spelled.sound.fresh made.points (omega arith)) in
-    (
+    four.touches made.points (omega arith) (λ same. absurd (omega arith))
+    ∙ (three.touches made.points (omega arith) (λ same. absurd (omega arith)) ∙ spelled.sound.fresh made.points (omega arith)) in (
       spelled_first (spelled_first (spelled_point standing (spelled_point standing spelled)) five (omega arith) (λ same. absurd (omega arith))) four (omega arith) (λ same. absurd (omega arith)),
       spelled_first (spelled_rest spelled to_three (omega arith) (omega arith) open_on) five (omega arith) (λ same. absurd (omega arith)),
       spelled_rest spelled to_four (omega arith) (omega arith) open_off,
