@@ -11,6 +11,7 @@ pub mod Placed
 pub mod PlacedForms
 pub mod Placings
 pub mod Spelling
+pub mod SpellingBuiltIns
 pub mod SpellingConditions
 pub mod StartSteps
 pub mod StaticsMade
