@@ -1,26 +1,26 @@
 -- What is placed for calls of functions that the language knows: `free`, assumptions, and values from outside.
-use Rattle.std.proofs.Common.{◌≡◌, ◌<◌, ◌≤◌, ℕ, ◌+◌, List, [], ◌∷◌, ◌++◌, Bool, true, false, refl, sym, arith, subst, Option, Some}
+use Rattle.std.proofs.Common.{◌≡◌, ◌<◌, ◌≤◌, ℕ, ◌+◌, List, [], ◌∷◌, ◌++◌, length, suc, Bool, true, false, refl, sym, arith, subst, Option, Some}
 use Rattle.std.proofs.lemmas.Bool.{false≢true}
 use Rattle.cbase.specs.declared.place.Place.{Place}
-use Rattle.c_machine.specs.declared.built_in.BuiltIn.TheVariants.{Free, Assume, GivesInput}
+use Rattle.c_machine.specs.declared.built_in.BuiltIn.TheVariants.{Free, Assume, GivesInput, EndsRun}
 use Rattle.c_machine.specs.declared.kind.Kind.{Kind}
 use Rattle.c_machine.specs.declared.kind.Kind.TheVariants.{Integer, Pointer, Array, Struct, Void}
 use Rattle.c_machine.specs.declared.task.Task.TheVariants.{ValueOf, Convert, RunBuiltIn}
 use Rattle.c_machine.specs.Text.{Text}
 use Rattle.c_machine.specs.State.{TaskIn}
-use Rattle.c_machine.specs.Expressions.{value_kind}
+use Rattle.c_machine.specs.Expressions.{value_kind, argument_tasks}
 use Rattle.flow.specs.declared.flow_graph.Flow.{Flow}
 use Rattle.flow.specs.declared.flow_graph.Standing.{Standing as Stood}
 use Rattle.flow.specs.declared.instruction.Instr.TheVariants as i
 use Rattle.simulation.specs.Running.{Setting, Running}
 use Rattle.simulation.specs.Slots.{Slot, InRegister, KnownAs, is_free, is_whole}
-use Rattle.simulation.specs.Lowered.{Stop, Lowered, Frees, Assumes, Inputs}
+use Rattle.simulation.specs.Lowered.{Stop, Lowered, EndsRuns, Frees, Assumes, Inputs}
 use Rattle.lower.specs.Kinds.{width, is_void}
-use Rattle.lower.specs.Moves.{Move, Emits, Converts}
-use Rattle.lower.specs.Table.{built_in_line}
-use Rattle.lower.specs.Placing.{Made, Around, with_point, with_registers, stands_at, after, along_line, go}
+use Rattle.lower.specs.Moves.{Move, Emits, Converts, Stops, Fails}
+use Rattle.lower.specs.Table.{argument_moves, built_in_line}
+use Rattle.lower.specs.Placing.{Made, Around, with_point, with_registers, stands_at, after, Begin, New, Goes, begins, along_from, along_at, along_line, go}
 use Rattle.lower.proofs.Placings.{IsSpelled, spelled_registers}
-use Rattle.lower.proofs.Spelling.{AreBelow, below_more, free_below, free_beside, slot_of, IsAround, Rest, ConvertIs, mid, head_spelled, tail_spelled, one_at, never}
+use Rattle.lower.proofs.Spelling.{AreBelow, below_more, free_below, free_beside, slot_of, IsAround, Rest, ConvertIs, mid, head_spelled, tail_spelled, one_at, none_at, never, fills}
 
 -- a value stands in its register
 in_its_register : (kind : Kind) (into : ℕ) (plain : Bool) → is_void kind ≡ false → slot_of kind into plain ≡ InRegister into (width kind) plain
@@ -29,6 +29,21 @@ in_its_register (Pointer item) into plain is = refl
 in_its_register (Array item) into plain is = refl
 in_its_register (Struct size) into plain is = refl
 in_its_register Void into plain is = absurd (false≢true (sym is))
+
+-- an argument in its register is another operand
+abbrev pub AreOperands : ℕ → ℕ → List Slot → Type 0
+AreOperands spare count slots = (is_whole slots ≡ true) × AreBelow count slots × (is_free spare slots ≡ true)
+
+operand : (kind : Kind) (spare count : ℕ) (plain : Bool) (slots : List Slot) → spare < count → AreOperands spare count slots → AreOperands spare (suc count) (slot_of kind count plain ∷ slots)
+operand (Integer of) spare count plain slots less are =
+    (are.0, (omega arith, below_more count (suc count) slots (omega arith) are.1), free_beside spare count of.bytes plain slots (λ same. absurd (omega arith)) are.2)
+operand (Pointer item) spare count plain slots less are =
+    (are.0, (omega arith, below_more count (suc count) slots (omega arith) are.1), free_beside spare count 8 plain slots (λ same. absurd (omega arith)) are.2)
+operand (Array item) spare count plain slots less are =
+    (are.0, (omega arith, below_more count (suc count) slots (omega arith) are.1), free_beside spare count 8 plain slots (λ same. absurd (omega arith)) are.2)
+operand (Struct size) spare count plain slots less are =
+    (are.0, (omega arith, below_more count (suc count) slots (omega arith) are.1), free_beside spare count 8 plain slots (λ same. absurd (omega arith)) are.2)
+operand Void spare count plain slots less are = (are.0, below_more count (suc count) slots (omega arith) are.1, are.2)
 
 module _ (t : Text) (flow : Flow) (setting : Setting) (running : Running) where
   -- `free`: its argument has a value (6.3.2.2, 7.22.3.3)
@@ -101,3 +116,35 @@ module _ (t : Text) (flow : Flow) (setting : Setting) (running : Running) where
       never t flow setting running levels around (with_registers 0 made) from to (spelled_registers 0 spelled)
   input_form levels around made from into Void spare place to spelled now later tasks slots free cont =
       never t flow setting running levels around (with_registers 0 made) from to (spelled_registers 0 spelled)
+
+  -- what stands in front of an end of the run has edges
+  begins_new : (around : Around) (standing : Stood) (args : List t.Expr) (params : List Kind) (spare r to : ℕ) → begins t around standing (argument_moves t args params spare r ++ Stops ∷ []) to ≡ New
+  begins_new around standing [] [] spare r to = refl
+  begins_new around standing [] (param ∷ params) spare r to = refl
+  begins_new around standing (arg ∷ args) [] spare r to = refl
+  begins_new around standing (arg ∷ args) (param ∷ params) spare r to = refl
+
+  -- a call that ends the run, behind its arguments
+  pub ends_form : (levels : ℕ) → ConvertIs t flow setting running levels → (around : Around) → IsAround setting around → (args : List t.Expr) (params : List Kind) (result : Kind) (made : Made) (from spare r to : ℕ) (standing : Stood) (place : Place) →
+      IsSpelled flow made from (along_at t around (go levels t around) made from standing (argument_moves t args params spare r ++ Stops ∷ []) to) →
+      (now later : List (Stop t)) (tasks : List (TaskIn t)) (slots : List Slot) → AreOperands spare r slots → spare < r → r + length args ≤ made.registers →
+      Rest t flow setting running around now later (argument_tasks t args params ++ RunBuiltIn EndsRun place result ∷ tasks) slots from
+  ends_form levels convert around good [] [] result made from spare r to standing place spelled now later tasks slots are less there =
+      EndsRuns place result (none_at t flow setting running levels around made from to spelled)
+  ends_form levels convert around good [] (param ∷ params) result made from spare r to standing place spelled now later tasks slots are less there =
+      never t flow setting running levels around (with_point standing made) from made.points (head_spelled t flow setting running levels around made from standing Fails (Stops ∷ []) to spelled)
+  ends_form levels convert around good (arg ∷ args) [] result made from spare r to standing place spelled now later tasks slots are less there =
+      never t flow setting running levels around (with_point standing made) from made.points (head_spelled t flow setting running levels around made from standing Fails (Stops ∷ []) to spelled)
+  ends_form levels convert around good (arg ∷ args) (param ∷ params) result made from spare r to standing place spelled now later tasks slots are less there =
+      let move : Move t = Converts arg param spare r in
+      let standing' : Stood = after t move standing in
+      let moves : List (Move t) = argument_moves t args params spare (suc r) ++ Stops ∷ [] in
+      let spelled' = subst (λ (begin : Begin). IsSpelled flow made from (along_from t (λ made' point. along_at t around (go levels t around) made' point standing' moves to) (go levels t around) made from move standing' Goes begin))
+          (begins_new around standing' args params spare (suc r) to) spelled in
+      let first = head_spelled t flow setting running levels around made from standing' move moves to spelled' in
+      let behind = tail_spelled t flow setting running levels around made from standing' move moves to spelled' in
+      let h = fills t flow setting running levels around made from standing' move spelled.inside spelled.sound in
+      convert around good (with_point standing' made) from arg param spare r made.points first now later (argument_tasks t args params ++ RunBuiltIn EndsRun place result ∷ tasks) slots are.0
+      (below_more r made.registers slots (omega arith) are.1) (omega arith) (omega arith) (free_below r r slots (omega arith) are.1) are.2
+      (λ plain number. ends_form levels convert around good args params result (mid t flow setting running levels around made from standing' move) made.points spare (suc r) to standing' place behind
+      (later ++ now) [] tasks (slot_of param r plain ∷ slots) (operand param spare r plain slots less are) (omega arith) (omega arith))
