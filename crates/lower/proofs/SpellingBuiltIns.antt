@@ -1,4 +1,4 @@
--- What is placed for calls of functions that the language knows: `free`, assumptions, and values from outside.
+-- What is placed for calls of functions that the language knows: `free`, assumptions, values from outside, and ends of the run.
 use Rattle.std.proofs.Common.{◌≡◌, ◌<◌, ◌≤◌, ℕ, ◌+◌, List, [], ◌∷◌, ◌++◌, length, suc, Bool, true, false, refl, sym, arith, subst, Option, Some}
 use Rattle.std.proofs.lemmas.Bool.{false≢true}
 use Rattle.cbase.specs.declared.place.Place.{Place}
@@ -140,7 +140,7 @@ module _ (t : Text) (flow : Flow) (setting : Setting) (running : Running) where
       let standing' : Stood = after t move standing in
       let moves : List (Move t) = argument_moves t args params spare (suc r) ++ Stops ∷ [] in
       let spelled' = subst (λ (begin : Begin). IsSpelled flow made from (along_from t (λ made' point. along_at t around (go levels t around) made' point standing' moves to) (go levels t around) made from move standing' Goes begin))
-          (begins_new around standing' args params spare (suc r) to) spelled in
+      (begins_new around standing' args params spare (suc r) to) spelled in
       let first = head_spelled t flow setting running levels around made from standing' move moves to spelled' in
       let behind = tail_spelled t flow setting running levels around made from standing' move moves to spelled' in
       let h = fills t flow setting running levels around made from standing' move spelled.inside spelled.sound in

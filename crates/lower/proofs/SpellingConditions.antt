@@ -1,4 +1,4 @@
--- What is placed for conditions: `!`, `&&` and `||`, and their values as 1 or 0.
+-- What is placed for conditions: `!`, `&&` and `||`, their values as 1 or 0, and `?:`.
 use Rattle.std.proofs.Common.{◌≡◌, ◌≢◌, ◌<◌, ◌≤◌, ℕ, zero, suc, ◌+◌, ◌-◌, List, [], ◌∷◌, ◌++◌, Bool, ◌&&◌, max, nat_eq, true, false, not, refl, sym, ap, ◌∙◌, inl, inr, arith, subst}
 use Rattle.std.proofs.lemmas.Bool.{false≢true, eqb-true, and_parts}
 use Rattle.cbase.specs.declared.place.Place.{Place}
