@@ -12,6 +12,8 @@ pub mod PlacedForms
 pub mod Placings
 pub mod Spelling
 pub mod SpellingOperators
+pub mod SpellingBuiltIns
+pub mod SpellingConditions
 pub mod StartSteps
 pub mod StaticsMade
 pub mod StaticsWritten
