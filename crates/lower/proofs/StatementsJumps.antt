@@ -1,26 +1,30 @@
 -- What is placed for `return`, for the `}` of a function, and for jumps out of loops is what the rest of a run wants.
-use Rattle.std.proofs.Common.{◌≡◌, ◌<◌, ◌≤◌, ℕ, zero, suc, ◌+◌, List, [], ◌∷◌, ◌++◌, length, Bool, true, false, ◌&&◌, refl, sym, ap, subst, ◌∙◌, arith, Option, None, Some}
+use Rattle.std.proofs.Common.{◌≡◌, ◌<◌, ◌≤◌, ℕ, zero, suc, ◌+◌, List, [], ◌∷◌, ◌++◌, map, length, Bool, true, false, ◌&&◌, refl, sym, ap, subst, ◌∙◌, arith, Option, None, Some}
+use Rattle.std.specs.Prelude.{◌^◌, replicate, if◌then◌else◌}
 use Rattle.std.proofs.lemmas.Bool.{false≢true}
 use Rattle.cbase.specs.declared.place.Place.{Place}
 use Rattle.c_machine.specs.declared.kind.Kind.{Kind}
 use Rattle.c_machine.specs.declared.kind.Kind.TheVariants.{Integer, Pointer, Array, Struct, Void}
-use Rattle.c_machine.specs.declared.task.Task.TheVariants.{Execute, GiveBack, LeaveFunction, EndOfBody}
+use Rattle.c_machine.specs.declared.task.Task.TheVariants.{Execute, BreakAt, ContinueAt, LeaveBlock, GiveBack, LeaveFunction, EndOfBody}
 use Rattle.c_machine.specs.State.{TaskIn}
-use Rattle.c_machine.specs.Statements.{BodyLeft, body_left}
-use Rattle.c_machine.specs.Text.{Clause, Return, Text}
+use Rattle.c_machine.specs.Choosing.{count_of}
+use Rattle.c_machine.specs.Statements.{LoopLeft, loop_left, after_break, after_continue, BodyLeft, body_left}
+use Rattle.c_machine.specs.Text.{Clause, Break, Continue, Return, Function, Text}
+use Rattle.c_machine.specs.Words.{scalar_bytes}
 use Rattle.flow.specs.declared.flow_graph.Flow.{Flow}
 use Rattle.flow.specs.declared.flow_graph.Standing.{Standing}
 use Rattle.flow.specs.declared.instruction.Instr.TheVariants as i
 use Rattle.simulation.specs.Edges.{One}
-use Rattle.simulation.specs.Lowered.{Stop, Lowered, IsKnown, GivesNoValue, GivesNoValueFinish, Returns, Closes}
-use Rattle.simulation.specs.Names.{names_of, variables_of, are_new}
+use Rattle.simulation.specs.Lowered.{Stop, Lowered, IsKnown, Makes, Leaves, Breaks, BreaksFinish, Continues, ContinuesFinish, GivesNoValue, GivesNoValueFinish, EndsMain, EndsVoid, EndsWithInput, Returns, Closes}
+use Rattle.simulation.specs.Names.{Name, names_of, variables_of, are_new}
 use Rattle.simulation.specs.Running.{Setting, Running, given_slot}
-use Rattle.simulation.specs.Slots.{Slot, InRegister, KnownAs, is_whole, are_in}
-use Rattle.lower.specs.Kinds.{is_void}
-use Rattle.lower.specs.Moves.{Move, Emits}
-use Rattle.lower.specs.Placing.{Made, Around, stands_at, with_point, after, along_at, go, leaves, closings, function_leaves, finishes, registers_of, place_return}
+use Rattle.simulation.specs.Slots.{Slot, InRegister, KnownAs, is_whole, are_free, are_in}
+use Rattle.lower.specs.Kinds.{is_void, width}
+use Rattle.lower.specs.Lowering.{answers, end_moves}
+use Rattle.lower.specs.Moves.{Move, Emits, Fails}
+use Rattle.lower.specs.Placing.{Made, Loop as LoopAround, Around, registers_left, blocks_left, jump_moves, place_break, place_continue, stands_at, with_point, after, along_at, go, leaves, closings, function_leaves, finishes, registers_of, place_return}
 use Rattle.lower.proofs.Placings.{IsSpelled}
-use Rattle.lower.proofs.Spelling.{head_spelled, tail_spelled, one_at}
+use Rattle.lower.proofs.Spelling.{head_spelled, tail_spelled, one_at, never}
 use Rattle.lower.proofs.Statements.{executes}
 
 module _ (t : Text) (flow : Flow) (setting : Setting) (running : Running) where
@@ -33,8 +37,9 @@ module _ (t : Text) (flow : Flow) (setting : Setting) (running : Running) where
     pub new : are_new (names_of around.scopes) [] ≡ true
     pub from : Option ℕ
     pub given : given_slot running.gives from ≡ Some slot
+    pub to : ℕ
     pub place : Place
-    pub edge : One flow around.exit (i.Return from) place
+    pub edge : One flow around.exit (i.Return from) to place
 
   -- what stands behind the body of the function
   pub record IsBody (tasks : List (TaskIn t)) (kind : Kind) : Type 0 where
@@ -51,12 +56,12 @@ module _ (t : Text) (flow : Flow) (setting : Setting) (running : Running) where
       let leave : Move t = leaves (names_of around.scopes) word in
       let first = head_spelled t flow setting running levels around made from (after t leave standing) leave (closings true word) around.exit spelled in
       let rest = tail_spelled t flow setting running levels around made from (after t leave standing) leave (closings true word) around.exit spelled in
-      Closes slot left.from word left.place made.points around.exit (around.exit) (left.closes ∙ is) left.given left.new
+      Closes slot left.from word left.place made.points around.exit left.to (left.closes ∙ is) left.given left.new
       (one_at t flow setting running levels around (with_point (after t leave standing) made) from made.points (i.Leave (variables_of (names_of around.scopes))) word first)
       (one_at t flow setting running levels around (go levels t around (with_point (after t leave standing) made) from leave made.points) made.points around.exit i.Close word rest)
       left.edge
   leave_by levels around slot false is left made from standing word spelled now later =
-      Returns slot left.from word left.place around.exit (around.exit) (left.closes ∙ is) left.given left.new
+      Returns slot left.from word left.place around.exit left.to (left.closes ∙ is) left.given left.new
       (one_at t flow setting running levels around made from around.exit (i.Leave (variables_of (names_of around.scopes))) word spelled) left.edge
 
   -- all blocks of a function are left, and it returns
@@ -91,3 +96,192 @@ module _ (t : Text) (flow : Flow) (setting : Setting) (running : Running) where
           Goes around now later (GiveBack (t.first stmt) Void ∷ tasks) (KnownAs 0 ∷ slots) from
       by_kind true spelled' = no_value_by levels around left (registers_of (stands_at made from)) made from (stands_at made from) (t.first stmt) spelled' now later tasks slots body held
       by_kind false spelled' = absurd (false≢true spelled'.graph)
+
+  -- what a function gives at its `}`
+  abbrev pub end_slot : Kind → ℕ → Slot
+  end_slot Void register = KnownAs 0
+  end_slot kind register = InRegister register (width kind) true
+
+  -- main answers 0
+  main_by : (levels : ℕ) (around : Around) (kind : Kind) → IsLeft around (InRegister around.result (width kind) true) → (made : Made) (from : ℕ) (standing : Standing) (close : Place) →
+      IsSpelled flow made from (along_at t around (go levels t around) made from standing (Emits (i.Number around.result 0 (width kind)) close ∷ function_leaves around close) around.exit) →
+      (now later : List (Stop t)) (held : ℕ) → Goes around now later (EndOfBody true kind close held ∷ []) [] from
+  main_by levels around kind left made from standing close spelled now later held =
+      let number : Move t = Emits (i.Number around.result 0 (width kind)) close in
+      let first = head_spelled t flow setting running levels around made from (after t number standing) number (function_leaves around close) around.exit spelled in
+      let rest = tail_spelled t flow setting running levels around made from (after t number standing) number (function_leaves around close) around.exit spelled in
+      EndsMain kind close held (Makes 0 around.result (width kind) made.points close
+      (one_at t flow setting running levels around (with_point (after t number standing) made) from made.points (i.Number around.result 0 (width kind)) close first) refl
+      (leave_form levels around (InRegister around.result (width kind) true) left (go levels t around (with_point (after t number standing) made) from number made.points) made.points (after t number standing) close rest now later))
+
+  -- another function answers any input of its result
+  input_by : (levels : ℕ) (around : Around) (kind : Kind) (bytes size : ℕ) (signed truth : Bool) → scalar_bytes kind ≡ Some bytes → count_of kind ≡ (if truth then 2 else 256 ^ size) →
+      IsLeft around (InRegister around.result size true) → (made : Made) (from : ℕ) (standing : Standing) (close : Place) →
+      IsSpelled flow made from (along_at t around (go levels t around) made from standing (Emits (i.Input around.result size signed truth) close ∷ function_leaves around close) around.exit) →
+      (now later : List (Stop t)) (held : ℕ) → Goes around now later (EndOfBody false kind close held ∷ []) [] from
+  input_by levels around kind bytes size signed truth scalar count left made from standing close spelled now later held =
+      let input : Move t = Emits (i.Input around.result size signed truth) close in
+      let first = head_spelled t flow setting running levels around made from (after t input standing) input (function_leaves around close) around.exit spelled in
+      let rest = tail_spelled t flow setting running levels around made from (after t input standing) input (function_leaves around close) around.exit spelled in
+      EndsWithInput kind close close held bytes around.result size made.points signed truth scalar count refl
+      (one_at t flow setting running levels around (with_point (after t input standing) made) from made.points (i.Input around.result size signed truth) close first)
+      (leave_form levels around (InRegister around.result size true) left (go levels t around (with_point (after t input standing) made) from input made.points) made.points (after t input standing) close rest (later ++ now) [])
+
+  fails_by : {A : Type 0} (levels : ℕ) (around : Around) (made : Made) (from : ℕ) (standing : Standing) (word : Place) →
+      IsSpelled flow made from (along_at t around (go levels t around) made from standing (Fails ∷ function_leaves around word) around.exit) → A
+  fails_by levels around made from standing word spelled =
+      let fail : Move t = Fails in
+      never t flow setting running levels around (with_point (after t fail standing) made) from made.points
+      (head_spelled t flow setting running levels around made from (after t fail standing) fail (function_leaves around word) around.exit spelled)
+
+  end_by : (levels : ℕ) (around : Around) (is_main : Bool) (kind : Kind) → IsLeft around (end_slot kind around.result) → (made : Made) (from : ℕ) (standing : Standing) (close : Place) →
+      is_void kind ≡ false → IsSpelled flow made from (along_at t around (go levels t around) made from standing (answers is_main kind around.result close ++ function_leaves around close) around.exit) →
+      (now later : List (Stop t)) (held : ℕ) → Goes around now later (EndOfBody is_main kind close held ∷ []) [] from
+  end_by levels around true (Integer of) left made from standing close void spelled now later held = main_by levels around (Integer of) left made from standing close spelled now later held
+  end_by levels around true (Pointer item) left made from standing close void spelled now later held = main_by levels around (Pointer item) left made from standing close spelled now later held
+  end_by levels around true (Array item) left made from standing close void spelled now later held = main_by levels around (Array item) left made from standing close spelled now later held
+  end_by levels around true (Struct size) left made from standing close void spelled now later held = main_by levels around (Struct size) left made from standing close spelled now later held
+  end_by levels around false (Integer of) left made from standing close void spelled now later held =
+      input_by levels around (Integer of) of.bytes of.bytes of.signed of.truth refl refl left made from standing close spelled now later held
+  end_by levels around false (Pointer item) left made from standing close void spelled now later held =
+      input_by levels around (Pointer item) 8 8 false false refl refl left made from standing close spelled now later held
+  end_by levels around false (Array item) left made from standing close void spelled now later held = fails_by levels around made from standing close spelled
+  end_by levels around false (Struct size) left made from standing close void spelled now later held = fails_by levels around made from standing close spelled
+  end_by levels around is_main Void left made from standing close void spelled now later held = absurd (false≢true (sym void))
+
+  -- the `}` of a function
+  pub end_form : (levels : ℕ) (around : Around) (function : Function t.Stmt) → IsLeft around (end_slot function.result around.result) → (made : Made) (from : ℕ) (standing : Standing) →
+      IsSpelled flow made from (along_at t around (go levels t around) made from standing (end_moves t function around (is_void function.result)) around.exit) →
+      (now later : List (Stop t)) (held : ℕ) → Goes around now later (EndOfBody function.is_main function.result function.close held ∷ []) [] from
+  end_form levels around function left made from standing spelled now later held =
+      by_void (is_void function.result) refl spelled
+    where
+      of_void : (is_main : Bool) (kind : Kind) → is_void kind ≡ true → IsLeft around (end_slot kind around.result) →
+          IsSpelled flow made from (along_at t around (go levels t around) made from standing (function_leaves around function.close) around.exit) →
+          Goes around now later (EndOfBody is_main kind function.close held ∷ []) [] from
+      of_void true Void void left' spelled' = EndsMain Void function.close held (leave_form levels around (KnownAs 0) left' made from standing function.close spelled' now later)
+      of_void false Void void left' spelled' = EndsVoid function.close held (leave_form levels around (KnownAs 0) left' made from standing function.close spelled' now later)
+      of_void is_main (Integer of) void left' spelled' = absurd (false≢true void)
+      of_void is_main (Pointer item) void left' spelled' = absurd (false≢true void)
+      of_void is_main (Array item) void left' spelled' = absurd (false≢true void)
+      of_void is_main (Struct size) void left' spelled' = absurd (false≢true void)
+
+      by_void : (void : Bool) → is_void function.result ≡ void → IsSpelled flow made from (along_at t around (go levels t around) made from standing (end_moves t function around void) around.exit) →
+          Goes around now later (EndOfBody function.is_main function.result function.close held ∷ []) [] from
+      by_void true void spelled' = of_void function.is_main function.result void left spelled'
+      by_void false void spelled' = end_by levels around function.is_main function.result left made from standing function.close void spelled' now later held
+
+  -- blocks that are left are apart from those around them
+  abbrev pub AreApart : List (List Name) → Type 0
+  AreApart [] = Unit {0}
+  AreApart (names ∷ scopes) = (are_new names (names_of scopes) ≡ true) × AreApart scopes
+
+  -- blocks are left one by one from the inside
+  pub blocks_form : (levels : ℕ) (around : Around) (names : List Name) (blocks outer : List (List Name)) (made : Made) (from : ℕ) (standing : Standing) (word : Place) (to : ℕ) →
+      IsSpelled flow made from (along_at t around (go levels t around) made from standing (leaves names word ∷ map (λ block. leaves block word) blocks) to) →
+      AreApart (names ∷ (blocks ++ outer)) → (now later : List (Stop t)) (tasks : List (TaskIn t)) (slots : List Slot) → is_whole slots ≡ true →
+      Lowered t flow setting running (later ++ now) [] outer tasks slots to →
+      Lowered t flow setting running now later (names ∷ (blocks ++ outer)) (LeaveBlock word ∷ (replicate (length blocks) (LeaveBlock word) ++ tasks)) slots from
+  blocks_form levels around names [] outer made from standing word to spelled apart now later tasks slots whole cont =
+      Leaves names to word whole apart.0 (one_at t flow setting running levels around made from to (i.Leave (variables_of names)) word spelled) cont
+  blocks_form levels around names (next ∷ blocks) outer made from standing word to spelled apart now later tasks slots whole cont =
+      let leave : Move t = leaves names word in
+      let moves : List (Move t) = leaves next word ∷ map (λ block. leaves block word) blocks in
+      let first = head_spelled t flow setting running levels around made from (after t leave standing) leave moves to spelled in
+      let rest = tail_spelled t flow setting running levels around made from (after t leave standing) leave moves to spelled in
+      Leaves names made.points word whole apart.0 (one_at t flow setting running levels around (with_point (after t leave standing) made) from made.points (i.Leave (variables_of names)) word first)
+      (blocks_form levels around next blocks outer (go levels t around (with_point (after t leave standing) made) from leave made.points) made.points (after t leave standing) word to rest apart.1 (later ++ now) [] tasks slots whole cont)
+
+  -- where a `break` goes on: behind the body of its loop, once so many blocks are left
+  pub record IsBreak (word : Place) (tasks : List (TaskIn t)) (slots : List Slot) (blocks : ℕ) (behind : List (TaskIn t)) : Type 0 where
+    pub left : LoopLeft t.Expr t.Stmt t.Init
+    pub is : loop_left tasks ≡ Some left
+    pub held : left.held ≡ length slots + running.base
+    pub goes_on : (rest : List (TaskIn t)) → after_break t word (record left { rest = left.rest ++ rest }) ≡ (replicate blocks (LeaveBlock word) ++ behind) ++ rest
+
+  pub record IsContinue (word : Place) (tasks : List (TaskIn t)) (slots : List Slot) (blocks : ℕ) (behind : List (TaskIn t)) : Type 0 where
+    pub left : LoopLeft t.Expr t.Stmt t.Init
+    pub is : loop_left tasks ≡ Some left
+    pub held : left.held ≡ length slots + running.base
+    pub goes_on : (rest : List (TaskIn t)) → after_continue word (record left { rest = left.rest ++ rest }) ≡ (replicate blocks (LeaveBlock word) ++ behind) ++ rest
+
+  -- a jump that leaves no block and no register has no edge
+  pub break_leads : (around : Around) (now later : List (Stop t)) (tasks behind : List (TaskIn t)) (dropped slots : List Slot) (at : ℕ) (stmt : t.Stmt) → t.clause stmt ≡ Break →
+      IsBreak (t.first stmt) tasks slots 0 behind → are_in [] dropped ≡ true → Goes around now later behind slots at → Goes around now later (Execute stmt ∷ tasks) (dropped ++ slots) at
+  break_leads around now later tasks behind dropped slots at stmt is jump gone cont =
+      executes t flow setting running around now later tasks (dropped ++ slots) at stmt Break is (Breaks (t.first stmt) jump.left dropped behind jump.is jump.held jump.goes_on gone cont)
+
+  pub continue_leads : (around : Around) (now later : List (Stop t)) (tasks behind : List (TaskIn t)) (dropped slots : List Slot) (at : ℕ) (stmt : t.Stmt) → t.clause stmt ≡ Continue →
+      IsContinue (t.first stmt) tasks slots 0 behind → are_in [] dropped ≡ true → Goes around now later behind slots at → Goes around now later (Execute stmt ∷ tasks) (dropped ++ slots) at
+  continue_leads around now later tasks behind dropped slots at stmt is jump gone cont =
+      executes t flow setting running around now later tasks (dropped ++ slots) at stmt Continue is (Continues (t.first stmt) jump.left dropped behind jump.is jump.held jump.goes_on gone cont)
+
+  -- a jump that leaves blocks: registers of unfinished expressions go first, if there are any
+  break_by : (levels : ℕ) (around : Around) (registers : List ℕ) (names : List Name) (blocks outer : List (List Name)) (made : Made) (from : ℕ) (standing : Standing) (word : Place) (to : ℕ) →
+      IsSpelled flow made from (along_at t around (go levels t around) made from standing (finishes registers word ++ (leaves names word ∷ map (λ block. leaves block word) blocks)) to) →
+      AreApart (names ∷ (blocks ++ outer)) → (now later : List (Stop t)) (tasks behind : List (TaskIn t)) (dropped slots : List Slot) → IsBreak word tasks slots (suc (length blocks)) behind →
+      is_whole slots ≡ true → are_free registers slots ≡ true → are_in registers dropped ≡ true → Lowered t flow setting running (later ++ now) [] outer behind slots to →
+      Lowered t flow setting running now later (names ∷ (blocks ++ outer)) (BreakAt word ∷ tasks) (dropped ++ slots) from
+  break_by levels around [] names blocks outer made from standing word to spelled apart now later tasks behind dropped slots jump whole free gone cont =
+      Breaks word jump.left dropped (LeaveBlock word ∷ (replicate (length blocks) (LeaveBlock word) ++ behind)) jump.is jump.held jump.goes_on gone
+      (blocks_form levels around names blocks outer made from standing word to spelled apart now later behind slots whole cont)
+  break_by levels around (register ∷ registers) names blocks outer made from standing word to spelled apart now later tasks behind dropped slots jump whole free gone cont =
+      let finish : Move t = Emits (i.Finish (register ∷ registers)) word in
+      let moves : List (Move t) = leaves names word ∷ map (λ block. leaves block word) blocks in
+      let first = head_spelled t flow setting running levels around made from (after t finish standing) finish moves to spelled in
+      let rest = tail_spelled t flow setting running levels around made from (after t finish standing) finish moves to spelled in
+      BreaksFinish word jump.left dropped (replicate (length blocks) (LeaveBlock word) ++ behind) names (register ∷ registers) made.points jump.is jump.held jump.goes_on whole free gone
+      (one_at t flow setting running levels around (with_point (after t finish standing) made) from made.points (i.Finish (register ∷ registers)) word first)
+      (blocks_form levels around names blocks outer (go levels t around (with_point (after t finish standing) made) from finish made.points) made.points (after t finish standing) word to rest apart (later ++ now) [] behind slots whole cont)
+
+  continue_by : (levels : ℕ) (around : Around) (registers : List ℕ) (names : List Name) (blocks outer : List (List Name)) (made : Made) (from : ℕ) (standing : Standing) (word : Place) (to : ℕ) →
+      IsSpelled flow made from (along_at t around (go levels t around) made from standing (finishes registers word ++ (leaves names word ∷ map (λ block. leaves block word) blocks)) to) →
+      AreApart (names ∷ (blocks ++ outer)) → (now later : List (Stop t)) (tasks behind : List (TaskIn t)) (dropped slots : List Slot) → IsContinue word tasks slots (suc (length blocks)) behind →
+      is_whole slots ≡ true → are_free registers slots ≡ true → are_in registers dropped ≡ true → Lowered t flow setting running (later ++ now) [] outer behind slots to →
+      Lowered t flow setting running now later (names ∷ (blocks ++ outer)) (ContinueAt word ∷ tasks) (dropped ++ slots) from
+  continue_by levels around [] names blocks outer made from standing word to spelled apart now later tasks behind dropped slots jump whole free gone cont =
+      Continues word jump.left dropped (LeaveBlock word ∷ (replicate (length blocks) (LeaveBlock word) ++ behind)) jump.is jump.held jump.goes_on gone
+      (blocks_form levels around names blocks outer made from standing word to spelled apart now later behind slots whole cont)
+  continue_by levels around (register ∷ registers) names blocks outer made from standing word to spelled apart now later tasks behind dropped slots jump whole free gone cont =
+      let finish : Move t = Emits (i.Finish (register ∷ registers)) word in
+      let moves : List (Move t) = leaves names word ∷ map (λ block. leaves block word) blocks in
+      let first = head_spelled t flow setting running levels around made from (after t finish standing) finish moves to spelled in
+      let rest = tail_spelled t flow setting running levels around made from (after t finish standing) finish moves to spelled in
+      ContinuesFinish word jump.left dropped (replicate (length blocks) (LeaveBlock word) ++ behind) names (register ∷ registers) made.points jump.is jump.held jump.goes_on whole free gone
+      (one_at t flow setting running levels around (with_point (after t finish standing) made) from made.points (i.Finish (register ∷ registers)) word first)
+      (blocks_form levels around names blocks outer (go levels t around (with_point (after t finish standing) made) from finish made.points) made.points (after t finish standing) word to rest apart (later ++ now) [] behind slots whole cont)
+
+  -- `break` and `continue` that leave blocks of the loop, given which these are
+  pub break_form : (levels : ℕ) (around : Around) (loop : LoopAround) → around.loop ≡ Some loop → (names : List Name) (blocks outer : List (List Name)) → blocks_left around loop.outer ≡ names ∷ blocks →
+      around.scopes ≡ names ∷ (blocks ++ outer) → AreApart (names ∷ (blocks ++ outer)) → (made : Made) (from : ℕ) (stmt : t.Stmt) → t.clause stmt ≡ Break →
+      IsSpelled flow made from (place_break t (go levels t) around made from (t.first stmt) around.loop) →
+      (now later : List (Stop t)) (tasks behind : List (TaskIn t)) (dropped slots : List Slot) → IsBreak (t.first stmt) tasks slots (suc (length blocks)) behind → is_whole slots ≡ true →
+      are_free (registers_left (stands_at made from).registers loop.registers) slots ≡ true → are_in (registers_left (stands_at made from).registers loop.registers) dropped ≡ true →
+      Lowered t flow setting running (later ++ now) [] outer behind slots loop.behind → Goes around now later (Execute stmt ∷ tasks) (dropped ++ slots) from
+  break_form levels around loop there names blocks outer left scopes apart made from stmt is spelled now later tasks behind dropped slots jump whole free gone cont =
+      let word : Place = t.first stmt in
+      let registers : List ℕ = registers_left (stands_at made from).registers loop.registers in
+      let here : IsSpelled flow made from (place_break t (go levels t) around made from word (Some loop)) =
+      subst (λ (l : Option LoopAround). IsSpelled flow made from (place_break t (go levels t) around made from word l)) there spelled in
+      let spelled' = subst (λ (list : List (List Name)). IsSpelled flow made from
+      (along_at t around (go levels t around) made from (stands_at made from) (finishes registers word ++ map (λ block. leaves block word) list) loop.behind)) left here in
+      executes t flow setting running around now later tasks (dropped ++ slots) from stmt Break is
+      (subst (λ (list : List (List Name)). Lowered t flow setting running now later list (BreakAt word ∷ tasks) (dropped ++ slots) from) (sym scopes)
+      (break_by levels around registers names blocks outer made from (stands_at made from) word loop.behind spelled' apart now later tasks behind dropped slots jump whole free gone cont))
+
+  pub continue_form : (levels : ℕ) (around : Around) (loop : LoopAround) → around.loop ≡ Some loop → (names : List Name) (blocks outer : List (List Name)) → blocks_left around loop.inner ≡ names ∷ blocks →
+      around.scopes ≡ names ∷ (blocks ++ outer) → AreApart (names ∷ (blocks ++ outer)) → (made : Made) (from : ℕ) (stmt : t.Stmt) → t.clause stmt ≡ Continue →
+      IsSpelled flow made from (place_continue t (go levels t) around made from (t.first stmt) around.loop) →
+      (now later : List (Stop t)) (tasks behind : List (TaskIn t)) (dropped slots : List Slot) → IsContinue (t.first stmt) tasks slots (suc (length blocks)) behind → is_whole slots ≡ true →
+      are_free (registers_left (stands_at made from).registers loop.registers) slots ≡ true → are_in (registers_left (stands_at made from).registers loop.registers) dropped ≡ true →
+      Lowered t flow setting running (later ++ now) [] outer behind slots loop.again → Goes around now later (Execute stmt ∷ tasks) (dropped ++ slots) from
+  continue_form levels around loop there names blocks outer left scopes apart made from stmt is spelled now later tasks behind dropped slots jump whole free gone cont =
+      let word : Place = t.first stmt in
+      let registers : List ℕ = registers_left (stands_at made from).registers loop.registers in
+      let here : IsSpelled flow made from (place_continue t (go levels t) around made from word (Some loop)) =
+      subst (λ (l : Option LoopAround). IsSpelled flow made from (place_continue t (go levels t) around made from word l)) there spelled in
+      let spelled' = subst (λ (list : List (List Name)). IsSpelled flow made from
+      (along_at t around (go levels t around) made from (stands_at made from) (finishes registers word ++ map (λ block. leaves block word) list) loop.again)) left here in
+      executes t flow setting running around now later tasks (dropped ++ slots) from stmt Continue is
+      (subst (λ (list : List (List Name)). Lowered t flow setting running now later list (ContinueAt word ∷ tasks) (dropped ++ slots) from) (sym scopes)
+      (continue_by levels around registers names blocks outer made from (stands_at made from) word loop.again spelled' apart now later tasks behind dropped slots jump whole free gone cont))
