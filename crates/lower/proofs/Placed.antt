@@ -70,7 +70,7 @@ module _ (t : Text) (go : Around → Go t)
   work_by around made from expr spare to form true false inside sound = failed_placing made from sound
   work_by around made from expr spare to form false is' inside sound = line_by around made from (work_line t expr spare made.registers form) to inside sound
 
-  branch_placing : (around turning : Around) (made : Made) (from : ℕ) (test : t.Expr) (count : ℕ) (close : Place) (one : List (Move t)) (one_to : ℕ) (other : List (Move t)) (other_to : ℕ) →
+  pub branch_placing : (around turning : Around) (made : Made) (from : ℕ) (test : t.Expr) (count : ℕ) (close : Place) (one : List (Move t)) (one_to : ℕ) (other : List (Move t)) (other_to : ℕ) →
       from < made.points → IsSound made → IsPlacing made from (place_branch t go around turning made from test count close one one_to other other_to)
   branch_placing around turning made from test count close one one_to other other_to inside sound =
       let standing : Standing = with_spares made.registers count (stands_at made from) in

@@ -153,7 +153,7 @@ module _ (t : Text) (flow : Flow) (setting : Setting) (running : Running) where
       (subst (λ (new : List (TaskIn t)). Goes around now later (new ++ tasks) slots from) (sym (none_done names nothing)) cont)
 
   -- Behind a condition its registers go, once on each side.
-  abbrev at_sides : Made → ℕ → ℕ → Made
+  abbrev pub at_sides : Made → ℕ → ℕ → Made
   at_sides made from count = with_registers count (with_point (with_spares made.registers count (stands_at made from)) (with_point (with_spares made.registers count (stands_at made from)) made))
 
   abbrev finished : ℕ → ℕ → Place → List (Move t) → List (Move t)
@@ -222,7 +222,7 @@ module _ (t : Text) (flow : Flow) (setting : Setting) (running : Running) where
     pub edge : One flow from (i.Finish (run_of first count)) to close
     pub goes : Goes around now [] tasks slots to
 
-  branches : (around : Around) (now : List (Stop t)) (tasks : List (TaskIn t)) (slots : List Slot) (point first count : ℕ) (stmt : t.Stmt) (holds : Bool) (close : Place) (clause : Clause t.Expr t.Stmt t.Init) →
+  pub branches : (around : Around) (now : List (Stop t)) (tasks : List (TaskIn t)) (slots : List Slot) (point first count : ℕ) (stmt : t.Stmt) (holds : Bool) (close : Place) (clause : Clause t.Expr t.Stmt t.Init) →
       t.clause stmt ≡ clause → branch_end t clause (t.last stmt) ≡ close → is_whole slots ≡ true → AreBelow first slots →
       SideGoes around now (branch_parts t stmt (length slots + running.base) clause holds ++ tasks) slots point first count close → Goes around now [] (Branch stmt ∷ tasks) (Truth holds ∷ slots) point
   branches around now tasks slots point first count stmt holds close clause is place whole below side =

@@ -5,27 +5,29 @@ use Rattle.std.proofs.lemmas.Bool.{false≢true}
 use Rattle.cbase.specs.declared.place.Place.{Place}
 use Rattle.c_machine.specs.declared.kind.Kind.{Kind}
 use Rattle.c_machine.specs.declared.kind.Kind.TheVariants.{Integer, Pointer, Array, Struct, Void}
-use Rattle.c_machine.specs.declared.task.Task.TheVariants.{Execute, BreakAt, ContinueAt, LeaveBlock, GiveBack, LeaveFunction, EndOfBody}
+use Rattle.c_machine.specs.declared.task.Task.TheVariants.{ValueOf, Branch, Test, Again, Execute, BreakAt, ContinueAt, LeaveBlock, GiveBack, LeaveFunction, EndOfBody}
 use Rattle.c_machine.specs.State.{TaskIn}
 use Rattle.c_machine.specs.Choosing.{count_of}
-use Rattle.c_machine.specs.Statements.{LoopLeft, loop_left, after_break, after_continue, BodyLeft, body_left}
-use Rattle.c_machine.specs.Text.{Clause, Break, Continue, Return, Function, Text}
+use Rattle.c_machine.specs.Statements.{test_parts, again_parts, LoopLeft, loop_left, after_break, after_continue, BodyLeft, body_left}
+use Rattle.c_machine.specs.Text.{Clause, Declare, Eval, Block, If, While, Do, For, Break, Continue, Return, Function, Text}
 use Rattle.c_machine.specs.Words.{scalar_bytes}
 use Rattle.flow.specs.declared.flow_graph.Flow.{Flow}
 use Rattle.flow.specs.declared.flow_graph.Standing.{Standing}
 use Rattle.flow.specs.declared.instruction.Instr.TheVariants as i
 use Rattle.simulation.specs.Edges.{One}
-use Rattle.simulation.specs.Lowered.{Stop, Lowered, IsKnown, Makes, Leaves, Breaks, BreaksFinish, Continues, ContinuesFinish, GivesNoValue, GivesNoValueFinish, EndsMain, EndsVoid, EndsWithInput, Returns, Closes}
+use Rattle.simulation.specs.Lowered.{Stop, IsIn, First, Behind, Lowered, Ends, Loop, Tests, Repeats, Passes, IsKnown, Makes, Leaves, Breaks, BreaksFinish, Continues, ContinuesFinish, GivesNoValue, GivesNoValueFinish, EndsMain, EndsVoid, EndsWithInput, Returns, Closes}
 use Rattle.simulation.specs.Names.{Name, names_of, variables_of, are_new}
 use Rattle.simulation.specs.Running.{Setting, Running, given_slot}
-use Rattle.simulation.specs.Slots.{Slot, InRegister, KnownAs, is_whole, are_free, are_in}
+use Rattle.simulation.specs.Slots.{Truth, Slot, InRegister, KnownAs, is_whole, are_free, are_in}
 use Rattle.lower.specs.Kinds.{is_void, width}
+use Rattle.simulation.proofs.Wider.{wider}
+use Rattle.lower.specs.LetGo.{AsTest, left_of}
 use Rattle.lower.specs.Lowering.{answers, end_moves}
-use Rattle.lower.specs.Moves.{Move, Emits, Fails}
-use Rattle.lower.specs.Placing.{Made, Loop as LoopAround, Around, registers_left, blocks_left, jump_moves, place_break, place_continue, stands_at, with_point, after, along_at, go, leaves, closings, function_leaves, finishes, registers_of, place_return}
-use Rattle.lower.proofs.Placings.{IsSpelled}
-use Rattle.lower.proofs.Spelling.{head_spelled, tail_spelled, one_at, never}
-use Rattle.lower.proofs.Statements.{executes}
+use Rattle.lower.specs.Moves.{Move, Emits, Fails, Asks, run_of}
+use Rattle.lower.specs.Placing.{Made, Loop as LoopAround, Around, registers_left, blocks_left, jump_moves, place_break, place_continue, passes, branch, place_do, emit, stands_at, with_point, after, along_at, go, leaves, closings, function_leaves, finishes, registers_of, place_return}
+use Rattle.lower.proofs.Placings.{IsSpelled, emit_spelled}
+use Rattle.lower.proofs.Spelling.{AreBelow, IsAround, head_spelled, tail_spelled, one_at, never}
+use Rattle.lower.proofs.Statements.{executes, ExpressionsAre, at_sides, BranchIs, branch_is, SideGoes, branches}
 
 module _ (t : Text) (flow : Flow) (setting : Setting) (running : Running) where
   abbrev Goes : Around → List (Stop t) → List (Stop t) → List (TaskIn t) → List Slot → ℕ → Type 0
@@ -285,3 +287,46 @@ module _ (t : Text) (flow : Flow) (setting : Setting) (running : Running) where
       executes t flow setting running around now later tasks (dropped ++ slots) from stmt Continue is
       (subst (λ (list : List (List Name)). Lowered t flow setting running now later list (ContinueAt word ∷ tasks) (dropped ++ slots) from) (sym scopes)
       (continue_by levels around registers names blocks outer made from (stands_at made from) word loop.again spelled' apart now later tasks behind dropped slots jump whole free gone cont))
+
+  -- `do`: a turn begins with the body, and the test stands behind it
+  abbrev pub turn_of : Around → t.Stmt → t.Stmt → List (TaskIn t) → List Slot → ℕ → Stop t
+  turn_of around stmt body tasks slots from = record { scopes = around.scopes; tasks = Execute body ∷ Again stmt (length slots + running.base) ∷ tasks; slots = slots; point = from }
+
+  -- behind the body: the next turn begins at the head of the loop, or the loop ends
+  pub do_again : (levels : ℕ) → ExpressionsAre t flow setting running levels → (around : Around) → IsAround setting around → (made : Made) (at head : ℕ) (stmt body : t.Stmt) (test : t.Expr) (close : Place) (to : ℕ) →
+      t.clause stmt ≡ Do body test close → IsSpelled flow made at (branch t (go levels t) around around made at test close [] head [] to) →
+      (now later : List (Stop t)) (tasks : List (TaskIn t)) (slots : List Slot) → is_whole slots ≡ true → AreBelow made.registers slots → IsIn t (turn_of around stmt body tasks slots head) (later ++ now) →
+      Goes around (later ++ now) [] tasks slots to → Goes around now later (Again stmt (length slots + running.base) ∷ tasks) slots at
+  do_again levels are around is_around made at head stmt body test close to is spelled now later tasks slots whole below there cont =
+      let count : ℕ = left_of t AsTest test in
+      let parts = branch_is t flow setting running levels around around made at test count close [] head [] to spelled in
+      let leaves_it : SideGoes t flow setting running around (later ++ now) tasks slots made.points made.registers count close =
+      record { to = to; edge = one_at t flow setting running levels around parts.held made.points to (i.Finish (run_of made.registers count)) close parts.other_spelled; goes = cont } in
+      let turns : SideGoes t flow setting running around (later ++ now) (Execute body ∷ Again stmt (length slots + running.base) ∷ tasks) slots (suc made.points) made.registers count close =
+      record { to = head; edge = one_at t flow setting running levels around parts.asked (suc made.points) head (i.Finish (run_of made.registers count)) close parts.one_spelled; goes = Ends there } in
+      Repeats stmt (length slots + running.base) (subst (λ (c : Clause t.Expr t.Stmt t.Init). Goes around now later (again_parts t stmt c ++ tasks) slots at) (sym is)
+      (Tests stmt (subst (λ (c : Clause t.Expr t.Stmt t.Init). Goes around now later (test_parts t stmt (length slots + running.base) c ++ tasks) slots at) (sym is)
+      (are.test around is_around (at_sides t flow setting running made at count) at test made.registers made.points (suc made.points) at parts.test_spelled now later (Branch stmt ∷ tasks) slots whole below (omega arith)
+      (branches t flow setting running around (later ++ now) tasks slots made.points made.registers count stmt false close (Do body test close) is refl whole below leaves_it)
+      (branches t flow setting running around (later ++ now) tasks slots (suc made.points) made.registers count stmt true close (Do body test close) is refl whole below turns)))))
+
+  -- a body without an edge behind which its loop goes on: `;` or `continue`
+  idle_body : (around : Around) (now later : List (Stop t)) (tasks : List (TaskIn t)) (slots : List Slot) (from : ℕ) (stmt body : t.Stmt) (clause : Clause t.Expr t.Stmt t.Init) → t.clause body ≡ clause → passes t clause ≡ true →
+      Goes around now later (Again stmt (length slots + running.base) ∷ tasks) slots from → Goes around now later (Execute body ∷ Again stmt (length slots + running.base) ∷ tasks) slots from
+  idle_body around now later tasks slots from stmt body (Eval None) is idle cont =
+      executes t flow setting running around now later (Again stmt (length slots + running.base) ∷ tasks) slots from body (Eval None) is cont
+  idle_body around now later tasks slots from stmt body Continue is idle cont =
+      executes t flow setting running around now later (Again stmt (length slots + running.base) ∷ tasks) slots from body Continue is
+      (Continues (t.first body) (record { blocks = 0; loop = stmt; held = length slots + running.base; rest = tasks }) [] (Again stmt (length slots + running.base) ∷ tasks) refl refl (λ rest. refl) refl cont)
+  idle_body around now later tasks slots from stmt body clause is idle cont = absurd (false≢true idle)
+
+  pub do_idle_form : (levels : ℕ) → ExpressionsAre t flow setting running levels → (around : Around) → IsAround setting around → (made : Made) (from : ℕ) (stmt body : t.Stmt) (test : t.Expr) (close : Place) (to : ℕ) (standing : Standing) →
+      t.clause stmt ≡ Do body test close → passes t (t.clause body) ≡ true → IsSpelled flow made from (place_do t (go levels t) around made from body test close to standing true) →
+      (now later : List (Stop t)) (tasks : List (TaskIn t)) (slots : List Slot) → is_whole slots ≡ true → AreBelow made.registers slots → Goes around (later ++ now) [] tasks slots to →
+      Goes around now later (Execute stmt ∷ tasks) slots from
+  do_idle_form levels are around is_around made from stmt body test close to standing is idle spelled now later tasks slots whole below cont =
+      let stop : Stop t = turn_of around stmt body tasks slots from in
+      executes t flow setting running around now later tasks slots from stmt (Do body test close) is
+      (Loop (idle_body around now (stop ∷ later) tasks slots from stmt body (t.clause body) refl idle
+      (do_again levels are around is_around made from from stmt body test close to is spelled now (stop ∷ later) tasks slots whole below First
+      (wider t flow setting running cont (stop ∷ (later ++ now)) [] (λ other inside. Behind inside) (λ other inside. inside)))))
