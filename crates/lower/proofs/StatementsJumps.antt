@@ -1,5 +1,5 @@
 -- What is placed for `return`, for the `}` of a function, and for jumps out of loops is what the rest of a run wants.
-use Rattle.std.proofs.Common.{◌≡◌, ◌<◌, ◌≤◌, ℕ, zero, suc, ◌+◌, List, [], ◌∷◌, ◌++◌, map, length, Bool, true, false, ◌&&◌, refl, sym, ap, subst, ◌∙◌, arith, Option, None, Some}
+use Rattle.std.proofs.Common.{inl, inr, ◌≡◌, ◌<◌, ◌≤◌, ℕ, zero, suc, ◌+◌, List, [], ◌∷◌, ◌++◌, map, length, Bool, true, false, ◌&&◌, refl, sym, ap, subst, ◌∙◌, arith, Option, None, Some}
 use Rattle.std.specs.Prelude.{◌^◌, replicate, if◌then◌else◌}
 use Rattle.std.proofs.lemmas.Bool.{false≢true}
 use Rattle.cbase.specs.declared.place.Place.{Place}
@@ -8,7 +8,7 @@ use Rattle.c_machine.specs.declared.kind.Kind.TheVariants.{Integer, Pointer, Arr
 use Rattle.c_machine.specs.declared.task.Task.TheVariants.{ValueOf, Branch, Test, Again, Execute, BreakAt, ContinueAt, LeaveBlock, GiveBack, LeaveFunction, EndOfBody}
 use Rattle.c_machine.specs.State.{TaskIn}
 use Rattle.c_machine.specs.Choosing.{count_of}
-use Rattle.c_machine.specs.Statements.{test_parts, again_parts, LoopLeft, loop_left, after_break, after_continue, BodyLeft, body_left}
+use Rattle.c_machine.specs.Statements.{behind_loop, test_parts, again_parts, LoopLeft, loop_left, after_break, after_continue, BodyLeft, body_left}
 use Rattle.c_machine.specs.Text.{Clause, Declare, Eval, Block, If, While, Do, For, Break, Continue, Return, Function, Text}
 use Rattle.c_machine.specs.Words.{scalar_bytes}
 use Rattle.flow.specs.declared.flow_graph.Flow.{Flow}
@@ -23,10 +23,11 @@ use Rattle.lower.specs.Kinds.{is_void, width}
 use Rattle.simulation.proofs.Wider.{wider}
 use Rattle.lower.specs.LetGo.{AsTest, left_of}
 use Rattle.lower.specs.Lowering.{answers, end_moves}
-use Rattle.lower.specs.Moves.{Move, Emits, Fails, Asks, run_of}
-use Rattle.lower.specs.Placing.{Made, Loop as LoopAround, Around, registers_left, blocks_left, jump_moves, place_break, place_continue, passes, branch, place_do, emit, stands_at, with_point, after, along_at, go, leaves, closings, function_leaves, finishes, registers_of, place_return}
-use Rattle.lower.proofs.Placings.{IsSpelled, emit_spelled}
-use Rattle.lower.proofs.Spelling.{AreBelow, IsAround, head_spelled, tail_spelled, one_at, never}
+use Rattle.lower.specs.Moves.{Move, Emits, Fails, Asks, Does, run_of}
+use Rattle.lower.specs.Placing.{Made, Loop as LoopAround, Around, registers_left, blocks_left, jump_moves, place_break, place_continue, passes, is_break, in_loop, along, place_do_body, branch, place_do, emit, stands_at, with_point, after, along_at, go, leaves, closings, function_leaves, finishes, registers_of, place_return}
+use Rattle.lower.proofs.Placings.{then_placing, point_placing, IsSpelled, spelled_point, spelled_first, spelled_rest, emit_spelled}
+use Rattle.lower.proofs.Placed.{go_placing, body_placing, branch_placing}
+use Rattle.lower.proofs.Spelling.{AreBelow, below_more, IsAround, head_spelled, tail_spelled, one_at, never}
 use Rattle.lower.proofs.Statements.{executes, ExpressionsAre, at_sides, BranchIs, branch_is, SideGoes, branches}
 
 module _ (t : Text) (flow : Flow) (setting : Setting) (running : Running) where
@@ -330,3 +331,66 @@ module _ (t : Text) (flow : Flow) (setting : Setting) (running : Running) where
       (Loop (idle_body around now (stop ∷ later) tasks slots from stmt body (t.clause body) refl idle
       (do_again levels are around is_around made from from stmt body test close to is spelled now (stop ∷ later) tasks slots whole below First
       (wider t flow setting running cont (stop ∷ (later ++ now)) [] (λ other inside. Behind inside) (λ other inside. inside)))))
+
+  -- the parts of what is placed for a `do`: its body, and its test behind that
+  abbrev pub body_made : ℕ → Around → Made → ℕ → t.Stmt → ℕ → Standing → Bool → Made
+  body_made levels around made from body to standing breaks =
+      place_do_body t (go levels t) (in_loop around around made.points to standing) (with_point standing made) from body made.points to breaks
+
+  pub record DoIs (levels : ℕ) (around : Around) (made : Made) (from : ℕ) (body : t.Stmt) (test : t.Expr) (close : Place) (to : ℕ) (standing : Standing) : Type 0 where
+    pub registers : made.registers ≤ (body_made levels around made from body to standing (is_break t (t.clause body))).registers
+    pub body_spelled : IsSpelled flow (with_point standing made) from (body_made levels around made from body to standing (is_break t (t.clause body)))
+    pub test_spelled : IsSpelled flow (body_made levels around made from body to standing (is_break t (t.clause body))) made.points
+        (branch t (go levels t) around around (body_made levels around made from body to standing (is_break t (t.clause body))) made.points test close [] from [] to)
+
+  pub do_is : (levels : ℕ) (around : Around) (made : Made) (from : ℕ) (body : t.Stmt) (test : t.Expr) (close : Place) (to : ℕ) (standing : Standing) →
+      IsSpelled flow made from (place_do t (go levels t) around made from body test close to standing false) → DoIs levels around made from body test close to standing
+  do_is levels around made from body test close to standing spelled =
+      let inside = spelled.inside in
+      let middle : Made = body_made levels around made from body to standing (is_break t (t.clause body)) in
+      let one = point_placing standing made from spelled.sound in
+      let two = body_placing t (go levels t) (go_placing levels t) (in_loop around around made.points to standing) (with_point standing made) from body made.points to (is_break t (t.clause body)) (omega arith) one.sound in
+      let h = two.points in
+      let k = two.registers in
+      let three = branch_placing t (go levels t) (go_placing levels t) around around middle made.points test (left_of t AsTest test) close [] from [] to (omega arith) two.sound in
+      record {
+        registers = k;
+        body_spelled = spelled_first (spelled_point standing spelled) three (omega arith) (λ same. absurd (omega arith));
+        test_spelled = spelled_rest spelled (then_placing one two (inl refl)) (omega arith) (omega arith)
+            (two.touches made.points (omega arith) (λ same. absurd (omega arith)) ∙ spelled.sound.fresh made.points (omega arith));
+      }
+
+  -- `do`, given how its body goes: it leads to the test, where it may be asked in any context in which the next turn may begin
+  pub do_form : (levels : ℕ) → ExpressionsAre t flow setting running levels → (around : Around) → IsAround setting around → (made : Made) (from : ℕ) (stmt body : t.Stmt) (test : t.Expr) (close : Place) (to : ℕ) (standing : Standing) →
+      t.clause stmt ≡ Do body test close → is_break t (t.clause body) ≡ false → IsSpelled flow made from (place_do t (go levels t) around made from body test close to standing false) →
+      (now later : List (Stop t)) (tasks : List (TaskIn t)) (slots : List Slot) → is_whole slots ≡ true → AreBelow made.registers slots →
+      (IsSpelled flow (with_point standing made) from
+      (along t (in_loop around around made.points to standing) (go levels t (in_loop around around made.points to standing)) (with_point standing made) from (Does body ∷ []) made.points) →
+      ((now' later' : List (Stop t)) → IsIn t (turn_of around stmt body tasks slots from) (later' ++ now') → Goes around (later' ++ now') [] tasks slots to →
+      Goes around now' later' (Again stmt (length slots + running.base) ∷ tasks) slots made.points) →
+      Goes around now (turn_of around stmt body tasks slots from ∷ later) (Execute body ∷ Again stmt (length slots + running.base) ∷ tasks) slots from) →
+      Goes around now later (Execute stmt ∷ tasks) slots from
+  do_form levels are around is_around made from stmt body test close to standing is breaks spelled now later tasks slots whole below turn =
+      let parts = do_is levels around made from body test close to standing spelled in
+      let middle : Made = body_made levels around made from body to standing (is_break t (t.clause body)) in
+      executes t flow setting running around now later tasks slots from stmt (Do body test close) is
+      (Loop (turn (subst (λ (b : Bool). IsSpelled flow (with_point standing made) from (body_made levels around made from body to standing b)) breaks parts.body_spelled)
+      (λ now' later' there cont. do_again levels are around is_around middle made.points from stmt body test close to is parts.test_spelled now' later' tasks slots whole
+      (below_more made.registers middle.registers slots parts.registers below) there cont)))
+
+  is_break_clause : (clause : Clause t.Expr t.Stmt t.Init) → is_break t clause ≡ true → clause ≡ Break
+  is_break_clause Break is = refl
+  is_break_clause clause is = absurd (false≢true is)
+
+  -- a `do` whose body is a `break`: an edge that does nothing leads to its end
+  pub do_break_form : (levels : ℕ) (around : Around) (made : Made) (from : ℕ) (stmt body : t.Stmt) (test : t.Expr) (close : Place) (to : ℕ) (standing : Standing) → t.clause stmt ≡ Do body test close →
+      is_break t (t.clause body) ≡ true → IsSpelled flow made from (place_do t (go levels t) around made from body test close to standing false) →
+      (now later : List (Stop t)) (tasks : List (TaskIn t)) (slots : List Slot) → Goes around now later tasks slots to → Goes around now later (Execute stmt ∷ tasks) slots from
+  do_break_form levels around made from stmt body test close to standing is breaks spelled now later tasks slots cont =
+      let parts = do_is levels around made from body test close to standing spelled in
+      let body' = subst (λ (b : Bool). IsSpelled flow (with_point standing made) from (body_made levels around made from body to standing b)) breaks parts.body_spelled in
+      executes t flow setting running around now later tasks slots from stmt (Do body test close) is
+      (executes t flow setting running around now later (Again stmt (length slots + running.base) ∷ tasks) slots from body Break (is_break_clause (t.clause body) breaks)
+      (Breaks (t.first body) (record { blocks = 0; loop = stmt; held = length slots + running.base; rest = tasks }) [] tasks refl refl
+      (λ rest. ap (λ (c : Clause t.Expr t.Stmt t.Init). behind_loop t (t.first body) c (tasks ++ rest)) is) refl
+      (Passes to (t.first body) (emit_spelled to (i.Enter []) (t.first body) body') cont)))
