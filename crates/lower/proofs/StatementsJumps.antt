@@ -1,6 +1,7 @@
 -- What is placed for `return`, for the `}` of a function, and for jumps out of loops is what the rest of a run wants.
-use Rattle.std.proofs.Common.{inl, inr, ◌≡◌, ◌<◌, ◌≤◌, ℕ, zero, suc, ◌+◌, List, [], ◌∷◌, ◌++◌, map, length, Bool, true, false, ◌&&◌, refl, sym, ap, subst, ◌∙◌, arith, Option, None, Some}
+use Rattle.std.proofs.Common.{inl, inr, ◌≡◌, ◌<◌, ◌≤◌, ℕ, zero, suc, ◌+◌, List, [], ◌∷◌, ◌++◌, map, length, Bool, true, false, ◌&&◌, nat_eq, refl, sym, ap, subst, ◌∙◌, arith, Option, None, Some}
 use Rattle.std.specs.Prelude.{◌^◌, replicate, if◌then◌else◌}
+use Rattle.std.specs.List.{list_any}
 use Rattle.std.proofs.lemmas.Bool.{false≢true}
 use Rattle.cbase.specs.declared.place.Place.{Place}
 use Rattle.c_machine.specs.declared.kind.Kind.{Kind}
@@ -10,15 +11,18 @@ use Rattle.c_machine.specs.State.{TaskIn}
 use Rattle.c_machine.specs.Choosing.{count_of}
 use Rattle.c_machine.specs.Statements.{behind_loop, test_parts, again_parts, LoopLeft, loop_left, after_break, after_continue, BodyLeft, body_left}
 use Rattle.c_machine.specs.Text.{Clause, Declare, Eval, Block, If, While, Do, For, Break, Continue, Return, Function, Text}
-use Rattle.c_machine.specs.Words.{scalar_bytes}
+use Rattle.c_machine.specs.Words.{scalar_bytes, as_kind}
+use Rattle.bytes_core.specs.declared.block.Block.{Block as MemoryBlock}
+use Rattle.bytes_core.specs.declared.word.Word.{Word}
+use Rattle.simulation.specs.Turning.{Turns}
 use Rattle.flow.specs.declared.flow_graph.Flow.{Flow}
 use Rattle.flow.specs.declared.flow_graph.Standing.{Standing}
 use Rattle.flow.specs.declared.instruction.Instr.TheVariants as i
 use Rattle.simulation.specs.Edges.{One}
-use Rattle.simulation.specs.Lowered.{Stop, IsIn, First, Behind, Lowered, Ends, Loop, Tests, Repeats, Passes, IsKnown, Makes, Leaves, Breaks, BreaksFinish, Continues, ContinuesFinish, GivesNoValue, GivesNoValueFinish, EndsMain, EndsVoid, EndsWithInput, Returns, Closes}
+use Rattle.simulation.specs.Lowered.{Stop, IsIn, First, Behind, Lowered, Ends, Loop, Tests, Repeats, Passes, IsKnown, Makes, Leaves, Breaks, BreaksFinish, Continues, ContinuesFinish, GivesBack, GivesNoValue, GivesNoValueFinish, EndsMain, EndsVoid, EndsWithInput, Returns, Closes}
 use Rattle.simulation.specs.Names.{Name, names_of, variables_of, are_new}
 use Rattle.simulation.specs.Running.{Setting, Running, given_slot}
-use Rattle.simulation.specs.Slots.{Truth, Slot, InRegister, KnownAs, is_whole, are_free, are_in}
+use Rattle.simulation.specs.Slots.{Suits, is_free, Truth, Slot, InRegister, KnownAs, is_whole, are_free, are_in}
 use Rattle.lower.specs.Kinds.{is_void, width}
 use Rattle.simulation.proofs.Wider.{wider}
 use Rattle.lower.specs.LetGo.{AsTest, left_of}
@@ -394,3 +398,29 @@ module _ (t : Text) (flow : Flow) (setting : Setting) (running : Running) where
       (Breaks (t.first body) (record { blocks = 0; loop = stmt; held = length slots + running.base; rest = tasks }) [] tasks refl refl
       (λ rest. ap (λ (c : Clause t.Expr t.Stmt t.Init). behind_loop t (t.first body) c (tasks ++ rest)) is) refl
       (Passes to (t.first body) (emit_spelled to (i.Enter []) (t.first body) body') cont)))
+
+  -- `return` with a value, once that is converted: it is moved, what is held goes, and the function is left
+  pub give_form : (levels : ℕ) (around : Around) (kind from_kind : Kind) (register size register' size' : ℕ) (plain plain' : Bool) (turn : List MemoryBlock → Word → Word) (gone : List ℕ) →
+      IsLeft around (InRegister around.result size' plain') → (made : Made) (from middle : ℕ) (standing : Standing) (word : Place) →
+      IsSpelled flow made middle (along_at t around (go levels t around) made middle standing (Emits (i.Move around.result register') word ∷ Emits (i.Finish gone) word ∷ function_leaves around word) around.exit) →
+      (now later : List (Stop t)) (tasks : List (TaskIn t)) (slots : List Slot) → IsBody tasks kind → is_free register slots ≡ true →
+      Turns flow slots from register size plain turn middle register' size' plain' →
+      ((memory : List MemoryBlock) (value : Word) → Suits size plain value → as_kind memory from_kind kind value ≡ turn memory value) →
+      is_free around.result (InRegister register' size' plain' ∷ slots) ≡ true → list_any (nat_eq around.result) gone ≡ false → are_in gone (InRegister register' size' plain' ∷ slots) ≡ true →
+      Goes around now later (GiveBack word from_kind ∷ tasks) (InRegister register size plain ∷ slots) from
+  give_form levels around kind from_kind register size register' size' plain plain' turn gone left made from middle standing word spelled now later tasks slots body free turns means free' apart held =
+      let move : Move t = Emits (i.Move around.result register') word in
+      let finish : Move t = Emits (i.Finish gone) word in
+      let standing' : Standing = after t move standing in
+      let moves : List (Move t) = finish ∷ function_leaves around word in
+      let made' : Made = go levels t around (with_point standing' made) middle move made.points in
+      let first = head_spelled t flow setting running levels around made middle standing' move moves around.exit spelled in
+      let rest = tail_spelled t flow setting running levels around made middle standing' move moves around.exit spelled in
+      let standing'' : Standing = after t finish standing' in
+      let second = head_spelled t flow setting running levels around made' made.points standing'' finish (function_leaves around word) around.exit rest in
+      let last = tail_spelled t flow setting running levels around made' made.points standing'' finish (function_leaves around word) around.exit rest in
+      GivesBack word word from_kind body.left register size middle register' size' around.result made.points made'.points plain plain' turn gone body.is body.held body.rest free turns
+      (λ memory value suits. ap (λ (k : Kind). as_kind memory from_kind k value) body.result ∙ means memory value suits) free'
+      (one_at t flow setting running levels around (with_point standing' made) middle made.points (i.Move around.result register') word first)
+      (one_at t flow setting running levels around (with_point standing'' made') made.points made'.points (i.Finish gone) word second) apart held
+      (leave_form levels around (InRegister around.result size' plain') left (go levels t around (with_point standing'' made') made.points finish made'.points) made'.points standing'' word last (later ++ now) [])
