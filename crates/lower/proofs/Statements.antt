@@ -299,7 +299,7 @@ module _ (t : Text) (flow : Flow) (setting : Setting) (running : Running) where
         Goes around now later (Execute stmt ∷ (map Execute more ++ tasks)) slots at
 
   -- what is placed behind at no point of its own is taken away
-  without_rest : {before middle behind : Made} {from : ℕ} → IsSpelled flow before from behind → IsPlacing middle middle.points behind → IsSpelled flow before from middle
+  pub without_rest : {before middle behind : Made} {from : ℕ} → IsSpelled flow before from behind → IsPlacing middle middle.points behind → IsSpelled flow before from middle
   without_rest {middle = middle} spelled placing =
       let h = placing.points in
       record {
@@ -321,7 +321,7 @@ module _ (t : Text) (flow : Flow) (setting : Setting) (running : Running) where
     moves_of body = map Does body ++ ending
 
     -- where what follows begins at a point that is there, it is that of a jump
-    rest_leads : (now later : List (Stop t)) → Allowed now later → (body : List t.Stmt) (point : ℕ) → begins t around standing (moves_of body) to ≡ Here point →
+    pub rest_leads : (now later : List (Stop t)) → Allowed now later → (body : List t.Stmt) (point : ℕ) → begins t around standing (moves_of body) to ≡ Here point →
         Goes around now later (map Execute body ++ tasks) slots point
     rest_leads now later allowed [] point is = absurd (none-some point (ap leads_to (sym begin ∙ is)))
     rest_leads now later allowed (stmt ∷ body) point is = by_way (way_by t around standing (t.clause stmt)) refl is (rest_leads now later allowed body point)

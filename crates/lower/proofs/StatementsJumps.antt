@@ -28,11 +28,12 @@ use Rattle.simulation.proofs.Wider.{wider}
 use Rattle.lower.specs.LetGo.{AsTest, left_of}
 use Rattle.lower.specs.Lowering.{answers, end_moves}
 use Rattle.lower.specs.Moves.{Move, Emits, Fails, Asks, Does, run_of}
-use Rattle.lower.specs.Placing.{Made, Loop as LoopAround, Around, registers_left, blocks_left, jump_moves, place_break, place_continue, passes, is_break, in_loop, along, place_do_body, branch, place_do, emit, stands_at, with_point, after, along_at, go, leaves, closings, function_leaves, finishes, registers_of, place_return}
+use Rattle.lower.specs.Placing.{Begin, Here, New, Goes as GoesOn, begins, along_from, enters, Made, Loop as LoopAround, Around, registers_left, blocks_left, jump_moves, place_break, place_continue, passes, is_break, in_loop, along, place_do_body, branch, place_do, emit, stands_at, with_point, after, along_at, go, leaves, closings, function_leaves, finishes, registers_of, place_return}
 use Rattle.lower.proofs.Placings.{then_placing, point_placing, IsSpelled, spelled_point, spelled_first, spelled_rest, emit_spelled}
+use Rattle.lower.proofs.PlacedForms.{moves_placing}
 use Rattle.lower.proofs.Placed.{go_placing, body_placing, branch_placing}
 use Rattle.lower.proofs.Spelling.{AreBelow, below_more, IsAround, head_spelled, tail_spelled, one_at, never}
-use Rattle.lower.proofs.Statements.{executes, ExpressionsAre, at_sides, BranchIs, branch_is, SideGoes, branches}
+use Rattle.lower.proofs.Statements.{executes, ExpressionsAre, StatementsAre, without_rest, rest_leads, in_order, at_sides, BranchIs, branch_is, SideGoes, branches}
 
 module _ (t : Text) (flow : Flow) (setting : Setting) (running : Running) where
   abbrev Goes : Around → List (Stop t) → List (Stop t) → List (TaskIn t) → List Slot → ℕ → Type 0
@@ -424,3 +425,68 @@ module _ (t : Text) (flow : Flow) (setting : Setting) (running : Running) where
       (one_at t flow setting running levels around (with_point standing' made) middle made.points (i.Move around.result register') word first)
       (one_at t flow setting running levels around (with_point standing'' made') made.points made'.points (i.Finish gone) word second) apart held
       (leave_form levels around (InRegister around.result size' plain') left (go levels t around (with_point standing'' made') made.points finish made'.points) made'.points standing'' word last (later ++ now) [])
+
+  -- the `}` of a function begins with an edge of its own
+  end_begins : (is_main : Bool) (kind : Kind) (around : Around) (standing : Standing) (close : Place) → begins t around standing (answers is_main kind around.result close ++ function_leaves around close) around.exit ≡ New
+  end_begins true kind around standing close = refl
+  end_begins false (Integer of) around standing close = refl
+  end_begins false (Pointer item) around standing close = refl
+  end_begins false (Array item) around standing close = refl
+  end_begins false (Struct size) around standing close = refl
+  end_begins false Void around standing close = refl
+
+  moves_begin : (function : Function t.Stmt) (around : Around) (standing : Standing) (void : Bool) → begins t around standing (end_moves t function around void) around.exit ≡ New
+  moves_begin function around standing true = refl
+  moves_begin function around standing false = end_begins function.is_main function.result around standing function.close
+
+  -- the body of a function: its objects are made, and its statements go from there to its `}`
+  pub record BodyGoes (around : Around) (function : Function t.Stmt) (names : List Name) (from held : ℕ) : Type 0 where
+    pub to : ℕ
+    pub edge : One flow from (i.Enter (variables_of names)) to function.close
+    pub goes : Goes around [] [] (map Execute function.body ++ EndOfBody function.is_main function.result function.close held ∷ []) [] to
+
+  pub body_form : (levels : ℕ) (around : Around) (function : Function t.Stmt) (names : List Name) → IsLeft around (end_slot function.result around.result) → (made : Made) (from held : ℕ) (standing : Standing) →
+      IsSpelled flow made from (along_at t around (go levels t around) made from standing (enters names function.close ∷ (map Does function.body ++ end_moves t function around (is_void function.result))) around.exit) →
+      (Allowed : List (Stop t) → List (Stop t) → Type 0) → Allowed [] [] →
+      StatementsAre t flow setting running levels around (after t (enters names function.close) standing) Allowed (EndOfBody function.is_main function.result function.close held ∷ []) [] →
+      BodyGoes around function names from held
+  body_form levels around function names left made from held standing spelled Allowed allowed are =
+      by_begin (begins t around inside (map Does function.body ++ ending) around.exit) refl spelled
+    where
+      enter : Move t
+      enter = Emits (i.Enter (variables_of names)) function.close
+
+      inside : Standing
+      inside = after t (Emits (i.Enter (variables_of names)) function.close) standing
+
+      ending : List (Move t)
+      ending = end_moves t function around (is_void function.result)
+
+      begin : begins t around inside ending around.exit ≡ New
+      begin = moves_begin function around inside (is_void function.result)
+
+      end : (now later : List (Stop t)) → Allowed now later → (made' : Made) (from' : ℕ) → IsSpelled flow made' from' (along_at t around (go levels t around) made' from' inside ending around.exit) →
+          begins t around inside ending around.exit ≡ New → AreBelow made'.registers [] → Goes around now later (EndOfBody function.is_main function.result function.close held ∷ []) [] from'
+      end now later allowed' made' from' spelled' begin' below = end_form levels around function left made' from' inside spelled' now later held
+
+      by_begin : (start : Begin) → begins t around inside (map Does function.body ++ ending) around.exit ≡ start →
+          IsSpelled flow made from
+          (along_from t (λ made' point. along_at t around (go levels t around) made' point inside (map Does function.body ++ ending) around.exit) (go levels t around) made from enter inside GoesOn start) →
+          BodyGoes around function names from held
+      by_begin (Here point) start spelled' =
+          let one = go_placing levels t around made from enter point spelled'.inside spelled'.sound in
+          let rest = (moves_placing t around (go levels t around) (go_placing levels t around) (go levels t around made from enter point) point inside (map Does function.body ++ ending) around.exit one.sound).1 point start in
+          record {
+            to = point;
+            edge = one_at t flow setting running levels around made from point (i.Enter (variables_of names)) function.close (without_rest t flow setting running spelled' rest);
+            goes = rest_leads t flow setting running levels around inside ending around.exit begin Allowed (EndOfBody function.is_main function.result function.close held ∷ []) [] are [] [] allowed function.body point start;
+          }
+      by_begin New start spelled' =
+          let first = head_spelled t flow setting running levels around made from inside enter (map Does function.body ++ ending) around.exit spelled' in
+          let rest = tail_spelled t flow setting running levels around made from inside enter (map Does function.body ++ ending) around.exit spelled' in
+          record {
+            to = made.points;
+            edge = one_at t flow setting running levels around (with_point inside made) from made.points (i.Enter (variables_of names)) function.close first;
+            goes = in_order t flow setting running levels around inside ending around.exit begin Allowed (EndOfBody function.is_main function.result function.close held ∷ []) [] are end function.body [] [] allowed
+                (go levels t around (with_point inside made) from enter made.points) made.points rest start tt;
+          }
