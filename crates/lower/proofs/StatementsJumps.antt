@@ -1,4 +1,6 @@
--- What is placed for `return`, for the `}` of a function, and for jumps out of loops is what the rest of a run wants.
+-- What is placed for `return`, for the `}` of a function, for jumps out of loops and for `do` is what the rest of a run wants.
+--
+-- How the value of a `return` is computed and converted is not here: only what follows that.
 use Rattle.std.proofs.Common.{inl, inr, ◌≡◌, ◌<◌, ◌≤◌, ℕ, zero, suc, ◌+◌, List, [], ◌∷◌, ◌++◌, map, length, Bool, true, false, ◌&&◌, nat_eq, refl, sym, ap, subst, ◌∙◌, arith, Option, None, Some}
 use Rattle.std.specs.Prelude.{◌^◌, replicate, if◌then◌else◌}
 use Rattle.std.specs.List.{list_any}
@@ -6,7 +8,7 @@ use Rattle.std.proofs.lemmas.Bool.{false≢true}
 use Rattle.cbase.specs.declared.place.Place.{Place}
 use Rattle.c_machine.specs.declared.kind.Kind.{Kind}
 use Rattle.c_machine.specs.declared.kind.Kind.TheVariants.{Integer, Pointer, Array, Struct, Void}
-use Rattle.c_machine.specs.declared.task.Task.TheVariants.{ValueOf, Branch, Test, Again, Execute, BreakAt, ContinueAt, LeaveBlock, GiveBack, LeaveFunction, EndOfBody}
+use Rattle.c_machine.specs.declared.task.Task.TheVariants.{Branch, Again, Execute, BreakAt, ContinueAt, LeaveBlock, GiveBack, LeaveFunction, EndOfBody}
 use Rattle.c_machine.specs.State.{TaskIn}
 use Rattle.c_machine.specs.Choosing.{count_of}
 use Rattle.c_machine.specs.Statements.{behind_loop, test_parts, again_parts, LoopLeft, loop_left, after_break, after_continue, BodyLeft, body_left}
@@ -22,14 +24,16 @@ use Rattle.simulation.specs.Edges.{One}
 use Rattle.simulation.specs.Lowered.{Stop, IsIn, First, Behind, Lowered, Ends, Loop, Tests, Repeats, Passes, IsKnown, Makes, Leaves, Breaks, BreaksFinish, Continues, ContinuesFinish, GivesBack, GivesNoValue, GivesNoValueFinish, EndsMain, EndsVoid, EndsWithInput, Returns, Closes}
 use Rattle.simulation.specs.Names.{Name, names_of, variables_of, are_new}
 use Rattle.simulation.specs.Running.{Setting, Running, given_slot}
-use Rattle.simulation.specs.Slots.{Suits, is_free, Truth, Slot, InRegister, KnownAs, is_whole, are_free, are_in}
+use Rattle.simulation.specs.Slots.{Suits, is_free, Slot, InRegister, KnownAs, is_whole, are_free, are_in}
 use Rattle.lower.specs.Kinds.{is_void, width}
 use Rattle.simulation.proofs.Wider.{wider}
 use Rattle.lower.specs.LetGo.{AsTest, left_of}
 use Rattle.lower.specs.Lowering.{answers, end_moves}
-use Rattle.lower.specs.Moves.{Move, Emits, Fails, Asks, Does, run_of}
-use Rattle.lower.specs.Placing.{Begin, Here, New, Goes as GoesOn, begins, along_from, enters, Made, Loop as LoopAround, Around, registers_left, blocks_left, jump_moves, place_break, place_continue, passes, is_break, in_loop, along, place_do_body, branch, place_do, emit, stands_at, with_point, after, along_at, go, leaves, closings, function_leaves, finishes, registers_of, place_return}
+use Rattle.lower.specs.Moves.{Move, Emits, Fails, Does, run_of}
+use Rattle.lower.specs.Placing.{Begin, Here, New, Goes as GoesOn, begins, objects_in, along_from, enters, Made, Loop as LoopAround, Around, registers_left, blocks_left, place_break, place_continue, passes, is_break, in_loop, along, place_do_body, branch, place_do, stands_at, with_point, after, along_at, go, leaves, closings, function_leaves, finishes, registers_of, place_return}
 use Rattle.lower.proofs.Placings.{then_placing, point_placing, IsSpelled, spelled_point, spelled_first, spelled_rest, emit_spelled}
+use Rattle.flow.specs.declared.flow_graph.Variable.{Variable}
+use Rattle.lower.proofs.FunctionsLowered.{locals_of, params_of, params_at, locals_at, IsBodySpelled}
 use Rattle.lower.proofs.PlacedForms.{moves_placing}
 use Rattle.lower.proofs.Placed.{go_placing, body_placing, branch_placing}
 use Rattle.lower.proofs.Spelling.{AreBelow, below_more, IsAround, head_spelled, tail_spelled, one_at, never}
@@ -105,7 +109,7 @@ module _ (t : Text) (flow : Flow) (setting : Setting) (running : Running) where
       by_kind true spelled' = no_value_by levels around left (registers_of (stands_at made from)) made from (stands_at made from) (t.first stmt) spelled' now later tasks slots body held
       by_kind false spelled' = absurd (false≢true spelled'.graph)
 
-  -- what a function gives at its `}`
+  -- What a function gives at its `}`: a number. Where `running.gives` says that what it gives may lead to a block, `IsLeft` does not hold of that slot.
   abbrev pub end_slot : Kind → ℕ → Slot
   end_slot Void register = KnownAs 0
   end_slot kind register = InRegister register (width kind) true
@@ -490,3 +494,16 @@ module _ (t : Text) (flow : Flow) (setting : Setting) (running : Running) where
             goes = in_order t flow setting running levels around inside ending around.exit begin Allowed (EndOfBody function.is_main function.result function.close held ∷ []) [] are end function.body [] [] allowed
                 (go levels t around (with_point inside made) from enter made.points) made.points rest start tt;
           }
+
+  -- with the variables of the function in the graph, that is what a function is lowered by
+  pub body_spelled : (before : Made) (function : Function t.Stmt) (held : ℕ) (around : Around) (back : List Variable) → around.scopes ≡ (params_at t before function ++ locals_at t before function) ∷ [] →
+      flow.variables ≡ (before.variables ++ locals_of (params_of t function)) ++ (locals_of (objects_in t function.body) ++ back) →
+      BodyGoes around function (locals_at t before function) before.points held → IsBodySpelled t flow setting running before function held
+  body_spelled before function held around back scopes variables body = record {
+    back = back;
+    variables = variables;
+    to = body.to;
+    place = function.close;
+    edge = body.edge;
+    statements = subst (λ (list : List (List Name)). Lowered t flow setting running [] [] list (map Execute function.body ++ EndOfBody function.is_main function.result function.close held ∷ []) [] body.to) scopes body.goes;
+  }
