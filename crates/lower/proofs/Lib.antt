@@ -21,3 +21,4 @@ pub mod StaticsLowered
 pub mod FunctionsLowered
 pub mod ProgramLowered
 pub mod Statements
+pub mod StatementsJumps

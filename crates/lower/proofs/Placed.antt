@@ -70,7 +70,7 @@ module _ (t : Text) (go : Around → Go t)
   work_by around made from expr spare to form true false inside sound = failed_placing made from sound
   work_by around made from expr spare to form false is' inside sound = line_by around made from (work_line t expr spare made.registers form) to inside sound
 
-  branch_placing : (around turning : Around) (made : Made) (from : ℕ) (test : t.Expr) (count : ℕ) (close : Place) (one : List (Move t)) (one_to : ℕ) (other : List (Move t)) (other_to : ℕ) →
+  pub branch_placing : (around turning : Around) (made : Made) (from : ℕ) (test : t.Expr) (count : ℕ) (close : Place) (one : List (Move t)) (one_to : ℕ) (other : List (Move t)) (other_to : ℕ) →
       from < made.points → IsSound made → IsPlacing made from (place_branch t go around turning made from test count close one one_to other other_to)
   branch_placing around turning made from test count close one one_to other other_to inside sound =
       let standing : Standing = with_spares made.registers count (stands_at made from) in
@@ -99,7 +99,7 @@ module _ (t : Text) (go : Around → Go t)
       let one = registers_placing (left_of t AsWork expr) made from sound in
       then_placing one (along_by around (with_registers (left_of t AsWork expr) made) from (full_moves t expr made.registers (left_of t AsWork expr) end) to inside one.sound) (inl refl)
 
-  body_placing : (turning : Around) (made : Made) (from : ℕ) (body : t.Stmt) (again to : ℕ) (is : Bool) → from < made.points → IsSound made →
+  pub body_placing : (turning : Around) (made : Made) (from : ℕ) (body : t.Stmt) (again to : ℕ) (is : Bool) → from < made.points → IsSound made →
       IsPlacing made from (place_do_body t go turning made from body again to is)
   body_placing turning made from body again to true inside sound = emit_placing made from to (i.Enter []) (t.first body) inside sound
   body_placing turning made from body again to false inside sound = along_by turning made from (Does body ∷ []) again inside sound

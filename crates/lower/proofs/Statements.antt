@@ -153,7 +153,7 @@ module _ (t : Text) (flow : Flow) (setting : Setting) (running : Running) where
       (subst (λ (new : List (TaskIn t)). Goes around now later (new ++ tasks) slots from) (sym (none_done names nothing)) cont)
 
   -- Behind a condition its registers go, once on each side.
-  abbrev at_sides : Made → ℕ → ℕ → Made
+  abbrev pub at_sides : Made → ℕ → ℕ → Made
   at_sides made from count = with_registers count (with_point (with_spares made.registers count (stands_at made from)) (with_point (with_spares made.registers count (stands_at made from)) made))
 
   abbrev finished : ℕ → ℕ → Place → List (Move t) → List (Move t)
@@ -222,7 +222,7 @@ module _ (t : Text) (flow : Flow) (setting : Setting) (running : Running) where
     pub edge : One flow from (i.Finish (run_of first count)) to close
     pub goes : Goes around now [] tasks slots to
 
-  branches : (around : Around) (now : List (Stop t)) (tasks : List (TaskIn t)) (slots : List Slot) (point first count : ℕ) (stmt : t.Stmt) (holds : Bool) (close : Place) (clause : Clause t.Expr t.Stmt t.Init) →
+  pub branches : (around : Around) (now : List (Stop t)) (tasks : List (TaskIn t)) (slots : List Slot) (point first count : ℕ) (stmt : t.Stmt) (holds : Bool) (close : Place) (clause : Clause t.Expr t.Stmt t.Init) →
       t.clause stmt ≡ clause → branch_end t clause (t.last stmt) ≡ close → is_whole slots ≡ true → AreBelow first slots →
       SideGoes around now (branch_parts t stmt (length slots + running.base) clause holds ++ tasks) slots point first count close → Goes around now [] (Branch stmt ∷ tasks) (Truth holds ∷ slots) point
   branches around now tasks slots point first count stmt holds close clause is place whole below side =
@@ -299,7 +299,7 @@ module _ (t : Text) (flow : Flow) (setting : Setting) (running : Running) where
         Goes around now later (Execute stmt ∷ (map Execute more ++ tasks)) slots at
 
   -- what is placed behind at no point of its own is taken away
-  without_rest : {before middle behind : Made} {from : ℕ} → IsSpelled flow before from behind → IsPlacing middle middle.points behind → IsSpelled flow before from middle
+  pub without_rest : {before middle behind : Made} {from : ℕ} → IsSpelled flow before from behind → IsPlacing middle middle.points behind → IsSpelled flow before from middle
   without_rest {middle = middle} spelled placing =
       let h = placing.points in
       record {
@@ -321,7 +321,7 @@ module _ (t : Text) (flow : Flow) (setting : Setting) (running : Running) where
     moves_of body = map Does body ++ ending
 
     -- where what follows begins at a point that is there, it is that of a jump
-    rest_leads : (now later : List (Stop t)) → Allowed now later → (body : List t.Stmt) (point : ℕ) → begins t around standing (moves_of body) to ≡ Here point →
+    pub rest_leads : (now later : List (Stop t)) → Allowed now later → (body : List t.Stmt) (point : ℕ) → begins t around standing (moves_of body) to ≡ Here point →
         Goes around now later (map Execute body ++ tasks) slots point
     rest_leads now later allowed [] point is = absurd (none-some point (ap leads_to (sym begin ∙ is)))
     rest_leads now later allowed (stmt ∷ body) point is = by_way (way_by t around standing (t.clause stmt)) refl is (rest_leads now later allowed body point)
