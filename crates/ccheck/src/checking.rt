@@ -6,6 +6,7 @@ ghost use Rattle.ctokens.specs.TokenList.{AreNumbered, HasNamedFiles};
 ghost use Rattle.ccheck.specs.Checked.{IsAnswer};
 ghost use Rattle.ccheck.specs.Named.{AnswerIsNamed};
 ghost use Rattle.ccheck.specs.Needed.{spans_of, with_span};
+ghost use Rattle.ccheck.specs.Placed.{AnswerIsPlaced};
 
 use crate::items_checked::{ItemsChecked, check_items};
 use crate::program::TypedProgram;
@@ -30,8 +31,9 @@ pub enum Checked {
 /// scope (C11 6.9), and checked by the rules of C for types, declarations and statements (6.5 to 6.9), before the next is read. The first in which
 /// anything is refused ends it.
 ///
-/// A number past the last item stands for none. `strict` says whether calls of `main` are refused. Want of memory is the only error.
-#[tactic(auto, using(crate::proofs::Named::answer_named))]
+/// A number past the last item stands for none. `strict` says whether calls of `main` are refused. A refusal stands at a token of one of the items, with the
+/// number of its construct, from 1 to 21, or of its rule, from 1 to 13. Want of memory is the only error.
+#[tactic(auto, using(crate::proofs::Named::answer_named, crate::proofs::Placed::answer_placed))]
 pub fn check(
     alloc: Global,
     t: &Tokens,
@@ -47,6 +49,7 @@ pub fn check(
     requires named { HasNamedFiles t.now }
     ensures answer { IfOk result (IsAnswer t.now items.now numbers.now abi strict) }
     ensures named { IfOk result (AnswerIsNamed t.now.names) }
+    ensures placed { IfOk result (AnswerIsPlaced t.now (spans_of items.now numbers.now)) }
 {
     let checked = answer_of_items(alloc, t, items, numbers, abi, strict)?;
     Ok(checked)
