@@ -266,6 +266,20 @@ holds-forgotten memory register size size' bits plain registers slots word words
     fine held differ (inr (inl same)) = absurd (differ (sym same.0))
     fine held differ (inr (inr among)) = inr among
 
+-- that a register holds a number is forgotten
+among-leading : (register size : ℕ) (slots : List Slot) (word : Word) (words : List Word) (held : Held) →
+    Among (InRegister register size true ∷ slots) (word ∷ words) held → Among (InRegister register size false ∷ slots) (word ∷ words) held
+among-leading register size slots word words held among = among
+
+pub holds-leading : (memory : List Block) (registers : List Held) (register size : ℕ) (slots : List Slot) (word : Word) (words : List Word) →
+    Holds memory registers (InRegister register size true ∷ slots) (word ∷ words) → Holds memory registers (InRegister register size false ∷ slots) (word ∷ words)
+holds-leading memory registers register size slots word words holds = record {
+  stands = (holds.stands.0, tt, holds.stands.2);
+  rooted = rooted-weaker registers (InRegister register size true ∷ slots) (InRegister register size false ∷ slots) (word ∷ words) (word ∷ words)
+      (among-leading register size slots word words) holds.rooted;
+  ascending = holds.ascending;
+}
+
 -- whether an operand is true is known
 pub holds-truth : (memory : List Block) (registers : List Held) (slots : List Slot) (word : Word) (words : List Word) (truth : Bool) → is_true memory word ≡ truth →
     Holds memory registers slots words → Holds memory registers (Truth truth ∷ slots) (word ∷ words)

@@ -9,6 +9,7 @@ pub mod Holding
 pub mod Turning
 pub mod Losses
 pub mod Dropping
+pub mod Standing
 pub mod Unfolding
 pub mod Numbers
 pub mod Addresses

@@ -1,5 +1,5 @@
 -- Numbers in registers, numbers that are known, and values that are let go of.
-use Rattle.std.proofs.Common.{◌≡◌, ℕ, suc, List, [], ◌∷◌, Bool, true, refl, sym, subst}
+use Rattle.std.proofs.Common.{◌≡◌, ℕ, suc, List, [], ◌∷◌, Bool, true, false, refl, sym, subst}
 use Rattle.cbase.specs.declared.place.Place.{Place}
 use Rattle.bytes_core.specs.declared.word.Word.{Word}
 use Rattle.bytes_core.specs.declared.word.Word.TheVariants.{Plain}
@@ -16,7 +16,7 @@ use Rattle.simulation.specs.Names.{Name}
 use Rattle.simulation.specs.Running.{Setting, Running}
 use Rattle.simulation.specs.Slots.{Slot, InRegister, KnownAs, Gone, is_free, is_in}
 use Rattle.simulation.specs.Worlds.{source, state}
-use Rattle.simulation.proofs.Holding.{holds-put, holds-known, holds-dropped, holds-let_go, holds-beside, holds-forgotten}
+use Rattle.simulation.proofs.Holding.{holds-put, holds-known, holds-dropped, holds-let_go, holds-beside, holds-forgotten, holds-leading}
 use Rattle.simulation.proofs.Meeting.{Meets, Good, source_alone, both_along, graph_along, goes_before}
 
 module _ (t : Text) (flow : Flow) (setting : Setting) (valid : IsFlow flow) where
@@ -55,6 +55,12 @@ module _ (t : Text) (flow : Flow) (setting : Setting) (valid : IsFlow flow) wher
       graph_along t flow setting valid n _ choices point registers v memory (i.Number register bits size) to place edge
       (good operands (put (record { register = register; size = size; word = Plain bits }) registers) w v memory choices
       (holds-beside memory register size bits registers slots operands free holds) alike goes)
+
+  pub may_lead : (n : ℕ) (running : Running) (scopes : List (List Name)) (tasks : List (TaskIn t)) (slots : List Slot) (point : ℕ) (register size : ℕ) →
+      Rest n running scopes tasks (InRegister register size false ∷ slots) point → Rest n running scopes tasks (InRegister register size true ∷ slots) point
+  may_lead n running scopes tasks slots point register size good [] registers w v memory choices holds alike goes = absurd holds.stands
+  may_lead n running scopes tasks slots point register size good (word ∷ operands) registers w v memory choices holds alike goes =
+      good (word ∷ operands) registers w v memory choices (holds-leading memory registers register size slots word operands holds) alike goes
 
   pub forgets : (n : ℕ) (running : Running) (scopes : List (List Name)) (tasks : List (TaskIn t)) (slots : List Slot) (point : ℕ) (register size size' bits to : ℕ) (plain : Bool) (place : Place) →
       One flow point (i.Number register bits size') to place → is_free register slots ≡ true → Rest n running scopes tasks (Gone ∷ slots) to →

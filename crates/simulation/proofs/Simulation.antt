@@ -6,14 +6,15 @@ use Rattle.c_machine.specs.State.{TaskIn}
 use Rattle.flow.specs.declared.flow_graph.Flow.{Flow}
 use Rattle.flow.specs.Valid.{IsFlow}
 use Rattle.simulation.specs.Functions.{AreFunctionsLowered}
-use Rattle.simulation.specs.Lowered.{Stop, IsIn, First, Behind, Lowered, Ends, Loop, Values, Addresses, Executes, Tests, Repeats, Initialises, Numbers, IsKnown, Makes, Puts, Forgets, LetsGo, Drops, Objects, Statics, Shifts, ShiftsNothing, ShiftsKnown, Loads, LoadsNothing, Converts, ConvertsBy, ConvertsAsking, ConvertsAway, ConvertsKnown, AppliesBy, Applies, AppliesKnown, Operates, Compares, OperatesKnown, OperatesNever, Asks, IsTrues, Answers, AndsOn, AndsOff, OrsOn, OrsOff, PicksOne, PicksOther, Stores, StoresKept, CopiesStruct, Zeroes, Updates, UpdatesKept, Counts, CountsNew, CountsOld, Mallocs, Callocs, Frees, Fills, FillsKept, Copies, CopiesKept, Assumes, AssumesTruth, AssumesNot, Expects, Inputs, EndsRuns, FailsAssertion, IsNothing, Idles, Calls, Finishes, Keeps, Branches, Enters, Widens, Passes, Leaves, Breaks, BreaksFinish, Continues, ContinuesFinish, GivesBack, GivesNoValue, GivesNoValueFinish, EndsMain, EndsVoid, EndsWithInput, Returns, Closes}
+use Rattle.simulation.specs.Lowered.{Stop, IsIn, First, Behind, Lowered, Ends, Loop, WhereStands, Values, Addresses, Executes, ExecutesAlong, Tests, Repeats, Initialises, Numbers, IsKnown, Makes, Puts, MayLead, Forgets, LetsGo, Drops, Objects, Statics, Shifts, ShiftsNothing, ShiftsKnown, Loads, LoadsNothing, Converts, ConvertsBy, ConvertsAsking, ConvertsAway, ConvertsKnown, AppliesBy, Applies, AppliesKnown, Operates, Compares, OperatesKnown, OperatesNever, Asks, IsTrues, Answers, AndsOn, AndsOff, OrsOn, OrsOff, PicksOne, PicksOther, Stores, StoresKept, CopiesStruct, Zeroes, Updates, UpdatesKept, Counts, CountsNew, CountsOld, Mallocs, Callocs, Frees, Fills, FillsKept, Copies, CopiesKept, Assumes, AssumesTruth, AssumesNot, Expects, Inputs, EndsRuns, FailsAssertion, IsNothing, Idles, Calls, Finishes, Keeps, Branches, Enters, Widens, Passes, Leaves, Breaks, BreaksFinish, Continues, ContinuesFinish, GivesBack, GivesNoValue, GivesNoValueFinish, EndsMain, EndsVoid, EndsWithInput, Returns, Closes}
 use Rattle.simulation.specs.Names.{Name}
 use Rattle.simulation.specs.Running.{Setting, Running}
 use Rattle.simulation.specs.Slots.{Slot}
 use Rattle.simulation.proofs.Meeting.{Good}
 use Rattle.simulation.proofs.Calls.{AreFunctionsGood, calls}
-use Rattle.simulation.proofs.Unfolding.{values, addresses, executes, tests, repeats, initialises}
-use Rattle.simulation.proofs.Numbers.{numbers, is_known, makes, puts, forgets, lets_go, drops}
+use Rattle.simulation.proofs.Standing.{where_stands}
+use Rattle.simulation.proofs.Unfolding.{values, addresses, executes, executes_along, tests, repeats, initialises}
+use Rattle.simulation.proofs.Numbers.{numbers, is_known, makes, puts, may_lead, forgets, lets_go, drops}
 use Rattle.simulation.proofs.Addresses.{objects, statics, shifts, shifts_nothing, shifts_known, loads, loads_nothing}
 use Rattle.simulation.proofs.Operators.{converts, converts_by, converts_asking, converts_away, converts_known, applies_by, applies, applies_known, operates, compares, operates_known, operates_never}
 use Rattle.simulation.proofs.Truths.{asks, is_trues, answers, ands_on, ands_off, ors_on, ors_off, picks_one, picks_other}
@@ -85,6 +86,8 @@ module _ (t : Text) (flow : Flow) (setting : Setting) (valid : IsFlow flow) (fun
   simulates {running = running} (Ends is) n good good' calls' = good_in n running is good
   simulates {running = running} (Loop {now = now} {later = later} {scopes = scopes} {tasks = tasks} {slots = slots} {point = point} d) n good good' calls' =
       again n running (record { scopes = scopes; tasks = tasks; slots = slots; point = point }) now later (λ m. simulates d m) good good' calls'
+  simulates {running = running} (WhereStands {scopes = scopes} {tasks = tasks} {slots = slots} {point = point} each) n good good' calls' =
+      where_stands t flow setting valid n running scopes tasks slots point (λ standing. simulates (each standing) n good good' calls')
   simulates {running = running} (Values {scopes = scopes} {tasks = tasks} {slots = slots} {point = point} expr d0) n good good' calls' =
       values t flow setting valid n running scopes tasks slots point expr
       (simulates d0 n good good' calls')
@@ -94,6 +97,9 @@ module _ (t : Text) (flow : Flow) (setting : Setting) (valid : IsFlow flow) (fun
   simulates {running = running} (Executes {scopes = scopes} {tasks = tasks} {slots = slots} {point = point} stmt d0) n good good' calls' =
       executes t flow setting valid n running scopes tasks slots point stmt
       (simulates d0 n good good' calls')
+  simulates {running = running} (ExecutesAlong {now = now} {later = later} {scopes = scopes} {tasks = tasks} {slots = slots} {point = point} stmt to place h0 d0) n good good' calls' =
+      executes_along t flow setting valid n running scopes tasks slots point stmt to place h0
+      (λ m is. simulates d0 m (at_hand n m running now later is good good') (λ k less. tt) (calls_before n m is calls'))
   simulates {running = running} (Tests {scopes = scopes} {tasks = tasks} {slots = slots} {point = point} stmt d0) n good good' calls' =
       tests t flow setting valid n running scopes tasks slots point stmt
       (simulates d0 n good good' calls')
@@ -114,6 +120,9 @@ module _ (t : Text) (flow : Flow) (setting : Setting) (valid : IsFlow flow) (fun
       (simulates d0 n good good' calls')
   simulates {running = running} (Puts {scopes = scopes} {tasks = tasks} {slots = slots} {point = point} register bits size to place h0 h1 d0) n good good' calls' =
       puts t flow setting valid n running scopes tasks slots point register bits size to place h0 h1
+      (simulates d0 n good good' calls')
+  simulates {running = running} (MayLead {scopes = scopes} {tasks = tasks} {slots = slots} {point = point} register size d0) n good good' calls' =
+      may_lead t flow setting valid n running scopes tasks slots point register size
       (simulates d0 n good good' calls')
   simulates {running = running} (Forgets {scopes = scopes} {tasks = tasks} {slots = slots} {point = point} register size size' bits to plain place h0 h1 d0) n good good' calls' =
       forgets t flow setting valid n running scopes tasks slots point register size size' bits to plain place h0 h1

@@ -1,5 +1,5 @@
 -- Trees make room for their parts.
-use Rattle.std.proofs.Common.{ℕ, ◌+◌, List, ◌∷◌, ◌++◌, length, sym, subst}
+use Rattle.std.proofs.Common.{◌≡◌, ℕ, suc, ◌+◌, List, [], ◌∷◌, ◌++◌, length, sym, subst}
 use Rattle.cbase.specs.declared.place.Place.{Place}
 use Rattle.bytes_core.specs.declared.block.Block.{Block}
 use Rattle.bytes_core.specs.declared.word.Word.{Word}
@@ -10,15 +10,17 @@ use Rattle.c_machine.specs.State.{TaskIn, Went}
 use Rattle.c_machine.specs.Blocks.{initialiser_tasks}
 use Rattle.c_machine.specs.Expressions.{value_tasks, address_tasks}
 use Rattle.c_machine.specs.Statements.{statement_tasks, test_tasks, again_tasks}
+use Rattle.flow.specs.declared.instruction.Instr.TheVariants as i
 use Rattle.flow.specs.declared.flow_graph.Flow.{Flow}
 use Rattle.flow.specs.Holding.{Held}
 use Rattle.flow.specs.Machine as graph
 use Rattle.flow.specs.Valid.{IsFlow}
+use Rattle.simulation.specs.Edges.{One}
 use Rattle.simulation.specs.Names.{Name}
 use Rattle.simulation.specs.Running.{Setting, Running}
 use Rattle.simulation.specs.Slots.{Slot, Holds}
 use Rattle.simulation.specs.Worlds.{World, Side, AreAlike, source, state}
-use Rattle.simulation.proofs.Meeting.{Meets, Good, source_alone, unfolded, count_of_all}
+use Rattle.simulation.proofs.Meeting.{Meets, Good, source_alone, both_along, goes_before, unfolded, count_of_all}
 
 module _ (t : Text) (flow : Flow) (setting : Setting) (valid : IsFlow flow) where
   abbrev Rest : ℕ → Running → List (List Name) → List (TaskIn t) → List Slot → ℕ → Type 0
@@ -59,6 +61,15 @@ module _ (t : Text) (flow : Flow) (setting : Setting) (valid : IsFlow flow) wher
       source_alone t flow setting valid n _ choices _
       (held_apart n running scopes tasks slots point (statement_tasks t stmt) operands registers w v memory choices holds alike
       (good operands registers w v memory choices holds alike goes))
+
+  pub executes_along : (n : ℕ) (running : Running) (scopes : List (List Name)) (tasks : List (TaskIn t)) (slots : List Slot) (point : ℕ) (stmt : t.Stmt) (to : ℕ) (place : Place) →
+      One flow point (i.Enter []) to place →
+      ((m : ℕ) → suc m ≡ n → Rest m running scopes (statement_tasks t stmt (length slots + running.base) ++ tasks) slots to) →
+      Rest n running scopes (Execute stmt ∷ tasks) slots point
+  executes_along n running scopes tasks slots point stmt to place edge good operands registers w v memory choices holds alike goes =
+      both_along t flow setting valid n _ choices point registers v memory (i.Enter []) to place edge
+      (λ m is. held_apart m running scopes tasks slots to (statement_tasks t stmt) operands registers w v memory choices holds alike
+      (good m is operands registers w v memory choices holds alike (goes_before t flow setting valid n m running w v is goes)))
 
   pub tests : (n : ℕ) (running : Running) (scopes : List (List Name)) (tasks : List (TaskIn t)) (slots : List Slot) (point : ℕ) (stmt : t.Stmt) →
       Rest n running scopes (test_tasks t stmt (length slots + running.base) ++ tasks) slots point →

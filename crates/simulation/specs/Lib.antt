@@ -5,6 +5,7 @@ pub mod Edges
 pub mod Turning
 pub mod Worlds
 pub mod Agreeing
+pub mod Standing
 pub mod Lowered
 pub mod Functions
 pub mod Starting

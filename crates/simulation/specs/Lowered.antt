@@ -32,6 +32,7 @@ use Rattle.simulation.specs.Edges.{One, Two, NoEdge}
 use Rattle.simulation.specs.Names.{Name, names_of, variables_of, variable_in, is_other, are_new, AreMade}
 use Rattle.simulation.specs.Running.{Setting, Running, Argument, registers_of, slots_of, AreTaken, result_slot, is_free_result, given_slot}
 use Rattle.simulation.specs.Slots.{Slot, InRegister, KnownAs, Truth, Gone, Suits, is_free, is_whole, are_free, is_in, are_in}
+use Rattle.simulation.specs.Standing.{HasStanding}
 use Rattle.simulation.specs.Turning.{Turns, Calculates, CalculatesWith}
 
 -- where a run goes on
@@ -64,6 +65,10 @@ pub data Lowered (t : Text) (flow : Flow) (setting : Setting) (running : Running
   Loop : {now later : List (Stop t)} {scopes : List (List Name)} {tasks : List (TaskIn t)} {slots : List Slot} {point : ℕ}
       → Lowered t flow setting running now (record { scopes = scopes; tasks = tasks; slots = slots; point = point } ∷ later) scopes tasks slots point
       → Lowered t flow setting running now later scopes tasks slots point
+  -- what stands at a point may be used there
+  WhereStands : {now later : List (Stop t)} {scopes : List (List Name)} {tasks : List (TaskIn t)} {slots : List Slot} {point : ℕ}
+      → (HasStanding flow scopes slots point → Lowered t flow setting running now later scopes tasks slots point)
+      → Lowered t flow setting running now later scopes tasks slots point
   -- trees make room for their parts
   Values : {now later : List (Stop t)} {scopes : List (List Name)} {tasks : List (TaskIn t)} {slots : List Slot} {point : ℕ}
       (expr : t.Expr)
@@ -76,6 +81,12 @@ pub data Lowered (t : Text) (flow : Flow) (setting : Setting) (running : Running
   Executes : {now later : List (Stop t)} {scopes : List (List Name)} {tasks : List (TaskIn t)} {slots : List Slot} {point : ℕ}
       (stmt : t.Stmt)
       → Lowered t flow setting running now later scopes (statement_tasks t stmt (length slots + running.base) ++ tasks) slots point
+      → Lowered t flow setting running now later scopes (Execute stmt ∷ tasks) slots point
+  -- where the graph goes along an edge that makes no object
+  ExecutesAlong : {now later : List (Stop t)} {scopes : List (List Name)} {tasks : List (TaskIn t)} {slots : List Slot} {point : ℕ}
+      (stmt : t.Stmt) (to : ℕ) (place : Place)
+      → One flow point (i.Enter []) to place
+      → Lowered t flow setting running (later ++ now) [] scopes (statement_tasks t stmt (length slots + running.base) ++ tasks) slots to
       → Lowered t flow setting running now later scopes (Execute stmt ∷ tasks) slots point
   Tests : {now later : List (Stop t)} {scopes : List (List Name)} {tasks : List (TaskIn t)} {slots : List Slot} {point : ℕ}
       (stmt : t.Stmt)
@@ -109,6 +120,11 @@ pub data Lowered (t : Text) (flow : Flow) (setting : Setting) (running : Running
       → One flow point (i.Number register bits size) to place → is_free register slots ≡ true
       → Lowered t flow setting running now later scopes tasks slots to
       → Lowered t flow setting running now later scopes tasks slots point
+  -- that a register holds a number is forgotten
+  MayLead : {now later : List (Stop t)} {scopes : List (List Name)} {tasks : List (TaskIn t)} {slots : List Slot} {point : ℕ}
+      (register size : ℕ)
+      → Lowered t flow setting running now later scopes tasks (InRegister register size false ∷ slots) point
+      → Lowered t flow setting running now later scopes tasks (InRegister register size true ∷ slots) point
   Forgets : {now later : List (Stop t)} {scopes : List (List Name)} {tasks : List (TaskIn t)} {slots : List Slot} {point : ℕ}
       (register size size' bits to : ℕ) (plain : Bool) (place : Place)
       → One flow point (i.Number register bits size') to place → is_free register slots ≡ true
