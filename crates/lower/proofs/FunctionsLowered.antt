@@ -23,6 +23,8 @@ use Rattle.lower.specs.Lowering.{flow_function, place_function, place_functions}
 use Rattle.simulation.specs.Names.{Name as NameHere}
 use Rattle.lower.specs.Placing.{Made, named_from, objects_in}
 use Rattle.lower.proofs.BlocksMade.{blocks_made}
+use Rattle.lower.proofs.Placings.{IsSound}
+use Rattle.lower.proofs.FunctionsPlaced.{function_placing}
 use Rattle.lower.proofs.StaticsLowered.{told}
 
 -- the variables of objects stand in the graph in order, behind those that were there
@@ -165,6 +167,7 @@ functions_stay t statics (function ∷ functions) made placed number found is =
 -- each behind those in front of it
 pub record IsPlacedAt (t : Text) (statics : List NameHere) (functions : List (Function t.Stmt)) (made : Made) (placed : List FlowFunction) (number : ℕ) (function : Function t.Stmt) : Type 0 where
   pub before : Made
+  pub sound : IsSound made → IsSound before
   pub behind : List (Function t.Stmt)
   pub placed' : List FlowFunction
   pub goes_on : place_functions t statics functions made placed ≡ place_functions t statics behind (place_function t statics false before function) placed'
@@ -175,6 +178,7 @@ pub placed_at : (t : Text) (statics : List NameHere) (functions : List (Function
 placed_at t statics [] made placed number function is = absurd (none-some function is)
 placed_at t statics (first ∷ functions) made placed zero function is = record {
   before = made;
+  sound = λ sound. sound;
   behind = functions;
   placed' = placed ++ flow_function t made first ∷ [];
   goes_on = ap (λ (f : Function t.Stmt). place_functions t statics functions (place_function t statics false made f) (placed ++ flow_function t made first ∷ [])) (same_Some first function is);
@@ -187,6 +191,7 @@ placed_at t statics (first ∷ functions) made placed (suc number) function is =
     let more = placed_at t statics functions (place_function t statics false made first) (placed ++ flow_function t made first ∷ []) number function is in
     record {
       before = more.before;
+      sound = λ sound. more.sound (function_placing t statics false made first sound).sound;
       behind = more.behind;
       placed' = more.placed';
       goes_on = more.goes_on;

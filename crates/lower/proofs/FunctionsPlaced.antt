@@ -1,10 +1,10 @@
 -- Functions are placed one behind the other, each at points of its own.
-use Rattle.std.proofs.Common.{◌≡◌, ◌<◌, ◌≤◌, ◌⊎◌, ℕ, zero, suc, ◌+◌, List, [], ◌∷◌, ◌++◌, map, length, Bool, true, false, refl, inl, inr, arith}
+use Rattle.std.proofs.Common.{◌<◌, ◌≤◌, ℕ, suc, ◌+◌, List, [], ◌∷◌, ◌++◌, length, Bool, true, false, refl, inl, inr, arith}
 use Rattle.c_machine.specs.Text.{Function, Text}
 use Rattle.flow.specs.declared.flow_graph.FlowFunction.{FlowFunction}
 use Rattle.flow.specs.declared.instruction.Instr.TheVariants as i
 use Rattle.simulation.specs.Names.{Name}
-use Rattle.lower.specs.Lowering.{body_moves, at_entry, at_exit, nothing, around_body, parameter_objects, place_body, place_named, place_function, flow_function, place_functions, nothing_made}
+use Rattle.lower.specs.Lowering.{body_moves, at_entry, at_exit, nothing, around_body, parameter_objects, place_named, place_function, flow_function, place_functions, nothing_made}
 use Rattle.lower.specs.Placing.{Made, Around, with_point, with_registers, with_objects, named_from, objects_in, along, go}
 use Rattle.lower.specs.Table.{result_into}
 use Rattle.lower.proofs.Placings.{IsSound, IsPlacing, nothing_placed, then_placing, emit_placing, point_placing, registers_placing, objects_placing}

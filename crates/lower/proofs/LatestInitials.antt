@@ -1,10 +1,9 @@
 -- Of scalars that are set twice the later one alone leaves the same memory.
-use Rattle.std.proofs.Common.{◌≡◌, ◌≢◌, ℕ, ◌+◌, ◌-◌, ◌<◌, ◌≤◌, min, Bool, true, false, List, [], ◌∷◌, ◌++◌, length, take, drop, set, get_or, refl, sym, ap, subst, ◌∙◌, arith, ⊎_elim, pos, Option, Some, nat_eq, slice_get, if◌then◌else◌, All, ◌&&◌}
+use Rattle.std.proofs.Common.{◌≡◌, ◌≢◌, ℕ, ◌+◌, ◌-◌, ◌<◌, ◌≤◌, min, Bool, true, false, List, [], ◌∷◌, ◌++◌, length, take, drop, set, get_or, refl, sym, ap, subst, ◌∙◌, arith, ⊎_elim, pos, Option, Some, nat_eq, slice_get, if◌then◌else◌, ◌&&◌}
 use Rattle.std.specs.List.{list_any}
 use Rattle.std.specs.Option.{option_map_or}
 use Rattle.std.proofs.lemmas.Bool.{and_parts, or_cases, eqb-true, cases_eq, cases_lt}
 use Rattle.std.proofs.lemmas.List.{length-take, length-take-le, length-append, length-drop, set-set, set_comm, get_or-take, get_or-drop, get_or_append_left, get_or-append_right, ext_get_or}
-use Rattle.std.proofs.lemmas.List.Elements.{All-head, All-tail}
 use Rattle.std.proofs.lemmas.Option.{same_Some}
 use Rattle.bytes_core.specs.declared.block.Block.{Block}
 use Rattle.bytes_core.specs.declared.byte.Byte.{Byte}

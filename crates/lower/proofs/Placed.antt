@@ -1,20 +1,20 @@
 -- Every move places its edges at points of its own.
-use Rattle.std.proofs.Common.{if◌then◌else◌, ◌≡◌, ◌≢◌, ◌<◌, ◌≤◌, ◌⊎◌, ℕ, zero, suc, ◌+◌, ◌-◌, List, [], ◌∷◌, ◌++◌, map, length, Bool, true, false, nat_eq, refl, inl, inr, arith, Option, None, Some}
-use Rattle.std.specs.List.{flat_map}
+use Rattle.std.proofs.Common.{if◌then◌else◌, ◌<◌, ◌≤◌, ℕ, zero, suc, ◌+◌, List, [], ◌∷◌, ◌++◌, map, length, Bool, true, false, refl, inl, inr, arith, Option, None, Some}
+use Rattle.std.specs.List.{flat_map, list_all}
 use Rattle.cbase.specs.declared.place.Place.{Place}
 use Rattle.c_machine.specs.declared.object.Object.{Object}
-use Rattle.c_machine.specs.Text.{Form, Name, Known, Unary, Binary, Assign, Count, Choose, Cast, Index, Member, Call, Inner, AssertFail, Initialiser, Value, Braces, Clause, Declare, Eval, Block, If, While, Do, For, Break, Continue, Return, Store, Text}
+use Rattle.c_machine.specs.Text.{Form, Choose, Inner, Initialiser, Value, Braces, Clause, Declare, Eval, Block, If, While, Do, For, Break, Continue, Return, Store, Text}
 use Rattle.c_machine.specs.Expressions.{value_kind}
 use Rattle.flow.specs.declared.instruction.Instr.{Instr}
 use Rattle.flow.specs.declared.instruction.Instr.TheVariants as i
 use Rattle.flow.specs.declared.flow_graph.Standing.{Standing}
 use Rattle.simulation.specs.Names.{Name as Named, variables_of}
 use Rattle.lower.specs.Kinds.{is_void, conversion}
-use Rattle.lower.specs.LetGo.{AsTest, AsValue, AsWork, left_of, left_as}
+use Rattle.lower.specs.LetGo.{AsTest, AsValue, AsWork, left_of}
 use Rattle.lower.specs.Moves.{Move, Emits, Pairs, Parts, Evaluates, Converts, Answers, Tells, Locates, Works, Asks, Does, Clears, Initialises, Stops, Fails, Line, run_of}
 use Rattle.lower.specs.Table.{value_line, place_line, work_line, converted_line, last_of, kind_of_last, kind_made, is_made}
-use Rattle.lower.specs.Placing.{Made, Loop, Around, emit, with_point, with_registers, with_head, failed, stands_at, with_width, with_spares, after, named_from, with_objects, objects_of, objects_in, within, Go, along, along_line, place_test, place_answer, place_told, without_register, place_choose, enters, leaves, valued_moves, full_moves, finishes, function_leaves, registers_of, return_moves, set_moves, left_at_end, place_scope, place_inner, place_value_form, place_value, place_void, place_work, place_branch, branch, other_moves, place_full, in_loop, unless_declared, passes, is_break, is_declaration, place_do_body, place_do, place_turn, place_next, is_at_head, place_turns, place_for, jump_moves, place_break, place_continue, place_return_value, place_return, declared_moves, clear_moves, left_by_set, place_set, place_initialiser, place_statement, variable_of, go as go_levels}
-use Rattle.lower.proofs.Placings.{outs, IsSound, IsPlacing, nothing_placed, then_placing, emit_placing, point_placing, registers_placing, head_placing, failed_placing, objects_placing}
+use Rattle.lower.specs.Placing.{Made, Loop, Around, emit, with_point, with_registers, with_head, failed, stands_at, with_width, with_spares, after, named_from, with_objects, is_empty_within, objects_of, objects_in, within, Go, along, along_line, place_told, without_register, enters, leaves, valued_moves, full_moves, finishes, function_leaves, registers_of, return_moves, set_moves, left_at_end, place_scope, place_inner, place_value_form, place_value, place_void, place_work, place_branch, branch, other_moves, place_full, in_loop, passes, is_break, is_declaration, place_do_body, place_do, place_turn, place_next, is_at_head, place_turns, place_for, jump_moves, place_break, place_continue, place_return, declared_moves, clear_moves, left_by_set, place_set, place_initialiser, place_statement, variable_of, go as go_levels}
+use Rattle.lower.proofs.Placings.{IsSound, IsPlacing, nothing_placed, then_placing, emit_placing, point_placing, registers_placing, head_placing, failed_placing, objects_placing}
 use Rattle.lower.proofs.PlacedForms.{along_placing, line_placing, answer_placing, test_by_form, choose_placing, told_placing}
 
 module _ (t : Text) (go : Around → Go t)
@@ -25,7 +25,7 @@ module _ (t : Text) (go : Around → Go t)
   line_by : (around : Around) (made : Made) (from : ℕ) (line : Line t) (to : ℕ) → from < made.points → IsSound made → IsPlacing made from (along_line t around (go around) made from line to)
   line_by around made from line to inside sound = line_placing t around (go around) (placing around) made from line to inside sound
 
-  scope_placing : (around : Around) (made : Made) (from : ℕ) (objects : List Object) (moves : List Named → List (Move t)) (to : ℕ) → from < made.points → IsSound made →
+  pub scope_placing : (around : Around) (made : Made) (from : ℕ) (objects : List Object) (moves : List Named → List (Move t)) (to : ℕ) → from < made.points → IsSound made →
       IsPlacing made from (place_scope t go around made from objects moves to)
   scope_placing around made from objects moves to inside sound =
       let one = objects_placing objects made from sound in
@@ -104,7 +104,7 @@ module _ (t : Text) (go : Around → Go t)
   body_placing turning made from body again to true inside sound = emit_placing made from to (i.Enter []) (t.first body) inside sound
   body_placing turning made from body again to false inside sound = along_by turning made from (Does body ∷ []) again inside sound
 
-  do_placing : (around : Around) (made : Made) (from : ℕ) (body : t.Stmt) (test : t.Expr) (close : Place) (to : ℕ) (standing : Standing) (is : Bool) → from < made.points → IsSound made →
+  pub do_placing : (around : Around) (made : Made) (from : ℕ) (body : t.Stmt) (test : t.Expr) (close : Place) (to : ℕ) (standing : Standing) (is : Bool) → from < made.points → IsSound made →
       IsPlacing made from (place_do t go around made from body test close to standing is)
   do_placing around made from body test close to standing true inside sound = branch_by around around made from test close [] from [] to inside sound
   do_placing around made from body test close to standing false inside sound =
@@ -116,12 +116,12 @@ module _ (t : Text) (go : Around → Go t)
       (branch_by around around (place_do_body t go turning (with_point standing made) from body made.points to (is_break t (t.clause body))) made.points test close [] from [] to (omega arith) two.sound)
       (inr (omega arith))
 
-  turn_placing : (around turning : Around) (made : Made) (head : ℕ) (test : Option t.Expr) (semicolon : Place) (body : t.Stmt) (again out : ℕ) → head < made.points → IsSound made →
+  pub turn_placing : (around turning : Around) (made : Made) (head : ℕ) (test : Option t.Expr) (semicolon : Place) (body : t.Stmt) (again out : ℕ) → head < made.points → IsSound made →
       IsPlacing made head (place_turn t go around turning made head test semicolon body again out)
   turn_placing around turning made head None semicolon body again out inside sound = along_by turning made head (Does body ∷ []) again inside sound
   turn_placing around turning made head (Some test) semicolon body again out inside sound = branch_by around turning made head test semicolon (Does body ∷ []) again [] out inside sound
 
-  next_placing : (around : Around) (made : Made) (from : ℕ) (next : Option t.Expr) (close : Place) (to : ℕ) → from < made.points → IsSound made → IsPlacing made from (place_next t go around made from next close to)
+  pub next_placing : (around : Around) (made : Made) (from : ℕ) (next : Option t.Expr) (close : Place) (to : ℕ) → from < made.points → IsSound made → IsPlacing made from (place_next t go around made from next close to)
   next_placing around made from None close to inside sound = nothing_placed made from sound
   next_placing around made from (Some expr) close to inside sound = full_placing around made from expr close to inside sound
 
@@ -135,7 +135,7 @@ module _ (t : Text) (go : Around → Go t)
       then_placing (then_placing placed one (inr above))
       (next_placing around (place_turn t go around (in_loop outside around again to standing) made head test semicolon body again out) again next close head (omega arith) one.sound) (inr above')
 
-  for_placing : (outside around : Around) (made : Made) (names : List Named) (from : ℕ) (stmt first : t.Stmt) (test : Option t.Expr) (semicolon : Place) (next : Option t.Expr) (close : Place) (body : t.Stmt)
+  pub for_placing : (outside around : Around) (made : Made) (names : List Named) (from : ℕ) (stmt first : t.Stmt) (test : Option t.Expr) (semicolon : Place) (next : Option t.Expr) (close : Place) (body : t.Stmt)
       (entered standing : Standing) (is : Bool) (to : ℕ) → from < made.points → IsSound made →
       IsPlacing made from (place_for t go outside around made names from stmt first test semicolon next close body entered standing is to)
   for_placing outside around made names from stmt first test semicolon next close body entered standing true to inside sound =
@@ -199,10 +199,15 @@ module _ (t : Text) (go : Around → Go t)
       then_placing one (along_by around (with_registers (left_by_set t value stored.kind + 3) made) from
       (set_moves t (variable_of around (t.token place)) place value end stored made.registers (left_by_set t value stored.kind)) to inside one.sound) (inl refl)
 
+  parts_by : (around : Around) (made : Made) (from : ℕ) (place : Place) (to : ℕ) (parts : List t.Init) (is : Bool) → from < made.points → IsSound made →
+      IsPlacing made from (if is then failed made else along t around (go around) made from (map (Initialises place) parts) to)
+  parts_by around made from place to parts true inside sound = failed_placing made from sound
+  parts_by around made from place to parts false inside sound = along_by around made from (map (Initialises place) parts) to inside sound
+
   initialiser_placing : (around : Around) (made : Made) (from : ℕ) (place : Place) (to : ℕ) (init : Initialiser t.Expr t.Init) → from < made.points → IsSound made →
       IsPlacing made from (place_initialiser t go around made from place to init)
   initialiser_placing around made from place to (Value value end) inside sound = set_placing around made from place value end to (t.store place value) inside sound
-  initialiser_placing around made from place to (Braces parts) inside sound = along_by around made from (map (Initialises place) parts) to inside sound
+  initialiser_placing around made from place to (Braces parts) inside sound = parts_by around made from place to parts (list_all (is_empty_within t.enough t) parts) inside sound
 
   for_by : (outside around : Around) (made : Made) (objects : List Object) (names : List Named) (from : ℕ) (stmt first : t.Stmt) (test : Option t.Expr) (semicolon : Place) (next : Option t.Expr) (close : Place) (body : t.Stmt)
       (entered standing : Standing) (is declared : Bool) (to : ℕ) → from < made.points → IsSound made →

@@ -1,24 +1,19 @@
 -- What a form places stands at points of its own, where what its moves place does.
-use Rattle.std.proofs.Common.{◌≡◌, ◌≢◌, ◌<◌, ◌≤◌, ◌⊎◌, ℕ, zero, suc, ◌+◌, ◌-◌, List, [], ◌∷◌, ◌++◌, map, max, length, Bool, true, false, not, ◌&&◌, nat_eq, refl, sym, ap, ◌∙◌, inl, inr, arith, Option, None, Some}
+use Rattle.std.proofs.Common.{◌≡◌, ◌<◌, ℕ, suc, List, [], ◌∷◌, max, Bool, true, false, nat_eq, refl, sym, ap, ◌∙◌, inl, inr, arith}
 use Rattle.std.proofs.lemmas.Bool.{false≢true}
-use Rattle.std.specs.List.{flat_map}
 use Rattle.cbase.specs.declared.place.Place.{Place}
 use Rattle.cbase.specs.declared.tree.operators.BinaryOp.{BinaryOp}
-use Rattle.cbase.specs.declared.tree.operators.BinaryOp.TheVariants.{Mul, Div, Rem, Add, Sub, Left, Right, Less, Greater, LessEqual, GreaterEqual, Equal, NotEqual, And, Xor, Or, Both, Either, Comma}
-use Rattle.cbase.specs.declared.tree.operators.UnaryOp.TheVariants.{Not, Address, Follow, Plus, Minus, Flip}
-use Rattle.c_machine.specs.declared.kind.Kind.{Kind}
-use Rattle.c_machine.specs.declared.object.Object.{Object}
-use Rattle.c_machine.specs.Text.{Form, Name, Known, Unary, Binary, Assign, Count, Choose, Cast, Index, Member, Call, Inner, AssertFail, Initialiser, Value, Braces, Clause, Declare, Eval, Block, If, While, Do, For, Break, Continue, Return, Store, Text}
+use Rattle.cbase.specs.declared.tree.operators.BinaryOp.TheVariants.{Equal, NotEqual, Both, Either}
+use Rattle.cbase.specs.declared.tree.operators.UnaryOp.TheVariants.{Not}
+use Rattle.c_machine.specs.Text.{Form, Unary, Binary, Text}
 use Rattle.c_machine.specs.Expressions.{value_kind}
-use Rattle.flow.specs.declared.instruction.Instr.{Instr}
 use Rattle.flow.specs.declared.instruction.Instr.TheVariants as i
 use Rattle.flow.specs.declared.flow_graph.Standing.{Standing}
-use Rattle.lower.specs.Kinds.{width, is_void, conversion, sides}
-use Rattle.lower.specs.LetGo.{AsValue, AsPlace, AsWork, AsTest, left_of, left_as}
-use Rattle.lower.specs.Moves.{Move, Emits, Pairs, Parts, Evaluates, Converts, Answers, Tells, Locates, Works, Asks, Does, Clears, Initialises, Stops, Fails, Line, pads, run_of}
-use Rattle.lower.specs.Table.{value_line, place_line, work_line, converted_line, last_of, kind_of_last, is_made}
-use Rattle.lower.specs.Placing.{Made, Loop, Around, emit, with_point, with_registers, with_head, failed, stands_at, with_width, with_spares, after, named_from, with_objects, objects_of, objects_in, within, Way, Idle, Leads, Goes, way_of, Begin, Here, New, begin_by, begins, Go, along_from, along_at, along, along_line, zero_test, equality_moves, equality, two_tests, both_tests, place_test, place_answer, place_told, without_register, place_arms, arm_moves, place_choice, place_choose, enters, leaves, valued_moves, left_at_end, place_scope, place_inner, place_value_form, place_value, place_void, place_work, place_branch, branch, other_moves, full_moves, place_full, in_loop, unless_declared, passes, is_break, is_declaration, place_do_body, place_do, place_turn, place_next, is_at_head, place_turns, place_for, finishes, jump_moves, place_break, place_continue, function_leaves, registers_of, return_moves, place_return_value, place_return, declared_moves, clear_moves, set_moves, left_by_set, place_set, place_initialiser, place_statement, variable_of, go as go_levels}
-use Rattle.lower.proofs.Placings.{outs, IsSound, IsPlacing, nothing_placed, then_placing, emit_placing, point_placing, registers_placing, head_placing, failed_placing, objects_placing}
+use Rattle.lower.specs.Kinds.{width, sides}
+use Rattle.lower.specs.LetGo.{AsTest, left_of, left_as}
+use Rattle.lower.specs.Moves.{Move, Emits, Pairs, Parts, Evaluates, Converts, Answers, Tells, Locates, Works, Asks, Does, Clears, Initialises, Stops, Fails, Line, pads}
+use Rattle.lower.specs.Placing.{Made, Around, emit, with_point, with_registers, stands_at, with_spares, after, Way, Idle, Leads, Goes, way_of, Begin, Here, New, begin_by, begins, Go, along_from, along_at, along, along_line, zero_test, equality_moves, equality, two_tests, place_test, place_answer, place_told, place_arms, arm_moves, place_choose}
+use Rattle.lower.proofs.Placings.{IsSound, IsPlacing, nothing_placed, then_placing, emit_placing, point_placing, registers_placing}
 
 abbrev is_there : Begin → Bool
 is_there (Here point) = true
@@ -68,7 +63,7 @@ module _ (t : Text) (around : Around) (go : Go t)
   )
 
   -- a move without an edge leaves what stands
-  begins_behind : (standing : Standing) (move : Move t) (moves : List (Move t)) (to : ℕ) →
+  pub begins_behind : (standing : Standing) (move : Move t) (moves : List (Move t)) (to : ℕ) →
       begins t around standing (move ∷ moves) to ≡ begin_by (way_of t around standing move) (begins t around (after t move standing) moves to)
   begins_behind standing (Emits instr place) moves to = refl
   begins_behind standing (Pairs one other place) moves to = refl

@@ -1,6 +1,7 @@
 -- Moves are placed each at points of its own.
-use Rattle.std.proofs.Common.{◌≡◌, ◌≢◌, ◌<◌, ◌≤◌, ◌⊎◌, ℕ, zero, suc, ◌+◌, List, [], ◌∷◌, ◌++◌, map, length, Bool, true, false, ◌&&◌, cond, filter, nat_eq, refl, sym, ap, ◌∙◌, inl, inr, ⊎_elim, arith, append-nil, Option, None, Some, subst}
-use Rattle.std.specs.List.{flat_map, list_all}
+use Rattle.std.proofs.Common.{◌≡◌, ◌≢◌, ◌<◌, ◌≤◌, ◌⊎◌, ℕ, suc, List, [], ◌∷◌, ◌++◌, map, length, Bool, true, false, ◌&&◌, cond, filter, nat_eq, refl, sym, ap, ◌∙◌, inl, inr, ⊎_elim, arith, append-nil}
+use Rattle.std.specs.List.{list_all}
+use Rattle.std.proofs.Math.Nat.{le-max_left}
 use Rattle.std.proofs.lemmas.Bool.{false≢true, eq-eqb, ne_eqb}
 use Rattle.std.proofs.lemmas.List.Elements.{filter-append}
 use Rattle.cbase.specs.declared.place.Place.{Place}
@@ -12,7 +13,7 @@ use Rattle.flow.specs.declared.flow_graph.Variable.{Variable}
 use Rattle.flow.specs.declared.flow_graph.Flow.{Flow}
 use Rattle.flow.specs.Valid.{is_object_size}
 use Rattle.simulation.specs.Edges.{One, Two, NoEdge}
-use Rattle.lower.specs.Placing.{Made, emit, with_point, with_registers, with_head, with_objects, failed}
+use Rattle.lower.specs.Placing.{Made, emit, with_point, with_registers, behind_widths, stands_at, with_head, with_objects, failed}
 
 -- the edges out of a point
 abbrev pub outs : List FlowEdge → ℕ → List FlowEdge
@@ -151,7 +152,7 @@ registers_placing count made from sound = record {
 pub head_placing : (head : ℕ) (made : Made) (from : ℕ) → IsSound made → IsPlacing made from (with_head head made)
 head_placing head made from sound = record {
   points = omega arith;
-  registers = omega arith;
+  registers = le-max_left made.registers (behind_widths (stands_at made head).registers);
   stands = ([], sym (append-nil made.stands));
   variables = ([], sym (append-nil made.variables), tt);
   graph = λ holds. holds;
@@ -187,6 +188,7 @@ pub record IsSpelled (flow : Flow) (before : Made) (from : ℕ) (after : Made) :
   pub sound : IsSound before
   pub opened : outs before.edges from ≡ []
   pub same : (point : ℕ) → point < after.points → (point ≡ from) ⊎ (before.points ≤ point) → outs flow.edges point ≡ outs after.edges point
+  pub stands : (more : List Standing) × (flow.stands ≡ after.stands ++ more)
   pub variables : (more : List Variable) × (flow.variables ≡ after.variables ++ more)
   pub graph : after.is_graph ≡ true
 
@@ -201,6 +203,7 @@ spelled_more {flow = flow} {before = before} {middle = middle} {after = after} {
       sound = placing.sound;
       opened = still ∙ spelled.opened;
       same = λ point below own. spelled.same point below (⊎_elim (λ (is : point ≡ from). inl is) (λ (above : middle.points ≤ point). inr (omega arith)) own);
+      stands = spelled.stands;
       variables = spelled.variables;
       graph = spelled.graph;
     }
@@ -223,6 +226,10 @@ spelled_first {flow = flow} {before = before} {middle = middle} {after = after} 
       same = λ point within own.
           spelled.same point (omega arith) own
           ∙ placing.touches point within (λ is. ⊎_elim (λ (same : point ≡ from). differ (sym is ∙ same)) (λ (above : before.points ≤ point). absurd (omega arith)) own);
+      stands = (
+        placing.stands.0 ++ spelled.stands.0,
+        spelled.stands.1 ∙ (ap (λ list. list ++ spelled.stands.0) placing.stands.1 ∙ append_assoc middle.stands placing.stands.0 spelled.stands.0),
+      );
       variables = (
         placing.variables.0 ++ spelled.variables.0,
         spelled.variables.1 ∙ (ap (λ list. list ++ spelled.variables.0) placing.variables.1 ∙ append_assoc middle.variables placing.variables.0 spelled.variables.0),
@@ -241,6 +248,7 @@ spelled_rest {flow = flow} {before = before} {middle = middle} {after = after} {
       opened = opened;
       same = λ point within own. spelled.same point within (inr (⊎_elim (λ (same : point ≡ at). let k : before.points ≤ point = omega arith in k)
           (λ (above' : middle.points ≤ point). let k : before.points ≤ point = omega arith in k) own));
+      stands = spelled.stands;
       variables = spelled.variables;
       graph = spelled.graph;
     }

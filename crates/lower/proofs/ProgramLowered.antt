@@ -1,5 +1,5 @@
 -- A text and its flow graph: static objects, functions and main, where the bodies of functions are spelled.
-use Rattle.std.proofs.Common.{◌≡◌, ℕ, ◌+◌, Bool, true, false, List, [], ◌∷◌, ◌++◌, Option, None, if◌then◌else◌, sym, ap, subst, ◌∙◌, arith, Some, slice_get}
+use Rattle.std.proofs.Common.{◌≡◌, ℕ, ◌+◌, Bool, true, false, List, [], ◌∷◌, Option, None, if◌then◌else◌, sym, ap, subst, ◌∙◌, arith, Some, slice_get}
 use Rattle.cbase.specs.declared.abi.Abi.{Abi}
 use Rattle.c_machine.specs.Text.{Function, Text}
 use Rattle.flow.specs.declared.flow_graph.Flow.{Flow}
@@ -11,7 +11,7 @@ use Rattle.simulation.specs.Starting.{IsProgramLowered}
 use Rattle.lower.specs.Lowering.{Functions, flow_function, place_functions, with_main}
 use Rattle.lower.specs.Placing.{named_from}
 use Rattle.lower.proofs.FunctionsLowered.{front_found, IsBodySpelled, IsPlacedAt, placed_at, function_lowered, main_lowered}
-use Rattle.lower.proofs.GraphParts.{IsGraphOf, statics_made_of, placed_of}
+use Rattle.lower.proofs.GraphParts.{IsGraphOf, statics_made_of}
 use Rattle.lower.proofs.StaticsLowered.{HasStatics, HasSteps, statics_lowered}
 
 -- a function where it was placed
@@ -34,14 +34,14 @@ stands_there abi t flow graph number function at =
 
 -- each function is called by its number in the text
 pub functions_lowered : (abi : Abi) (t : Text) (flow : Flow) (setting : Setting) → IsGraphOf abi t flow → ((number called : ℕ) → setting.called number ≡ Some called → number ≡ called) →
-    ((number : ℕ) (function : Function t.Stmt) → setting.called number ≡ Some number → (at : At t number function) → (base : ℕ) →
+    ((number : ℕ) (function : Function t.Stmt) → slice_get t.functions number ≡ Some function → setting.called number ≡ Some number → (at : At t number function) → (base : ℕ) →
     IsBodySpelled t flow setting (record { base = base; closes = false; gives = setting.gives number }) at.before function base) → AreFunctionsLowered t flow setting
 functions_lowered abi t flow setting graph same bodies number called function stands is =
     let at = placed_at t (named_from 0 t.statics) t.functions (statics_made_of t) [] number function stands in
     let here : number ≡ called = same number called is in
     function_lowered t flow setting number called at.before function
     (subst (λ (n : ℕ). slice_get flow.functions n ≡ Some (flow_function t at.before function)) here (stands_there abi t flow graph number function at))
-    (bodies number function (is ∙ ap Some (sym here)) at)
+    (bodies number function stands (is ∙ ap Some (sym here)) at)
 
 -- and main by that with which the graph begins, where it stands once
 pub begins_lowered : (abi : Abi) (t : Text) (flow : Flow) (setting : Setting) (gives : Result) (main : Function t.Stmt) (graph : IsGraphOf abi t flow) → slice_get t.functions graph.main ≡ Some main →
@@ -51,6 +51,6 @@ begins_lowered abi t flow setting gives main graph stands body =
     main_lowered t flow setting gives at.before main
     (subst (λ (n : ℕ). slice_get flow.functions n ≡ Some (flow_function t at.before main)) (ap (λ (f : Flow). f.main) graph.is) (stands_there abi t flow graph graph.main main at)) (body at)
 
-pub program_lowered : (t : Text) (flow : Flow) (setting : Setting) (main : Function t.Stmt) → HasStatics t flow setting → HasSteps t flow setting → AreFunctionsLowered t flow setting → IsMainLowered t flow setting main →
+pub program_lowered : (t : Text) (flow : Flow) (setting : Setting) (main : Function t.Stmt) → HasStatics t flow setting → HasSteps t → AreFunctionsLowered t flow setting → IsMainLowered t flow setting main →
     IsProgramLowered t flow setting main
 program_lowered t flow setting main has long functions begins = record { statics = statics_lowered t flow setting has long; functions = functions; begins = begins }

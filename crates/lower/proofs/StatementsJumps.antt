@@ -1,43 +1,36 @@
 -- What is placed for `return`, for the `}` of a function, for jumps out of loops and for `do` is what the rest of a run wants.
 --
 -- How the value of a `return` is computed and converted is not here: only what follows that.
-use Rattle.std.proofs.Common.{inl, inr, ◌≡◌, ◌<◌, ◌≤◌, ℕ, zero, suc, ◌+◌, List, [], ◌∷◌, ◌++◌, map, length, Bool, true, false, ◌&&◌, nat_eq, refl, sym, ap, subst, ◌∙◌, arith, Option, None, Some}
+use Rattle.std.proofs.Common.{inl, ◌≡◌, ◌≤◌, ℕ, suc, ◌+◌, List, [], ◌∷◌, ◌++◌, map, length, Bool, true, false, refl, sym, subst, ◌∙◌, arith, Option, None, Some}
 use Rattle.std.specs.Prelude.{◌^◌, replicate, if◌then◌else◌}
-use Rattle.std.specs.List.{list_any}
 use Rattle.std.proofs.lemmas.Bool.{false≢true}
 use Rattle.cbase.specs.declared.place.Place.{Place}
 use Rattle.c_machine.specs.declared.kind.Kind.{Kind}
 use Rattle.c_machine.specs.declared.kind.Kind.TheVariants.{Integer, Pointer, Array, Struct, Void}
-use Rattle.c_machine.specs.declared.task.Task.TheVariants.{Branch, Again, Execute, BreakAt, ContinueAt, LeaveBlock, GiveBack, LeaveFunction, EndOfBody}
+use Rattle.c_machine.specs.declared.task.Task.TheVariants.{Again, Execute, BreakAt, ContinueAt, LeaveBlock, GiveBack, LeaveFunction, EndOfBody}
 use Rattle.c_machine.specs.State.{TaskIn}
 use Rattle.c_machine.specs.Choosing.{count_of}
-use Rattle.c_machine.specs.Statements.{behind_loop, test_parts, again_parts, LoopLeft, loop_left, after_break, after_continue, BodyLeft, body_left}
-use Rattle.c_machine.specs.Text.{Clause, Declare, Eval, Block, If, While, Do, For, Break, Continue, Return, Function, Text}
-use Rattle.c_machine.specs.Words.{scalar_bytes, as_kind}
-use Rattle.bytes_core.specs.declared.block.Block.{Block as MemoryBlock}
-use Rattle.bytes_core.specs.declared.word.Word.{Word}
-use Rattle.simulation.specs.Turning.{Turns}
+use Rattle.c_machine.specs.Statements.{LoopLeft, loop_left, after_break, after_continue, BodyLeft, body_left}
+use Rattle.c_machine.specs.Text.{Clause, Eval, Break, Continue, Return, Function, Text}
+use Rattle.c_machine.specs.Words.{scalar_bytes}
 use Rattle.flow.specs.declared.flow_graph.Flow.{Flow}
 use Rattle.flow.specs.declared.flow_graph.Standing.{Standing}
 use Rattle.flow.specs.declared.instruction.Instr.TheVariants as i
 use Rattle.simulation.specs.Edges.{One}
-use Rattle.simulation.specs.Lowered.{Stop, IsIn, First, Behind, Lowered, Ends, Loop, Tests, Repeats, Passes, IsKnown, Makes, Leaves, Breaks, BreaksFinish, Continues, ContinuesFinish, GivesBack, GivesNoValue, GivesNoValueFinish, EndsMain, EndsVoid, EndsWithInput, Returns, Closes}
+use Rattle.simulation.specs.Lowered.{Stop, Lowered, IsKnown, Makes, Leaves, Breaks, BreaksFinish, Continues, ContinuesFinish, GivesNoValue, GivesNoValueFinish, EndsMain, EndsVoid, EndsWithInput, Returns, Closes}
 use Rattle.simulation.specs.Names.{Name, names_of, variables_of, are_new}
 use Rattle.simulation.specs.Running.{Setting, Running, given_slot}
-use Rattle.simulation.specs.Slots.{Suits, is_free, Slot, InRegister, KnownAs, is_whole, are_free, are_in}
+use Rattle.simulation.specs.Slots.{Slot, InRegister, KnownAs, is_whole, are_free, are_in}
 use Rattle.lower.specs.Kinds.{is_void, width}
-use Rattle.simulation.proofs.Wider.{wider}
 use Rattle.lower.specs.LetGo.{AsTest, left_of}
 use Rattle.lower.specs.Lowering.{answers, end_moves}
-use Rattle.lower.specs.Moves.{Move, Emits, Fails, Does, run_of}
-use Rattle.lower.specs.Placing.{Begin, Here, New, Goes as GoesOn, begins, objects_in, along_from, enters, Made, Loop as LoopAround, Around, registers_left, blocks_left, place_break, place_continue, passes, is_break, in_loop, along, place_do_body, branch, place_do, stands_at, with_point, after, along_at, go, leaves, closings, function_leaves, finishes, registers_of, place_return}
-use Rattle.lower.proofs.Placings.{then_placing, point_placing, IsSpelled, spelled_point, spelled_first, spelled_rest, emit_spelled}
-use Rattle.flow.specs.declared.flow_graph.Variable.{Variable}
-use Rattle.lower.proofs.FunctionsLowered.{locals_of, params_of, params_at, locals_at, IsBodySpelled}
-use Rattle.lower.proofs.PlacedForms.{moves_placing}
+use Rattle.lower.specs.Moves.{Move, Emits, Fails}
+use Rattle.lower.specs.Placing.{New, begins, Made, Loop as LoopAround, Around, registers_left, blocks_left, place_break, place_continue, passes, is_break, in_loop, place_do_body, branch, place_do, stands_at, with_point, after, along_at, go, leaves, closings, function_leaves, finishes, registers_of, place_return}
+use Rattle.lower.proofs.Placings.{then_placing, point_placing, IsSpelled, spelled_point, spelled_first, spelled_rest}
 use Rattle.lower.proofs.Placed.{go_placing, body_placing, branch_placing}
-use Rattle.lower.proofs.Spelling.{AreBelow, below_more, IsAround, head_spelled, tail_spelled, one_at, never}
-use Rattle.lower.proofs.Statements.{executes, ExpressionsAre, StatementsAre, without_rest, rest_leads, in_order, at_sides, BranchIs, branch_is, SideGoes, branches}
+use Rattle.lower.proofs.Jumping.{AreApart}
+use Rattle.lower.proofs.Ready.{head_spelled, tail_spelled, one_at, never}
+use Rattle.lower.proofs.Statements.{executes}
 
 module _ (t : Text) (flow : Flow) (setting : Setting) (running : Running) where
   abbrev Goes : Around → List (Stop t) → List (Stop t) → List (TaskIn t) → List Slot → ℕ → Type 0
@@ -109,13 +102,19 @@ module _ (t : Text) (flow : Flow) (setting : Setting) (running : Running) where
       by_kind true spelled' = no_value_by levels around left (registers_of (stands_at made from)) made from (stands_at made from) (t.first stmt) spelled' now later tasks slots body held
       by_kind false spelled' = absurd (false≢true spelled'.graph)
 
-  -- What a function gives at its `}`: a number. Where `running.gives` says that what it gives may lead to a block, `IsLeft` does not hold of that slot.
+  -- What a function gives at its `}`: a number.
   abbrev pub end_slot : Kind → ℕ → Slot
   end_slot Void register = KnownAs 0
   end_slot kind register = InRegister register (width kind) true
 
+  -- where all blocks of a function are left with what it gives in a slot, it returns
+  abbrev pub LeavesWith : ℕ → Around → Slot → Type 0
+  LeavesWith levels around slot =
+      (made : Made) (from : ℕ) (standing : Standing) (word : Place) → IsSpelled flow made from (along_at t around (go levels t around) made from standing (function_leaves around word) around.exit) →
+      (now later : List (Stop t)) → Goes around now later (LeaveFunction word ∷ []) (slot ∷ []) from
+
   -- main answers 0
-  main_by : (levels : ℕ) (around : Around) (kind : Kind) → IsLeft around (InRegister around.result (width kind) true) → (made : Made) (from : ℕ) (standing : Standing) (close : Place) →
+  main_by : (levels : ℕ) (around : Around) (kind : Kind) → LeavesWith levels around (InRegister around.result (width kind) true) → (made : Made) (from : ℕ) (standing : Standing) (close : Place) →
       IsSpelled flow made from (along_at t around (go levels t around) made from standing (Emits (i.Number around.result 0 (width kind)) close ∷ function_leaves around close) around.exit) →
       (now later : List (Stop t)) (held : ℕ) → Goes around now later (EndOfBody true kind close held ∷ []) [] from
   main_by levels around kind left made from standing close spelled now later held =
@@ -124,11 +123,11 @@ module _ (t : Text) (flow : Flow) (setting : Setting) (running : Running) where
       let rest = tail_spelled t flow setting running levels around made from (after t number standing) number (function_leaves around close) around.exit spelled in
       EndsMain kind close held (Makes 0 around.result (width kind) made.points close
       (one_at t flow setting running levels around (with_point (after t number standing) made) from made.points (i.Number around.result 0 (width kind)) close first) refl
-      (leave_form levels around (InRegister around.result (width kind) true) left (go levels t around (with_point (after t number standing) made) from number made.points) made.points (after t number standing) close rest now later))
+      (left (go levels t around (with_point (after t number standing) made) from number made.points) made.points (after t number standing) close rest now later))
 
   -- another function answers any input of its result
   input_by : (levels : ℕ) (around : Around) (kind : Kind) (bytes size : ℕ) (signed truth : Bool) → scalar_bytes kind ≡ Some bytes → count_of kind ≡ (if truth then 2 else 256 ^ size) →
-      IsLeft around (InRegister around.result size true) → (made : Made) (from : ℕ) (standing : Standing) (close : Place) →
+      LeavesWith levels around (InRegister around.result size true) → (made : Made) (from : ℕ) (standing : Standing) (close : Place) →
       IsSpelled flow made from (along_at t around (go levels t around) made from standing (Emits (i.Input around.result size signed truth) close ∷ function_leaves around close) around.exit) →
       (now later : List (Stop t)) (held : ℕ) → Goes around now later (EndOfBody false kind close held ∷ []) [] from
   input_by levels around kind bytes size signed truth scalar count left made from standing close spelled now later held =
@@ -137,7 +136,7 @@ module _ (t : Text) (flow : Flow) (setting : Setting) (running : Running) where
       let rest = tail_spelled t flow setting running levels around made from (after t input standing) input (function_leaves around close) around.exit spelled in
       EndsWithInput kind close close held bytes around.result size made.points signed truth scalar count refl
       (one_at t flow setting running levels around (with_point (after t input standing) made) from made.points (i.Input around.result size signed truth) close first)
-      (leave_form levels around (InRegister around.result size true) left (go levels t around (with_point (after t input standing) made) from input made.points) made.points (after t input standing) close rest (later ++ now) [])
+      (left (go levels t around (with_point (after t input standing) made) from input made.points) made.points (after t input standing) close rest (later ++ now) [])
 
   fails_by : {A : Type 0} (levels : ℕ) (around : Around) (made : Made) (from : ℕ) (standing : Standing) (word : Place) →
       IsSpelled flow made from (along_at t around (go levels t around) made from standing (Fails ∷ function_leaves around word) around.exit) → A
@@ -146,7 +145,7 @@ module _ (t : Text) (flow : Flow) (setting : Setting) (running : Running) where
       never t flow setting running levels around (with_point (after t fail standing) made) from made.points
       (head_spelled t flow setting running levels around made from (after t fail standing) fail (function_leaves around word) around.exit spelled)
 
-  end_by : (levels : ℕ) (around : Around) (is_main : Bool) (kind : Kind) → IsLeft around (end_slot kind around.result) → (made : Made) (from : ℕ) (standing : Standing) (close : Place) →
+  end_by : (levels : ℕ) (around : Around) (is_main : Bool) (kind : Kind) → LeavesWith levels around (end_slot kind around.result) → (made : Made) (from : ℕ) (standing : Standing) (close : Place) →
       is_void kind ≡ false → IsSpelled flow made from (along_at t around (go levels t around) made from standing (answers is_main kind around.result close ++ function_leaves around close) around.exit) →
       (now later : List (Stop t)) (held : ℕ) → Goes around now later (EndOfBody is_main kind close held ∷ []) [] from
   end_by levels around true (Integer of) left made from standing close void spelled now later held = main_by levels around (Integer of) left made from standing close spelled now later held
@@ -162,17 +161,17 @@ module _ (t : Text) (flow : Flow) (setting : Setting) (running : Running) where
   end_by levels around is_main Void left made from standing close void spelled now later held = absurd (false≢true (sym void))
 
   -- the `}` of a function
-  pub end_form : (levels : ℕ) (around : Around) (function : Function t.Stmt) → IsLeft around (end_slot function.result around.result) → (made : Made) (from : ℕ) (standing : Standing) →
+  pub end_form : (levels : ℕ) (around : Around) (function : Function t.Stmt) → LeavesWith levels around (end_slot function.result around.result) → (made : Made) (from : ℕ) (standing : Standing) →
       IsSpelled flow made from (along_at t around (go levels t around) made from standing (end_moves t function around (is_void function.result)) around.exit) →
       (now later : List (Stop t)) (held : ℕ) → Goes around now later (EndOfBody function.is_main function.result function.close held ∷ []) [] from
   end_form levels around function left made from standing spelled now later held =
       by_void (is_void function.result) refl spelled
     where
-      of_void : (is_main : Bool) (kind : Kind) → is_void kind ≡ true → IsLeft around (end_slot kind around.result) →
+      of_void : (is_main : Bool) (kind : Kind) → is_void kind ≡ true → LeavesWith levels around (end_slot kind around.result) →
           IsSpelled flow made from (along_at t around (go levels t around) made from standing (function_leaves around function.close) around.exit) →
           Goes around now later (EndOfBody is_main kind function.close held ∷ []) [] from
-      of_void true Void void left' spelled' = EndsMain Void function.close held (leave_form levels around (KnownAs 0) left' made from standing function.close spelled' now later)
-      of_void false Void void left' spelled' = EndsVoid function.close held (leave_form levels around (KnownAs 0) left' made from standing function.close spelled' now later)
+      of_void true Void void left' spelled' = EndsMain Void function.close held (left' made from standing function.close spelled' now later)
+      of_void false Void void left' spelled' = EndsVoid function.close held (left' made from standing function.close spelled' now later)
       of_void is_main (Integer of) void left' spelled' = absurd (false≢true void)
       of_void is_main (Pointer item) void left' spelled' = absurd (false≢true void)
       of_void is_main (Array item) void left' spelled' = absurd (false≢true void)
@@ -182,11 +181,6 @@ module _ (t : Text) (flow : Flow) (setting : Setting) (running : Running) where
           Goes around now later (EndOfBody function.is_main function.result function.close held ∷ []) [] from
       by_void true void spelled' = of_void function.is_main function.result void left spelled'
       by_void false void spelled' = end_by levels around function.is_main function.result left made from standing function.close void spelled' now later held
-
-  -- blocks that are left are apart from those around them
-  abbrev pub AreApart : List (List Name) → Type 0
-  AreApart [] = Unit {0}
-  AreApart (names ∷ scopes) = (are_new names (names_of scopes) ≡ true) × AreApart scopes
 
   -- blocks are left one by one from the inside
   pub blocks_form : (levels : ℕ) (around : Around) (names : List Name) (blocks outer : List (List Name)) (made : Made) (from : ℕ) (standing : Standing) (word : Place) (to : ℕ) →
@@ -302,26 +296,8 @@ module _ (t : Text) (flow : Flow) (setting : Setting) (running : Running) where
   abbrev pub turn_of : Around → t.Stmt → t.Stmt → List (TaskIn t) → List Slot → ℕ → Stop t
   turn_of around stmt body tasks slots from = record { scopes = around.scopes; tasks = Execute body ∷ Again stmt (length slots + running.base) ∷ tasks; slots = slots; point = from }
 
-  -- behind the body: the next turn begins at the head of the loop, or the loop ends
-  pub do_again : (levels : ℕ) → ExpressionsAre t flow setting running levels → (around : Around) → IsAround setting around → (made : Made) (at head : ℕ) (stmt body : t.Stmt) (test : t.Expr) (close : Place) (to : ℕ) →
-      t.clause stmt ≡ Do body test close → IsSpelled flow made at (branch t (go levels t) around around made at test close [] head [] to) →
-      (now later : List (Stop t)) (tasks : List (TaskIn t)) (slots : List Slot) → is_whole slots ≡ true → AreBelow made.registers slots → IsIn t (turn_of around stmt body tasks slots head) (later ++ now) →
-      Goes around (later ++ now) [] tasks slots to → Goes around now later (Again stmt (length slots + running.base) ∷ tasks) slots at
-  do_again levels are around is_around made at head stmt body test close to is spelled now later tasks slots whole below there cont =
-      let count : ℕ = left_of t AsTest test in
-      let parts = branch_is t flow setting running levels around around made at test count close [] head [] to spelled in
-      let leaves_it : SideGoes t flow setting running around (later ++ now) tasks slots made.points made.registers count close =
-      record { to = to; edge = one_at t flow setting running levels around parts.held made.points to (i.Finish (run_of made.registers count)) close parts.other_spelled; goes = cont } in
-      let turns : SideGoes t flow setting running around (later ++ now) (Execute body ∷ Again stmt (length slots + running.base) ∷ tasks) slots (suc made.points) made.registers count close =
-      record { to = head; edge = one_at t flow setting running levels around parts.asked (suc made.points) head (i.Finish (run_of made.registers count)) close parts.one_spelled; goes = Ends there } in
-      Repeats stmt (length slots + running.base) (subst (λ (c : Clause t.Expr t.Stmt t.Init). Goes around now later (again_parts t stmt c ++ tasks) slots at) (sym is)
-      (Tests stmt (subst (λ (c : Clause t.Expr t.Stmt t.Init). Goes around now later (test_parts t stmt (length slots + running.base) c ++ tasks) slots at) (sym is)
-      (are.test around is_around (at_sides t flow setting running made at count) at test made.registers made.points (suc made.points) at parts.test_spelled now later (Branch stmt ∷ tasks) slots whole below (omega arith)
-      (branches t flow setting running around (later ++ now) tasks slots made.points made.registers count stmt false close (Do body test close) is refl whole below leaves_it)
-      (branches t flow setting running around (later ++ now) tasks slots (suc made.points) made.registers count stmt true close (Do body test close) is refl whole below turns)))))
-
   -- a body without an edge behind which its loop goes on: `;` or `continue`
-  idle_body : (around : Around) (now later : List (Stop t)) (tasks : List (TaskIn t)) (slots : List Slot) (from : ℕ) (stmt body : t.Stmt) (clause : Clause t.Expr t.Stmt t.Init) → t.clause body ≡ clause → passes t clause ≡ true →
+  pub idle_body : (around : Around) (now later : List (Stop t)) (tasks : List (TaskIn t)) (slots : List Slot) (from : ℕ) (stmt body : t.Stmt) (clause : Clause t.Expr t.Stmt t.Init) → t.clause body ≡ clause → passes t clause ≡ true →
       Goes around now later (Again stmt (length slots + running.base) ∷ tasks) slots from → Goes around now later (Execute body ∷ Again stmt (length slots + running.base) ∷ tasks) slots from
   idle_body around now later tasks slots from stmt body (Eval None) is idle cont =
       executes t flow setting running around now later (Again stmt (length slots + running.base) ∷ tasks) slots from body (Eval None) is cont
@@ -329,17 +305,6 @@ module _ (t : Text) (flow : Flow) (setting : Setting) (running : Running) where
       executes t flow setting running around now later (Again stmt (length slots + running.base) ∷ tasks) slots from body Continue is
       (Continues (t.first body) (record { blocks = 0; loop = stmt; held = length slots + running.base; rest = tasks }) [] (Again stmt (length slots + running.base) ∷ tasks) refl refl (λ rest. refl) refl cont)
   idle_body around now later tasks slots from stmt body clause is idle cont = absurd (false≢true idle)
-
-  pub do_idle_form : (levels : ℕ) → ExpressionsAre t flow setting running levels → (around : Around) → IsAround setting around → (made : Made) (from : ℕ) (stmt body : t.Stmt) (test : t.Expr) (close : Place) (to : ℕ) (standing : Standing) →
-      t.clause stmt ≡ Do body test close → passes t (t.clause body) ≡ true → IsSpelled flow made from (place_do t (go levels t) around made from body test close to standing true) →
-      (now later : List (Stop t)) (tasks : List (TaskIn t)) (slots : List Slot) → is_whole slots ≡ true → AreBelow made.registers slots → Goes around (later ++ now) [] tasks slots to →
-      Goes around now later (Execute stmt ∷ tasks) slots from
-  do_idle_form levels are around is_around made from stmt body test close to standing is idle spelled now later tasks slots whole below cont =
-      let stop : Stop t = turn_of around stmt body tasks slots from in
-      executes t flow setting running around now later tasks slots from stmt (Do body test close) is
-      (Loop (idle_body around now (stop ∷ later) tasks slots from stmt body (t.clause body) refl idle
-      (do_again levels are around is_around made from from stmt body test close to is spelled now (stop ∷ later) tasks slots whole below First
-      (wider t flow setting running cont (stop ∷ (later ++ now)) [] (λ other inside. Behind inside) (λ other inside. inside)))))
 
   -- the parts of what is placed for a `do`: its body, and its test behind that
   abbrev pub body_made : ℕ → Around → Made → ℕ → t.Stmt → ℕ → Standing → Bool → Made
@@ -369,66 +334,9 @@ module _ (t : Text) (flow : Flow) (setting : Setting) (running : Running) where
             (two.touches made.points (omega arith) (λ same. absurd (omega arith)) ∙ spelled.sound.fresh made.points (omega arith));
       }
 
-  -- `do`, given how its body goes: it leads to the test, where it may be asked in any context in which the next turn may begin
-  pub do_form : (levels : ℕ) → ExpressionsAre t flow setting running levels → (around : Around) → IsAround setting around → (made : Made) (from : ℕ) (stmt body : t.Stmt) (test : t.Expr) (close : Place) (to : ℕ) (standing : Standing) →
-      t.clause stmt ≡ Do body test close → is_break t (t.clause body) ≡ false → IsSpelled flow made from (place_do t (go levels t) around made from body test close to standing false) →
-      (now later : List (Stop t)) (tasks : List (TaskIn t)) (slots : List Slot) → is_whole slots ≡ true → AreBelow made.registers slots →
-      (IsSpelled flow (with_point standing made) from
-      (along t (in_loop around around made.points to standing) (go levels t (in_loop around around made.points to standing)) (with_point standing made) from (Does body ∷ []) made.points) →
-      ((now' later' : List (Stop t)) → IsIn t (turn_of around stmt body tasks slots from) (later' ++ now') → Goes around (later' ++ now') [] tasks slots to →
-      Goes around now' later' (Again stmt (length slots + running.base) ∷ tasks) slots made.points) →
-      Goes around now (turn_of around stmt body tasks slots from ∷ later) (Execute body ∷ Again stmt (length slots + running.base) ∷ tasks) slots from) →
-      Goes around now later (Execute stmt ∷ tasks) slots from
-  do_form levels are around is_around made from stmt body test close to standing is breaks spelled now later tasks slots whole below turn =
-      let parts = do_is levels around made from body test close to standing spelled in
-      let middle : Made = body_made levels around made from body to standing (is_break t (t.clause body)) in
-      executes t flow setting running around now later tasks slots from stmt (Do body test close) is
-      (Loop (turn (subst (λ (b : Bool). IsSpelled flow (with_point standing made) from (body_made levels around made from body to standing b)) breaks parts.body_spelled)
-      (λ now' later' there cont. do_again levels are around is_around middle made.points from stmt body test close to is parts.test_spelled now' later' tasks slots whole
-      (below_more made.registers middle.registers slots parts.registers below) there cont)))
-
-  is_break_clause : (clause : Clause t.Expr t.Stmt t.Init) → is_break t clause ≡ true → clause ≡ Break
+  pub is_break_clause : (clause : Clause t.Expr t.Stmt t.Init) → is_break t clause ≡ true → clause ≡ Break
   is_break_clause Break is = refl
   is_break_clause clause is = absurd (false≢true is)
-
-  -- a `do` whose body is a `break`: an edge that does nothing leads to its end
-  pub do_break_form : (levels : ℕ) (around : Around) (made : Made) (from : ℕ) (stmt body : t.Stmt) (test : t.Expr) (close : Place) (to : ℕ) (standing : Standing) → t.clause stmt ≡ Do body test close →
-      is_break t (t.clause body) ≡ true → IsSpelled flow made from (place_do t (go levels t) around made from body test close to standing false) →
-      (now later : List (Stop t)) (tasks : List (TaskIn t)) (slots : List Slot) → Goes around now later tasks slots to → Goes around now later (Execute stmt ∷ tasks) slots from
-  do_break_form levels around made from stmt body test close to standing is breaks spelled now later tasks slots cont =
-      let parts = do_is levels around made from body test close to standing spelled in
-      let body' = subst (λ (b : Bool). IsSpelled flow (with_point standing made) from (body_made levels around made from body to standing b)) breaks parts.body_spelled in
-      executes t flow setting running around now later tasks slots from stmt (Do body test close) is
-      (executes t flow setting running around now later (Again stmt (length slots + running.base) ∷ tasks) slots from body Break (is_break_clause (t.clause body) breaks)
-      (Breaks (t.first body) (record { blocks = 0; loop = stmt; held = length slots + running.base; rest = tasks }) [] tasks refl refl
-      (λ rest. ap (λ (c : Clause t.Expr t.Stmt t.Init). behind_loop t (t.first body) c (tasks ++ rest)) is) refl
-      (Passes to (t.first body) (emit_spelled to (i.Enter []) (t.first body) body') cont)))
-
-  -- `return` with a value, once that is converted: it is moved, what is held goes, and the function is left
-  pub give_form : (levels : ℕ) (around : Around) (kind from_kind : Kind) (register size register' size' : ℕ) (plain plain' : Bool) (turn : List MemoryBlock → Word → Word) (gone : List ℕ) →
-      IsLeft around (InRegister around.result size' plain') → (made : Made) (from middle : ℕ) (standing : Standing) (word : Place) →
-      IsSpelled flow made middle (along_at t around (go levels t around) made middle standing (Emits (i.Move around.result register') word ∷ Emits (i.Finish gone) word ∷ function_leaves around word) around.exit) →
-      (now later : List (Stop t)) (tasks : List (TaskIn t)) (slots : List Slot) → IsBody tasks kind → is_free register slots ≡ true →
-      Turns flow slots from register size plain turn middle register' size' plain' →
-      ((memory : List MemoryBlock) (value : Word) → Suits size plain value → as_kind memory from_kind kind value ≡ turn memory value) →
-      is_free around.result (InRegister register' size' plain' ∷ slots) ≡ true → list_any (nat_eq around.result) gone ≡ false → are_in gone (InRegister register' size' plain' ∷ slots) ≡ true →
-      Goes around now later (GiveBack word from_kind ∷ tasks) (InRegister register size plain ∷ slots) from
-  give_form levels around kind from_kind register size register' size' plain plain' turn gone left made from middle standing word spelled now later tasks slots body free turns means free' apart held =
-      let move : Move t = Emits (i.Move around.result register') word in
-      let finish : Move t = Emits (i.Finish gone) word in
-      let standing' : Standing = after t move standing in
-      let moves : List (Move t) = finish ∷ function_leaves around word in
-      let made' : Made = go levels t around (with_point standing' made) middle move made.points in
-      let first = head_spelled t flow setting running levels around made middle standing' move moves around.exit spelled in
-      let rest = tail_spelled t flow setting running levels around made middle standing' move moves around.exit spelled in
-      let standing'' : Standing = after t finish standing' in
-      let second = head_spelled t flow setting running levels around made' made.points standing'' finish (function_leaves around word) around.exit rest in
-      let last = tail_spelled t flow setting running levels around made' made.points standing'' finish (function_leaves around word) around.exit rest in
-      GivesBack word word from_kind body.left register size middle register' size' around.result made.points made'.points plain plain' turn gone body.is body.held body.rest free turns
-      (λ memory value suits. ap (λ (k : Kind). as_kind memory from_kind k value) body.result ∙ means memory value suits) free'
-      (one_at t flow setting running levels around (with_point standing' made) middle made.points (i.Move around.result register') word first)
-      (one_at t flow setting running levels around (with_point standing'' made') made.points made'.points (i.Finish gone) word second) apart held
-      (leave_form levels around (InRegister around.result size' plain') left (go levels t around (with_point standing'' made') made.points finish made'.points) made'.points standing'' word last (later ++ now) [])
 
   -- the `}` of a function begins with an edge of its own
   end_begins : (is_main : Bool) (kind : Kind) (around : Around) (standing : Standing) (close : Place) → begins t around standing (answers is_main kind around.result close ++ function_leaves around close) around.exit ≡ New
@@ -439,71 +347,6 @@ module _ (t : Text) (flow : Flow) (setting : Setting) (running : Running) where
   end_begins false (Struct size) around standing close = refl
   end_begins false Void around standing close = refl
 
-  moves_begin : (function : Function t.Stmt) (around : Around) (standing : Standing) (void : Bool) → begins t around standing (end_moves t function around void) around.exit ≡ New
+  pub moves_begin : (function : Function t.Stmt) (around : Around) (standing : Standing) (void : Bool) → begins t around standing (end_moves t function around void) around.exit ≡ New
   moves_begin function around standing true = refl
   moves_begin function around standing false = end_begins function.is_main function.result around standing function.close
-
-  -- the body of a function: its objects are made, and its statements go from there to its `}`
-  pub record BodyGoes (around : Around) (function : Function t.Stmt) (names : List Name) (from held : ℕ) : Type 0 where
-    pub to : ℕ
-    pub edge : One flow from (i.Enter (variables_of names)) to function.close
-    pub goes : Goes around [] [] (map Execute function.body ++ EndOfBody function.is_main function.result function.close held ∷ []) [] to
-
-  pub body_form : (levels : ℕ) (around : Around) (function : Function t.Stmt) (names : List Name) → IsLeft around (end_slot function.result around.result) → (made : Made) (from held : ℕ) (standing : Standing) →
-      IsSpelled flow made from (along_at t around (go levels t around) made from standing (enters names function.close ∷ (map Does function.body ++ end_moves t function around (is_void function.result))) around.exit) →
-      (Allowed : List (Stop t) → List (Stop t) → Type 0) → Allowed [] [] →
-      StatementsAre t flow setting running levels around (after t (enters names function.close) standing) Allowed (EndOfBody function.is_main function.result function.close held ∷ []) [] →
-      BodyGoes around function names from held
-  body_form levels around function names left made from held standing spelled Allowed allowed are =
-      by_begin (begins t around inside (map Does function.body ++ ending) around.exit) refl spelled
-    where
-      enter : Move t
-      enter = Emits (i.Enter (variables_of names)) function.close
-
-      inside : Standing
-      inside = after t (Emits (i.Enter (variables_of names)) function.close) standing
-
-      ending : List (Move t)
-      ending = end_moves t function around (is_void function.result)
-
-      begin : begins t around inside ending around.exit ≡ New
-      begin = moves_begin function around inside (is_void function.result)
-
-      end : (now later : List (Stop t)) → Allowed now later → (made' : Made) (from' : ℕ) → IsSpelled flow made' from' (along_at t around (go levels t around) made' from' inside ending around.exit) →
-          begins t around inside ending around.exit ≡ New → AreBelow made'.registers [] → Goes around now later (EndOfBody function.is_main function.result function.close held ∷ []) [] from'
-      end now later allowed' made' from' spelled' begin' below = end_form levels around function left made' from' inside spelled' now later held
-
-      by_begin : (start : Begin) → begins t around inside (map Does function.body ++ ending) around.exit ≡ start →
-          IsSpelled flow made from
-          (along_from t (λ made' point. along_at t around (go levels t around) made' point inside (map Does function.body ++ ending) around.exit) (go levels t around) made from enter inside GoesOn start) →
-          BodyGoes around function names from held
-      by_begin (Here point) start spelled' =
-          let one = go_placing levels t around made from enter point spelled'.inside spelled'.sound in
-          let rest = (moves_placing t around (go levels t around) (go_placing levels t around) (go levels t around made from enter point) point inside (map Does function.body ++ ending) around.exit one.sound).1 point start in
-          record {
-            to = point;
-            edge = one_at t flow setting running levels around made from point (i.Enter (variables_of names)) function.close (without_rest t flow setting running spelled' rest);
-            goes = rest_leads t flow setting running levels around inside ending around.exit begin Allowed (EndOfBody function.is_main function.result function.close held ∷ []) [] are [] [] allowed function.body point start;
-          }
-      by_begin New start spelled' =
-          let first = head_spelled t flow setting running levels around made from inside enter (map Does function.body ++ ending) around.exit spelled' in
-          let rest = tail_spelled t flow setting running levels around made from inside enter (map Does function.body ++ ending) around.exit spelled' in
-          record {
-            to = made.points;
-            edge = one_at t flow setting running levels around (with_point inside made) from made.points (i.Enter (variables_of names)) function.close first;
-            goes = in_order t flow setting running levels around inside ending around.exit begin Allowed (EndOfBody function.is_main function.result function.close held ∷ []) [] are end function.body [] [] allowed
-                (go levels t around (with_point inside made) from enter made.points) made.points rest start tt;
-          }
-
-  -- with the variables of the function in the graph, that is what a function is lowered by
-  pub body_spelled : (before : Made) (function : Function t.Stmt) (held : ℕ) (around : Around) (back : List Variable) → around.scopes ≡ (params_at t before function ++ locals_at t before function) ∷ [] →
-      flow.variables ≡ (before.variables ++ locals_of (params_of t function)) ++ (locals_of (objects_in t function.body) ++ back) →
-      BodyGoes around function (locals_at t before function) before.points held → IsBodySpelled t flow setting running before function held
-  body_spelled before function held around back scopes variables body = record {
-    back = back;
-    variables = variables;
-    to = body.to;
-    place = function.close;
-    edge = body.edge;
-    statements = subst (λ (list : List (List Name)). Lowered t flow setting running [] [] list (map Execute function.body ++ EndOfBody function.is_main function.result function.close held ∷ []) [] body.to) scopes body.goes;
-  }

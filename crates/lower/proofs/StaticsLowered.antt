@@ -1,15 +1,13 @@
 -- The static objects of a program are those of its graph, and their initialisers write what the graph begins with.
-use Rattle.std.proofs.Common.{◌≡◌, ◌≢◌, ℕ, zero, suc, ◌+◌, ◌≤◌, Bool, true, false, List, [], ◌∷◌, ◌++◌, map, length, refl, sym, ap, subst, ◌∙◌, arith, Option, Some, slice_get, if◌then◌else◌}
+use Rattle.std.proofs.Common.{◌≡◌, ℕ, zero, suc, ◌+◌, ◌*◌, ◌≤◌, Bool, true, false, List, [], ◌∷◌, ◌++◌, map, length, refl, sym, ap, subst, ◌∙◌, arith, Option, Some, slice_get, if◌then◌else◌}
 use Rattle.std.specs.List.{list_all}
 use Rattle.std.proofs.lemmas.Bool.{and_parts, leb-true}
 use Rattle.std.proofs.lemmas.Option.{same_Some, none-some}
 use Rattle.bytes_core.specs.declared.block.Block.{Block}
 use Rattle.choices.specs.declared.choice.Choice.{Choice}
 use Rattle.c_machine.specs.declared.object.Object.{Object}
-use Rattle.c_machine.specs.declared.task.Task.TheVariants.{Initialise}
-use Rattle.c_machine.specs.Run.{done_within}
-use Rattle.c_machine.specs.State.{OutcomeIn, Scope, Went, Stuck, is_named}
-use Rattle.c_machine.specs.Text.{Text}
+use Rattle.c_machine.specs.State.{OutcomeIn, Scope, Went, is_named}
+use Rattle.c_machine.specs.Text.{Set, Text}
 use Rattle.flow.specs.declared.flow_graph.Flow.{Flow}
 use Rattle.flow.specs.declared.flow_graph.Initial.{Initial}
 use Rattle.flow.specs.declared.flow_graph.Variable.{Variable}
@@ -27,6 +25,7 @@ use Rattle.simulation.specs.Names.{Name, variable_in}
 use Rattle.lower.specs.Initials.{initials_of, latest}
 use Rattle.lower.specs.Placing.{named_from}
 use Rattle.lower.proofs.StaticsMade.{fixed_of, AreLocal, IsBlockOf, statics_made}
+use Rattle.lower.proofs.KnownWords.{AllWeigh, Weighing}
 use Rattle.lower.proofs.StaticsWritten.{IsStood, all_written}
 
 -- names as they are told of
@@ -77,15 +76,12 @@ pub record HasStatics (t : Text) (flow : Flow) (setting : Setting) : Type 0 wher
   pub initial : flow.initial ≡ latest scalars
   pub statics : setting.statics ≡ told (named_from 0 t.statics)
 
--- The machine is given steps enough for its initialisers.
-pub record HasSteps (t : Text) (flow : Flow) (setting : Setting) : Type 0 where
+-- The machine is given steps enough for its initialisers: eight for each part of one that is worked out.
+pub record HasSteps (t : Text) : Type 1 where
+  pub weighing : Weighing t
   pub steps : ℕ
   pub enough : t.enough ≡ length t.statics + steps
-  pub lasts : (made : graph.State) (statics : Scope) (choices more : List Choice) →
-      with_statics 0 flow.variables (blank (entry_of flow flow.main)) choices ≡ graph.Went made more → AreNames made.statics setting.statics statics →
-      done_within steps t
-      (record { tasks = map (λ set. Initialise set.place set.init) t.sets; operands = []; frame = []; callers = []; statics = statics; memory = made.memory }) more
-      ≢ Stuck
+  pub few : (count : ℕ) → AllWeigh (λ (set : Set t.Init). weighing.init set.init) t.sets count → 8 * count ≤ steps
 
 stood_at : (t : Text) (made : graph.State) (statics : Scope) → list_all (λ object. is_object_size object.bytes) t.statics ≡ true →
     ((variable : ℕ) (object : Object) → slice_get t.statics variable ≡ Some object → (block_of made.statics variable ≡ Some variable) × IsBlockOf made.memory variable object.bytes) →
@@ -107,7 +103,7 @@ stood_at t made statics small each are token variable is =
 abbrev ends : (t : Text) → Scope → List Block → List Choice → OutcomeIn t
 ends t statics memory more = Went (record { tasks = []; operands = []; frame = []; callers = []; statics = statics; memory = memory }) more
 
-pub statics_lowered : (t : Text) (flow : Flow) (setting : Setting) → HasStatics t flow setting → HasSteps t flow setting → AreStaticsLowered t flow setting
+pub statics_lowered : (t : Text) (flow : Flow) (setting : Setting) → HasStatics t flow setting → HasSteps t → AreStaticsLowered t flow setting
 statics_lowered t flow setting has long = record {
   fixed = subst (λ (variables : List Variable). AreFixed 0 variables t.statics setting.statics) (sym has.variables)
       (subst (λ (names : List NameThere). AreFixed 0 (fixed_of t.statics ++ has.others) t.statics names) (sym has.statics) (are_fixed 0 0 t.statics has.others has.local refl));
@@ -118,7 +114,7 @@ statics_lowered t flow setting has long = record {
       (subst (λ (variables : List Variable). with_statics 0 variables (blank (entry_of flow flow.main)) choices ≡ graph.Went made more) has.variables goes) in
       let are' : AreNames made.statics (told (named_from 0 t.statics)) statics = subst (λ (names : List NameThere). AreNames made.statics names statics) has.statics are in
       let stood : (token variable : ℕ) → variable_in (named_from 0 t.statics) token ≡ Some variable → IsStood t statics made.statics token variable = stood_at t made statics has.small each.0 are' in
-      all_written t statics made.statics (named_from 0 t.statics) stood has.scalars has.told_scalars made.memory
-      (record { blocks = λ variable object is. (each.0 variable object is).1; none = each.1 }) long.steps more (long.lasts made statics choices more goes are)
+      all_written t statics made.statics (named_from 0 t.statics) stood long.weighing has.scalars has.told_scalars made.memory
+      (record { blocks = λ variable object is. (each.0 variable object is).1; none = each.1 }) long.steps more long.few
       ∙ ap (λ (scalars : List Initial). ends t statics (with_initials made.statics scalars made.memory) more) (sym has.initial);
 }

@@ -1,5 +1,5 @@
 -- The initialisers of static objects, as the machine works them out and stores them, leave the memory with which the graph begins.
-use Rattle.std.proofs.Common.{◌≡◌, ◌≢◌, ℕ, zero, suc, ◌+◌, ◌^◌, ◌%◌, ◌<◌, ◌≤◌, min, Bool, true, false, List, [], ◌∷◌, ◌++◌, map, length, take, set, refl, sym, ap, subst, ◌∙◌, arith, append-nil, ⊎_elim, pos, Option, None, Some, nat_le, slice_get, if◌then◌else◌}
+use Rattle.std.proofs.Common.{◌≡◌, ◌≢◌, ℕ, zero, suc, ◌+◌, ◌*◌, ◌^◌, ◌%◌, ◌<◌, ◌≤◌, min, Bool, true, false, List, [], ◌∷◌, ◌++◌, map, length, take, set, refl, sym, ap, subst, ◌∙◌, arith, append-nil, ⊎_elim, pos, Option, None, Some, nat_le, slice_get, if◌then◌else◌}
 use Rattle.std.specs.Int.{w64, cast_signed}
 use Rattle.std.specs.Option.{option_map_or}
 use Rattle.std.proofs.lemmas.Bool.{leb-true, le-leb, cases_eq}
@@ -24,8 +24,8 @@ use Rattle.c_machine.specs.declared.object.Object.{Object}
 use Rattle.c_machine.specs.declared.task.Task.TheVariants.{ValueOf, ObjectAt, Shift, Convert, Store, Finish, Initialise}
 use Rattle.c_machine.specs.Blocks.{set as set_tasks, set_by, initialiser_parts}
 use Rattle.c_machine.specs.Run.{done_within}
-use Rattle.c_machine.specs.State.{TaskIn, StateIn, OutcomeIn, Scope, Went, Faulted, Stuck, block_in, roots, unless_fault}
-use Rattle.c_machine.specs.Step.{object_at, store_step}
+use Rattle.c_machine.specs.State.{TaskIn, StateIn, OutcomeIn, Scope, Went, Faulted, block_in, roots, unless_fault}
+use Rattle.c_machine.specs.Step.{step, object_at, store_step}
 use Rattle.c_machine.specs.Text.{Initialiser, Value as ValueInit, Braces, Set, Store as Stored, Text}
 use Rattle.c_machine.specs.Words.{scalar_bytes, decayed}
 use Rattle.flow.specs.declared.flow_graph.Initial.{Initial}
@@ -36,9 +36,9 @@ use Rattle.simulation.specs.Names.{Name, variable_in}
 use Rattle.lower.specs.Known.{known_word, word_as}
 use Rattle.lower.specs.Initials.{initial_word, bytes_of, scalar_by, set_initial, joined, joined_all, initials_by, initials_within, initials_of, latest}
 use Rattle.lower.proofs.KnownStatics.{Leads, known_leads, word_led}
-use Rattle.lower.proofs.KnownWords.{first_step, known_worked, word_worked}
+use Rattle.lower.proofs.KnownWords.{AllWeigh, Weighing, first_step, known_worked, Comes, word_worked}
 use Rattle.lower.proofs.LatestInitials.{HasRoom, HaveRoom, latest_writes, length_overwritten}
-use Rattle.lower.proofs.StartSteps.{before_main, Takes, takes_none, takes_both, same_end}
+use Rattle.lower.proofs.StartSteps.{before_main, Takes, takes_none, takes_both, takes_less, lasts_on}
 use Rattle.lower.proofs.StaticsMade.{IsBlockOf, NoHeap}
 
 -- an address is moved from the front of an object
@@ -118,7 +118,8 @@ pub record IsStood (t : Text) (statics : Scope) (owned : List Owned) (token vari
   pub here : block_in statics token ≡ Some variable
   pub there : block_of owned variable ≡ Some variable
 
-module _ (t : Text) (statics : Scope) (owned : List Owned) (names : List Name) (stood : (token variable : ℕ) → variable_in names token ≡ Some variable → IsStood t statics owned token variable) where
+module _ (t : Text) (statics : Scope) (owned : List Owned) (names : List Name) (stood : (token variable : ℕ) → variable_in names token ≡ Some variable → IsStood t statics owned token variable)
+    (weighing : Weighing t) where
   abbrev At : List (TaskIn t) → List Word → List Block → StateIn t
   At tasks operands memory = before_main t statics tasks operands memory
 
@@ -209,19 +210,27 @@ module _ (t : Text) (statics : Scope) (owned : List Owned) (names : List Name) (
   ready_all memory [] ready are = ready
   ready_all memory (scalar ∷ scalars) ready are = ready_all (with_initial owned scalar memory) scalars (ready_one memory scalar ready are.0) are.1
 
-  -- what tasks do to each memory that is ready
-  pub record AreWorkedOut (tasks : List (TaskIn t)) (scalars : List Initial) : Type 0 where
+  -- what tasks do to each memory that is ready, in so many steps
+  pub record AreWorkedOut (steps : ℕ) (tasks : List (TaskIn t)) (scalars : List Initial) : Type 0 where
     pub within : AreWithin scalars
-    pub takes : (rest : List (TaskIn t)) (memory : List Block) → IsReady memory → Takes t (At (tasks ++ rest) [] memory) (At rest [] (with_initials owned scalars memory))
+    pub takes : (rest : List (TaskIn t)) (memory : List Block) → IsReady memory → Takes t steps (At (tasks ++ rest) [] memory) (At rest [] (with_initials owned scalars memory))
 
-  none_worked : AreWorkedOut [] []
+  none_worked : AreWorkedOut 0 [] []
   none_worked = record { within = tt; takes = λ rest memory ready. takes_none t (At rest [] memory) }
 
-  both_worked : (task : TaskIn t) (tasks : List (TaskIn t)) (one other all : List Initial) → AreWorkedOut (task ∷ []) one → AreWorkedOut tasks other → one ++ other ≡ all → AreWorkedOut (task ∷ tasks) all
-  both_worked task tasks one other all first second is = subst (AreWorkedOut (task ∷ tasks)) is (record {
+  less_worked : (steps more : ℕ) (tasks : List (TaskIn t)) (scalars : List Initial) → steps ≤ more → AreWorkedOut steps tasks scalars → AreWorkedOut more tasks scalars
+  less_worked steps more tasks scalars less worked = record {
+    within = worked.within;
+    takes = λ rest memory ready. takes_less t steps more (At (tasks ++ rest) [] memory) (At rest [] (with_initials owned scalars memory)) less (worked.takes rest memory ready);
+  }
+
+  both_worked : (steps others : ℕ) (task : TaskIn t) (tasks : List (TaskIn t)) (one other all : List Initial) → AreWorkedOut steps (task ∷ []) one → AreWorkedOut others tasks other → one ++ other ≡ all →
+      AreWorkedOut (steps + others) (task ∷ tasks) all
+  both_worked steps others task tasks one other all first second is = subst (AreWorkedOut (steps + others) (task ∷ tasks)) is (record {
     within = within_both one other first.within second.within;
-    takes = λ rest memory ready. subst (λ (after : List Block). Takes t (At (task ∷ (tasks ++ rest)) [] memory) (At rest [] after)) (sym (written_behind owned one other memory))
-        (takes_both t _ (At (tasks ++ rest) [] (with_initials owned one memory)) _
+    takes = λ rest memory ready.
+        subst (λ (after : List Block). Takes t (steps + others) (At (task ∷ (tasks ++ rest)) [] memory) (At rest [] after)) (sym (written_behind owned one other memory))
+        (takes_both t steps others (At (task ∷ (tasks ++ rest)) [] memory) (At (tasks ++ rest) [] (with_initials owned one memory)) (At rest [] (with_initials owned other (with_initials owned one memory)))
         (first.takes (tasks ++ rest) memory ready)
         (second.takes rest (with_initials owned one memory) (ready_all memory one ready first.within)));
   })
@@ -274,8 +283,18 @@ module _ (t : Text) (statics : Scope) (owned : List Owned) (names : List Name) (
     same_memory : (memory : List Block) → with_initial owned scalar memory ≡ memory_after memory
     same_memory memory = initial_stored memory scalar within_there ∙ ap (λ (w : Word). stored memory (To variable (pos stored'.offset)) bytes w) (leads_back word led)
 
+    comes : Comes t statics names stands weighing.expr weighing.nothing weighing.one_more (known_word t.enough t names)
+        (known_worked t statics names stands weighing.expr weighing.nothing weighing.one_more t.enough) value stored'.kind word
+    comes =
+        word_worked t statics names stands weighing.expr weighing.nothing weighing.one_more (known_word t.enough t names)
+        (known_worked t statics names stands weighing.expr weighing.nothing weighing.one_more t.enough) value stored'.kind word is_word
+
+    goes_first : (task : TaskIn t) (tasks : List (TaskIn t)) (operands : List Word) (memory : List Block) (next other : StateIn t) (steps : ℕ) →
+        ((choices : List Choice) → step t (At (task ∷ tasks) operands memory) choices ≡ Went next choices) → Takes t steps next other → Takes t (suc steps) (At (task ∷ tasks) operands memory) other
+    goes_first = first_step t statics names stands weighing.expr weighing.nothing weighing.one_more
+
     scalar_takes : (rest : List (TaskIn t)) (memory : List Block) → IsReady memory →
-        Takes t (At (ObjectAt (t.token place) ∷ Shift stored'.offset ∷ ValueOf value ∷ Convert (decayed (t.kind value)) stored'.kind ∷ Store place stored'.kind ∷ Finish after ∷ rest) [] memory)
+        Takes t (9 + 4 * comes.count) (At (ObjectAt (t.token place) ∷ Shift stored'.offset ∷ ValueOf value ∷ Convert (decayed (t.kind value)) stored'.kind ∷ Store place stored'.kind ∷ Finish after ∷ rest) [] memory)
         (At rest [] (with_initials owned (scalar ∷ []) memory))
     scalar_takes rest memory ready =
         let object = stood (t.token place) variable is_variable in
@@ -286,87 +305,119 @@ module _ (t : Text) (statics : Scope) (owned : List Owned) (names : List Name) (
         let last : List (TaskIn t) = Finish after ∷ rest in
         let storing : List (TaskIn t) = Store place kind ∷ last in
         let valuing : List (TaskIn t) = ValueOf value ∷ Convert (decayed (t.kind value)) kind ∷ storing in
+        let count : ℕ = comes.count in
         let none : NoHeap (memory_after memory) = subst NoHeap (same_memory memory) (ready_one memory scalar ready within_there).none in
         let block : IsBlockOf memory variable object.object.bytes = ready.blocks variable object.object object.is in
-        first_step t statics names stands (ObjectAt (t.token place)) (Shift offset ∷ valuing) [] memory (At (Shift offset ∷ valuing) (To variable (pos 0) ∷ []) memory) end
+        takes_less t (suc (suc (5 + 4 * count + suc (suc 0)))) (9 + 4 * count) (At (ObjectAt (t.token place) ∷ Shift offset ∷ valuing) [] memory) end (omega arith)
+        (goes_first (ObjectAt (t.token place)) (Shift offset ∷ valuing) [] memory (At (Shift offset ∷ valuing) (To variable (pos 0) ∷ []) memory) end (suc (5 + 4 * count + suc (suc 0)))
         (λ choices. ap (λ (found : Option ℕ). object_at found (At (Shift offset ∷ valuing) [] memory) choices) object.here)
-        (first_step t statics names stands (Shift offset) valuing (To variable (pos 0) ∷ []) memory (At valuing (at ∷ []) memory) end
+        (goes_first (Shift offset) valuing (To variable (pos 0) ∷ []) memory (At valuing (at ∷ []) memory) end (5 + 4 * count + suc (suc 0))
         (λ choices. ap (λ (w : Word). Went (At valuing (w ∷ []) memory) choices) (moved_from_front variable offset small))
-        (takes_both t (At valuing (at ∷ []) memory) (At storing (word ∷ at ∷ []) memory) end
-        (word_worked t statics names stands (known_word t.enough t names) (known_worked t statics names stands t.enough) value kind word is_word storing (at ∷ []) memory)
-        (first_step t statics names stands (Store place kind) last (word ∷ at ∷ []) memory (At last (word ∷ []) (memory_after memory)) end
+        (takes_both t (5 + 4 * count) (suc (suc 0)) (At valuing (at ∷ []) memory) (At storing (word ∷ at ∷ []) memory) end
+        (comes.takes storing (at ∷ []) memory)
+        (goes_first (Store place kind) last (word ∷ at ∷ []) memory (At last (word ∷ []) (memory_after memory)) end (suc 0)
         (λ choices. ap (λ (b : Option ℕ). store_step place b at word (At last [] memory) choices) is_bytes
         ∙ ap (λ (fault : Option ℕ). unless_fault fault place (Went (At last (word ∷ []) (memory_after memory)) choices)) (no_fault memory variable offset bytes object.object.bytes block room_there))
-        (first_step t statics names stands (Finish after) rest (word ∷ []) (memory_after memory) (At rest [] (memory_after memory)) end
+        (goes_first (Finish after) rest (word ∷ []) (memory_after memory) (At rest [] (memory_after memory)) end 0
         (λ choices. ap (λ (lost : Bool). if lost then Faulted memory_lost after else Went (At rest [] (memory_after memory)) choices)
         (not_lost (memory_after memory) (roots (At rest [] (memory_after memory))) none))
-        (subst (λ (m : List Block). Takes t (At rest [] (memory_after memory)) (At rest [] m)) (sym (same_memory memory)) (takes_none t (At rest [] (memory_after memory))))))))
+        (subst (λ (m : List Block). Takes t 0 (At rest [] (memory_after memory)) (At rest [] m)) (sym (same_memory memory)) (takes_none t (At rest [] (memory_after memory)))))))))
 
-    scalar_worked : AreWorkedOut (set_tasks t place value after (Some stored')) (scalar ∷ [])
+    scalar_worked : AreWorkedOut (9 + 4 * comes.count) (set_tasks t place value after (Some stored')) (scalar ∷ [])
     scalar_worked = record {
       within = (within_there, tt);
       takes = λ rest memory ready.
-          subst (λ (tasks : List (TaskIn t)). Takes t (At (ObjectAt (t.token place) ∷ Shift stored'.offset ∷ ((tasks ++ Finish after ∷ []) ++ rest)) [] memory)
+          subst (λ (tasks : List (TaskIn t)). Takes t (9 + 4 * comes.count) (At (ObjectAt (t.token place) ∷ Shift stored'.offset ∷ ((tasks ++ Finish after ∷ []) ++ rest)) [] memory)
           (At rest [] (with_initials owned (scalar ∷ []) memory)))
           (sym (set_scalar t place stored'.kind value bytes is_bytes)) (scalar_takes rest memory ready);
     }
 
   set_worked : (place after : Place) (value : t.Expr) (store : Option Stored) (scalars : List Initial) → set_initial t names place value store ≡ Some scalars →
-      AreWorkedOut (set_tasks t place value after store) scalars
+      (count : ℕ) × weighing.expr value (suc count) × AreWorkedOut (9 + 4 * count) (set_tasks t place value after store) scalars
   set_worked place after value None scalars is = absurd (none-some scalars is)
   set_worked place after value (Some stored') scalars is =
       let parts = scalar_parts t (variable_in names (t.token place)) (scalar_bytes stored'.kind) (word_as t (known_word t.enough t names) value stored'.kind) stored'.offset scalars is in
-      subst (AreWorkedOut (set_tasks t place value after (Some stored'))) parts.are
-      (scalar_worked place after value stored' parts.variable parts.bytes parts.word parts.is_variable parts.is_bytes parts.is_word parts.fits)
+      let one = comes place after value stored' parts.variable parts.bytes parts.word parts.is_variable parts.is_bytes parts.is_word parts.fits in (
+        one.count,
+        one.weighs,
+        subst (AreWorkedOut (9 + 4 * one.count) (set_tasks t place value after (Some stored'))) parts.are
+            (scalar_worked place after value stored' parts.variable parts.bytes parts.word parts.is_variable parts.is_bytes parts.is_word parts.fits),
+      )
+
+  -- an initialiser, in eight steps for each of its parts
+  abbrev InitWorked : Place → t.Init → List Initial → Type 0
+  InitWorked place init scalars = (count : ℕ) × weighing.init init count × AreWorkedOut (8 * count) (Initialise place init ∷ []) scalars
 
   -- parts in braces
-  parts_worked : (place : Place) (each : t.Init → Option (List Initial)) →
-      ((init : t.Init) (scalars : List Initial) → each init ≡ Some scalars → AreWorkedOut (Initialise place init ∷ []) scalars) →
-      (parts : List t.Init) (scalars : List Initial) → joined_all each parts ≡ Some scalars → AreWorkedOut (map (Initialise place) parts) scalars
-  parts_worked place each known [] scalars is = subst (AreWorkedOut []) (same_Some [] scalars is) none_worked
+  parts_worked : (place : Place) (each : t.Init → Option (List Initial)) → ((init : t.Init) (scalars : List Initial) → each init ≡ Some scalars → InitWorked place init scalars) →
+      (parts : List t.Init) (scalars : List Initial) → joined_all each parts ≡ Some scalars → (count : ℕ) × AllWeigh weighing.init parts count × AreWorkedOut (8 * count) (map (Initialise place) parts) scalars
+  parts_worked place each known [] scalars is = (0, refl, subst (AreWorkedOut 0 []) (same_Some [] scalars is) none_worked)
   parts_worked place each known (part ∷ parts) scalars is =
       let found = joined_parts (each part) (joined_all each parts) scalars is in
-      both_worked (Initialise place part) (map (Initialise place) parts) found.0 found.1 scalars (known part found.0 found.2) (parts_worked place each known parts found.1 found.3) found.4
+      let one = known part found.0 found.2 in
+      let others = parts_worked place each known parts found.1 found.3 in (
+        one.0 + others.0,
+        (one.0, others.0, one.1, others.1, refl),
+        less_worked (8 * one.0 + 8 * others.0) (8 * (one.0 + others.0)) (Initialise place part ∷ map (Initialise place) parts) scalars (omega arith)
+            (both_worked (8 * one.0) (8 * others.0) (Initialise place part) (map (Initialise place) parts) found.0 found.1 scalars one.2 others.2 found.4),
+      )
 
-  unfolds : (place : Place) (init : t.Init) (form : Initialiser t.Expr t.Init) (scalars : List Initial) → t.initialiser init ≡ form → AreWorkedOut (initialiser_parts t place form) scalars →
-      AreWorkedOut (Initialise place init ∷ []) scalars
-  unfolds place init form scalars is worked = record {
+  unfolds : (steps : ℕ) (place : Place) (init : t.Init) (form : Initialiser t.Expr t.Init) (scalars : List Initial) → t.initialiser init ≡ form → AreWorkedOut steps (initialiser_parts t place form) scalars →
+      AreWorkedOut (suc steps) (Initialise place init ∷ []) scalars
+  unfolds steps place init form scalars is worked = record {
     within = worked.within;
     takes = λ rest memory ready.
-        first_step t statics names stands (Initialise place init) rest [] memory (At (initialiser_parts t place (t.initialiser init) ++ rest) [] memory) (At rest [] (with_initials owned scalars memory))
-        (λ choices. refl)
-        (subst (λ (f : Initialiser t.Expr t.Init). Takes t (At (initialiser_parts t place f ++ rest) [] memory) (At rest [] (with_initials owned scalars memory))) (sym is) (worked.takes rest memory ready));
+        first_step t statics names stands weighing.expr weighing.nothing weighing.one_more (Initialise place init) rest [] memory (At (initialiser_parts t place (t.initialiser init) ++ rest) [] memory)
+        (At rest [] (with_initials owned scalars memory)) steps (λ choices. refl)
+        (subst (λ (f : Initialiser t.Expr t.Init). Takes t steps (At (initialiser_parts t place f ++ rest) [] memory) (At rest [] (with_initials owned scalars memory))) (sym is) (worked.takes rest memory ready));
   }
 
-  form_worked : (levels : ℕ) → ((place : Place) (init : t.Init) (scalars : List Initial) → initials_within levels t names place init ≡ Some scalars → AreWorkedOut (Initialise place init ∷ []) scalars) →
+  form_worked : (levels : ℕ) → ((place : Place) (init : t.Init) (scalars : List Initial) → initials_within levels t names place init ≡ Some scalars → InitWorked place init scalars) →
       (place : Place) (init : t.Init) (form : Initialiser t.Expr t.Init) (scalars : List Initial) → t.initialiser init ≡ form → initials_by t names (initials_within levels t names place) place form ≡ Some scalars →
-      AreWorkedOut (Initialise place init ∷ []) scalars
+      InitWorked place init scalars
   form_worked levels deeper place init (ValueInit value after) scalars form is =
-      unfolds place init (ValueInit value after) scalars form (set_worked place after value (t.store place value) scalars is)
+      let one = set_worked place after value (t.store place value) scalars is in (
+        suc (suc one.0),
+        weighing.value init value after (suc one.0) form one.1,
+        less_worked (suc (9 + 4 * one.0)) (8 * suc (suc one.0)) (Initialise place init ∷ []) scalars (omega arith) (unfolds (9 + 4 * one.0) place init (ValueInit value after) scalars form one.2),
+      )
   form_worked levels deeper place init (Braces parts) scalars form is =
-      unfolds place init (Braces parts) scalars form (parts_worked place (initials_within levels t names place) (deeper place) parts scalars is)
+      let all = parts_worked place (initials_within levels t names place) (deeper place) parts scalars is in (
+        suc all.0,
+        weighing.braces init parts all.0 form all.1,
+        less_worked (suc (8 * all.0)) (8 * suc all.0) (Initialise place init ∷ []) scalars (omega arith) (unfolds (8 * all.0) place init (Braces parts) scalars form all.2),
+      )
 
-  init_worked : (levels : ℕ) (place : Place) (init : t.Init) (scalars : List Initial) → initials_within levels t names place init ≡ Some scalars → AreWorkedOut (Initialise place init ∷ []) scalars
+  init_worked : (levels : ℕ) (place : Place) (init : t.Init) (scalars : List Initial) → initials_within levels t names place init ≡ Some scalars → InitWorked place init scalars
   init_worked zero place init scalars is = absurd (none-some scalars is)
   init_worked (suc levels) place init scalars is = form_worked levels (init_worked levels) place init (t.initialiser init) scalars refl is
 
   abbrev sets_tasks : List (Set t.Init) → List (TaskIn t)
   sets_tasks sets = map (λ set. Initialise set.place set.init) sets
 
-  sets_worked : (sets : List (Set t.Init)) (scalars : List Initial) → joined_all (λ set. initials_within t.enough t names set.place set.init) sets ≡ Some scalars → AreWorkedOut (sets_tasks sets) scalars
-  sets_worked [] scalars is = subst (AreWorkedOut []) (same_Some [] scalars is) none_worked
+  sets_worked : (sets : List (Set t.Init)) (scalars : List Initial) → joined_all (λ set. initials_within t.enough t names set.place set.init) sets ≡ Some scalars →
+      (count : ℕ) × AllWeigh (λ (set : Set t.Init). weighing.init set.init) sets count × AreWorkedOut (8 * count) (sets_tasks sets) scalars
+  sets_worked [] scalars is = (0, refl, subst (AreWorkedOut 0 []) (same_Some [] scalars is) none_worked)
   sets_worked (set ∷ sets) scalars is =
       let found = joined_parts (initials_within t.enough t names set.place set.init) (joined_all (λ s. initials_within t.enough t names s.place s.init) sets) scalars is in
-      both_worked (Initialise set.place set.init) (sets_tasks sets) found.0 found.1 scalars (init_worked t.enough set.place set.init found.0 found.2) (sets_worked sets found.1 found.3) found.4
+      let one = init_worked t.enough set.place set.init found.0 found.2 in
+      let others = sets_worked sets found.1 found.3 in (
+        one.0 + others.0,
+        (one.0, others.0, one.1, others.1, refl),
+        less_worked (8 * one.0 + 8 * others.0) (8 * (one.0 + others.0)) (Initialise set.place set.init ∷ sets_tasks sets) scalars (omega arith)
+            (both_worked (8 * one.0) (8 * others.0) (Initialise set.place set.init) (sets_tasks sets) found.0 found.1 scalars one.2 others.2 found.4),
+      )
 
-  -- all of them: where the machine is given steps enough, it comes to the memory of the graph
+  -- all of them: in eight steps for each part the machine comes to the memory of the graph
   pub all_written : (scalars : List Initial) → initials_of t names ≡ Some scalars → (memory : List Block) → IsReady memory → (steps : ℕ) (choices : List Choice) →
-      done_within steps t (At (sets_tasks t.sets) [] memory) choices ≢ Stuck →
+      ((count : ℕ) → AllWeigh (λ (set : Set t.Init). weighing.init set.init) t.sets count → 8 * count ≤ steps) →
       done_within steps t (At (sets_tasks t.sets) [] memory) choices ≡ Went (At [] [] (with_initials owned (latest scalars) memory)) choices
-  all_written scalars is memory ready steps choices lasts =
-      let worked = sets_worked t.sets scalars is in
+  all_written scalars is memory ready steps choices few =
+      let all = sets_worked t.sets scalars is in
       let end : OutcomeIn t = Went (At [] [] (with_initials owned scalars memory)) choices in
-      let takes : (more : ℕ) × (done_within more t (At (sets_tasks t.sets) [] memory) choices ≡ end) =
-      subst (λ (tasks : List (TaskIn t)). (more : ℕ) × (done_within more t (At tasks [] memory) choices ≡ end)) (append-nil (sets_tasks t.sets)) (worked.takes [] memory ready 0 choices) in
-      same_end t steps takes.0 (At (sets_tasks t.sets) [] memory) choices lasts (λ stuck. let there = takes.1 in absurd (cc))
-      ∙ (takes.1 ∙ ap (λ (m : List Block). Went (At [] [] m) choices) (sym (latest_writes owned scalars memory (have_room memory scalars ready worked.within))))
+      let takes : (more : ℕ) × (more ≤ 8 * all.0 + 0) × (done_within more t (At (sets_tasks t.sets) [] memory) choices ≡ end) =
+      subst (λ (tasks : List (TaskIn t)). (more : ℕ) × (more ≤ 8 * all.0 + 0) × (done_within more t (At tasks [] memory) choices ≡ end)) (append-nil (sets_tasks t.sets)) (all.2.takes [] memory ready 0 choices) in
+      let less = few all.0 all.1 in
+      let most = takes.1 in
+      lasts_on t takes.0 steps (omega arith) (At (sets_tasks t.sets) [] memory) choices (λ stuck. let there = takes.2 in absurd (cc))
+      ∙ (takes.2 ∙ ap (λ (m : List Block). Went (At [] [] m) choices) (sym (latest_writes owned scalars memory (have_room memory scalars ready all.2.within))))

@@ -1,5 +1,5 @@
 -- How many bytes a register has for a value, and what a conversion is in the graph (C11 6.3).
-use Rattle.std.specs.Prelude.{ℕ, Bool, true, false, nat_eq, if◌then◌else◌}
+use Rattle.std.specs.Prelude.{ℕ, Bool, true, false, nat_eq, nat_lt, ◌&&◌, if◌then◌else◌}
 use Rattle.std.specs.Option.{option_map_or}
 use Rattle.cbase.specs.declared.tree.operators.BinaryOp.{BinaryOp}
 use Rattle.cbase.specs.declared.tree.operators.BinaryOp.TheVariants.{Mul, Div, Rem, Add, Sub, Left, Right, Greater, GreaterEqual, Equal, NotEqual, And, Xor, Or}
@@ -34,13 +34,21 @@ fits Void asked = is_void asked
 fits made Void = false
 fits made asked = true
 
+-- a value of some bytes that becomes a `_Bool`, which has 1 byte
+abbrev pub tested : ℕ → IntegerType → Conversion
+tested bytes to = if nat_lt 0 bytes && nat_eq to.bytes 1 then Tested else Unknown
+
 -- an integer: one of a type to itself is nothing
 abbrev pub between_integers : IntegerType → IntegerType → Conversion
-between_integers from to = if is_same from to then Nothing else (if to.truth then Tested else Resized to.bytes from.signed)
+between_integers from to = if is_same from to then Nothing else (if to.truth then tested from.bytes to else Resized to.bytes from.signed)
 
 -- what leads somewhere becomes an integer: a number of 8 bytes without sign is converted, also where the integer has as many
 abbrev pub to_integer : IntegerType → Conversion
-to_integer to = if to.truth then Tested else Resized to.bytes false
+to_integer to = if to.truth then tested 8 to else Resized to.bytes false
+
+-- an integer as an operator takes it: none computes in `_Bool` (6.3.1.1p2, 6.3.1.8)
+abbrev pub as_operand : IntegerType → IntegerType → Conversion
+as_operand from to = if to.truth then Unknown else between_integers from to
 
 abbrev pub conversion : Kind → Kind → Conversion
 conversion from Void = Dropped
@@ -66,10 +74,10 @@ pub record Sides : Type 0 where
   pub right : Conversion
 
 abbrev pub sides_to : IntegerType → IntegerType → IntegerType → Sides
-sides_to to left right = record { left = between_integers left to; right = between_integers right to }
+sides_to to left right = record { left = as_operand left to; right = as_operand right to }
 
 abbrev pub promoted_sides : IntegerType → IntegerType → Sides
-promoted_sides left right = record { left = between_integers left (promoted left); right = between_integers right (promoted right) }
+promoted_sides left right = record { left = as_operand left (promoted left); right = as_operand right (promoted right) }
 
 -- the type in which two integers meet; `>` and `>=` are `<` and `<=` with their sides exchanged
 abbrev pub meeting : BinaryOp → IntegerType → IntegerType → IntegerType

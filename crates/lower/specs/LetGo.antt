@@ -16,7 +16,7 @@ use Rattle.c_machine.specs.declared.kind.Kind.TheVariants.{Integer, Struct}
 use Rattle.c_machine.specs.Text.{Standing, BuiltInStands, BodyStands, Form, Name, Known, Unary, Binary, Assign, Count, Choose, Cast, Index, Member, Call, Inner, AssertFail, Function, Text}
 use Rattle.c_machine.specs.Expressions.{value_kind, built_in}
 use Rattle.c_machine.specs.Words.{scalar_bytes}
-use Rattle.lower.specs.Kinds.{is_void, conversion}
+use Rattle.lower.specs.Kinds.{is_void, conversion, as_operand}
 use Rattle.lower.specs.declared.conversion.Conversion.{Conversion}
 use Rattle.lower.specs.declared.conversion.Conversion.TheVariants.{Nothing, Resized, Tested, Dropped, Unknown}
 
@@ -47,12 +47,12 @@ left_by_load t left expr in_spare None = left (AsPlace in_spare) expr
 left_by_load t left expr in_spare (Some bytes) = left (AsPlace false) expr
 
 -- an operator without a conversion of its own hands its register on
+abbrev pub stays : Conversion → Bool
+stays Nothing = true
+stays other = false
+
 abbrev pub in_spare_still : UnaryOp → Kind → Bool → Bool
-in_spare_still Plus (Integer of) in_spare = by_conversion (conversion (Integer of) (Integer (promoted of))) in_spare
-  where
-    by_conversion : Conversion → Bool → Bool
-    by_conversion Nothing in_spare = in_spare
-    by_conversion other in_spare = false
+in_spare_still Plus (Integer of) in_spare = stays (as_operand of (promoted of)) && in_spare
 in_spare_still op kind in_spare = false
 
 abbrev pub left_by_binary : (t : Text) → (Wanted → t.Expr → ℕ) → t.Expr → BinaryOp → t.Expr → t.Expr → Bool → ℕ

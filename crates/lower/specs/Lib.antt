@@ -6,6 +6,7 @@ pub mod Table
 pub mod Placing
 pub mod Initials
 pub mod Lowering
+pub mod Laws
 pub mod Examples
 pub mod Rows
 pub mod Samples

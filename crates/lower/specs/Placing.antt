@@ -77,15 +77,20 @@ with_point standing made = record made { points = suc made.points; stands = made
 abbrev pub with_registers : ℕ → Made → Made
 with_registers count made = record made { registers = made.registers + count }
 
-abbrev pub with_head : ℕ → Made → Made
-with_head point made = record made { heads = made.heads ++ point ∷ [] }
-
 abbrev pub failed : Made → Made
 failed made = record made { is_graph = false }
 
 -- what stands at a point
 abbrev pub stands_at : Made → ℕ → Standing
 stands_at made point = option_map_or (λ standing. standing) (slice_get made.stands point) (record { variables = []; registers = [] })
+
+-- A head of a loop: registers that are taken from there on are none of those that stand there.
+abbrev pub behind_widths : List Width → ℕ
+behind_widths [] = 0
+behind_widths (one ∷ rest) = max (suc one.register) (behind_widths rest)
+
+abbrev pub with_head : ℕ → Made → Made
+with_head point made = record made { registers = max made.registers (behind_widths (stands_at made point).registers); heads = made.heads ++ point ∷ [] }
 
 -- What stands behind a move: an expression adds its register, and those that hold what it let go of; a statement leaves what stood before it.
 abbrev pub with_width : ℕ → ℕ → Standing → Standing
@@ -589,7 +594,8 @@ place_set t go around made from place value end to (Some stored) =
 
 abbrev pub place_initialiser : (t : Text) → (Around → Go t) → Around → Made → ℕ → Place → ℕ → Initialiser t.Expr t.Init → Made
 place_initialiser t go around made from place to (Value value end) = place_set t go around made from place value end to (t.store place value)
-place_initialiser t go around made from place to (Braces parts) = along t around (go around) made from (map (Initialises place) parts) to
+place_initialiser t go around made from place to (Braces parts) =
+    if list_all (is_empty_within t.enough t) parts then failed made else along t around (go around) made from (map (Initialises place) parts) to
 
 abbrev pub place_statement : (t : Text) → (Around → Go t) → Around → Made → ℕ → t.Stmt → ℕ → Clause t.Expr t.Stmt t.Init → Made
 place_statement t go around made from stmt to (Declare names) = along t around (go around) made from (flat_map (declared_moves t) names) to

@@ -2,6 +2,7 @@
 --
 -- A register stands from the edge that fills it to the edge that empties it. `r` is the first register of the form itself.
 use Rattle.std.specs.Prelude.{ℕ, suc, ◌+◌, ◌-◌, ◌^◌, Bool, true, false, not, ◌&&◌, List, [], ◌∷◌, ◌++◌, map, length, pos, nat_eq, nat_le, Option, None, Some, slice_get, if◌then◌else◌}
+use Rattle.std.specs.List.{list_all}
 use Rattle.cbase.specs.declared.place.Place.{Place}
 use Rattle.cbase.specs.declared.tree.operators.BinaryOp.{BinaryOp}
 use Rattle.cbase.specs.declared.tree.operators.BinaryOp.TheVariants.{Add, Both, Either, Equal, NotEqual, Comma}
@@ -20,7 +21,7 @@ use Rattle.c_machine.specs.Expressions.{value_kind, built_in}
 use Rattle.c_machine.specs.Step.{counting}
 use Rattle.c_machine.specs.Words.{kind_after, scalar_bytes, is_pointer}
 use Rattle.flow.specs.declared.instruction.Instr.TheVariants as i
-use Rattle.lower.specs.Kinds.{width, is_void, is_address, fits, conversion, between_integers, is_plain_operator, made_by}
+use Rattle.lower.specs.Kinds.{width, is_void, is_address, fits, conversion, as_operand, is_plain_operator, made_by}
 use Rattle.lower.specs.declared.conversion.Conversion.{Conversion}
 use Rattle.lower.specs.declared.conversion.Conversion.TheVariants.{Nothing, Resized, Tested, Dropped, Unknown}
 use Rattle.lower.specs.Known.{size_as, product_as}
@@ -84,10 +85,10 @@ plus_line t expr arg spare into r Nothing = taking 0 (Evaluates arg spare into �
 plus_line t expr arg spare into r change = taking 1 (Evaluates arg spare r ∷ resizes change r into (t.place expr))
 
 abbrev pub unary_line : (t : Text) → t.Expr → UnaryOp → t.Expr → ℕ → ℕ → ℕ → Kind → Line t
-unary_line t expr Plus arg spare into r (Integer of) = plus_line t expr arg spare into r (between_integers of (promoted of))
-unary_line t expr Minus arg spare into r (Integer of) = taken_from t expr arg spare into r 0 (between_integers of (promoted of)) (promoted of)
+unary_line t expr Plus arg spare into r (Integer of) = plus_line t expr arg spare into r (as_operand of (promoted of))
+unary_line t expr Minus arg spare into r (Integer of) = taken_from t expr arg spare into r 0 (as_operand of (promoted of)) (promoted of)
 unary_line t expr Flip arg spare into r (Integer of) =
-    taken_from t expr arg spare into r (256 ^ (promoted of).bytes - 1) (between_integers of (promoted of)) (promoted of)
+    taken_from t expr arg spare into r (256 ^ (promoted of).bytes - 1) (as_operand of (promoted of)) (promoted of)
 unary_line t expr op arg spare into r kind = taking 0 (Fails ∷ [])
 
 -- operators with two sides (6.5.5 to 6.5.14, 6.5.17)
@@ -116,9 +117,14 @@ store_line t expr left right spare kept r kind (Some bytes) =
 abbrev pub copies : {t : Text} → ℕ → ℕ → ℕ → Bool → Place → List (Move t)
 copies to from bytes disjoint place = if nat_le bytes 65536 then Emits (i.Copy to from bytes disjoint) place ∷ [] else Fails ∷ []
 
+-- the machine holds a 0 behind the assignment of a struct
+abbrev pub keeps_zero : {t : Text} → Option ℕ → Place → List (Move t)
+keeps_zero None place = []
+keeps_zero (Some into) place = Emits (i.Number into 0 8) place ∷ []
+
 abbrev pub assign_line : (t : Text) → t.Expr → t.Expr → t.Expr → ℕ → Option ℕ → ℕ → Kind → Line t
 assign_line t expr left right spare kept r (Struct bytes) =
-    taking 2 (Locates left spare r ∷ Locates right spare (r + 1) ∷ copies r (r + 1) bytes false (t.place expr))
+    taking 2 (Locates left spare r ∷ Locates right spare (r + 1) ∷ (copies r (r + 1) bytes false (t.place expr) ++ keeps_zero kept (t.place expr)))
 assign_line t expr left right spare kept r kind = store_line t expr left right spare kept r kind (scalar_bytes kind)
 
 -- `+=` and its like (6.5.16.2): the address of the left side, the value of the right one, then a load, the operation, its conversion and the store
@@ -134,7 +140,7 @@ update_moves t what expr left right spare kept r kind bytes change =
 abbrev pub update_line : (t : Text) → BinaryOp → t.Expr → t.Expr → t.Expr → ℕ → Option ℕ → ℕ → Kind → Option ℕ → Line t
 update_line t what expr left right spare kept r kind None = taking 0 (Fails ∷ [])
 update_line t what expr left right spare kept r kind (Some bytes) =
-    if is_plain_operator what
+    if is_plain_operator what && fits (made_by what kind (value_kind t right)) (kind_after what kind (value_kind t right))
     then taking 8 (update_moves t what expr left right spare kept r kind bytes (conversion (kind_after what kind (value_kind t right)) kind))
     else taking 0 (Fails ∷ [])
 
@@ -144,7 +150,7 @@ one_bytes (Integer of) = (common of int).bytes
 one_bytes kind = 8
 
 abbrev pub one_change : Kind → Conversion
-one_change (Integer of) = between_integers of (common of int)
+one_change (Integer of) = as_operand of (common of int)
 one_change kind = Nothing
 
 abbrev pub old_kept : Bool → Option ℕ → Option ℕ
@@ -235,10 +241,10 @@ abbrev pub result_into : Kind → ℕ → Option ℕ
 result_into Void into = None
 result_into kind into = Some into
 
--- an argument has the size of its parameter
+-- an argument has a value, and the size of its parameter
 abbrev pub are_sized : List Parameter → Bool
 are_sized [] = true
-are_sized (param ∷ params) = nat_eq (width param.kind) param.object.bytes && are_sized params
+are_sized (param ∷ params) = not (is_void param.kind) && (nat_eq (width param.kind) param.object.bytes && are_sized params)
 
 abbrev pub body_line : (t : Text) → List t.Expr → ℕ → ℕ → ℕ → ℕ → Place → Option (Function t.Stmt) → Line t
 body_line t args number spare into r place None = taking 0 (Fails ∷ [])
@@ -248,16 +254,19 @@ body_line t args number spare into r place (Some function) =
     ++ Emits (i.Call number (registers_from r args) (result_into function.result into)) place ∷ [])
     else taking 0 (Fails ∷ [])
 
--- whether the result of a built-in function is of the kind of what it makes
+-- whether the result of a built-in function is of the kind of what it makes, and its parameters have values
+abbrev pub have_values : List Kind → Bool
+have_values params = list_all (λ param. not (is_void param)) params
+
 abbrev pub gives : BuiltIn → List Kind → Kind → Bool
 gives Malloc params result = is_address result
 gives Calloc params result = is_address result
-gives Free params result = is_void result
-gives Memset (param ∷ params) result = is_address param && is_address result
-gives Memcpy (param ∷ params) result = is_address param && is_address result
-gives Memmove (param ∷ params) result = is_address param && is_address result
+gives Free params result = have_values params && is_void result
+gives Memset (param ∷ params) result = is_address param && (have_values params && is_address result)
+gives Memcpy (param ∷ params) result = is_address param && (have_values params && is_address result)
+gives Memmove (param ∷ params) result = is_address param && (have_values params && is_address result)
 gives EndsRun params result = true
-gives Assume params result = is_void result
+gives Assume params result = have_values params && is_void result
 gives Expect (param ∷ params) result = fits param result
 gives GivesInput params result = true
 gives what params result = false
@@ -351,16 +360,11 @@ kind_by_unary t Not kind = Integer int
 kind_by_unary t op (Integer of) = Integer (promoted of)
 kind_by_unary t op kind = kind
 
--- an assignment of a struct has no value
-abbrev pub kind_assigned : Kind → Kind
-kind_assigned (Struct bytes) = Void
-kind_assigned kind = kind
-
 abbrev pub kind_made : (t : Text) → t.Expr → Form t.Expr t.Stmt → Kind
 kind_made t expr (Unary Follow arg) = value_kind t expr
 kind_made t expr (Unary op arg) = kind_by_unary t op (value_kind t arg)
 kind_made t expr (Binary op left right) = kind_by_binary t op left right
-kind_made t expr (Assign op left right) = kind_assigned (t.kind left)
+kind_made t expr (Assign op left right) = t.kind left
 kind_made t expr (Count up after arg) = t.kind arg
 kind_made t expr (Call callee args) = result_of t (t.stands callee)
 kind_made t expr (Inner body close) = kind_of_last t (last_of t body)

@@ -2,10 +2,10 @@
 ghost use Rattle.std.specs.Prelude.{◌≡◌, ◌<◌, ◌+◌, ◌^◌, OnOk, IfOk};
 ghost use Rattle.lower.specs.Built.{made_of};
 ghost use Rattle.lower.specs.Lowering.{nothing_made};
-ghost use Rattle.lower.specs.Placing.{emit, with_head, with_point, with_registers, stands_at};
+ghost use Rattle.lower.specs.Placing.{behind_widths, emit, with_head, with_point, with_registers, stands_at};
 
 use cbase::{List, NoMemory, Place};
-use flow::{FlowEdge, Instr, Standing, Variable};
+use flow::{FlowEdge, Instr, Standing, Variable, Width};
 use std::alloc::Global;
 
 /// What is made of a graph so far: points and registers are numbered from 0.
@@ -82,11 +82,23 @@ impl Builder {
         }
     }
 
-    /// A loop head more.
+    /// A loop head more. Registers that are taken from there on are none of those that stand there.
     pub fn head(&mut self, point: u32) -> Result<(), NoMemory>
         ensures { OnOk result (made_of self.new ≡ with_head point (made_of self.old)) }
     {
+        let behind = self.registers_behind(point)?;
+        self.registers = self.registers.max(behind);
         self.heads.push(point)
+    }
+
+    /// The first register behind all that stand at a point. Where there is none, memory is wanting.
+    fn registers_behind(&self, point: u32) -> Result<u32, NoMemory>
+        ensures { IfOk result (λ behind. behind ≡ behind_widths (stands_at (made_of self.now) point).registers) }
+    {
+        match self.stands.as_slice().get(point as usize) {
+            None => Ok(0),
+            Some(standing) => behind_widths(standing.registers.as_slice()),
+        }
     }
 
     /// What stands at a point. It takes time and memory for what stands there.
@@ -101,6 +113,20 @@ impl Builder {
             Some(standing) => copied(alloc, standing),
         }
     }
+}
+
+/// The first register behind all of these. Where there is none, memory is wanting.
+fn behind_widths(widths: &[Width]) -> Result<u32, NoMemory>
+    ensures { IfOk result (λ behind. behind ≡ behind_widths widths.now) }
+{
+    let mut most = 0;
+    for width in widths {
+        match width.register.checked_add(1) {
+            None => return Err(NoMemory),
+            Some(next) => most = next.max(most),
+        }
+    }
+    Ok(most)
 }
 
 /// The same variables and registers.

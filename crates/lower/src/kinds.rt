@@ -1,7 +1,7 @@
 //! How many bytes a register has for a value, and which conversions there are (C11 6.3).
 ghost use Rattle.std.specs.Prelude.{◌≡◌};
 ghost use Rattle.c_machine.specs.Words.{is_same};
-ghost use Rattle.lower.specs.Kinds.{width, is_void, is_address, fits, between_integers, to_integer, conversion, as_count, as_address, meeting, is_plain_operator, stored_by, made_by};
+ghost use Rattle.lower.specs.Kinds.{width, is_void, is_address, fits, tested, between_integers, to_integer, as_operand, conversion, as_count, as_address, meeting, is_plain_operator, stored_by, made_by};
 
 use crate::conversion::Conversion;
 use c_machine::{Kind, WholeType};
@@ -61,6 +61,17 @@ fn is_same(from: IntegerType, to: IntegerType) -> bool
     from.bytes == to.bytes && from.signed == to.signed && from.truth == to.truth
 }
 
+/// The conversion of a value of some bytes to a `_Bool`, which has 1 byte (C11 6.3.1.2).
+fn tested(bytes: u8, to: IntegerType) -> Conversion
+    ensures { result ≡ tested bytes to }
+{
+    if 0 < bytes && to.bytes == 1 {
+        Conversion::Tested
+    } else {
+        Conversion::Unknown
+    }
+}
+
 /// The conversion of an integer of one type to another (C11 6.3.1.2, 6.3.1.3).
 pub fn between_integers(from: WholeType, to: WholeType) -> Conversion
     ensures { result ≡ between_integers from to }
@@ -70,12 +81,23 @@ pub fn between_integers(from: WholeType, to: WholeType) -> Conversion
     if is_same(from, to) {
         Conversion::Nothing
     } else if to.truth {
-        Conversion::Tested
+        tested(from.bytes, to)
     } else {
         Conversion::Resized {
             bytes: to.bytes,
             signed: from.signed,
         }
+    }
+}
+
+/// The conversion of an integer to the type in which an operator computes, which is no `_Bool` (C11 6.3.1.1p2, 6.3.1.8).
+pub fn as_operand(from: WholeType, to: WholeType) -> Conversion
+    ensures { result ≡ as_operand from to }
+{
+    if to.get().truth {
+        Conversion::Unknown
+    } else {
+        between_integers(from, to)
     }
 }
 
@@ -85,7 +107,7 @@ fn to_integer(to: WholeType) -> Conversion
 {
     let to = to.get();
     if to.truth {
-        Conversion::Tested
+        tested(8, to)
     } else {
         Conversion::Resized {
             bytes: to.bytes,

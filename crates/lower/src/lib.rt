@@ -8,6 +8,7 @@ mod builder;
 mod conversion;
 pub mod examples;
 pub mod kinds;
+pub mod laws;
 pub mod words;
 
 pub use builder::Builder;
