@@ -1,0 +1,10 @@
+use Rattle.std.proofs.Common.{◌≡◌, ◌-◌, length}
+use Rattle.graph.specs.Meaning.{maps_of}
+use Rattle.cover.specs.Checked.{AreSomeFitting}
+use Rattle.cover.proofs.fits.values_fit.Given as goal
+
+abbrev pub invariant-loop-at : goal.invariant-loop-at
+invariant-loop-at l = AreSomeFitting (maps_of l.wide) (maps_of l.narrow) l.found l.at
+
+abbrev pub decreases-loop-at : goal.decreases-loop-at
+decreases-loop-at l = length l.found.values.items - l.at

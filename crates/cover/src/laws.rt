@@ -1,0 +1,24 @@
+//! Laws of covering. Each is the contract of a function that does nothing.
+ghost use Rattle.std.specs.Prelude.{IsTrue};
+ghost use Rattle.graph.specs.declared.parts.Parts.{Parts};
+ghost use Rattle.graph.specs.Meaning.{StandsFor};
+ghost use Rattle.graph.specs.State.{State};
+ghost use Rattle.graph.specs.WellFormed.{IsWellFormed, is_within_limits};
+ghost use Rattle.cover.specs.Covers.{Covers};
+ghost use Rattle.cover.specs.Example.{IsExample};
+
+/// A graph that covers another one stands for each state that the other one stands for.
+pub fn what_is_covered_is_stood_for()
+    ensures { (wide narrow : Parts) (state : State) →
+        IsWellFormed wide →
+        IsTrue (is_within_limits wide) →
+        Covers wide narrow →
+        StandsFor narrow state →
+        StandsFor wide state }
+{}
+
+/// A variable that may hold any number covers one that holds 5, and is not covered by it: so the relation holds of some graphs, and not of all.
+#[tactic(auto, using(crate::proofs::ExampleCovers::example))]
+pub fn a_number_covers_a_constant()
+    ensures { IsExample }
+{}

@@ -1,0 +1,19 @@
+//! Whether one graph stands for all that another one stands for.
+#![tactic(auto)]
+
+mod alike;
+mod apart;
+mod content;
+mod covering;
+mod edges;
+mod fits;
+mod found;
+mod kept;
+pub mod laws;
+mod live;
+mod roots;
+mod tables;
+mod worklist;
+
+pub use content::Content;
+pub use covering::covers;
