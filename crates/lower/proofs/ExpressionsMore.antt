@@ -1,5 +1,5 @@
 -- All that is promised of expressions of a level more.
-use Rattle.std.proofs.Common.{◌≡◌, ◌≤◌, ℕ, suc, refl, ap}
+use Rattle.std.proofs.Common.{refl, ap}
 use Rattle.c_machine.specs.Program.{Program}
 use Rattle.c_machine.specs.Trees.{text_of}
 use Rattle.c_machine.specs.Text.{Text}

@@ -59,7 +59,9 @@ pub mod SpellingCounts
 pub mod ValueJoined
 pub mod WorkJoined
 pub mod ExpressionsMore
+pub mod InitialOffsets
 pub mod Law
 pub mod AskJoined
 pub mod PlaceJoined
+pub mod FlowTested
 pub mod Witness

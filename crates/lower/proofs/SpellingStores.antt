@@ -1,5 +1,6 @@
 -- What is placed for assignments is what the rest of a run wants: whether their value is used or not.
-use Rattle.std.proofs.Common.{◌≡◌, ◌≤◌, ℕ, ◌+◌, max, List, [], ◌∷◌, ◌++◌, Bool, true, false, nat_eq, nat_le, refl, sym, arith, None, Some, subst, if◌then◌else◌}
+use Rattle.std.proofs.Common.{◌≡◌, ◌≤◌, ℕ, ◌+◌, max, List, [], ◌∷◌, ◌++◌, Bool, true, false, nat_eq, nat_le, refl, sym, arith, None, Some, ◌∙◌, subst, if◌then◌else◌}
+use Rattle.std.proofs.lemmas.Bool.{false≢true}
 use Rattle.c_machine.specs.declared.kind.Kind.{Kind}
 use Rattle.c_machine.specs.declared.kind.Kind.TheVariants.{Integer, Pointer, Array, Struct, Void}
 use Rattle.c_machine.specs.declared.task.Task.TheVariants.{ValueOf, AddressOf, Convert, Store, CopyStruct}
@@ -11,12 +12,12 @@ use Rattle.flow.specs.declared.flow_graph.Flow.{Flow}
 use Rattle.flow.specs.declared.flow_graph.Standing.{Standing as Stood}
 use Rattle.flow.specs.declared.instruction.Instr.TheVariants as i
 use Rattle.simulation.specs.Running.{Setting, Running}
-use Rattle.simulation.specs.Slots.{Slot, InRegister, KnownAs, Gone, is_free}
-use Rattle.simulation.specs.Lowered.{Stop, LetsGo, Makes, Stores, StoresKept, CopiesStruct}
+use Rattle.simulation.specs.Slots.{Slot, InRegister, KnownAs, Gone}
+use Rattle.simulation.specs.Lowered.{Stop, Stores, StoresKept, CopiesStruct}
 use Rattle.lower.specs.Kinds.{is_void, fits}
 use Rattle.lower.specs.LetGo.{AsPlace, left_of, left_as, left_by_assign}
 use Rattle.lower.specs.Moves.{Move, Emits, Converts, Locates, Fails}
-use Rattle.lower.specs.Table.{store_line, assign_line}
+use Rattle.lower.specs.Table.{store_line, assign_line, assigned}
 use Rattle.lower.specs.Placing.{Made, Around, Begin, New, Goes, with_point, with_registers, stands_at, after, begins, along_from, along_at, along, along_line, go}
 use Rattle.lower.proofs.KindFacts.{IsAsPlain, fitted, scalar_slot, both_free, let_go}
 use Rattle.lower.proofs.LeftOf.{own_place, own_as}
@@ -166,35 +167,8 @@ module _ (t : Text) (flow : Flow) (setting : Setting) (running : Running) where
       two_places levels at around good made from one other Fails [] spare to total (λ standing. refl) (omega arith) (omega arith) spelled now later (CopyStruct (t.place expr) bytes ∷ tasks) slots base ready
       (λ made' point standing plain plain' end. never t flow setting running levels around made' point to end)
 
-  copy_kept : (levels : ℕ) → IsAt t flow setting running levels → (around : Around) → IsAround setting around → (made : Made) (from : ℕ) (expr one other : t.Expr) (spare into to bytes : ℕ) (small : Bool) →
-      IsSpelled flow made from (along t around (go levels t around) (with_registers 2 made) from (Locates one spare made.registers ∷ Locates other spare (made.registers + 1)
-      ∷ ((if small then Emits (i.Copy made.registers (made.registers + 1) bytes false) (t.place expr) ∷ [] else Fails ∷ []) ++ Emits (i.Number into 0 8) (t.place expr) ∷ [])) to) →
-      (now later : List (Stop t)) (tasks : List (TaskIn t)) (slots : List Slot) (base : ℕ) →
-      Ready t flow setting running around now later tasks base made.registers slots spare (max (left_of t (AsPlace false) one) (left_of t (AsPlace false) other)) → is_free into slots ≡ true →
-      Goes_on around (later ++ now) [] tasks (InRegister into 8 true ∷ slots) to → Goes_on around now later (AddressOf one ∷ AddressOf other ∷ CopyStruct (t.place expr) bytes ∷ tasks) slots from
-  copy_kept levels at around good made from expr one other spare into to bytes true spelled now later tasks slots base ready free cont =
-      let total : ℕ = max (left_of t (AsPlace false) one) (left_of t (AsPlace false) other) in
-      let r : ℕ = made.registers in
-      let copy : Move t = Emits (i.Copy r (r + 1) bytes false) (t.place expr) in
-      let last : List (Move t) = Emits (i.Number into 0 8) (t.place expr) ∷ [] in
-      two_places levels at around good made from one other copy last spare to total (λ standing. refl) (omega arith) (omega arith) spelled now later (CopyStruct (t.place expr) bytes ∷ tasks) slots base ready
-      (λ made' point standing plain plain' end.
-      let behind : Stood = after t copy standing in
-      CopiesStruct (t.place expr) bytes r (r + 1) 8 8 made'.points plain plain' ready.whole (both_free r (r + 1) slots (own_free r ready (omega arith)) (own_free (r + 1) ready (omega arith)))
-      (one_at t flow setting running levels around (with_point behind made') point made'.points (i.Copy r (r + 1) bytes false) (t.place expr) (head_spelled t flow setting running levels around made' point behind copy last to end))
-      (Makes 0 into 8 to (t.place expr)
-      (one_at t flow setting running levels around (mid t flow setting running levels around made' point behind copy) made'.points to (i.Number into 0 8) (t.place expr)
-      (tail_spelled t flow setting running levels around made' point behind copy last to end)) free cont))
-  copy_kept levels at around good made from expr one other spare into to bytes false spelled now later tasks slots base ready free cont =
-      let total : ℕ = max (left_of t (AsPlace false) one) (left_of t (AsPlace false) other) in
-      let last : List (Move t) = Emits (i.Number into 0 8) (t.place expr) ∷ [] in
-      two_places levels at around good made from one other Fails last spare to total (λ standing. refl) (omega arith) (omega arith) spelled now later (CopyStruct (t.place expr) bytes ∷ tasks) slots base ready
-      (λ made' point standing plain plain' end.
-      never t flow setting running levels around (with_point (after t Fails standing) made') point made'.points (head_spelled t flow setting running levels around made' point (after t Fails standing) Fails last to end))
-
-  -- assignments whose value is not used
   assign_work : (levels : ℕ) → IsAt t flow setting running levels → (around : Around) → IsAround setting around → (made : Made) (from : ℕ) (expr one other : t.Expr) (spare to : ℕ) (kind : Kind) →
-      (is_void (value_kind t expr) ≡ true → is_void kind ≡ true) →
+      (is_void (value_kind t expr) ≡ true → is_void (assigned kind) ≡ true) →
       IsSpelled flow made from (along_line t around (go levels t around) made from (assign_line t expr one other spare None made.registers kind) to) →
       (now later : List (Stop t)) (tasks : List (TaskIn t)) (slots : List Slot) (base : ℕ) →
       Ready t flow setting running around now later tasks base made.registers slots spare (left_by_assign t (left_of t) one other kind) →
@@ -207,7 +181,7 @@ module _ (t : Text) (flow : Flow) (setting : Setting) (running : Running) where
       (lets_go t flow setting running around (later ++ now) [] tasks slots to (value_kind t expr) (Pointer item) void cont)
   assign_work levels at around good made from expr one other spare to (Struct bytes) void spelled now later tasks slots base ready cont =
       copy_form levels at around good made from expr one other spare to bytes (nat_le bytes 65536) spelled now later tasks slots base ready
-      (LetsGo (KnownAs 0) refl (lets_go t flow setting running around (later ++ now) [] tasks slots to (value_kind t expr) (Struct bytes) void cont))
+      (lets_go t flow setting running around (later ++ now) [] tasks slots to (value_kind t expr) Void void cont)
   assign_work levels at around good made from expr one other spare to (Array item) void spelled now later tasks slots base ready cont =
       never t flow setting running levels around (with_registers 0 made) from to (spelled_registers 0 spelled)
   assign_work levels at around good made from expr one other spare to Void void spelled now later tasks slots base ready cont =
@@ -220,7 +194,7 @@ module _ (t : Text) (flow : Flow) (setting : Setting) (running : Running) where
 
   -- the value of an assignment
   assign_value : (levels : ℕ) → IsAt t flow setting running levels → (around : Around) → IsAround setting around → (made : Made) (from : ℕ) (expr one other : t.Expr) (spare into to : ℕ) (kind : Kind) →
-      fits kind (value_kind t expr) ≡ true → is_void (value_kind t expr) ≡ false →
+      fits (assigned kind) (value_kind t expr) ≡ true → is_void (value_kind t expr) ≡ false →
       IsSpelled flow made from (along_line t around (go levels t around) made from (assign_line t expr one other spare (Some into) made.registers kind) to) →
       (now later : List (Stop t)) (tasks : List (TaskIn t)) (slots : List Slot) (base : ℕ) →
       Ready t flow setting running around now later tasks base made.registers slots spare (left_by_assign t (left_of t) one other kind) →
@@ -234,10 +208,7 @@ module _ (t : Text) (flow : Flow) (setting : Setting) (running : Running) where
       let gives = fitted (Pointer item) (value_kind t expr) same void in
       kept_form levels at around good made from expr one other spare into to 8 (left_by_assign t (left_of t) one other (Pointer item)) (Pointer item) refl (omega arith) (omega arith) spelled now later tasks slots base ready target
       (λ plain number. subst (λ (n : ℕ). Goes_on around (later ++ now) [] tasks (InRegister into n plain ∷ slots) to) (sym gives.0) (cont plain (λ asked. number (gives.1 asked))))
-  assign_value levels at around good made from expr one other spare into to (Struct bytes) same void spelled now later tasks slots base ready target cont =
-      let gives = fitted (Struct bytes) (value_kind t expr) same void in
-      copy_kept levels at around good made from expr one other spare into to bytes (nat_le bytes 65536) spelled now later tasks slots base ready target.free
-      (subst (λ (n : ℕ). Goes_on around (later ++ now) [] tasks (InRegister into n true ∷ slots) to) (sym gives.0) (cont true (λ asked. refl)))
+  assign_value levels at around good made from expr one other spare into to (Struct bytes) same void spelled now later tasks slots base ready target cont = absurd (false≢true (sym void ∙ same))
   assign_value levels at around good made from expr one other spare into to (Array item) same void spelled now later tasks slots base ready target cont =
       never t flow setting running levels around (with_registers 0 made) from to (spelled_registers 0 spelled)
   assign_value levels at around good made from expr one other spare into to Void same void spelled now later tasks slots base ready target cont =

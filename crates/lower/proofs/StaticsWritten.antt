@@ -1,8 +1,8 @@
 -- The initialisers of static objects, as the machine works them out and stores them, leave the memory with which the graph begins.
-use Rattle.std.proofs.Common.{◌≡◌, ◌≢◌, ℕ, zero, suc, ◌+◌, ◌*◌, ◌^◌, ◌%◌, ◌<◌, ◌≤◌, min, Bool, true, false, List, [], ◌∷◌, ◌++◌, map, length, take, set, refl, sym, ap, subst, ◌∙◌, arith, append-nil, ⊎_elim, pos, Option, None, Some, nat_le, slice_get, if◌then◌else◌}
+use Rattle.std.proofs.Common.{◌≡◌, ◌≢◌, ℕ, zero, suc, ◌+◌, ◌*◌, ◌^◌, ◌%◌, ◌<◌, ◌≤◌, min, Bool, true, false, ◌&&◌, List, [], ◌∷◌, ◌++◌, map, length, take, set, refl, sym, ap, subst, ◌∙◌, arith, append-nil, ⊎_elim, pos, Option, None, Some, nat_le, slice_get, if◌then◌else◌}
 use Rattle.std.specs.Int.{w64, cast_signed}
 use Rattle.std.specs.Option.{option_map_or}
-use Rattle.std.proofs.lemmas.Bool.{leb-true, le-leb, cases_eq}
+use Rattle.std.proofs.lemmas.Bool.{and_parts, leb-true, le-leb, cases_eq}
 use Rattle.std.proofs.lemmas.Int.{to_z_pos}
 use Rattle.std.proofs.lemmas.List.{length-take}
 use Rattle.std.proofs.lemmas.Option.{same_Some, none-some}
@@ -34,7 +34,7 @@ use Rattle.flow.specs.Runs.{with_initial, with_initials}
 use Rattle.flow.specs.Runs as runs
 use Rattle.simulation.specs.Names.{Name, variable_in}
 use Rattle.lower.specs.Known.{known_word, word_as}
-use Rattle.lower.specs.Initials.{initial_word, bytes_of, scalar_by, set_initial, joined, joined_all, initials_by, initials_within, initials_of, latest}
+use Rattle.lower.specs.Initials.{initial_word, has_offset, bytes_of, scalar_by, set_initial, joined, joined_all, initials_by, initials_within, initials_of, latest}
 use Rattle.lower.proofs.KnownStatics.{Leads, known_leads, word_led}
 use Rattle.lower.proofs.KnownWords.{AllWeigh, Weighing, first_step, known_worked, Comes, word_worked}
 use Rattle.lower.proofs.LatestInitials.{HasRoom, HaveRoom, latest_writes, length_overwritten}
@@ -90,7 +90,7 @@ record ScalarParts (t : Text) (variable' bytes' : Option ℕ) (word' : Option Wo
 scalar_parts : (t : Text) (variable' bytes' : Option ℕ) (word' : Option Word) (at : ℕ) (scalars : List Initial) → scalar_by t variable' at bytes' word' ≡ Some scalars →
     ScalarParts t variable' bytes' word' at scalars
 scalar_parts t (Some variable) (Some bytes) (Some word) at scalars is =
-    let both = some_if (nat_le (at + bytes) (bytes_of t variable)) (record { variable = variable; at = at; size = bytes; word = initial_word word } ∷ []) scalars is in
+    let both = some_if (nat_le (at + bytes) (bytes_of t variable) && has_offset word) (record { variable = variable; at = at; size = bytes; word = initial_word word } ∷ []) scalars is in
     record {
       variable = variable;
       bytes = bytes;
@@ -98,7 +98,7 @@ scalar_parts t (Some variable) (Some bytes) (Some word) at scalars is =
       is_variable = refl;
       is_bytes = refl;
       is_word = refl;
-      fits = leb-true (at + bytes) (bytes_of t variable) both.0;
+      fits = leb-true (at + bytes) (bytes_of t variable) (and_parts (nat_le (at + bytes) (bytes_of t variable)) (has_offset word) both.0).0;
       are = both.1;
     }
 scalar_parts t variable' bytes' word' at scalars is = absurd (none-some scalars is)

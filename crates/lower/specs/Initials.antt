@@ -1,6 +1,6 @@
 -- What static objects hold at the start: a scalar for each value of an initialiser, in the order in which the machine stores them. Where one is set twice the
 -- later one stands alone.
-use Rattle.std.specs.Prelude.{ℕ, zero, suc, ◌+◌, Bool, ◌&&◌, List, [], ◌∷◌, ◌++◌, nat_eq, nat_le, Option, None, Some, slice_get, if◌then◌else◌}
+use Rattle.std.specs.Prelude.{ℕ, zero, suc, ◌+◌, ◌^◌, pos, negsuc, Bool, true, ◌&&◌, List, [], ◌∷◌, ◌++◌, nat_eq, nat_le, nat_lt, Option, None, Some, slice_get, if◌then◌else◌}
 use Rattle.std.specs.List.{list_any}
 use Rattle.std.specs.Option.{option_map_or}
 use Rattle.cbase.specs.declared.place.Place.{Place}
@@ -18,13 +18,19 @@ abbrev pub initial_word : Word → InitialWord
 initial_word (Plain number) = initial.Number number
 initial_word (To variable offset) = initial.Address variable offset
 
+-- an address leads to an offset of 64 bits with a sign
+abbrev pub has_offset : Word → Bool
+has_offset (Plain number) = true
+has_offset (To variable (pos offset)) = nat_lt offset (2 ^ 63)
+has_offset (To variable (negsuc before)) = nat_lt before (2 ^ 63)
+
 -- a scalar lies in its object
 abbrev pub bytes_of : (t : Text) → ℕ → ℕ
 bytes_of t variable = option_map_or (λ object. object.bytes) (slice_get t.statics variable) 0
 
 abbrev pub scalar_at : (t : Text) → ℕ → ℕ → ℕ → Word → Option (List Initial)
 scalar_at t variable at bytes word =
-    if nat_le (at + bytes) (bytes_of t variable) then Some (record { variable = variable; at = at; size = bytes; word = initial_word word } ∷ []) else None
+    if nat_le (at + bytes) (bytes_of t variable) && has_offset word then Some (record { variable = variable; at = at; size = bytes; word = initial_word word } ∷ []) else None
 
 abbrev pub scalar_by : (t : Text) → Option ℕ → ℕ → Option ℕ → Option Word → Option (List Initial)
 scalar_by t (Some variable) at (Some bytes) (Some word) = scalar_at t variable at bytes word

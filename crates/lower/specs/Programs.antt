@@ -17,7 +17,7 @@ use Rattle.flow.specs.declared.flow_graph.Initial.{Initial}
 use Rattle.flow.specs.declared.flow_graph.InitialWord.TheVariants as held
 use Rattle.lower.specs.Examples.{IsGraph, comes_to}
 use Rattle.lower.specs.Lowering.{flow_in}
-use Rattle.lower.specs.Samples.{Tree, AnExpr, AValue, SomeBraces, trees, AnAssertion, Sample, text_in, an_int, a_char, a_long, a_truth, number, variable, unary, binary, set_to, update, counted, choice, cast_to, index, member, inner, null, at, malloc, memset, memcpy, expect, assume, abort, any_int, call, eval, give, give_nothing, leave, go_on, block, where_true, where_either, while_true, do_while, for_each, nothing, declare, declare_as, declare_braces, local_at, parameter, main, function}
+use Rattle.lower.specs.Samples.{Tree, AnExpr, AValue, SomeBraces, trees, AnAssertion, Sample, text_in, an_int, a_char, a_long, a_truth, number, variable, unary, binary, set_to, copied_to, update, counted, choice, cast_to, index, member, inner, null, at, malloc, memset, memcpy, expect, assume, abort, any_int, call, eval, give, give_nothing, leave, go_on, block, where_true, where_either, while_true, do_while, for_each, nothing, declare, declare_as, declare_braces, local_at, parameter, main, function}
 
 abbrev pub x : Tree
 x = variable an_int 1
@@ -152,7 +152,7 @@ pub record DoMembersMeet : Type 0 where
   -- s.n = &s; s.n->n == &s
   pub inner_member : Comes (eval (set_to (member (Pointer 16) s 8 false) (unary (Pointer 16) Address s)) ∷ where_true (binary an_int Equal (member (Pointer 16) (member (Pointer 16) s 8 false) 8 true) (unary (Pointer 16) Address s)) met ∷ []) [] []
   -- s.a = 4; t = s; t.a == 4
-  pub struct_copy : Comes (eval (set_to (member an_int s 0 false) (number 4)) ∷ eval (set_to t s) ∷ check (member an_int t 0 false) 4 ∷ []) [] []
+  pub struct_copy : Comes (eval (set_to (member an_int s 0 false) (number 4)) ∷ eval (copied_to t s) ∷ check (member an_int t 0 false) 4 ∷ []) [] []
   -- memset(&s, 1, 8 + 8); s.a == 0x01010101
   pub memset_fills : Comes (eval (memset (unary (Pointer 16) Address s) (number 1) (binary an_int Add (number 8) (number 8))) ∷ check (member an_int s 0 false) 16843009 ∷ []) [] []
   -- s.a = 4; p = memcpy(&t, &s, 16); *p == 4

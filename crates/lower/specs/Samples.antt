@@ -207,6 +207,10 @@ binary kind op left right = AnExpr kind 0 NothingStands (ABinary op left right)
 abbrev pub set_to : Tree → Tree → Tree
 set_to left right = AnExpr (kind_in left) 0 NothingStands (ASet left right)
 
+-- an assignment of a struct makes no value
+abbrev pub copied_to : Tree → Tree → Tree
+copied_to left right = AnExpr Void 0 NothingStands (ASet left right)
+
 abbrev pub update : BinaryOp → Tree → Tree → Tree
 update op left right = AnExpr (kind_in left) 0 NothingStands (AnUpdate op left right)
 

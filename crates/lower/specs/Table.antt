@@ -360,11 +360,17 @@ kind_by_unary t Not kind = Integer int
 kind_by_unary t op (Integer of) = Integer (promoted of)
 kind_by_unary t op kind = kind
 
+-- an assignment of a struct makes no value
+abbrev pub assigned : Kind → Kind
+assigned (Struct bytes) = Void
+assigned kind = kind
+
 abbrev pub kind_made : (t : Text) → t.Expr → Form t.Expr t.Stmt → Kind
 kind_made t expr (Unary Follow arg) = value_kind t expr
 kind_made t expr (Unary op arg) = kind_by_unary t op (value_kind t arg)
 kind_made t expr (Binary op left right) = kind_by_binary t op left right
-kind_made t expr (Assign op left right) = t.kind left
+kind_made t expr (Assign None left right) = assigned (t.kind left)
+kind_made t expr (Assign (Some op) left right) = t.kind left
 kind_made t expr (Count up after arg) = t.kind arg
 kind_made t expr (Call callee args) = result_of t (t.stands callee)
 kind_made t expr (Inner body close) = kind_of_last t (last_of t body)
