@@ -26,7 +26,7 @@ use Rattle.c_machine.specs.Statics.{AnExpr, AStmt, SomeWords, nodes_of, sets_in_
 use Rattle.c_machine.specs.Text.{Text}
 use Rattle.c_machine.specs.Trees.{static_rows, text_of}
 use Rattle.c_machine.specs.Witness.{an_int}
-use Rattle.c_text.specs.statics.Weights.{weight, weights}
+use Rattle.c_text.specs.statics.Weights.{weight}
 use Rattle.c_text.proofs.statics.Weights.{one_more, item_weighs}
 use Rattle.simulation.specs.Laws.{GraphLeads}
 use Rattle.lower.specs.Lowering.{flow_of, flow_in}

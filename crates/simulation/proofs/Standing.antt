@@ -1,19 +1,16 @@
 -- Where a run of the graph is at a point, the registers of its operands and the variables of its blocks stand there.
-use Rattle.std.proofs.Common.{◌≡◌, ◌≢◌, ℕ, List, [], ◌∷◌, ◌++◌, map, Bool, true, false, ◌&&◌, ◌||◌, refl, sym, ap, subst, ◌∙◌, nat_eq, Some, None, Option, if◌then◌else◌}
+use Rattle.std.proofs.Common.{◌≡◌, ◌≢◌, ℕ, List, [], ◌∷◌, ◌++◌, map, Bool, true, false, ◌&&◌, ◌||◌, refl, sym, subst, nat_eq, Some, if◌then◌else◌}
 use Rattle.std.specs.List.{list_any}
 use Rattle.std.proofs.lemmas.Bool.{false≢true, and_from, eq-eqb, eqb-true}
 use Rattle.std.proofs.lemmas.Option.{none-some}
 use Rattle.bytes_core.specs.declared.block.Block.{Block}
 use Rattle.bytes_core.specs.declared.word.Word.{Word}
-use Rattle.choices.specs.declared.choice.Choice.{Choice}
 use Rattle.c_machine.specs.State.{TaskIn, Scope, Frame, Went}
 use Rattle.c_machine.specs.Text.{Text}
 use Rattle.flow.specs.declared.flow_graph.Flow.{Flow}
 use Rattle.flow.specs.declared.flow_graph.Width.{Width}
 use Rattle.flow.specs.Holding.{Held, Owned, width, held_by, block_of}
 use Rattle.flow.specs.Keeping.{variables_of}
-use Rattle.flow.specs.RunStates.{IsRunState}
-use Rattle.flow.specs.Standing.{stands_at}
 use Rattle.flow.specs.Valid.{IsFlow}
 use Rattle.simulation.specs.Names.{Name, names_of}
 use Rattle.simulation.specs.Running.{Setting, Running}
