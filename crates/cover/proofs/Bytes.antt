@@ -1,7 +1,6 @@
 -- Bytes of a block of the one graph, seen by the other one.
-use Rattle.std.proofs.Common.{◌≡◌, ℕ, zero, suc, ◌<◌, ◌≤◌, Bool, true, false, ◌&&◌, List, [], ◌∷◌, map, length, take, drop, get_or, nat_le, refl, sym, ◌∙◌, ap, subst, arith, leb-true, replicate, nat_eq, eqb-true, Option, None, Some, ◌⊎◌, inl, inr}
+use Rattle.std.proofs.Common.{◌≡◌, ℕ, zero, suc, ◌<◌, ◌≤◌, Bool, true, false, ◌&&◌, List, [], ◌∷◌, length, take, drop, get_or, nat_le, refl, sym, ◌∙◌, ap, subst, arith, leb-true, replicate, nat_eq, eqb-true, Option, None, Some, ◌⊎◌, inl, inr}
 use Rattle.std.specs.Prelude.{Contains, if◌then◌else◌}
-use Rattle.std.specs.Int.{w64, to_le_bytes}
 use Rattle.std.specs.List.{All}
 use Rattle.std.proofs.lemmas.Bool.{false≢true}
 use Rattle.std.proofs.lemmas.Option.{same_Some, none-some}
@@ -9,12 +8,11 @@ use Rattle.std.proofs.lemmas.List.Elements.{All-head, All-tail}
 use Rattle.bytes_core.specs.declared.byte.Byte.{Byte}
 use Rattle.bytes_core.specs.declared.byte.Byte.TheVariants.{Num, Part}
 use Rattle.bytes_core.specs.declared.word.Word.{Word}
-use Rattle.bytes_core.specs.declared.word.Word.TheVariants.{Plain, To}
+use Rattle.bytes_core.specs.declared.word.Word.TheVariants.{Plain}
 use Rattle.bytes_core.specs.Value.{word_bytes}
 use Rattle.planes.specs.Lanes.{are_at_most}
 use Rattle.graph.specs.declared.edges.HasValue.{HasValue}
 use Rattle.graph.specs.Meaning.{HasClass, HaveClasses, HoldsWord, HoldEdges}
-use Rattle.cover.specs.declared.content.Content.{Content}
 use Rattle.cover.specs.declared.content.Content.TheVariants.{Fixed}
 use Rattle.cover.specs.Covers.{content, Pairing, value_in, are_zeros, held_as, HasPartner}
 use Rattle.graph.specs.Meaning.{Maps}

@@ -1,10 +1,10 @@
 -- Classes that are at most others.
-use Rattle.std.proofs.Common.{◌≡◌, ℕ, zero, suc, ◌<◌, ◌≤◌, Bool, true, false, ◌&&◌, List, [], ◌∷◌, length, nat_le, get_or, refl, ap, arith, leb-true, le-leb}
+use Rattle.std.proofs.Common.{◌≡◌, ℕ, suc, ◌≤◌, true, List, [], ◌∷◌, length, nat_le, refl, ap}
 use Rattle.std.specs.List.{AllZip}
 use Rattle.planes.proofs.Pairs.{at_most_is}
 use Rattle.std.proofs.lemmas.Bool.{false≢true}
 use Rattle.planes.specs.Lanes.{are_at_most}
-use Rattle.graph.proofs.Tests.{and_left, and_right, and_both}
+use Rattle.graph.proofs.Tests.{and_right}
 
 pub most_as_long : (low high : List ℕ) → are_at_most low high ≡ true → length low ≡ length high
 most_as_long [] [] most = refl

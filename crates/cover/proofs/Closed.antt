@@ -1,9 +1,7 @@
 -- Where the worklist has come to its end, what is paired is what is reached.
-use Rattle.std.proofs.Common.{◌≡◌, ℕ, Option, Some, sym, ◌∙◌, ap}
-use Rattle.graph.specs.declared.object.Object.{Object}
+use Rattle.std.proofs.Common.{sym, ◌∙◌}
 use Rattle.graph.specs.Meaning.{Maps}
-use Rattle.cover.specs.declared.content.Content.{Content}
-use Rattle.cover.specs.declared.content.Content.TheVariants.{Fixed, Leads, Kept}
+use Rattle.cover.specs.declared.content.Content.TheVariants.{Leads}
 use Rattle.cover.specs.declared.found.Found.{Found}
 use Rattle.cover.specs.Covers.{Pairing, Link, Objects, Values, IsReached, ByVariable, ByRegister, ByPort, ByEdge, ByAddress, IsIn, IsCover}
 use Rattle.cover.specs.Found.{pairing_of, IsSound, IsLinked, IsClosed}

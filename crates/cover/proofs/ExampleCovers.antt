@@ -1,15 +1,15 @@
 -- A graph that covers another one, and one that does not.
-use Rattle.std.proofs.Common.{◌≡◌, ℕ, zero, suc, ◌<◌, Bool, true, false, List, [], ◌∷◌, length, get_or, nat_eq, Option, None, Some, refl, sym, ◌∙◌, ap, subst, eqb-true, arith}
+use Rattle.std.proofs.Common.{◌≡◌, ℕ, zero, suc, ◌<◌, Bool, true, false, length, get_or, nat_eq, Option, None, Some, refl, sym, ◌∙◌, ap, subst, eqb-true, arith}
 use Rattle.std.specs.Prelude.{option_map, slice_get, if◌then◌else◌}
 use Rattle.std.proofs.lemmas.Option.{same_Some, none-some}
 use Rattle.graph.specs.declared.edges.HasValue.{HasValue}
 use Rattle.graph.specs.declared.object.Object.{Object}
-use Rattle.graph.specs.declared.value.Value.TheVariants.{Const, Number}
+use Rattle.graph.specs.declared.value.Value.TheVariants.{Number}
 use Rattle.graph.specs.Maps.{object_at, storage_of}
 use Rattle.graph.specs.Meaning.{maps_of}
 use Rattle.cover.specs.declared.content.Content.{Content}
 use Rattle.cover.specs.declared.content.Content.TheVariants.{Fixed, Leads, Kept}
-use Rattle.cover.specs.Covers.{content, Pairing, ArePaired, Fits, FitsAt, HasPartner, IsLiveAs, IsCover, IsLeast, IsReached, ByVariable, ByEdge, Link, Objects, Values, IsIn, Covers, StandsIn, IsAddress}
+use Rattle.cover.specs.Covers.{content, Pairing, ArePaired, Fits, FitsAt, HasPartner, IsReached, ByVariable, ByEdge, Link, Objects, Values, IsIn, Covers, StandsIn, IsAddress}
 use Rattle.cover.specs.Example.{holder, any_number, five, IsExample}
 use Rattle.cover.proofs.Least.{fits-at-reached}
 
@@ -22,12 +22,18 @@ pairing = record { object = first_alone 0; back = first_alone 0; value = first_a
 
 -- only the first object stands
 only-first : (key : ℕ) (object : Object) → object_at five.objects key ≡ Some object → (key ≡ 0)
-only-first zero object is = refl
-only-first (suc key) object is = absurd (none-some object is)
+only-first key object is = by_test (nat_eq 0 key) refl is
+  where
+    by_test : (b : Bool) → nat_eq 0 key ≡ b → object_at five.objects key ≡ Some object → (key ≡ 0)
+    by_test true hit is = sym (eqb-true 0 key hit)
+    by_test false miss is = absurd (none-some object (sym (ap (λ (b : Bool). if b then Some holder else None) miss) ∙ is))
+
+same-where : (b : Bool) → option_map (first_alone {X = ℕ} 0) (if b then Some 0 else None) ≡ option_map Some (if b then Some 0 else None)
+same-where true = refl
+same-where false = refl
 
 same-storage : (variable : ℕ) → option_map (first_alone 0) (storage_of any_number.variables variable) ≡ option_map Some (storage_of five.variables variable)
-same-storage zero = refl
-same-storage (suc variable) = refl
+same-storage variable = same-where (nat_eq 0 variable)
 
 paired : (key with : ℕ) → first_alone 0 key ≡ Some with → ArePaired (maps_of any_number) (maps_of five) pairing key with
 paired zero with is = subst (ArePaired (maps_of any_number) (maps_of five) pairing 0) (same_Some _ _ is) (record {

@@ -1,11 +1,10 @@
 -- Numbers for the values of the wider graph with which nothing is paired: none makes two values of an unequal pair equal.
 use Rattle.std.proofs.Common.{◌≡◌, ◌≢◌, ℕ, ◌^◌, ◌<◌, Option, None, Some, refl, sym, ◌∙◌, ap, subst, ◌⊎◌, inl, inr, true, false}
-use Rattle.std.specs.Prelude.{IsTrue, slice_get, ℤ}
+use Rattle.std.specs.Prelude.{IsTrue, slice_get}
 use Rattle.std.proofs.lemmas.Bool.{false≢true}
 use Rattle.std.proofs.lemmas.Option.{same_Some, none-some}
 use Rattle.bytes_core.specs.declared.word.Word.{Word}
 use Rattle.bytes_core.specs.declared.word.Word.TheVariants.{Plain, To}
-use Rattle.graph.specs.declared.value.Target.{Target}
 use Rattle.graph.specs.declared.value.Value.{Value}
 use Rattle.graph.specs.declared.value.Value.TheVariants.{Const, Number, Any, Address}
 use Rattle.graph.specs.declared.parts.Pair.{Pair}
@@ -15,11 +14,11 @@ use Rattle.graph.specs.Numbers.{AreNumbers, AreSomeNumbers, AreAmong}
 use Rattle.graph.specs.WellFormed.{IsWellFormed, is_within_limits}
 use Rattle.graph.specs.State.{State}
 use Rattle.graph.specs.Meaning.{maps_of, Assignment, Meets, StandsFor}
-use Rattle.graph.proofs.Completed.{IsWideNumber, IsPair, pair_at, numbers_are_completed}
+use Rattle.graph.proofs.Completed.{IsWideNumber, pair_at, numbers_are_completed}
 use Rattle.cover.specs.declared.content.Content.{Content}
 use Rattle.cover.specs.declared.content.Content.TheVariants.{Fixed, Leads, Kept}
 use Rattle.cover.specs.Covers.{content, Pairing, Fits, known, known_of, IsApart, AreApart, DifferFixed, IsPairOf, IsCover, Covers}
-use Rattle.cover.proofs.Stood.{word_of, word_as, blocks, ends, word, paired_word, content_word, stood, chosen_given}
+use Rattle.cover.proofs.Stood.{word_of, word_as, blocks, ends, word, content_word, stood, chosen_given}
 
 abbrev number_in : Word → ℕ
 number_in (Plain number) = number

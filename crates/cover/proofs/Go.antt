@@ -1,5 +1,5 @@
 -- Links that are put in.
-use Rattle.std.proofs.Common.{◌≡◌, ◌≢◌, ℕ, zero, suc, ◌+◌, ◌<◌, ◌≤◌, Bool, true, false, List, [], ◌∷◌, ◌++◌, length, get_or, Option, None, Some, refl, sym, ◌∙◌, ap, subst, arith, ◌⊎◌, inl, inr, nat_eq, eqb-true, slice_index_or, slice_set}
+use Rattle.std.proofs.Common.{◌≡◌, ◌≢◌, ℕ, zero, suc, ◌+◌, ◌<◌, ◌≤◌, Bool, true, false, List, [], ◌∷◌, ◌++◌, length, Option, None, Some, refl, sym, ◌∙◌, ap, subst, arith, ◌⊎◌, inl, inr, slice_index_or}
 use Rattle.std.specs.Prelude.{slice_get, Contains, ℤ, ◌↔◌}
 use Rattle.std.proofs.lemmas.Bool.{false≢true}
 use Rattle.std.proofs.lemmas.Option.{same_Some, none-some}
@@ -12,7 +12,7 @@ use Rattle.cover.specs.declared.content.Content.{Content}
 use Rattle.cover.specs.declared.content.Content.TheVariants.{Fixed, Leads, Kept}
 use Rattle.cover.specs.declared.found.Found.{Found}
 use Rattle.cover.specs.Covers.{Pairing, Link, Objects, Values, IsReached, ByAddress, IsIn, IsCover}
-use Rattle.cover.specs.Found.{led_from, led_to, pairing_of, HasOther, alone, HasPlaces, IsCounted, Pairs, AreMutual, Puts, Aims, IsSound, Grows, IsNone, Goes}
+use Rattle.cover.specs.Found.{led_from, led_to, pairing_of, HasOther, alone, IsCounted, Pairs, AreMutual, Puts, Aims, IsSound, Grows, Goes}
 use Rattle.cover.proofs.Least.{reached-in, fits-at-reached, paired-at-reached}
 
 slice_get-push : {X : Type 0} (xs : List X) (x : X) (place : ℕ) (y : X) → slice_get xs place ≡ Some y → slice_get (xs ++ x ∷ []) place ≡ Some y

@@ -1,18 +1,15 @@
 -- All that is reached stands in each pairing that covers: so there is one least pairing, and what stands in its way
 -- stands in the way of all.
-use Rattle.std.proofs.Common.{◌≡◌, ◌≢◌, ℕ, zero, suc, Bool, true, false, List, [], ◌∷◌, map, length, get_or, Option, None, Some, refl, sym, ◌∙◌, ap, subst, arith}
-use Rattle.std.specs.Prelude.{option_map, slice_get, Contains, ℤ}
+use Rattle.std.proofs.Common.{◌≡◌, ℕ, zero, suc, List, [], ◌∷◌, map, Option, None, Some, sym, ◌∙◌, ap, subst}
+use Rattle.std.specs.Prelude.{option_map, slice_get, Contains}
 use Rattle.std.specs.List.{All}
 use Rattle.std.proofs.lemmas.Option.{same_Some, none-some}
-use Rattle.graph.specs.declared.edges.HasValue.{HasValue}
 use Rattle.graph.specs.declared.object.Object.{Object}
-use Rattle.graph.specs.declared.value.Target.{Target}
 use Rattle.graph.specs.declared.value.Value.{Value}
-use Rattle.graph.specs.declared.value.Value.TheVariants.{Const, Number, Any, Address}
 use Rattle.graph.specs.Meaning.{Maps}
 use Rattle.cover.specs.declared.content.Content.{Content}
 use Rattle.cover.specs.declared.content.Content.TheVariants.{Fixed, Leads, Kept}
-use Rattle.cover.specs.Covers.{content, Pairing, Fits, FitsAt, HasPartner, held_in, IsLiveAs, IsAs, ArePaired, IsCover, Link, Objects, Values, IsReached, ByVariable, ByRegister, ByPort, ByEdge, ByAddress, IsIn}
+use Rattle.cover.specs.Covers.{content, Pairing, Fits, FitsAt, HasPartner, IsAs, ArePaired, IsCover, Link, Objects, Values, IsReached, ByVariable, ByRegister, ByPort, ByEdge, ByAddress, IsIn}
 
 pub all-at : {X : Type 0} (P : X → Type 0) (xs : List X) (x : X) → Contains xs x → All P xs → P x
 all-at P xs x (place, within, is) all = subst P is (all place x within)

@@ -1,6 +1,5 @@
 -- The edges of two objects, one after the other.
-use Rattle.std.proofs.Common.{◌≡◌, ◌≢◌, ℕ, zero, suc, ◌+◌, ◌<◌, ◌≤◌, nat_eq, eqb-true, eq-eqb, Bool, true, false, List, [], ◌∷◌, length, get_or, Option, None, Some, refl, sym, ◌∙◌, ap, subst, arith, ◌⊎◌, inl, inr}
-use Rattle.std.specs.Prelude.{Contains}
+use Rattle.std.proofs.Common.{◌≡◌, ◌≢◌, ℕ, ◌+◌, ◌<◌, ◌≤◌, nat_eq, eqb-true, eq-eqb, Bool, true, false, List, length, get_or, None, Some, refl, sym, ◌∙◌, ap, subst, arith}
 use Rattle.std.proofs.lemmas.Bool.{false≢true}
 use Rattle.std.proofs.lemmas.List.{get_or_default}
 use Rattle.std.proofs.lemmas.List.Elements.{Contains-get_or}
@@ -10,8 +9,8 @@ use Rattle.graph.specs.declared.object.Object.{Object}
 use Rattle.graph.specs.Meaning.{Maps}
 use Rattle.cover.specs.declared.content.Content.{Content}
 use Rattle.cover.specs.declared.found.Found.{Found}
-use Rattle.cover.specs.Covers.{held_in, HasPartner, Pairing, Link, Objects, Values, IsReached, ByEdge, IsIn, IsAs, IsCover}
-use Rattle.cover.specs.Found.{pairing_of, IsSound, Grows, IsNone, Goes, IsLinked, Linking, Links}
+use Rattle.cover.specs.Covers.{held_in, Pairing, Link, Objects, Values, IsReached, ByEdge, IsAs, IsCover}
+use Rattle.cover.specs.Found.{IsSound, Goes, IsLinked, Linking, Links}
 use Rattle.cover.proofs.Least.{paired-at-reached}
 
 pub links_start : (wide narrow : Maps) (found : Found) (with : Object) (edges : List HasValue) → IsSound wide narrow found → Linking wide narrow found found with edges 0

@@ -1,5 +1,5 @@
 -- The objects of the queue, one after the other.
-use Rattle.std.proofs.Common.{◌≡◌, ◌≢◌, ℕ, zero, suc, ◌+◌, ◌-◌, ◌<◌, ◌≤◌, Bool, true, false, List, [], ◌∷◌, length, get_or, nat_eq, Option, None, Some, refl, sym, ◌∙◌, ap, subst, eqb-true, arith, slice_index_or}
+use Rattle.std.proofs.Common.{◌≡◌, ℕ, suc, ◌+◌, ◌-◌, ◌<◌, ◌≤◌, Bool, true, false, length, get_or, nat_eq, None, Some, refl, sym, ◌∙◌, ap, subst, eqb-true, arith, slice_index_or}
 use Rattle.std.specs.Prelude.{slice_get, Contains}
 use Rattle.std.specs.List.{All}
 use Rattle.std.proofs.lemmas.Bool.{false≢true}
@@ -8,8 +8,7 @@ use Rattle.graph.specs.declared.object.Object.{Object}
 use Rattle.graph.specs.Meaning.{Maps}
 use Rattle.cover.specs.declared.found.Found.{Found}
 use Rattle.cover.specs.Covers.{Objects, Values, IsIn}
-use Rattle.cover.specs.Found.{pairing_of, alone, IsSound, Grows, IsNone, IsLinked, Links, AreEdgesLinked, LinksObject, LinksSome, LinksAll}
-use Rattle.cover.proofs.Alone.{few_alone}
+use Rattle.cover.specs.Found.{pairing_of, IsSound, Grows, IsLinked, Links, AreEdgesLinked, LinksObject, LinksSome, LinksAll}
 use Rattle.cover.proofs.Forced.{get-at, other-at}
 
 -- what is linked stays so

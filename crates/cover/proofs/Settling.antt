@@ -1,20 +1,17 @@
 -- A check of a finished pairing that fails shows that nothing covers.
-use Rattle.std.proofs.Common.{◌≡◌, ◌≢◌, ℕ, zero, suc, ◌+◌, ◌<◌, ◌≤◌, Bool, true, false, List, [], ◌∷◌, length, nat_eq, Option, None, Some, refl, sym, ◌∙◌, ap, subst, eqb-true, arith, slice_index_or, ◌⊎◌, inl, inr}
-use Rattle.std.specs.Prelude.{option_map, slice_get, map, ℤ, ◌↔◌}
-use Rattle.std.specs.List.{All}
+use Rattle.std.proofs.Common.{◌≡◌, ℕ, zero, suc, ◌+◌, ◌<◌, ◌≤◌, Bool, true, false, List, [], ◌∷◌, length, nat_eq, Option, None, Some, refl, sym, ◌∙◌, ap, subst, eqb-true, arith, slice_index_or}
+use Rattle.std.specs.Prelude.{option_map, slice_get, ◌↔◌}
 use Rattle.std.proofs.lemmas.Bool.{false≢true}
 use Rattle.std.proofs.lemmas.Option.{same_Some, none-some, slice_get-map}
 use Rattle.graph.specs.declared.object.Object.{Object}
-use Rattle.graph.specs.declared.value.Target.{Target}
 use Rattle.graph.specs.declared.value.Value.{Value}
 use Rattle.graph.specs.declared.value.Value.TheVariants.{Const, Number, Any, Address}
 use Rattle.graph.specs.Meaning.{Maps}
 use Rattle.cover.specs.declared.content.Content.{Content}
-use Rattle.cover.specs.declared.content.Content.TheVariants.{Fixed, Leads, Kept}
 use Rattle.cover.specs.declared.found.Found.{Found}
-use Rattle.cover.specs.Covers.{content, Pairing, Fits, FitsAt, Link, Objects, Values, IsReached, IsIn, IsCover, IsLeast, IsAs, ArePaired}
-use Rattle.cover.specs.Found.{pairing_of, IsSound, IsClosed}
-use Rattle.cover.specs.Checked.{IsUncovered, IsFinished, Settled, AreFitting, AreSomeFitting, LooksAlike, LookAlikeAt, AreAlike, AreSomeAlike}
+use Rattle.cover.specs.Covers.{content, Pairing, Fits, FitsAt, Link, Objects, Values, IsReached, IsIn, IsCover, IsLeast, IsAs}
+use Rattle.cover.specs.Found.{pairing_of, IsClosed}
+use Rattle.cover.specs.Checked.{IsFinished, Settled, AreFitting, AreSomeFitting, LooksAlike, LookAlikeAt, AreAlike, AreSomeAlike}
 use Rattle.cover.proofs.Closed.{reached-found}
 use Rattle.cover.proofs.Forced.{other-at}
 use Rattle.cover.proofs.Least.{reached-in, fits-at-reached, paired-at-reached}

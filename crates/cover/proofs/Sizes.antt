@@ -1,5 +1,5 @@
 -- Numbers of so many bytes.
-use Rattle.std.proofs.Common.{◌≡◌, ℕ, zero, suc, ◌+◌, ◌-◌, ◌*◌, ◌^◌, ◌<◌, ◌≤◌, true, nat_lt, refl, sym, subst, lt-ltb, arith}
+use Rattle.std.proofs.Common.{◌≡◌, ℕ, ◌+◌, ◌-◌, ◌^◌, ◌<◌, ◌≤◌, true, nat_lt, sym, subst, lt-ltb, arith}
 use lib.Pow.{pow-add}
 use native.Mathlib.Nat.{one-le-pow}
 

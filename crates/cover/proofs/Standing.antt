@@ -1,11 +1,11 @@
 -- Edges with addresses, which stand on both sides.
-use Rattle.std.proofs.Common.{◌≡◌, ◌≢◌, ℕ, zero, suc, ◌+◌, ◌<◌, ◌≤◌, Bool, true, false, ◌&&◌, List, [], ◌∷◌, length, get_or, nat_eq, Option, None, Some, refl, sym, ◌∙◌, ap, subst, eqb-true, eq-eqb, arith}
-use Rattle.std.specs.Prelude.{slice_get, Contains, if◌then◌else◌, ◌↔◌}
+use Rattle.std.proofs.Common.{◌≡◌, ◌≢◌, ℕ, zero, suc, ◌+◌, ◌<◌, ◌≤◌, Bool, true, false, ◌&&◌, List, [], ◌∷◌, length, get_or, nat_eq, None, Some, refl, sym, ◌∙◌, ap, subst, eqb-true, eq-eqb, arith}
+use Rattle.std.specs.Prelude.{slice_get, if◌then◌else◌, ◌↔◌}
 use Rattle.std.proofs.lemmas.Bool.{false≢true}
 use Rattle.std.proofs.lemmas.Option.{same_Some, none-some, slice_get_within}
 use Rattle.graph.specs.declared.edges.HasValue.{HasValue}
 use Rattle.graph.specs.Meaning.{Maps}
-use Rattle.cover.specs.Covers.{content, value_in, StandsIn, IsAddress}
+use Rattle.cover.specs.Covers.{content, value_in, IsAddress}
 use Rattle.cover.specs.Checked.{StandsIfAddress, HaveAddresses, HaveSomeAddresses}
 use Rattle.cover.proofs.Bytes.{edge-in}
 use Rattle.cover.proofs.Forced.{get-at, other-at}

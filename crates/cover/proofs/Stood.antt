@@ -1,17 +1,17 @@
 -- Where one graph covers another one, it stands for each state that the other one stands for.
 use Rattle.std.proofs.Common.{◌≡◌, ◌≢◌, ℕ, zero, suc, ◌+◌, ◌-◌, ◌^◌, ◌<◌, ◌≤◌, Bool, true, false, ◌&&◌, ◌||◌, List, [], ◌∷◌, map, length, take, drop, get_or, nat_eq, nat_lt, Option, None, Some, refl, sym, ◌∙◌, ap, subst, eqb-true, ltb-true, lt-ltb, arith, ◌⊎◌, inl, inr}
-use Rattle.std.specs.Prelude.{IsSome, IsTrue, option_map, slice_get, Contains, ℤ, if◌then◌else◌}
-use Rattle.std.specs.List.{All, list_all}
+use Rattle.std.specs.Prelude.{IsSome, option_map, slice_get, ℤ, if◌then◌else◌}
+use Rattle.std.specs.List.{list_all}
 use Rattle.std.specs.Option.{option_map_or}
 use Rattle.std.proofs.lemmas.Bool.{false≢true}
-use Rattle.std.proofs.lemmas.Option.{same_Some, none-some, slice_get-map, slice_get_within, slice_get_cases}
+use Rattle.std.proofs.lemmas.Option.{same_Some, none-some, slice_get-map, slice_get_cases}
 use Rattle.std.proofs.lemmas.List.Sums.{AllPass-from_list_all}
 use Rattle.bytes_core.specs.Value.{word_bytes}
 use Rattle.bytes_core.specs.declared.block.BlockKind.{BlockKind}
 use Rattle.bytes_core.specs.declared.byte.Byte.{Byte}
 use Rattle.bytes_core.specs.declared.block.Block.{Block}
 use Rattle.bytes_core.specs.declared.word.Word.{Word}
-use Rattle.bytes_core.specs.declared.word.Word.TheVariants.{Plain, To}
+use Rattle.bytes_core.specs.declared.word.Word.TheVariants.{Plain}
 use Rattle.graph.specs.declared.edges.HasValue.{HasValue}
 use Rattle.graph.specs.declared.object.Object.{Object}
 use Rattle.graph.specs.declared.object.Shape.{Shape}
@@ -25,17 +25,16 @@ use Rattle.graph.specs.declared.parts.Pair.{Pair}
 use Rattle.graph.specs.declared.parts.Parts.{Parts}
 use Rattle.graph.specs.Maps.{object_at, value_at, storage_of, held_by}
 use Rattle.graph.specs.Nodes.{is_region, own_node, node_in, node_of}
-use Rattle.graph.specs.Numbers.{AreNumbers, AreAmong}
 use Rattle.graph.specs.Sizes.{value_size, is_sized}
 use Rattle.graph.specs.WellFormed.{IsWellFormed, edge_has_size, says_nothing}
 use Rattle.graph.specs.State.{State, IsWordBelow}
-use Rattle.graph.specs.Meaning.{IsNode, StandsAt, HasShape, IsDead, HasBlocksAs, HasBlocks, HasWord, IsGone, IsRooted, IsRootedWord, Maps, maps_of, Assignment, IsOwned, Meets, Ends, ends_in, ends_of, no_ends, address_word, HoldsWord, HoldEdges, own_offset}
+use Rattle.graph.specs.Meaning.{IsNode, HasShape, HasBlocksAs, HasBlocks, HasWord, IsGone, IsRooted, IsRootedWord, maps_of, Assignment, IsOwned, Meets, Ends, ends_in, ends_of, no_ends, address_word, HoldsWord, own_offset}
 use Rattle.graph.proofs.Found.{Holds-some, IsSome-holds, found-all}
 use Rattle.graph.proofs.Scalars.{size_of_sized}
 use Rattle.graph.proofs.Tests.{and_left}
 use Rattle.cover.specs.declared.content.Content.{Content}
 use Rattle.cover.specs.declared.content.Content.TheVariants.{Fixed, Leads, Kept}
-use Rattle.cover.specs.Covers.{content_of, content, Pairing, Fits, FitsAt, HasPartner, IsLiveAs, IsAs, ArePaired, IsCover, Covers}
+use Rattle.cover.specs.Covers.{content_of, content, Pairing, Fits, HasPartner, IsLiveAs, IsAs, IsCover, Covers}
 use Rattle.cover.proofs.Bounds.{above, above-bound, above-number}
 use Rattle.cover.proofs.Bytes.{classes_above, hold-at, hold-all, zeros-hold, IsMatched, IsOfZeros, partner-cases}
 

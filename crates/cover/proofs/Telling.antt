@@ -1,8 +1,8 @@
 -- Values that are told apart, one pair after the other.
-use Rattle.std.proofs.Common.{◌≡◌, ◌≢◌, ℕ, zero, suc, ◌+◌, ◌<◌, ◌≤◌, Bool, true, false, List, [], ◌∷◌, length, get_or, nat_eq, Option, None, Some, refl, sym, ◌∙◌, ap, subst, eqb-true, arith, ◌⊎◌, inl, inr}
+use Rattle.std.proofs.Common.{◌≡◌, ℕ, ◌+◌, ◌<◌, ◌≤◌, Bool, true, false, length, get_or, nat_eq, None, Some, refl, sym, ◌∙◌, ap, subst, eqb-true, arith, inl, inr}
 use Rattle.std.specs.Prelude.{slice_get, ◌↔◌}
 use Rattle.std.proofs.lemmas.Bool.{false≢true}
-use Rattle.std.proofs.lemmas.Option.{same_Some, none-some, slice_get_within}
+use Rattle.std.proofs.lemmas.Option.{same_Some, slice_get_within}
 use Rattle.graph.specs.declared.parts.Pair.{Pair}
 use Rattle.graph.specs.Meaning.{Maps}
 use Rattle.cover.specs.declared.content.Content.{Content}

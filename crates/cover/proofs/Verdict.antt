@@ -1,25 +1,23 @@
 -- From a finished pairing and its checks to the answer.
-use Rattle.std.proofs.Common.{◌≡◌, ◌≢◌, ℕ, zero, suc, ◌+◌, ◌<◌, ◌≤◌, Bool, true, false, List, [], ◌∷◌, map, length, get_or, Option, None, Some, refl, sym, ◌∙◌, ap, subst, arith, slice_index_or, replicate}
-use Rattle.std.specs.Prelude.{option_map, slice_get, ◌↔◌, Contains}
+use Rattle.std.proofs.Common.{◌≡◌, ℕ, zero, suc, ◌<◌, ◌≤◌, Bool, true, false, List, [], ◌∷◌, map, length, Option, None, Some, refl, sym, ◌∙◌, ap, subst, arith, slice_index_or, replicate}
+use Rattle.std.specs.Prelude.{option_map, ◌↔◌, Contains}
 use Rattle.std.specs.List.{All}
 use Rattle.std.proofs.lemmas.Bool.{false≢true}
 use Rattle.std.proofs.lemmas.List.{length-replicate}
 use Rattle.std.proofs.lemmas.Option.{same_Some, none-some}
 use Rattle.graph.specs.declared.object.Object.{Object}
-use Rattle.graph.specs.declared.parts.Pair.{Pair}
 use Rattle.graph.specs.declared.parts.Parts.{Parts}
-use Rattle.graph.specs.Maps.{object_at}
 use Rattle.graph.specs.Meaning.{Maps, maps_of}
 use Rattle.graph.specs.Whole.{IsGraph}
 use Rattle.cover.specs.declared.content.Content.{Content}
 use Rattle.cover.specs.declared.content.Content.TheVariants.{Kept}
 use Rattle.cover.specs.declared.found.Found.{Found}
-use Rattle.cover.specs.Covers.{content, Pairing, HasPartner, IsLiveAs, IsAs, ArePaired, AreLivePaired, IsApart, known, IsCover, IsLeast, Covers, Link, IsReached, Objects, Values, IsIn, AreVariablesPaired, AreRegistersPaired, ArePortsPaired}
-use Rattle.cover.specs.Found.{pairing_of, alone, IsSound, Grows, IsNone, IsLinked, Settles, LinksAll}
-use Rattle.cover.specs.Checked.{IsUncovered, IsFinished, Finishes, Settled, AreFitting, AreAlike, AreApartKept, ArePairsApart, LookAlikeAt, LooksAlike}
+use Rattle.cover.specs.Covers.{content, Pairing, HasPartner, ArePaired, AreLivePaired, IsApart, known, IsCover, IsLeast, Covers, Link, IsReached, Objects, Values, IsIn, AreVariablesPaired, AreRegistersPaired, ArePortsPaired}
+use Rattle.cover.specs.Found.{pairing_of, IsSound, Grows, IsNone, IsLinked, Settles, LinksAll}
+use Rattle.cover.specs.Checked.{IsUncovered, IsFinished, Finishes, Settled, AreFitting, AreAlike, AreApartKept, ArePairsApart}
 use Rattle.cover.proofs.Alone.{all_alone}
 use Rattle.cover.proofs.Living.{object-past, value-past}
-use Rattle.cover.proofs.Settling.{is-found, in-cover, from-cover}
+use Rattle.cover.proofs.Settling.{in-cover, from-cover}
 
 -- What is paired stays so.
 

@@ -1,18 +1,15 @@
 -- What is asked of a pairing that is finished: each clause holds of it, or of none.
-use Rattle.std.specs.Prelude.{◌≡◌, ℕ, zero, suc, ◌^◌, ◌<◌, Bool, true, false, not, ◌&&◌, ◌||◌, nat_eq, nat_lt, List, [], ◌∷◌, length, Option, None, Some, slice_get, slice_index_or}
-use Rattle.std.specs.List.{list_all}
+use Rattle.std.specs.Prelude.{◌≡◌, ℕ, ◌<◌, Bool, true, false, List, length, Option, None, Some, slice_get, slice_index_or}
 use Rattle.graph.specs.declared.edges.HasValue.{HasValue}
 use Rattle.graph.specs.declared.object.Object.{Object}
 use Rattle.graph.specs.declared.object.Shape.TheVariants.{Region}
-use Rattle.graph.specs.declared.value.Value.{Value}
-use Rattle.graph.specs.declared.value.Value.TheVariants.{Const, Number, Any, Address}
 use Rattle.graph.specs.declared.parts.Pair.{Pair}
 use Rattle.graph.specs.Meaning.{Maps}
 use Rattle.planes.specs.Lanes.{are_at_most}
 use Rattle.cover.specs.declared.content.Content.{Content}
 use Rattle.cover.specs.declared.content.Content.TheVariants.{Fixed, Leads, Kept}
 use Rattle.cover.specs.declared.found.Found.{Found}
-use Rattle.cover.specs.Covers.{content, Pairing, Values, Objects, IsIn, IsCover, IsLeast, FitsAt, StandsIn, IsAddress, IsApart, IsPairOf, known, AreVariablesPaired, AreRegistersPaired, ArePortsPaired, value_in}
+use Rattle.cover.specs.Covers.{content, Pairing, Values, Objects, IsIn, IsCover, IsLeast, FitsAt, StandsIn, IsAddress, IsApart, IsPairOf, known, AreVariablesPaired, AreRegistersPaired, ArePortsPaired}
 use Rattle.cover.specs.Found.{pairing_of, IsSound, AreEdgesLinked}
 
 -- nothing covers

@@ -1,5 +1,5 @@
 -- Two graphs of one variable of four bytes: in one it holds any number, in the other one the number 5.
-use Rattle.std.specs.Prelude.{◌≡◌, ℕ, true, [], ◌∷◌}
+use Rattle.std.specs.Prelude.{true, [], ◌∷◌}
 use Rattle.bytes_core.specs.declared.block.BlockKind.TheVariants.{Local}
 use Rattle.graph.specs.declared.object.Object.{Object}
 use Rattle.graph.specs.declared.object.Shape.TheVariants.{Region}

@@ -1,5 +1,5 @@
 -- What is paired so far, as a pairing; and what becomes of it where two more objects are paired.
-use Rattle.std.specs.Prelude.{◌≡◌, ◌≢◌, ◌⊎◌, ℕ, zero, suc, ◌+◌, ◌<◌, ◌≤◌, Bool, true, false, List, [], ◌∷◌, ◌++◌, length, Option, None, Some, slice_index_or, slice_get, ℤ, Contains, get_or}
+use Rattle.std.specs.Prelude.{◌≡◌, ◌≢◌, ◌⊎◌, ℕ, suc, ◌+◌, ◌<◌, ◌≤◌, Bool, true, false, List, [], ◌∷◌, ◌++◌, length, Option, None, Some, slice_index_or, slice_get, ℤ, Contains, get_or}
 use Rattle.std.specs.List.{All}
 use Rattle.cover.specs.declared.found.Found.{Found}
 use Rattle.cover.specs.declared.content.Content.{Content}

@@ -18,7 +18,6 @@ pub fn what_is_covered_is_stood_for()
 {}
 
 /// A variable that may hold any number covers one that holds 5, and is not covered by it: so the relation holds of some graphs, and not of all.
-#[tactic(auto, using(crate::proofs::ExampleCovers::example))]
 pub fn a_number_covers_a_constant()
     ensures { IsExample }
 {}

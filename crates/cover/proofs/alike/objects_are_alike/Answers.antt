@@ -1,4 +1,4 @@
-use Rattle.std.proofs.Common.{rules, ◌≡◌, sym, ◌∙◌}
+use Rattle.std.proofs.Common.{rules, sym, ◌∙◌}
 use Rattle.graph.specs.Meaning.{maps_of}
 use Rattle.cover.proofs.Settling.{alike-clash}
 use Rattle.cover.proofs.alike.objects_are_alike.Goals as goal

@@ -1,4 +1,4 @@
-use Rattle.std.proofs.Common.{◌≡◌, ◌-◌, length}
+use Rattle.std.proofs.Common.{◌-◌, length}
 use Rattle.graph.specs.Meaning.{maps_of}
 use Rattle.cover.specs.Checked.{AreSomeAlike}
 use Rattle.cover.proofs.alike.objects_are_alike.Given as goal

@@ -1,8 +1,7 @@
-use Rattle.std.proofs.Common.{rules, ◌≡◌, true, false, refl, sym, ◌∙◌, subst}
+use Rattle.std.proofs.Common.{rules, refl, sym, ◌∙◌, subst}
 use Rattle.std.proofs.lemmas.Bool.{false≢true}
 use Rattle.graph.specs.Meaning.{maps_of}
 use Rattle.cover.specs.Covers.{IsAddress}
-use Rattle.cover.specs.Checked.{StandsIfAddress}
 use Rattle.cover.proofs.Standing.{stands, stands_not}
 use Rattle.cover.proofs.alike.stands.Goals as goal
 

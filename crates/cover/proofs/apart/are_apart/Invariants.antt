@@ -1,4 +1,4 @@
-use Rattle.std.proofs.Common.{◌≡◌, ◌-◌, length}
+use Rattle.std.proofs.Common.{◌-◌, length}
 use Rattle.graph.specs.Meaning.{maps_of}
 use Rattle.cover.specs.Checked.{IsNoneOf}
 use Rattle.cover.proofs.apart.are_apart.Given as goal

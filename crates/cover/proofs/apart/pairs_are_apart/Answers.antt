@@ -1,9 +1,9 @@
-use Rattle.std.proofs.Common.{rules, ◌≡◌, ◌↔◌, ◌<◌, ◌≤◌, true, false, List, length, get_or, subst}
+use Rattle.std.proofs.Common.{rules, ◌≡◌, ◌↔◌, ◌<◌, ◌≤◌, true, List, length, get_or, subst}
 use Rattle.graph.specs.Meaning.{maps_of}
 use Rattle.graph.specs.declared.parts.Pair.{Pair}
 use Rattle.cover.specs.Found.{pairing_of}
 use Rattle.cover.specs.Checked.{IsApartBy}
-use Rattle.cover.proofs.Telling.{pairs-next, pairs-lack, pairs-end}
+use Rattle.cover.proofs.Telling.{pairs-next, pairs-end}
 use Rattle.cover.proofs.apart.pairs_are_apart.Goals as goal
 
 abbrev nothing : Pair

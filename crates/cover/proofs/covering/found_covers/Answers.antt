@@ -1,4 +1,4 @@
-use Rattle.std.proofs.Common.{rules, ◌≡◌, ◌↔◌, ℕ, true, false, List, Option, None, subst, slice_index_or}
+use Rattle.std.proofs.Common.{rules, ◌≡◌, ◌↔◌, ℕ, true, List, Option, None, subst, slice_index_or}
 use Rattle.graph.specs.Maps.{object_at}
 use Rattle.cover.specs.Covers.{AreLivePaired}
 use Rattle.cover.proofs.Verdict.{live-no, other-live-no, kept-no, covers-when}

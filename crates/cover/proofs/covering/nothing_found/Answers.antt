@@ -1,4 +1,4 @@
-use Rattle.std.proofs.Common.{rules, ◌≡◌, ◌<◌, ◌∙◌, sym, ap, subst, length, replicate, ℕ, None}
+use Rattle.std.proofs.Common.{rules, ◌∙◌, ap, replicate, ℕ, None}
 use Rattle.cover.proofs.Verdict.{nothing-sound}
 use Rattle.cover.proofs.covering.nothing_found.Goals as goal
 

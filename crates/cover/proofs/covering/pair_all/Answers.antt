@@ -1,4 +1,4 @@
-use Rattle.std.proofs.Common.{rules, ◌≡◌}
+use Rattle.std.proofs.Common.{rules}
 use Rattle.graph.specs.Meaning.{maps_of}
 use Rattle.cover.proofs.Verdict.{all-finishes}
 use Rattle.cover.proofs.covering.pair_all.Goals as goal

@@ -1,4 +1,4 @@
-use Rattle.std.proofs.Common.{rules, ◌≡◌}
+use Rattle.std.proofs.Common.{rules}
 use Rattle.cover.proofs.Zeros.{zeros_all}
 use Rattle.cover.proofs.edges.are_zeros.Goals as goal
 

@@ -1,4 +1,4 @@
-use Rattle.std.proofs.Common.{rules, ◌≡◌, sym, ◌∙◌}
+use Rattle.std.proofs.Common.{rules, sym, ◌∙◌}
 use Rattle.cover.proofs.Links.{links_none_as, links_next_as}
 use Rattle.cover.proofs.edges.pair_edges.Goals as goal
 

@@ -1,4 +1,4 @@
-use Rattle.std.proofs.Common.{◌≡◌, ◌≤◌, ◌-◌, length}
+use Rattle.std.proofs.Common.{◌-◌, length}
 use Rattle.graph.specs.Meaning.{maps_of}
 use Rattle.cover.specs.Found.{Linking}
 use Rattle.cover.proofs.edges.pair_edges.Given as goal

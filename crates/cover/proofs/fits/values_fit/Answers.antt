@@ -1,4 +1,4 @@
-use Rattle.std.proofs.Common.{rules, ◌≡◌, sym, ◌∙◌}
+use Rattle.std.proofs.Common.{rules, sym, ◌∙◌}
 use Rattle.graph.specs.Meaning.{maps_of}
 use Rattle.cover.proofs.Settling.{fits-clash}
 use Rattle.cover.proofs.fits.values_fit.Goals as goal

@@ -1,4 +1,4 @@
-use Rattle.std.proofs.Common.{◌≡◌, ◌-◌, length}
+use Rattle.std.proofs.Common.{◌-◌, length}
 use Rattle.graph.specs.Meaning.{maps_of}
 use Rattle.cover.specs.Checked.{AreSomeFitting}
 use Rattle.cover.proofs.fits.values_fit.Given as goal

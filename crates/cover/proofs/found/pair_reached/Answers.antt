@@ -1,4 +1,3 @@
-use Rattle.std.proofs.Common.{rules, ◌≡◌}
 use Rattle.cover.proofs.Go.{object_goes}
 use Rattle.cover.proofs.found.pair_reached.Goals as goal
 

@@ -1,4 +1,4 @@
-use Rattle.std.proofs.Common.{rules, ◌≡◌, sym, ◌∙◌}
+use Rattle.std.proofs.Common.{sym, ◌∙◌}
 use Rattle.cover.proofs.Go.{target_goes, by_address}
 use Rattle.cover.proofs.found.pair_target.Goals as goal
 

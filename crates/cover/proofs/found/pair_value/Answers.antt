@@ -1,4 +1,4 @@
-use Rattle.std.proofs.Common.{rules, ◌≡◌, sym, ◌∙◌}
+use Rattle.std.proofs.Common.{rules, sym, ◌∙◌}
 use Rattle.cover.proofs.Go.{known_goes, value_goes_on}
 use Rattle.cover.proofs.found.pair_value.Goals as goal
 

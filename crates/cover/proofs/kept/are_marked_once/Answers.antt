@@ -1,4 +1,4 @@
-use Rattle.std.proofs.Common.{rules, ◌≡◌, ◌≤◌, length}
+use Rattle.std.proofs.Common.{rules}
 use Rattle.cover.proofs.Marks.{marks-end}
 use Rattle.cover.proofs.kept.are_marked_once.Goals as goal
 

@@ -1,4 +1,4 @@
-use Rattle.std.proofs.Common.{◌≡◌, ◌-◌, length}
+use Rattle.std.proofs.Common.{◌-◌, length}
 use Rattle.cover.specs.Checked.{Marking}
 use Rattle.cover.proofs.kept.are_marked_once.Given as goal
 

@@ -1,4 +1,4 @@
-use Rattle.std.proofs.Common.{rules, ◌≡◌, ◌<◌, ◌≤◌, length, subst, arith}
+use Rattle.std.proofs.Common.{rules, ◌≤◌, length, arith}
 use Rattle.graph.specs.Maps.{object_at}
 use Rattle.cover.proofs.Living.{live-end, object-below}
 use Rattle.cover.proofs.live.live_are_paired.Goals as goal

@@ -1,4 +1,4 @@
-use Rattle.std.proofs.Common.{◌≡◌, ◌-◌, length}
+use Rattle.std.proofs.Common.{◌-◌, length}
 use Rattle.graph.specs.Maps.{object_at}
 use Rattle.cover.specs.Checked.{AreSomeLivePaired}
 use Rattle.cover.proofs.live.live_are_paired.Given as goal

@@ -1,8 +1,7 @@
-use Rattle.std.proofs.Common.{rules, ◌≡◌, ◌≢◌, ◌<◌, ◌≤◌, ◌+◌, ℕ, List, length, get_or, ap, refl, sym, subst, ◌∙◌, Bool, true}
+use Rattle.std.proofs.Common.{rules, ◌≡◌, ◌<◌, ◌≤◌, ◌+◌, ℕ, List, length, get_or, ap, refl, sym, subst, ◌∙◌, Bool, true}
 use Rattle.graph.specs.Meaning.{Maps, maps_of}
-use Rattle.cover.specs.Covers.{content, Link, Objects, Values, IsReached}
+use Rattle.cover.specs.Covers.{content, Link, Values, IsReached}
 use Rattle.cover.specs.declared.content.Content.{Content}
-use Rattle.cover.specs.declared.found.Found.{Found}
 use Rattle.cover.specs.Found.{Naming, Goes}
 use Rattle.cover.proofs.Forced.{for-both, naming_next, port-reached, ports-short, ports-end}
 use Rattle.cover.proofs.roots.pair_ports.Goals as goal

@@ -1,4 +1,4 @@
-use Rattle.std.proofs.Common.{◌≡◌, ◌≤◌, ◌-◌, ℕ, length}
+use Rattle.std.proofs.Common.{◌-◌, ℕ, length}
 use Rattle.graph.specs.Meaning.{maps_of}
 use Rattle.cover.specs.Covers.{content, Values}
 use Rattle.cover.specs.Found.{Naming}

@@ -1,8 +1,7 @@
-use Rattle.std.proofs.Common.{rules, ◌≡◌, ◌≢◌, ◌<◌, ◌≤◌, ◌+◌, ℕ, List, length, get_or, ap, sym, subst, ◌∙◌, Bool, true}
+use Rattle.std.proofs.Common.{rules, ◌≡◌, ◌<◌, ◌≤◌, ◌+◌, ℕ, List, length, get_or, ap, sym, subst, ◌∙◌, Bool, true}
 use Rattle.graph.specs.Meaning.{Maps, maps_of}
 use Rattle.graph.specs.declared.parts.Named.{Named}
-use Rattle.cover.specs.Covers.{content, Link, Objects, Values, IsReached}
-use Rattle.cover.specs.declared.found.Found.{Found}
+use Rattle.cover.specs.Covers.{Link, Objects, IsReached}
 use Rattle.cover.specs.Found.{Naming, Goes}
 use Rattle.cover.proofs.Forced.{for-both, naming_next, variable-reached, variables-short, variables-differ, variables-end}
 use Rattle.cover.proofs.roots.pair_variables.Goals as goal

@@ -1,4 +1,4 @@
-use Rattle.std.proofs.Common.{rules, ◌≡◌, sym, ◌∙◌}
+use Rattle.std.proofs.Common.{rules, sym, ◌∙◌}
 use Rattle.graph.specs.Meaning.{maps_of}
 use Rattle.cover.proofs.Queue.{object-linked}
 use Rattle.cover.proofs.worklist.pair_object.Goals as goal

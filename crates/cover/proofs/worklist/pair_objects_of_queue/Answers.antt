@@ -1,4 +1,4 @@
-use Rattle.std.proofs.Common.{rules, ◌≡◌, ◌≤◌, ◌<◌, length}
+use Rattle.std.proofs.Common.{rules}
 use Rattle.graph.specs.Meaning.{maps_of}
 use Rattle.cover.proofs.Queue.{queue-next-as, queue-end}
 use Rattle.cover.proofs.worklist.pair_objects_of_queue.Goals as goal

@@ -1,4 +1,4 @@
-use Rattle.std.proofs.Common.{◌≡◌, ◌-◌, length}
+use Rattle.std.proofs.Common.{◌-◌, length}
 use Rattle.graph.specs.Meaning.{maps_of}
 use Rattle.cover.specs.Found.{LinksSome}
 use Rattle.cover.proofs.worklist.pair_objects_of_queue.Given as goal
