@@ -1,0 +1,5 @@
+pub mod Ranges
+pub mod Parts
+pub mod Places
+pub mod Posted
+pub mod Reaching

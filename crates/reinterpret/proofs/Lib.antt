@@ -1,0 +1,12 @@
+pub mod WriteSound
+pub mod WriteExact
+pub mod WriteMeans
+pub mod Ready
+pub mod Words
+pub mod Into
+pub mod Loaded
+pub mod ReadSound
+pub mod ReadExact
+pub mod ReadMeans
+pub mod Classes
+pub mod ReadReady

@@ -1,0 +1,5 @@
+pub mod States
+pub mod Writing
+pub mod Exact
+pub mod Means
+pub mod Reading
