@@ -7,6 +7,8 @@ pub mod GraphParts
 pub mod KnownStatics
 pub mod KnownWords
 pub mod LatestInitials
+pub mod LatestFound
+pub mod ObjectsMade
 pub mod Placed
 pub mod PlacedForms
 pub mod Placings
@@ -29,6 +31,7 @@ pub mod StartSteps
 pub mod StaticsMade
 pub mod StaticsWritten
 pub mod StaticsLowered
+pub mod FoundByToken
 pub mod FunctionsLowered
 pub mod ProgramLowered
 pub mod Stood

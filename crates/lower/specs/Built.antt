@@ -1,9 +1,7 @@
 -- What the code has made so far.
-use Rattle.std.specs.Prelude.{true}
 use Rattle.lower.specs.declared.builder.Builder.{Builder}
 use Rattle.lower.specs.Placing.{Made}
 
--- where the code goes on, there is a graph up to there
 abbrev pub made_of : Builder → Made
 made_of builder = record {
   points = builder.points;
@@ -12,5 +10,5 @@ made_of builder = record {
   stands = builder.stands;
   variables = builder.variables;
   heads = builder.heads;
-  is_graph = true;
+  is_graph = builder.is_graph;
 }

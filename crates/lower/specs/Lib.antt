@@ -12,4 +12,7 @@ pub mod Rows
 pub mod Samples
 pub mod Programs
 pub mod Built
+pub mod ByToken
+pub mod Clauses
+pub mod Latest
 pub mod Graphs

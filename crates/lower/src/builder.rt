@@ -1,9 +1,11 @@
 //! What is made of a graph so far.
-ghost use Rattle.std.specs.Prelude.{◌≡◌, ◌<◌, ◌+◌, ◌^◌, OnOk, IfOk};
+ghost use Rattle.std.specs.Prelude.{◌≡◌, ◌<◌, ◌+◌, ◌^◌, ◌∷◌, [], length, false, OnOk, IfOk};
 ghost use Rattle.lower.specs.Built.{made_of};
 ghost use Rattle.lower.specs.Lowering.{nothing_made};
-ghost use Rattle.lower.specs.Placing.{behind_widths, emit, with_head, with_point, with_registers, stands_at};
+ghost use Rattle.lower.specs.Placing.{behind_widths, emit, failed, named_from, with_head, with_objects, with_point, with_registers, stands_at};
 
+use crate::names::{Named, push_named};
+use c_machine::Object;
 use cbase::{List, NoMemory, Place};
 use flow::{FlowEdge, Instr, Standing, Variable, Width};
 use std::alloc::Global;
@@ -23,6 +25,8 @@ pub struct Builder {
     pub variables: List<Variable>,
     /// The loop heads.
     pub heads: List<u32>,
+    /// Whether there is a graph up to here.
+    pub is_graph: bool,
 }
 
 impl Builder {
@@ -37,7 +41,15 @@ impl Builder {
             stands: List::new(alloc),
             variables: List::new(alloc),
             heads: List::new(alloc),
+            is_graph: true,
         }
+    }
+
+    /// There is no graph.
+    pub fn fail(&mut self)
+        ensures { made_of self.new ≡ failed (made_of self.old) }
+    {
+        self.is_graph = false;
     }
 
     /// An edge more.
@@ -67,6 +79,16 @@ impl Builder {
         }
     }
 
+    /// Two points more, at each of which this stands. It answers the number of the first one.
+    pub fn two_points(&mut self, alloc: Global, standing: &Standing) -> Result<u32, NoMemory>
+        ensures is { IfOk result (λ point. (point ≡ self.old.points) × (made_of self.new ≡ with_point standing.now (with_point standing.now (made_of self.old)))) }
+        ensures fits { IfOk result (λ point. point + 1 < 2 ^ 32) }
+    {
+        let first = self.point(copied(alloc, standing)?)?;
+        let _other = self.point(copied(alloc, standing)?)?;
+        Ok(first)
+    }
+
     /// So many registers more. It answers the number of the first one; where there are more than can be numbered, memory is wanting.
     pub fn registers(&mut self, count: u32) -> Result<u32, NoMemory>
         ensures is { IfOk result (λ first. (first ≡ self.old.registers) × (made_of self.new ≡ with_registers count (made_of self.old))) }
@@ -89,6 +111,42 @@ impl Builder {
         let behind = self.registers_behind(point)?;
         self.registers = self.registers.max(behind);
         self.heads.push(point)
+    }
+
+    /// Variables more, for objects, which are static or not. Where one has more than 65,536 bytes there is no graph.
+    #[tactic(auto, using(crate::proofs::ObjectsMade::one_more, crate::proofs::ObjectsMade::none_left))]
+    pub fn objects(&mut self, fixed: bool, objects: &[Object]) -> Result<(), NoMemory>
+        ensures { OnOk result (made_of self.new ≡ with_objects fixed objects.now (made_of self.old)) }
+    {
+        for object in objects {
+            self.object(fixed, *object)?;
+        }
+        Ok(())
+    }
+
+    /// Objects of a block get variables. Where these are more than can be numbered, memory is wanting.
+    pub fn named(&mut self, alloc: Global, objects: &[Object]) -> Result<List<Named>, NoMemory>
+        ensures { IfOk result (λ names. (names ≡ named_from (length self.old.variables) objects.now) × (made_of self.new ≡ with_objects false objects.now (made_of self.old))) }
+    {
+        let Ok(first) = u32::try_from(self.variables.len()) else {
+            return Err(NoMemory);
+        };
+        let mut names = List::new(alloc);
+        push_named(&mut names, first, objects)?;
+        self.objects(false, objects)?;
+        Ok(names)
+    }
+
+    /// A variable more, for an object.
+    fn object(&mut self, fixed: bool, object: Object) -> Result<(), NoMemory>
+        ensures { OnOk result (made_of self.new ≡ with_objects fixed (object ∷ []) (made_of self.old)) }
+    {
+        let Ok(size) = u32::try_from(object.bytes) else {
+            return Err(NoMemory);
+        };
+        self.variables.push(Variable { size, fixed })?;
+        self.is_graph = self.is_graph && size <= 65536;
+        Ok(())
     }
 
     /// The first register behind all that stand at a point. Where there is none, memory is wanting.
@@ -130,7 +188,7 @@ fn behind_widths(widths: &[Width]) -> Result<u32, NoMemory>
 }
 
 /// The same variables and registers.
-fn copied(alloc: Global, standing: &Standing) -> Result<Standing, NoMemory>
+pub(crate) fn copied(alloc: Global, standing: &Standing) -> Result<Standing, NoMemory>
     ensures { IfOk result (λ copy. copy ≡ standing.now) }
 {
     let variables = standing.variables.as_slice().to_vec(alloc)?;

@@ -5,11 +5,20 @@
 #![tactic(auto)]
 
 mod builder;
+mod clause;
 mod conversion;
 pub mod examples;
 pub mod kinds;
+mod latest;
 pub mod laws;
+mod names;
+mod standing;
+mod static_names;
 pub mod words;
 
 pub use builder::Builder;
+pub use clause::{TreeClause, read_clause};
 pub use conversion::Conversion;
+pub use latest::latest_scalars;
+pub use names::Named;
+pub use static_names::Names;
