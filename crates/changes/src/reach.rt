@@ -158,8 +158,10 @@ fn has_live_object(graph: &Graph) -> bool
     false
 }
 
-/// Where an access through the value with a key leads. It takes time in proportion to the objects and unequal pairs only where the value
-/// is a number or any word.
+/// Where an access through the value with a key leads.
+///
+/// It takes time in proportion to the objects where that may be any word. Where it is a number it goes through the unequal pairs, once for
+/// each constant from 0 on that they exclude, at most 4,096 times; else it takes a look at one object.
 pub fn reach_of(graph: &Graph, key: u32, count: u32) -> Reach
     ensures { result ≡ reach_of graph.now key count }
 {

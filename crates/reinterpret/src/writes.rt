@@ -135,7 +135,8 @@ fn write_by(
 ///
 /// The value has `size` bytes, and the address eight; it is none of a node of a segment. The edges of the bytes that are written
 /// go, and the others stay. Loss 3 is named where one of these reached into the bytes from outside, and loss 4 where the address may
-/// be any word: no graph then stands for what follows. It costs one copy of the graph, and of the faults alone no more than a look at its objects and pairs.
+/// be any word: no graph then stands for what follows. It costs one copy of the graph, and
+/// where no graph comes what `reach_of` of `changes` costs.
 pub fn write(alloc: Global, graph: &Graph, at: u32, size: u8, from: u32) -> Result<Post, NoMemory>
     requires address { is_address_held graph.now at ≡ true }
     requires value { holds_size graph.now from size ≡ true }
