@@ -68,3 +68,4 @@ pub mod AskJoined
 pub mod PlaceJoined
 pub mod FlowTested
 pub mod Witness
+pub mod Turns

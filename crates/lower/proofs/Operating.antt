@@ -166,7 +166,7 @@ moved_back at of memory word bytes =
 -- One instruction that computes of two registers, behind the conversions of both sides, what an operator makes of two values.
 pub record IsCombined (t : Text) (what : BinaryOp) (kind kind' : Kind) (between : Sides) : Type 0 where
   pub instr : ℕ → ℕ → ℕ → Instr
-  pub moves : (one other into : ℕ) (place : Place) → combines {t = t} what kind kind' one other into place ≡ Emits (instr one other into) place ∷ []
+  pub moves : (one other into : ℕ) (place : Place) → combines {E = t.Expr} {S = t.Stmt} {I = t.Init} what kind kind' one other into place ≡ Emits (instr one other into) place ∷ []
   pub combined : List Block → Word → Word → Option Word
   pub size : ℕ
   pub plain : Bool
@@ -185,7 +185,7 @@ plain_fits size (Some result) word fits is = subst (λ (w : Word). Suits size tr
 
 -- of two integers, the left one first or the right one
 straight : (t : Text) (what : BinaryOp) (does : Op) (left right left' right' of : IntegerType) →
-    ((one other into : ℕ) (place : Place) → combines {t = t} what (Integer left) (Integer right) one other into place ≡ Emits (i.Compute into does one other of.bytes of.signed) place ∷ []) →
+    ((one other into : ℕ) (place : Place) → combines {E = t.Expr} {S = t.Stmt} {I = t.Init} what (Integer left) (Integer right) one other into place ≡ Emits (i.Compute into does one other of.bytes of.signed) place ∷ []) →
     size_after does of.bytes ≡ width (made_by what (Integer left) (Integer right)) →
     ((memory : List Block) (first second : Word) → operated memory what (Integer left) (Integer right) first second
     ≡ option_map Plain (computed does of.bytes of.signed (as_type left left' (address_number memory first)) (as_type right right' (address_number memory second)))) →
@@ -208,7 +208,7 @@ straight t what does left right left' right' of moves wide means = record {
 }
 
 crossed : (t : Text) (what : BinaryOp) (does : Op) (left right left' right' of : IntegerType) →
-    ((one other into : ℕ) (place : Place) → combines {t = t} what (Integer left) (Integer right) one other into place ≡ Emits (i.Compute into does other one of.bytes of.signed) place ∷ []) →
+    ((one other into : ℕ) (place : Place) → combines {E = t.Expr} {S = t.Stmt} {I = t.Init} what (Integer left) (Integer right) one other into place ≡ Emits (i.Compute into does other one of.bytes of.signed) place ∷ []) →
     size_after does of.bytes ≡ width (made_by what (Integer left) (Integer right)) →
     ((memory : List Block) (first second : Word) → operated memory what (Integer left) (Integer right) first second
     ≡ option_map Plain (computed does of.bytes of.signed (as_type right right' (address_number memory second)) (as_type left left' (address_number memory first)))) →
@@ -305,7 +305,7 @@ of_integers t Comma left right computing = absurd (false≢true computing)
 
 -- an operator on two values has such an instruction, or there is no graph
 abbrev pub NoneCombined : Text → BinaryOp → Kind → Kind → Type 0
-NoneCombined t what kind kind' = (one other into : ℕ) (place : Place) → combines {t = t} what kind kind' one other into place ≡ Fails ∷ []
+NoneCombined t what kind kind' = (one other into : ℕ) (place : Place) → combines {E = t.Expr} {S = t.Stmt} {I = t.Init} what kind kind' one other into place ≡ Fails ∷ []
 
 pub combining : (t : Text) (what : BinaryOp) (kind kind' : Kind) → is_computing what ≡ true → IsCombined t what kind kind' (sides what kind kind') ⊎ NoneCombined t what kind kind'
 combining t what (Integer left) (Integer right) computing = inl (of_integers t what left right computing)

@@ -19,13 +19,8 @@ use Rattle.c_machine.specs.Words.{scalar_bytes}
 use Rattle.lower.specs.Kinds.{is_void, conversion, as_operand}
 use Rattle.lower.specs.declared.conversion.Conversion.{Conversion}
 use Rattle.lower.specs.declared.conversion.Conversion.TheVariants.{Nothing, Resized, Tested, Dropped, Unknown}
-
--- what is wanted of an expression: its value, or its address, each in the spare register or not; that it is done; or a test of it
-pub data Wanted : Type 0 where
-  AsValue : (in_spare : Bool) → Wanted
-  AsPlace : (in_spare : Bool) → Wanted
-  AsWork : Wanted
-  AsTest : Wanted
+pub use Rattle.lower.specs.declared.wanted.Wanted.{Wanted}
+pub use Rattle.lower.specs.declared.wanted.Wanted.TheVariants.{AsValue, AsPlace, AsWork, AsTest}
 
 -- a value that becomes one of a kind
 abbrev pub left_converted : (t : Text) → (Wanted → t.Expr → ℕ) → t.Expr → Bool → Conversion → ℕ

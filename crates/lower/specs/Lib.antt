@@ -3,6 +3,7 @@ pub mod Known
 pub mod LetGo
 pub mod Moves
 pub mod Table
+pub mod Told
 pub mod Placing
 pub mod Initials
 pub mod Lowering

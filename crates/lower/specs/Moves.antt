@@ -9,54 +9,38 @@ use Rattle.typing.specs.declared.ctypes.kind.IntegerType.{IntegerType}
 use Rattle.typing.specs.ctypes.Integers.{promoted}
 use Rattle.c_machine.specs.declared.kind.Kind.{Kind}
 use Rattle.c_machine.specs.declared.kind.Kind.TheVariants.{Integer, Pointer}
-use Rattle.c_machine.specs.declared.object.Object.{Object}
 use Rattle.c_machine.specs.Text.{Text}
 use Rattle.flow.specs.declared.instruction.Instr.{Instr}
 use Rattle.flow.specs.declared.instruction.Instr.TheVariants as i
 use Rattle.lower.specs.Kinds.{Sides, sides, meeting}
 use Rattle.lower.specs.declared.conversion.Conversion.{Conversion}
 use Rattle.lower.specs.declared.conversion.Conversion.TheVariants.{Nothing, Resized, Tested}
+pub use Rattle.lower.specs.declared.moves.Move.{Move as MoveOf}
+pub use Rattle.lower.specs.declared.moves.Move.TheVariants.{Emits, Pairs, Parts, Evaluates, Converts, Answers, Tells, Locates, Works, Asks, Does, Clears, Initialises, Stops, Fails}
 
--- Registers: `into` gets the value, and `spare` is the first of those of the full expression that hold what is let go of.
-pub data Move (t : Text) : Type 0 where
-  -- an edge; two to one point; and two to a point each
-  Emits : Instr → Place → Move t
-  Pairs : Instr → Instr → Place → Move t
-  Parts : Instr → ℕ → Instr → ℕ → Place → Move t
-  -- the value of an expression; the value as one of a kind; and whether a condition holds, as 1 or 0 of so many bytes
-  Evaluates : t.Expr → (spare into : ℕ) → Move t
-  Converts : t.Expr → Kind → (spare into : ℕ) → Move t
-  Answers : t.Expr → (spare into size : ℕ) → Move t
-  -- whether what a register of so many bytes holds is not 0, as a `_Bool`
-  Tells : (register size into : ℕ) → Place → Move t
-  -- the address of an lvalue; an expression whose value is not used; a condition, with the points where it does not hold and where it does
-  Locates : t.Expr → (spare into : ℕ) → Move t
-  Works : t.Expr → (spare : ℕ) → Move t
-  Asks : t.Expr → (spare off on : ℕ) → Move t
-  -- a statement; the object of a name that becomes 0 in front of braces; an initialiser of it
-  Does : t.Stmt → Move t
-  Clears : Place → Object → Move t
-  Initialises : Place → t.Init → Move t
-  -- the run ends here; and there is no graph
-  Stops : Move t
-  Fails : Move t
+-- The moves of a text. Registers: `into` gets the value, and `spare` is the first of those of the full expression that hold what is let go of.
+abbrev pub Move : Text → Type 0
+Move t = MoveOf t.Expr t.Stmt t.Init
 
 -- moves and how many registers they have of their own
-pub record Line (t : Text) : Type 0 where
+pub record LineOf (E S I : Type 0) : Type 0 where
   pub registers : ℕ
-  pub moves : List (Move t)
+  pub moves : List (MoveOf E S I)
 
-abbrev pub taking : {t : Text} → ℕ → List (Move t) → Line t
+abbrev pub Line : Text → Type 0
+Line t = LineOf t.Expr t.Stmt t.Init
+
+abbrev pub taking : {E S I : Type 0} → ℕ → List (MoveOf E S I) → LineOf E S I
 taking registers moves = record { registers = registers; moves = moves }
 
 -- a conversion of what a register holds, if it is an edge, and where the value stands behind it
-abbrev pub resizes : {t : Text} → Conversion → ℕ → ℕ → Place → List (Move t)
+abbrev pub resizes : {E S I : Type 0} → Conversion → ℕ → ℕ → Place → List (MoveOf E S I)
 resizes Nothing from into place = []
 resizes (Resized bytes signed) from into place = Emits (i.Convert into from bytes signed) place ∷ []
 resizes other from into place = Fails ∷ []
 
 -- the same where the value may become a `_Bool`
-abbrev pub adapts : {t : Text} → Conversion → ℕ → ℕ → ℕ → Place → List (Move t)
+abbrev pub adapts : {E S I : Type 0} → Conversion → ℕ → ℕ → ℕ → Place → List (MoveOf E S I)
 adapts Tested from size into place = Tells from size into place ∷ []
 adapts conversion from size into place = resizes conversion from into place
 
@@ -65,10 +49,10 @@ stands_in Nothing from into = from
 stands_in other from into = into
 
 -- two integers of one type
-abbrev pub computes : {t : Text} → Op → ℕ → ℕ → ℕ → IntegerType → Place → List (Move t)
+abbrev pub computes : {E S I : Type 0} → Op → ℕ → ℕ → ℕ → IntegerType → Place → List (MoveOf E S I)
 computes what one other into of place = Emits (i.Compute into what one other of.bytes of.signed) place ∷ []
 
-abbrev pub of_integers : {t : Text} → BinaryOp → IntegerType → IntegerType → ℕ → ℕ → ℕ → Place → List (Move t)
+abbrev pub of_integers : {E S I : Type 0} → BinaryOp → IntegerType → IntegerType → ℕ → ℕ → ℕ → Place → List (MoveOf E S I)
 of_integers Mul left right one other into place = computes op.Mul one other into (meeting Mul left right) place
 of_integers Div left right one other into place = computes op.Div one other into (meeting Div left right) place
 of_integers Rem left right one other into place = computes op.Rem one other into (meeting Rem left right) place
@@ -86,7 +70,7 @@ of_integers Or left right one other into place = computes op.Or one other into (
 of_integers what left right one other into place = Fails ∷ []
 
 -- two values behind their conversions
-abbrev pub combines : {t : Text} → BinaryOp → Kind → Kind → ℕ → ℕ → ℕ → Place → List (Move t)
+abbrev pub combines : {E S I : Type 0} → BinaryOp → Kind → Kind → ℕ → ℕ → ℕ → Place → List (MoveOf E S I)
 combines what (Integer left) (Integer right) one other into place = of_integers what left right one other into place
 combines Add (Pointer bytes) (Integer right) one other into place = Emits (i.ShiftBy into one other (pos bytes)) place ∷ []
 combines Add (Integer left) (Pointer bytes) one other into place = Emits (i.ShiftBy into other one (pos bytes)) place ∷ []
@@ -94,20 +78,20 @@ combines Sub (Pointer bytes) (Integer right) one other into place = Emits (i.Shi
 combines what left right one other into place = Fails ∷ []
 
 -- an operator on what two registers hold: the conversions of both sides, each into a register of its own, and the operation
-abbrev pub operates_by : {t : Text} → Sides → BinaryOp → Kind → Kind → ℕ → ℕ → ℕ → ℕ → ℕ → Place → List (Move t)
+abbrev pub operates_by : {E S I : Type 0} → Sides → BinaryOp → Kind → Kind → ℕ → ℕ → ℕ → ℕ → ℕ → Place → List (MoveOf E S I)
 operates_by between what left right one other one' other' into place =
     resizes between.left one one' place ++ (resizes between.right other other' place
     ++ combines what left right (stands_in between.left one one') (stands_in between.right other other') into place)
 
-abbrev pub operates : {t : Text} → BinaryOp → Kind → Kind → ℕ → ℕ → ℕ → ℕ → ℕ → Place → List (Move t)
+abbrev pub operates : {E S I : Type 0} → BinaryOp → Kind → Kind → ℕ → ℕ → ℕ → ℕ → ℕ → Place → List (MoveOf E S I)
 operates what left right one other one' other' into place = operates_by (sides what left right) what left right one other one' other' into place
 
 -- registers that hold 0, from `have` of them on to `want`
-abbrev pub zeros : {t : Text} → ℕ → ℕ → Place → List (Move t)
+abbrev pub zeros : {E S I : Type 0} → ℕ → ℕ → Place → List (MoveOf E S I)
 zeros spare zero place = []
 zeros spare (suc count) place = Emits (i.Number spare 0 8) place ∷ zeros (suc spare) count place
 
-abbrev pub pads : {t : Text} → ℕ → ℕ → ℕ → Place → List (Move t)
+abbrev pub pads : {E S I : Type 0} → ℕ → ℕ → ℕ → Place → List (MoveOf E S I)
 pads spare have want place = zeros (spare + have) (want - have) place
 
 -- the registers from one on, so many of them

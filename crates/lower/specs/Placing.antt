@@ -31,7 +31,7 @@ use Rattle.simulation.specs.Names.{Name, names_of, variables_of, variable_in}
 use Rattle.lower.specs.Kinds.{width, is_void, conversion, Sides, sides}
 use Rattle.lower.specs.declared.conversion.Conversion.{Conversion}
 use Rattle.lower.specs.LetGo.{AsValue, AsPlace, AsWork, AsTest, left_of, left_as}
-use Rattle.lower.specs.Moves.{Move, Emits, Pairs, Parts, Evaluates, Converts, Answers, Tells, Locates, Works, Asks, Does, Clears, Initialises, Stops, Fails, Line, resizes, adapts, stands_in, pads, run_of}
+use Rattle.lower.specs.Moves.{Move, MoveOf, Emits, Pairs, Parts, Evaluates, Converts, Answers, Tells, Locates, Works, Asks, Does, Clears, Initialises, Stops, Fails, Line, resizes, adapts, stands_in, pads, run_of}
 use Rattle.lower.specs.Table.{object_moves, shifts, shifted_in, copies, value_line, place_line, work_line, converted_line, last_of, kind_of_last, kind_made, is_made}
 
 -- what is made so far, and whether there is a graph
@@ -259,7 +259,7 @@ zero_test t around go made from expr spare off on =
     ∷ Parts (i.IfSame made.registers (suc made.registers)) off (i.IfDifferent made.registers (suc made.registers)) on (t.place expr) ∷ []) off
 
 -- `==` and `!=`
-abbrev pub parts_where : {t : Text} → ℕ → ℕ → ℕ → ℕ → Place → List (Move t)
+abbrev pub parts_where : {E S I : Type 0} → ℕ → ℕ → ℕ → ℕ → Place → List (MoveOf E S I)
 parts_where one other same differs place = Parts (i.IfSame one other) same (i.IfDifferent one other) differs place ∷ []
 
 abbrev pub equality_moves : (t : Text) → Sides → t.Expr → t.Expr → t.Expr → ℕ → ℕ → ℕ → ℕ → List (Move t)
@@ -355,10 +355,10 @@ abbrev pub left_at_end : (t : Text) → Option t.Expr → ℕ
 left_at_end t None = 0
 left_at_end t (Some expr) = if is_void (value_kind t expr) then left_of t AsWork expr else left_of t (AsValue false) expr
 
-abbrev pub enters : {t : Text} → List Name → Place → Move t
+abbrev pub enters : {E S I : Type 0} → List Name → Place → MoveOf E S I
 enters names place = Emits (i.Enter (variables_of names)) place
 
-abbrev pub leaves : {t : Text} → List Name → Place → Move t
+abbrev pub leaves : {E S I : Type 0} → List Name → Place → MoveOf E S I
 leaves names place = Emits (i.Leave (variables_of names)) place
 
 abbrev pub place_scope : (t : Text) → (Around → Go t) → Around → Made → ℕ → List Object → (List Name → List (Move t)) → ℕ → Made
@@ -501,11 +501,11 @@ place_for t go outside around made names from stmt first test semicolon next clo
     (suc made.points) (i.Leave (variables_of names)) to (t.first stmt)
 
 -- jumps: the registers of unfinished expressions that are left go at the word, and then each block is left
-abbrev pub finishes : {t : Text} → List ℕ → Place → List (Move t)
+abbrev pub finishes : {E S I : Type 0} → List ℕ → Place → List (MoveOf E S I)
 finishes [] word = []
 finishes (register ∷ registers) word = Emits (i.Finish (register ∷ registers)) word ∷ []
 
-abbrev pub jump_moves : {t : Text} → Around → Standing → ℕ → Loop → Place → List (Move t)
+abbrev pub jump_moves : {E S I : Type 0} → Around → Standing → ℕ → Loop → Place → List (MoveOf E S I)
 jump_moves around standing kept loop word =
     finishes (registers_left standing.registers loop.registers) word ++ map (λ names. leaves names word) (blocks_left around kept)
 
@@ -520,11 +520,11 @@ place_continue t go around made from word (Some loop) =
     along t around (go around) made from (jump_moves around (stands_at made from) loop.inner loop word) loop.again
 
 -- all blocks of a function are left at once
-abbrev pub closings : {t : Text} → Bool → Place → List (Move t)
+abbrev pub closings : {E S I : Type 0} → Bool → Place → List (MoveOf E S I)
 closings true word = Emits i.Close word ∷ []
 closings false word = []
 
-abbrev pub function_leaves : {t : Text} → Around → Place → List (Move t)
+abbrev pub function_leaves : {E S I : Type 0} → Around → Place → List (MoveOf E S I)
 function_leaves around word = leaves (names_of around.scopes) word ∷ closings around.closes word
 
 abbrev pub registers_of : Standing → List ℕ
@@ -562,7 +562,7 @@ declared_by t place (Some object) (Some init) = zeroed t place object (t.initial
 abbrev pub declared_moves : (t : Text) → Declared t.Init → List (Move t)
 declared_moves t name = declared_by t name.place (t.automatic name.place) name.init
 
-abbrev pub clear_moves : {t : Text} → Option ℕ → Place → ℕ → ℕ → List (Move t)
+abbrev pub clear_moves : {E S I : Type 0} → Option ℕ → Place → ℕ → ℕ → List (MoveOf E S I)
 clear_moves variable place bytes r =
     object_moves variable place r
     ++ (if is_object_size bytes then Emits (i.Number (suc r) 0 1) place ∷ Emits (i.Fill r (suc r) bytes) place ∷ [] else Fails ∷ [])

@@ -26,21 +26,21 @@ use Rattle.lower.specs.declared.conversion.Conversion.{Conversion}
 use Rattle.lower.specs.declared.conversion.Conversion.TheVariants.{Nothing, Resized, Tested, Dropped, Unknown}
 use Rattle.lower.specs.Known.{size_as, product_as}
 use Rattle.lower.specs.LetGo.{leaves_nothing}
-use Rattle.lower.specs.Moves.{Move, Emits, Pairs, Evaluates, Converts, Answers, Locates, Works, Stops, Fails, Line, taking, resizes, adapts, stands_in, combines, operates}
+use Rattle.lower.specs.Moves.{Move, MoveOf, Emits, Pairs, Evaluates, Converts, Answers, Locates, Works, Stops, Fails, Line, LineOf, taking, resizes, adapts, stands_in, combines, operates}
 
 -- The variable of an object by its name is asked of `variable`.
 
 -- the address of an object
-abbrev pub object_moves : {t : Text} → Option ℕ → Place → ℕ → List (Move t)
+abbrev pub object_moves : {E S I : Type 0} → Option ℕ → Place → ℕ → List (MoveOf E S I)
 object_moves None place into = Fails ∷ []
 object_moves (Some variable) place into = Emits (i.Address into variable) place ∷ []
 
-abbrev pub named_moves : {t : Text} → (ℕ → Option ℕ) → Place → ℕ → Standing → List (Move t)
+abbrev pub named_moves : {E S I : Type 0} → (ℕ → Option ℕ) → Place → ℕ → Standing → List (MoveOf E S I)
 named_moves variable place into (ObjectStands token) = object_moves (variable token) place into
 named_moves variable place into other = Fails ∷ []
 
 -- an address moved by a constant, if it is
-abbrev pub shifts : {t : Text} → ℕ → ℕ → ℕ → Place → List (Move t)
+abbrev pub shifts : {E S I : Type 0} → ℕ → ℕ → ℕ → Place → List (MoveOf E S I)
 shifts from into bytes place = if nat_eq bytes 0 then [] else Emits (i.Shift into from (pos bytes)) place ∷ []
 
 -- where an address stands that may be moved
@@ -48,7 +48,7 @@ abbrev pub shifted_in : ℕ → ℕ → ℕ → ℕ
 shifted_in bytes from into = if nat_eq bytes 0 then into else from
 
 -- the addresses of lvalues (6.3.2.1, 6.5.2.1, 6.5.2.3, 6.5.3.2)
-abbrev pub addressed : {t : Text} → Kind → ℕ → List (Move t) → Line t
+abbrev pub addressed : {E S I : Type 0} → Kind → ℕ → List (MoveOf E S I) → LineOf E S I
 addressed kind registers moves = if is_address kind then taking registers moves else taking 0 (Fails ∷ [])
 
 abbrev pub place_line : (t : Text) → (ℕ → Option ℕ) → t.Expr → ℕ → ℕ → ℕ → Form t.Expr t.Stmt → Line t
@@ -103,7 +103,7 @@ binary_line t expr what left right spare into r =
     ∷ operates what (value_kind t left) (value_kind t right) r (r + 1) (r + 2) (r + 3) into (t.place expr))
 
 -- a value that is used, too, is moved to a register that keeps it
-abbrev pub keeps : {t : Text} → Option ℕ → ℕ → Place → List (Move t)
+abbrev pub keeps : {E S I : Type 0} → Option ℕ → ℕ → Place → List (MoveOf E S I)
 keeps None from place = []
 keeps (Some into) from place = Emits (i.Move into from) place ∷ []
 
@@ -114,11 +114,11 @@ store_line t expr left right spare kept r kind (Some bytes) =
     taking 2 (Locates left spare r ∷ Converts right kind spare (r + 1)
     ∷ (keeps kept (r + 1) (t.place expr) ++ Emits (i.Write r (r + 1) bytes) (t.place left) ∷ []))
 
-abbrev pub copies : {t : Text} → ℕ → ℕ → ℕ → Bool → Place → List (Move t)
+abbrev pub copies : {E S I : Type 0} → ℕ → ℕ → ℕ → Bool → Place → List (MoveOf E S I)
 copies to from bytes disjoint place = if nat_le bytes 65536 then Emits (i.Copy to from bytes disjoint) place ∷ [] else Fails ∷ []
 
 -- the machine holds a 0 behind the assignment of a struct
-abbrev pub keeps_zero : {t : Text} → Option ℕ → Place → List (Move t)
+abbrev pub keeps_zero : {E S I : Type 0} → Option ℕ → Place → List (MoveOf E S I)
 keeps_zero None place = []
 keeps_zero (Some into) place = Emits (i.Number into 0 8) place ∷ []
 
@@ -184,7 +184,7 @@ argument_moves t (arg ∷ args) (param ∷ params) spare r = Converts arg param 
 argument_moves t args params spare r = Fails ∷ []
 
 -- functions that are built in (7.22.3, 7.24); sizes and lengths are constants of their instructions. A kept value is moved first
-abbrev pub allocates : {t : Text} → Option ℕ → Option ℕ → Bool → Place → List (Move t)
+abbrev pub allocates : {E S I : Type 0} → Option ℕ → Option ℕ → Bool → Place → List (MoveOf E S I)
 allocates (Some into) (Some bytes) zeroed place = Pairs (i.Allocate into bytes zeroed) (i.AllocateNone into) place ∷ []
 allocates kept bytes zeroed place = Fails ∷ []
 
@@ -198,7 +198,7 @@ copy_moves t to kind from kind' spare kept r disjoint place None = Fails ∷ []
 copy_moves t to kind from kind' spare kept r disjoint place (Some count) =
     Converts to kind spare r ∷ Converts from kind' spare (r + 1) ∷ (keeps kept r place ++ Emits (i.Copy r (r + 1) count disjoint) place ∷ [])
 
-abbrev pub receives : {t : Text} → Option ℕ → Kind → Place → List (Move t)
+abbrev pub receives : {E S I : Type 0} → Option ℕ → Kind → Place → List (MoveOf E S I)
 receives (Some into) (Integer of) place = Emits (i.Input into of.bytes of.signed of.truth) place ∷ []
 receives (Some into) (Pointer bytes) place = Emits (i.Input into 8 false false) place ∷ []
 receives kept kind place = Fails ∷ []

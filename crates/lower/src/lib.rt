@@ -4,21 +4,40 @@
 //! `specs/Placing.antt` numbers points and registers. It knows what the source machine asks of a program, and no token, no scope and no text.
 #![tactic(auto)]
 
+mod asked;
+mod assignments;
 mod builder;
+mod built_ins;
 mod clause;
+mod conditions;
 mod conversion;
+mod conversions;
+mod counts;
 pub mod examples;
 pub mod kinds;
 mod latest;
 pub mod laws;
+mod line;
+mod moves;
 mod names;
+mod operations;
+mod places;
 mod standing;
+mod statement_lines;
 mod static_names;
+mod unary;
+mod values;
+mod wanted;
 pub mod words;
 
+pub use asked::Asked;
 pub use builder::Builder;
 pub use clause::{TreeClause, read_clause};
 pub use conversion::Conversion;
 pub use latest::latest_scalars;
+pub use line::{TreeLine, TreeMove};
+pub use moves::Move;
 pub use names::Named;
+pub use operations::{Sides, sides_of};
 pub use static_names::Names;
+pub use wanted::Wanted;
