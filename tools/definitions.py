@@ -381,9 +381,20 @@ class Sources:
             return next(iter(self.types_named(parts[1], modules, owner)), (module, name))
         source = self.file(f"crates/{parts[1]}/specs/{'/'.join(path)}.antt")
         found = source.owners.get(name) if source else None
+        if found is None and source:
+            found = self.handed_on(source, name)
         if found is None:
             raise SystemExit(f"{module} has no {name}")
         return found
+
+    def handed_on(self, source, name):
+        """What a file of definitions hands on by this name, in a line `pub use`, from another one."""
+        for module, names in re.findall(r"^pub use ([\w.]+)\.\{([^}]*)\}", source.text, re.MULTILINE):
+            for part in names.split(","):
+                outer, _, inner = part.strip().partition(" as ")
+                if (inner or outer) == name:
+                    return self.definition(module, outer)
+        return None
 
 
 def closure(first):
