@@ -3,6 +3,7 @@ use crate::fault::Fault;
 use crate::shown::shown;
 use crate::spelled::parts_of_text;
 use cbase::{NoMemory, Stop};
+use cover::covers;
 use graph::{Graph, Parts, graph_of};
 use std::alloc::Global;
 
@@ -12,10 +13,66 @@ pub fn answer_of_line(alloc: Global, line: &str) -> Result<String, NoMemory> {
         return said(alloc, line);
     }
     let (kind, text) = line.split_once(' ').unwrap_or((line, ""));
+    if kind == "covers" {
+        return answer_of_two(alloc, text);
+    }
     match parts_of_text(alloc, text) {
         Ok(parts) => answer_of_parts(alloc, kind, parts),
         Err(Fault::NoRow) => said(alloc, "no row"),
         Err(Fault::NoMemory) => Err(NoMemory),
+    }
+}
+
+/// Whether the graph in front of ` / ` covers the one behind it.
+fn answer_of_two(alloc: Global, text: &str) -> Result<String, NoMemory> {
+    let (wide, narrow) = match text.split_once(" / ") {
+        Some(both) => both,
+        None => return said(alloc, "no row"),
+    };
+    match graph_of_text(alloc, wide)? {
+        Some(graph) => {
+            let answer = answer_beside(alloc, &graph, narrow);
+            drop(graph);
+            answer
+        }
+        None => said(alloc, "no graph"),
+    }
+}
+
+/// Whether a graph covers the one that a text spells.
+fn answer_beside(alloc: Global, wide: &Graph, text: &str) -> Result<String, NoMemory> {
+    match graph_of_text(alloc, text)? {
+        Some(narrow) => {
+            let answer = covers(alloc, wide, &narrow);
+            drop(narrow);
+            match answer {
+                Ok(true) => said(alloc, "covers"),
+                Ok(false) => said(alloc, "does not cover"),
+                Err(error) => Err(error),
+            }
+        }
+        None => said(alloc, "no graph"),
+    }
+}
+
+/// The graph that a text spells, if it spells one that is not too large.
+fn graph_of_text(alloc: Global, text: &str) -> Result<Option<Graph>, NoMemory> {
+    match parts_of_text(alloc, text) {
+        Ok(parts) => graph_of_ascending(alloc, parts),
+        Err(Fault::NoRow) => Ok(None),
+        Err(Fault::NoMemory) => Err(NoMemory),
+    }
+}
+
+fn graph_of_ascending(alloc: Global, parts: Parts) -> Result<Option<Graph>, NoMemory> {
+    if !parts.keys_ascend() {
+        drop(parts);
+        return Ok(None);
+    }
+    match graph_of(alloc, parts) {
+        Ok(graph) => Ok(graph),
+        Err(Stop::Large) => Ok(None),
+        Err(Stop::NoMemory) => Err(NoMemory),
     }
 }
 

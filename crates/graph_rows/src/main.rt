@@ -1,7 +1,7 @@
 //! Reads rows from its standard input, and prints a line for each with what the crate `graph` answers of it.
 //!
 //! A row is `KIND WORD ..`, where the words spell the parts of a graph (`word.rt`): what a kind prints is said at the
-//! function of that name. A line that begins with `# ` is a heading, and is printed as it stands.
+//! function of that name. `covers WORD .. / WORD ..` asks the crate `cover` whether the first graph covers the second one. A line that begins with `# ` is a heading, and is printed as it stands.
 #![tactic(auto)]
 
 mod answers;
