@@ -21,3 +21,4 @@ pub mod Built
 pub mod Excluding
 pub mod Shown
 pub mod Entries
+pub mod Accesses

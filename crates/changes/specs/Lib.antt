@@ -3,3 +3,4 @@ pub mod Parts
 pub mod Places
 pub mod Posted
 pub mod Reaching
+pub mod Following

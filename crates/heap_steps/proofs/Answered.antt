@@ -10,7 +10,7 @@ use Rattle.graph.specs.declared.post.Post.{Post}
 use Rattle.graph.specs.Meaning.{StandsFor}
 use Rattle.graph.specs.State.{State, IsState}
 use Rattle.graph.specs.Whole.{IsGraph}
-use Rattle.heap_steps.specs.Exact.{Follows, SomeFaults}
+use Rattle.changes.specs.Following.{Follows, SomeFaults}
 use Rattle.changes.specs.Posted.{Posted, IsPost, SomeStandsFor}
 use Rattle.heap_steps.specs.Looking.{loses_some, looked_by, looked}
 use Rattle.heap_steps.specs.Posts.{refuse_post, finish_post}

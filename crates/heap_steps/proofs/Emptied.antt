@@ -13,10 +13,10 @@ use Rattle.graph.specs.Meaning.{StandsFor, Assignment, Meets, maps_of}
 use Rattle.graph.specs.Whole.{IsGraph}
 use Rattle.graph.proofs.AllThere.{all_blocks_may_be_there}
 use Rattle.graph.proofs.Closed.{closed_of}
-use Rattle.heap_steps.specs.Exact.{Follows, SomeFaults}
+use Rattle.changes.specs.Following.{Follows, SomeFaults}
 use Rattle.changes.specs.Parts.{is_among, emptied, without_registers}
 use Rattle.changes.specs.Posted.{SomeStandsFor}
-use Rattle.heap_steps.specs.States.{Leaves}
+use Rattle.changes.specs.Following.{Leaves}
 use Rattle.changes.proofs.Below.{AreThere, word_below}
 use Rattle.changes.proofs.RegisterForm.{graph_without}
 use Rattle.changes.proofs.RegistersChanged.{AgreeButHeld, AgreeButRegisters-back, registers_changed, held_without, without_agrees, emptied-words}

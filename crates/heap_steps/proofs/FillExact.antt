@@ -23,7 +23,7 @@ use Rattle.graph.specs.Whole.{IsGraph}
 use Rattle.graph.specs.Meaning.{HaveClasses, block_word, first_of, ends_of, maps_of, Assignment, Meets, StandsFor}
 use Rattle.graph.proofs.AllThere.{all_blocks_may_be_there}
 use Rattle.graph.proofs.Found.{Holds-some}
-use Rattle.heap_steps.specs.Exact.{Follows}
+use Rattle.changes.specs.Following.{Follows}
 use Rattle.changes.specs.Parts.{with_object, without_registers}
 use Rattle.changes.specs.Posted.{Posted, on_reach, SomeStandsFor}
 use Rattle.changes.specs.Ranges.{spliced, cuts_none, with_range}
@@ -38,6 +38,7 @@ use Rattle.changes.proofs.Reached.{only_one, IsReached, reach_graph, IsRoomAt, r
 use Rattle.changes.proofs.Region.{IsRegionBlock, behind, old, room_old, block_before, state_before, before_there, before_meets, before_state, put_again}
 use Rattle.changes.proofs.Splice.{length-spliced}
 use Rattle.changes.proofs.RegistersChanged.{without_agrees, held_without, emptied-words}
+use Rattle.changes.proofs.Accesses.{no_fault}
 use Rattle.heap_steps.specs.Filling.{Fills, fills_zeros, class_filled, loss_filled, bytes_filled, fill_through, fill_post}
 use Rattle.heap_steps.proofs.Emptied.{before_meets as emptied_before_meets, before_state as emptied_before_state, before_leaves as emptied_before_leaves, before as emptied_before}
 use Rattle.heap_steps.proofs.FillSound.{filled_is, fills_zero, fill_held}
@@ -49,13 +50,6 @@ zeros_are [] (suc n) has = absurd has
 zeros_are (byte ∷ bytes) zero has = absurd has
 zeros_are (Part block offset k ∷ bytes) (suc n) has = absurd has.0
 zeros_are (Num number ∷ bytes) (suc n) has = ap (λ (m : ℕ). Num m ∷ bytes) has.0 ∙ ap (λ (bs : List Byte). Num 0 ∷ bs) (zeros_are bytes n has.1)
-
--- an access to bytes of a live block meets no fault
-pub no_fault : (memory : List Block) (number from count : ℕ) (block : Block) → slice_get memory number ≡ Some block → block.live ≡ true → from + count ≤ length block.bytes → access_fault memory (To number (pos from)) count ≡ None
-no_fault memory number from count block there live room =
-    ap (λ (o : Option Block). block_fault o (pos from) count) there
-    ∙ ap (λ (b : Bool). if b then (if is_within (length block.bytes) (pos from) count then None else Some access_outside_object) else Some access_to_dead_object) live
-    ∙ ap (λ (b : Bool). if b then None else Some access_outside_object) (le-leb _ _ room)
 
 module _ (parts : Parts) (graph : IsGraph parts) (at from : ℕ) (address : is_address_held parts at ≡ true) (value_held : IsSome (held_by parts.registers from)) where
   abbrev pub form : IsWellFormed parts

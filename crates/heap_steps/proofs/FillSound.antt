@@ -24,7 +24,7 @@ use Rattle.changes.specs.Parts.{emptied, with_object, without_registers}
 use Rattle.changes.specs.Posted.{Posted, on_held, on_reach, SomeStandsFor}
 use Rattle.changes.specs.Ranges.{spliced, with_range}
 use Rattle.changes.specs.Reaching.{value_reach, reach_of, is_address_held}
-use Rattle.heap_steps.specs.States.{Leaves}
+use Rattle.changes.specs.Following.{Leaves}
 use Rattle.changes.proofs.Held.{IsHeldAs, held_as, IsHeldValue, held_value, IsAddress, address_at}
 use Rattle.changes.proofs.Meeting.{IsMet, Led, Anywhere, Within, led, kinds_listed}
 use Rattle.changes.proofs.Node.{block_with}

@@ -14,7 +14,7 @@ use Rattle.graph.specs.WellFormed.{may_be_held}
 use Rattle.graph.specs.Whole.{IsGraph}
 use Rattle.graph.proofs.AllThere.{all_blocks_may_be_there}
 use Rattle.graph.proofs.Closed.{closed_of}
-use Rattle.heap_steps.specs.Exact.{Follows}
+use Rattle.changes.specs.Following.{Follows}
 use Rattle.changes.specs.Parts.{put, with_value, with_register}
 use Rattle.changes.specs.Posted.{SomeStandsFor}
 use Rattle.changes.proofs.RegisterForm.{graph_with}

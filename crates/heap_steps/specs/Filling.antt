@@ -13,7 +13,7 @@ use Rattle.changes.specs.Parts.{emptied, with_object, without_registers}
 use Rattle.changes.specs.Posted.{Posted, no_post, on_held, on_reach}
 use Rattle.changes.specs.Ranges.{with_range, cuts_none}
 use Rattle.changes.specs.Reaching.{reach_of}
-use Rattle.heap_steps.specs.States.{Leaves}
+use Rattle.changes.specs.Following.{Leaves}
 
 -- the lowest byte of what the register `from` holds fills so many bytes where the register `at` leads
 pub record Fills (at from length : ℕ) (state next : State) : Type 0 where

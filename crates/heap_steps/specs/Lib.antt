@@ -1,5 +1,3 @@
-pub mod States
-pub mod Exact
 pub mod Reached
 pub mod Ends
 pub mod Ways

@@ -4,7 +4,7 @@ use Rattle.bytes_core.specs.declared.word.Word.TheVariants.{Plain}
 use Rattle.bytes_core.specs.Fault.{memory_lost}
 use Rattle.graph.specs.State.{State}
 use Rattle.changes.specs.Parts.{emptied, put}
-use Rattle.heap_steps.specs.States.{Leaves}
+use Rattle.changes.specs.Following.{Leaves}
 use Rattle.heap_steps.specs.Reached.{IsLost}
 
 -- no block is lost

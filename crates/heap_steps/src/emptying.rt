@@ -1,6 +1,6 @@
 //! Steps that change what registers hold, and nothing else.
 ghost use Rattle.std.specs.Prelude.{◌≡◌, ℕ, [], IfOk, IfErr, Contains, ◌↔◌, None};
-ghost use Rattle.heap_steps.specs.Exact.{Follows, SomeFaults};
+ghost use Rattle.changes.specs.Following.{Follows, SomeFaults};
 ghost use Rattle.changes.specs.Posted.{IsPost, SomeStandsFor};
 ghost use Rattle.graph.specs.Meaning.{StandsFor};
 ghost use Rattle.graph.specs.State.{State, IsState};

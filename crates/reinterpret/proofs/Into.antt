@@ -11,7 +11,7 @@ use Rattle.changes.specs.Parts.{emptied, put, without_registers}
 use Rattle.changes.proofs.Held.{state_held}
 use Rattle.changes.proofs.RegistersChanged.{AgreeButRegisters, held_with, held_without, registers_changed, emptied-words, put-words}
 use Rattle.reinterpret.specs.Reading.{with_fresh}
-use Rattle.reinterpret.specs.States.{Leaves}
+use Rattle.changes.specs.Following.{Leaves}
 
 module _ (gone : List ℕ) (into key : ℕ) (parts : Parts) where
   pub into_agrees : AgreeButRegisters (maps_of parts) (maps_of (with_fresh gone into key parts))

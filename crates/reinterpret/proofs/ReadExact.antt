@@ -40,14 +40,15 @@ use Rattle.changes.proofs.Region.{IsRegionBlock, region_block, region_has}
 use Rattle.changes.proofs.Splice.{spliced-own}
 use Rattle.changes.proofs.Value.{value_less}
 use Rattle.changes.proofs.ValueForm.{IsFitValue, value_new, has_one_more, graph_with_value}
-use Rattle.reinterpret.specs.Exact.{Follows}
+use Rattle.changes.specs.Following.{Follows}
 use Rattle.reinterpret.specs.Reading.{value_of, readable, are_class, unknown, one_graph, with_fresh, read_by, value_read, read_post}
-use Rattle.reinterpret.specs.States.{Leaves, Reads}
+use Rattle.changes.specs.Following.{Leaves}
+use Rattle.reinterpret.specs.States.{Reads}
 use Rattle.reinterpret.specs.Writing.{edge_at}
 use Rattle.reinterpret.proofs.Into.{into_agrees, into_leaves}
 use Rattle.reinterpret.proofs.Loaded.{all_one, edge_loaded, zero_loaded, number_loaded}
 use Rattle.reinterpret.proofs.ReadSound.{read_held, readable_is, zero_fit}
-use Rattle.reinterpret.proofs.WriteExact.{no_fault}
+use Rattle.changes.proofs.Accesses.{no_fault}
 
 -- edges none of which overlaps a range hold, where those before and behind it do
 hold_all : (bytes : List Byte) (word : ℕ → Word) (from count : ℕ) (edges : List HasValue) → meets_none from count edges ≡ true → HoldEdges bytes word (filter (ends_before from) edges) → HoldEdges bytes word (filter (begins_behind (from + count)) edges) →

@@ -28,8 +28,9 @@ use Rattle.changes.proofs.Reached.{only_one, reach_graph, IsRoomAt, room_at}
 use Rattle.changes.proofs.RegisterForm.{graph_without, graph_with}
 use Rattle.changes.proofs.Value.{still}
 use Rattle.changes.proofs.ValueForm.{IsFitValue, value_new, has_one_more, graph_with_value}
-use Rattle.reinterpret.specs.Exact.{SomeFaults}
-use Rattle.reinterpret.specs.Means.{StepMeans, life, ReadTail}
+use Rattle.changes.specs.Following.{SomeFaults}
+use Rattle.changes.specs.Following.{StepMeans, life}
+use Rattle.reinterpret.specs.Means.{ReadTail}
 use Rattle.reinterpret.specs.Reading.{value_of, readable, are_class, unknown, one_graph, with_fresh, read_by, value_read, read_post}
 use Rattle.reinterpret.specs.States.{Reads, FaultsReading}
 use Rattle.reinterpret.specs.Writing.{edge_at}
@@ -37,7 +38,7 @@ use Rattle.reinterpret.proofs.Into.{into_held}
 use Rattle.reinterpret.proofs.Loaded.{value_of_passes}
 use Rattle.reinterpret.proofs.ReadSound.{readable_is, fresh_fit, zero_fit, read_sound, read_kinds}
 use Rattle.reinterpret.proofs.ReadExact.{target, target_value, post, read_follows}
-use Rattle.reinterpret.proofs.WriteMeans.{lives_replaced, kinds_ascend, kinds_met}
+use Rattle.changes.proofs.Accesses.{lives_replaced, kinds_ascend, kinds_met}
 
 -- what stands in a region may be held by a register
 pub region_held : (parts : Parts) (key : ℕ) (object : Object) (at : ℕ) (value : Value) → IsWellFormed parts → object_at parts.objects key ≡ Some object → object.shape ≡ RegionShape → value_at parts.values at ≡ Some value → may_stand_in key value ≡ true → may_be_held value ≡ true

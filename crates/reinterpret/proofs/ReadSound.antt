@@ -44,7 +44,8 @@ use Rattle.changes.proofs.Splice.{spliced-own}
 use Rattle.changes.proofs.Value.{with_word, word-here, word-other, value_more}
 use Rattle.changes.proofs.ValueForm.{IsFitValue, value_next, has_one_more, graph_with_value}
 use Rattle.reinterpret.specs.Reading.{value_of, may_be_read, readable, are_class, unknown, one_graph, with_fresh, read_by, value_read, read_post}
-use Rattle.reinterpret.specs.States.{Leaves, Reads, FaultsReading}
+use Rattle.changes.specs.Following.{Leaves}
+use Rattle.reinterpret.specs.States.{Reads, FaultsReading}
 use Rattle.reinterpret.specs.Writing.{edge_at}
 use Rattle.reinterpret.proofs.Into.{into_meets}
 use Rattle.reinterpret.proofs.Loaded.{value_of_passes, edge_loaded, zero_loaded, ones_held, number_loaded, unknown_word}

@@ -28,9 +28,10 @@ use Rattle.changes.proofs.Held.{held_value, address_at, address_held}
 use Rattle.changes.proofs.RangeForm.{fit_now, graph_written}
 use Rattle.changes.proofs.Reached.{room_at}
 use Rattle.changes.proofs.RegisterForm.{graph_without}
-use Rattle.reinterpret.specs.Exact.{holds_size, IsWritable, LeadsToRegion}
+use Rattle.changes.specs.Following.{holds_size, LeadsToRegion}
+use Rattle.reinterpret.specs.Exact.{IsWritable}
 use Rattle.reinterpret.specs.Writing.{value_written, write_post}
-use Rattle.reinterpret.proofs.WriteExact.{sized_at}
+use Rattle.changes.proofs.Accesses.{sized_at}
 use Rattle.reinterpret.proofs.WriteSound.{post_held}
 
 pub if_ok : {T E : Type 0} {P Q : T → Type 0} (result : Result T E) → ((value : T) → P value → Q value) → IfOk result P → IfOk result Q

@@ -23,7 +23,7 @@ use Rattle.graph.specs.Meaning.{HasClass, HaveClasses}
 use Rattle.changes.proofs.Node.{block_with, low_long}
 use Rattle.changes.proofs.Splice.{spliced-own}
 use Rattle.reinterpret.proofs.WriteSound.{stored_is}
-use Rattle.reinterpret.proofs.WriteExact.{no_fault}
+use Rattle.changes.proofs.Accesses.{no_fault}
 
 pub set_same : (memory : List Block) (number : ℕ) (block : Block) → slice_get memory number ≡ Some block → set memory number block ≡ memory
 set_same [] number block there = refl

@@ -41,34 +41,11 @@ use Rattle.changes.proofs.Reached.{only_one, IsReached, reach_graph, IsRoomAt, r
 use Rattle.changes.proofs.Region.{IsRegionBlock, behind, old, room_old, block_before, state_before, before_there, before_meets, before_state, put_again}
 use Rattle.changes.proofs.Splice.{length-spliced}
 use Rattle.changes.proofs.RegistersChanged.{without_agrees, held_without, emptied-words}
-use Rattle.reinterpret.specs.Exact.{holds_size, Follows}
+use Rattle.changes.specs.Following.{holds_size, Follows}
+use Rattle.changes.proofs.Accesses.{no_fault, IsSized, sized_at}
 use Rattle.reinterpret.specs.States.{Writes}
 use Rattle.reinterpret.specs.Writing.{edge_at, value_written, write_post}
 use Rattle.reinterpret.proofs.WriteSound.{stored_is, post_held}
-
--- an access to bytes of a live block meets no fault
-pub no_fault : (memory : List Block) (number from count : ℕ) (block : Block) → slice_get memory number ≡ Some block → block.live ≡ true → from + count ≤ length block.bytes → access_fault memory (To number (pos from)) count ≡ None
-no_fault memory number from count block there live room =
-    ap (λ (o : Option Block). block_fault o (pos from) count) there
-    ∙ ap (λ (b : Bool). if b then (if is_within (length block.bytes) (pos from) count then None else Some access_outside_object) else Some access_to_dead_object) live
-    ∙ ap (λ (b : Bool). if b then None else Some access_outside_object) (le-leb _ _ room)
-
--- the value of a register that holds one of a size
-pub record IsSized (parts : Parts) (register size : ℕ) : Type 0 where
-  pub key : ℕ
-  pub held : held_by parts.registers register ≡ Some key
-  pub value : Value
-  pub is : value_at parts.values key ≡ Some value
-  pub size_is : value_size value ≡ size
-
-pub sized_at : (parts : Parts) (register size : ℕ) → holds_size parts register size ≡ true → IsSized parts register size
-sized_at parts register size holds = by_held (held_by parts.registers register) refl holds
-  where
-    by_held : (found : Option ℕ) → held_by parts.registers register ≡ found → option_map_or (passes_at parts (λ value. nat_eq (value_size value) size)) found false ≡ true → IsSized parts register size
-    by_held None held holds = absurd (false≢true holds)
-    by_held (Some key) held holds =
-        let found = Holds-some (value_at parts.values key) (passes-some (λ value. nat_eq (value_size value) size) (value_at parts.values key) holds) in
-        record { key = key; held = held; value = found.item; is = found.is; size_is = eqb-true _ _ (subst (λ (o : Option Value). option_map_or (λ value. nat_eq (value_size value) size) o false ≡ true) found.is holds) }
 
 module _ (parts : Parts) (graph : IsGraph parts) (at size from : ℕ) (address : is_address_held parts at ≡ true) (sized : holds_size parts from size ≡ true) (small : size ≤ 8) where
   abbrev pub form : IsWellFormed parts

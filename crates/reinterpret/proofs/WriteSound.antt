@@ -22,7 +22,8 @@ use Rattle.changes.proofs.Node.{block_with, low_has, low_long, written_holds}
 use Rattle.changes.proofs.Reached.{on_room}
 use Rattle.changes.proofs.Region.{with_block, region_changed}
 use Rattle.changes.proofs.RegistersChanged.{without_agrees, held_without, registers_changed, emptied-words}
-use Rattle.reinterpret.specs.States.{Leaves, Writes, FaultsWriting}
+use Rattle.changes.specs.Following.{Leaves}
+use Rattle.reinterpret.specs.States.{Writes, FaultsWriting}
 use Rattle.reinterpret.specs.Writing.{edge_at, value_written, write_post}
 
 -- a store to a block that is there

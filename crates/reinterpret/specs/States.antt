@@ -1,18 +1,10 @@
 -- What a read and a write do with a state, as the flow machine does: each empties the registers that it reads (C11 6.3.2.1p2, 6.5.16).
-use Rattle.std.specs.Prelude.{◌≡◌, ℕ, Bool, List, [], ◌∷◌, Option, None, Some}
-use Rattle.bytes_core.specs.declared.block.Block.{Block}
+use Rattle.std.specs.Prelude.{◌≡◌, ℕ, Bool, [], ◌∷◌, None, Some}
 use Rattle.bytes_core.specs.declared.word.Word.{Word}
 use Rattle.bytes_core.specs.Access.{access_fault, loaded, stored}
 use Rattle.graph.specs.State.{State}
+use Rattle.changes.specs.Following.{Leaves}
 use Rattle.changes.specs.Parts.{emptied, put}
-
--- the state behind has this memory, its registers hold these words, and all else is as before
-pub record Leaves (left : List Block) (held : ℕ → Option Word) (state next : State) : Type 0 where
-  pub memory : next.memory ≡ left
-  pub registers : (register : ℕ) → next.registers register ≡ held register
-  pub variables : (variable : ℕ) → next.variables variable ≡ state.variables variable
-  pub ports : next.ports ≡ state.ports
-  pub roots : next.roots ≡ state.roots
 
 -- the lowest bytes of what the register `from` holds are written where the register `at` leads
 pub record Writes (at size from : ℕ) (state next : State) : Type 0 where

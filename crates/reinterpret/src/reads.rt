@@ -10,8 +10,9 @@ ghost use Rattle.changes.specs.Places.{IsRoom};
 ghost use Rattle.changes.specs.Posted.{IsPost, on_object, on_reach};
 ghost use Rattle.changes.specs.Ranges.{is_beside, meets_none};
 ghost use Rattle.changes.specs.Reaching.{is_address_held, reach_of};
-ghost use Rattle.reinterpret.specs.Exact.{LeadsToRegion};
-ghost use Rattle.reinterpret.specs.Means.{StepMeans, ReadTail};
+ghost use Rattle.changes.specs.Following.{LeadsToRegion};
+ghost use Rattle.changes.specs.Following.{StepMeans};
+ghost use Rattle.reinterpret.specs.Means.{ReadTail};
 ghost use Rattle.reinterpret.specs.Reading.{value_of, may_be_read, readable, are_class, unknown, one_graph, with_fresh, number_read, bytes_read, value_read, read_post};
 ghost use Rattle.reinterpret.specs.States.{Reads, FaultsReading};
 

@@ -6,8 +6,9 @@ ghost use Rattle.changes.specs.Places.{IsRoom};
 ghost use Rattle.changes.specs.Posted.{IsPost, on_object, on_reach};
 ghost use Rattle.changes.specs.Ranges.{cuts_none};
 ghost use Rattle.changes.specs.Reaching.{is_address_held, reach_of};
-ghost use Rattle.reinterpret.specs.Exact.{holds_size, IsWritable, LeadsToRegion};
-ghost use Rattle.reinterpret.specs.Means.{StepMeans, WriteTail};
+ghost use Rattle.changes.specs.Following.{holds_size, LeadsToRegion};
+ghost use Rattle.reinterpret.specs.Exact.{IsWritable};
+ghost use Rattle.changes.specs.Following.{StepMeans, WriteTail};
 ghost use Rattle.reinterpret.specs.States.{Writes, FaultsWriting};
 ghost use Rattle.reinterpret.specs.Writing.{value_written, write_post};
 
