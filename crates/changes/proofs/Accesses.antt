@@ -5,7 +5,7 @@ use Rattle.std.specs.Option.{option_map_or}
 use Rattle.std.proofs.lemmas.Bool.{false≢true}
 use Rattle.bytes_core.specs.declared.block.Block.{Block}
 use Rattle.bytes_core.specs.declared.word.Word.TheVariants.{To}
-use Rattle.bytes_core.specs.Fault.{access_outside_object, access_to_dead_object}
+use Rattle.bytes_core.specs.Fault.{null_pointer_dereference, access_outside_object, access_to_dead_object, access_through_invalid_address}
 use Rattle.bytes_core.specs.Access.{is_within, block_fault, access_fault}
 use Rattle.graph.specs.declared.object.Object.{Object}
 use Rattle.graph.specs.declared.parts.KeyedValue.{KeyedValue}
@@ -24,7 +24,9 @@ use Rattle.changes.specs.declared.reach.Reach.TheVariants as to
 use Rattle.changes.specs.Following.{life, holds_size}
 use Rattle.changes.specs.Parts.{with_object}
 use Rattle.changes.specs.Posted.{Posted, on_object, on_reach}
-use Rattle.changes.specs.Reaching.{are_excluded, object_reach, value_reach, reach_of, names_no_segment}
+use Rattle.changes.specs.AnyWords.{HasPlaceForOne}
+use Rattle.changes.specs.Reaching.{has_live_object, are_excluded, object_reach, value_reach, reach_of, names_no_segment}
+use Rattle.changes.proofs.AnyShown.{any_shown}
 use Rattle.changes.proofs.Held.{IsAddress}
 use Rattle.changes.proofs.Objects.{replaced-here, replaced-other}
 use Rattle.changes.proofs.Reached.{only_one, none_in}
@@ -92,9 +94,9 @@ object_plain (Some object) key (negsuc before) count = by_life object.live
     by_life false = (refl, refl)
 
 module _ (parts : Parts) (graph : IsGraph parts) (at count : ℕ) (address : IsAddress parts at) (onward : ℕ → Object → ℕ → Posted) (silent : (key from : ℕ) (object : Object) → (onward key object from).kinds ≡ []) where
-  -- each kind that an access lists is met, but through any word
-  pub kinds_met : (kind : ℕ) → (on_reach parts (reach_of parts at count) onward).loss ≢ Some 4 → Contains (on_reach parts (reach_of parts at count) onward).kinds kind → IsShown parts at count kind
-  kinds_met kind precise listed = by_value address.value address.is address.size address.names
+  -- each kind that an access lists is met, if those through any word are
+  met_if : (kind : ℕ) → (value_at parts.values at ≡ Some Any → IsShown parts at count kind) → Contains (on_reach parts (reach_of parts at count) onward).kinds kind → IsShown parts at count kind
+  met_if kind through_any listed = by_value address.value address.is address.size address.names
     where
       by_reach : (value : Value) → value_at parts.values at ≡ Some value → names_no_segment value ≡ true → (reach : Reach) → reach_of parts at count ≡ reach → Contains (on_reach parts reach onward).kinds kind →
           ((small : Bool) → reach ≡ to.Number small → ⊥) → ((live : Bool) → reach ≡ to.Anything live → ⊥) → IsShown parts at count kind
@@ -126,9 +128,23 @@ module _ (parts : Parts) (graph : IsGraph parts) (at count : ℕ) (address : IsA
       by_value (Number size) is sized names =
           by_small (Number size) (is ∙ ap (λ (n : ℕ). Some (Number n)) sized) (are_excluded parts at 4096) refl
           (subst (λ (r : Reach). Contains (on_reach parts r onward).kinds kind) (ap (λ (o : Option Value). value_reach parts at o count) is) listed)
-      by_value Any is sized names = absurd (precise (ap (λ (o : Option Value). (on_reach parts (value_reach parts at o count) onward).loss) is))
+      by_value Any is sized names = through_any is
       by_value (Address key offset t) is sized names =
           let plain = object_plain (object_at parts.objects key) key offset count in fault_here (Address key offset t) is names plain.0 plain.1
+
+  -- so it is but through any word
+  pub kinds_met : (kind : ℕ) → (on_reach parts (reach_of parts at count) onward).loss ≢ Some 4 → Contains (on_reach parts (reach_of parts at count) onward).kinds kind → IsShown parts at count kind
+  kinds_met kind precise listed = met_if kind (λ is. absurd (precise (ap (λ (o : Option Value). (on_reach parts (value_reach parts at o count) onward).loss) is))) listed
+
+  -- and through any word too, where with an object a region lives and the graph may have one object more
+  pub all_kinds_met : (kind : ℕ) → HasPlaceForOne parts → Contains (on_reach parts (reach_of parts at count) onward).kinds kind → IsShown parts at count kind
+  all_kinds_met kind place listed = met_if kind (λ is. any_shown parts graph at count kind is place (has_live_object parts) refl (by_live (has_live_object parts)
+      (subst (λ (r : Reach). Contains (on_reach parts r onward).kinds kind) (ap (λ (o : Option Value). value_reach parts at o count) is) listed))) listed
+    where
+      by_live : (live : Bool) → Contains (on_reach parts (to.Anything live) onward).kinds kind →
+          Contains (if live then null_pointer_dereference ∷ access_outside_object ∷ access_to_dead_object ∷ access_through_invalid_address ∷ [] else null_pointer_dereference ∷ access_to_dead_object ∷ access_through_invalid_address ∷ []) kind
+      by_live true listed = listed
+      by_live false listed = listed
 
 -- an access to bytes of a live block meets no fault
 pub no_fault : (memory : List Block) (number from count : ℕ) (block : Block) → slice_get memory number ≡ Some block → block.live ≡ true → from + count ≤ length block.bytes → access_fault memory (To number (pos from)) count ≡ None

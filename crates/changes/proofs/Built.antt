@@ -1,5 +1,5 @@
 -- A graph that is built of the parts of one.
-use Rattle.std.proofs.Common.{◌≡◌, List, [], ◌∷◌, sym, ◌∙◌, ap, subst}
+use Rattle.std.proofs.Common.{◌≡◌, ◌∙◌}
 use Rattle.graph.specs.declared.parts.Parts.{Parts}
 use Rattle.graph.specs.Renaming.{numbered}
 use Rattle.graph.specs.Whole.{IsGraph}

@@ -1,24 +1,20 @@
 -- The entry at a place, and another one put there.
-use Rattle.std.proofs.Common.{◌≡◌, ◌≢◌, ℕ, zero, suc, ◌+◌, ◌<◌, ◌≤◌, Bool, true, false, List, [], ◌∷◌, map, length, drop, set, get_or, nat_eq, nat_le, Option, None, Some, refl, sym, ◌∙◌, ap, subst, eqb-true, eq-eqb, leb-true, le-leb, arith}
-use Rattle.std.specs.Prelude.{IfSome, OnOk, Result, Ok, Err, option_map, slice_get, slice_set, if◌then◌else◌}
+use Rattle.std.proofs.Common.{◌≡◌, ℕ, zero, suc, ◌+◌, ◌<◌, ◌≤◌, Bool, true, false, List, [], ◌∷◌, map, length, set, get_or, nat_eq, Option, Some, refl, sym, ◌∙◌, ap, subst, eqb-true, eq-eqb, leb-true, le-leb, arith}
+use Rattle.std.specs.Prelude.{IfSome, IsSome, OnOk, Result, Ok, Err, option_map, slice_get, if◌then◌else◌}
 use Rattle.std.specs.List.{list_all, AllPairs}
-use Rattle.std.proofs.lemmas.Bool.{false≢true}
-use Rattle.std.proofs.lemmas.Option.{same_Some, none-some, slice_get_read}
+use Rattle.std.proofs.lemmas.Option.{same_Some, slice_get_read}
 use Rattle.std.proofs.lemmas.List.{get_or_read}
-use Rattle.graph.specs.declared.edges.HasValue.{HasValue}
 use Rattle.graph.specs.declared.object.Object.{Object}
-use Rattle.graph.specs.declared.value.Value.{Value}
 use Rattle.graph.specs.declared.parts.KeyedObject.{KeyedObject}
 use Rattle.graph.specs.declared.parts.Parts.{Parts}
 use Rattle.graph.specs.Maps.{object_at}
 use Rattle.graph.specs.WellFormed.{lies_in}
 use Rattle.graph.specs.Whole.{IsGraph}
-use Rattle.graph.proofs.Found.{IsSome-holds}
+use Rattle.graph.proofs.Found.{Holds-some, IsSome-holds}
 use Rattle.graph.proofs.Tests.{list_all-implies}
 use Rattle.changes.specs.Parts.{replaced}
 use Rattle.changes.specs.Places.{IsRoom}
-use Rattle.changes.specs.Ranges.{written_object}
-use Rattle.changes.proofs.Appended.{where_found, found_within}
+use Rattle.changes.proofs.Appended.{found_within}
 use Rattle.changes.proofs.RangeForm.{fit_now, plane_long}
 
 none_later : (key : ℕ) (object : Object) (rest : List KeyedObject) → ((i : ℕ) (d : KeyedObject) → i < length rest → key < (get_or rest i d).key) → map (replaced key object) rest ≡ rest
@@ -46,16 +42,16 @@ replaced_set (first ∷ rest) (suc place) key object ascending within is =
     miss true same = let e = eqb-true _ _ same in let a = ascending 0 (suc place) first (omega arith) (omega arith) in let k = is first in absurd (omega arith)
     miss false same = same
 
--- the object with the key is written at its place
-pub written_there : (objects : List KeyedObject) (place key : ℕ) (entry : KeyedObject) (edge : HasValue) (value : Value) (new : Object) → AllPairs (λ one other. one.key < other.key) objects → place < length objects →
+-- another object, made of the one with the key, is put at its place
+pub made_there : (make : Object → Object) (objects : List KeyedObject) (place key : ℕ) (entry : KeyedObject) (new : Object) → AllPairs (λ one other. one.key < other.key) objects → place < length objects →
     entry ≡ get_or objects place entry → option_map (λ (entry : KeyedObject). entry.key) (slice_get objects place) ≡ Some key →
-    object_at objects key ≡ option_map (λ (entry : KeyedObject). entry.object) (slice_get objects place) → new ≡ written_object entry.object edge value →
-    IfSome (object_at objects key) (λ object. set objects place (record { key = entry.key; object = new }) ≡ map (replaced key (written_object object edge value)) objects)
-written_there objects place key entry edge value new ascending within is has_key has_object written =
-    subst (λ (o : Option Object). IfSome o (λ object. set objects place (record { key = entry.key; object = new }) ≡ map (replaced key (written_object object edge value)) objects))
+    object_at objects key ≡ option_map (λ (entry : KeyedObject). entry.object) (slice_get objects place) → new ≡ make entry.object →
+    IfSome (object_at objects key) (λ object. set objects place (record { key = entry.key; object = new }) ≡ map (replaced key (make object)) objects)
+made_there make objects place key entry new ascending within is has_key has_object made =
+    subst (λ (o : Option Object). IfSome o (λ object. set objects place (record { key = entry.key; object = new }) ≡ map (replaced key (make object)) objects))
     (sym (has_object ∙ ap (option_map (λ (entry : KeyedObject). entry.object)) there))
-    (ap (λ (k : ℕ). set objects place (record { key = k; object = new })) key_is ∙ ap (λ (o : Object). set objects place (record { key = key; object = o })) written
-    ∙ replaced_set objects place key (written_object entry.object edge value) ascending within (λ d. ap (λ (e : KeyedObject). e.key) (sym (get_or_read objects place entry within is d)) ∙ key_is))
+    (ap (λ (k : ℕ). set objects place (record { key = k; object = new })) key_is ∙ ap (λ (o : Object). set objects place (record { key = key; object = o })) made
+    ∙ replaced_set objects place key (make entry.object) ascending within (λ d. ap (λ (e : KeyedObject). e.key) (sym (get_or_read objects place entry within is d)) ∙ key_is))
   where
     there : slice_get objects place ≡ Some entry
     there = slice_get_read objects (length objects) place entry refl within is
@@ -89,16 +85,22 @@ at_own_place (first ∷ rest) from (suc key) object in_place stands within =
     miss false is = is
     miss true is = let e = eqb-true _ _ is in let p = in_place 0 first refl in absurd (omega arith)
 
-pub found_at_place : (parts : Parts) (key from count : ℕ) (items : List KeyedObject) → IsGraph parts → IsRoom parts key from count → items ≡ parts.objects → IsFoundAt items key
-found_at_place parts key from count items graph room same = subst (λ (xs : List KeyedObject). IsFoundAt xs key) (sym same)
-    (let within = found_within (λ (entry : KeyedObject). entry.key) (λ entry. entry.object) parts.objects graph.keys.objects key (IsSome-holds _ _ room.stands) in
-    let there = at_own_place parts.objects 0 key room.object (λ place entry stands. graph.keys.objects place entry stands ∙ (let e : place ≡ 0 + place = omega arith in e))
-    (ap (object_at parts.objects) (let e : 0 + key ≡ key = omega arith in e) ∙ room.stands) within in
+pub found_there : (parts : Parts) (key : ℕ) (object : Object) (items : List KeyedObject) → IsGraph parts → object_at parts.objects key ≡ Some object → items ≡ parts.objects → IsFoundAt items key
+found_there parts key object items graph stands same = subst (λ (xs : List KeyedObject). IsFoundAt xs key) (sym same)
+    (let within = found_within (λ (entry : KeyedObject). entry.key) (λ entry. entry.object) parts.objects graph.keys.objects key (IsSome-holds _ _ stands) in
+    let there = at_own_place parts.objects 0 key object (λ place entry stands. graph.keys.objects place entry stands ∙ (let e : place ≡ 0 + place = omega arith in e))
+    (ap (object_at parts.objects) (let e : 0 + key ≡ key = omega arith in e) ∙ stands) within in
     record {
       within = within;
       has_key = ap (option_map (λ (entry : KeyedObject). entry.key)) there.1 ∙ ap Some (there.2 ∙ (let e : 0 + key ≡ key = omega arith in e));
-      has_object = room.stands ∙ ap Some (sym there.3) ∙ sym (ap (option_map (λ (entry : KeyedObject). entry.object)) there.1);
+      has_object = stands ∙ ap Some (sym there.3) ∙ sym (ap (option_map (λ (entry : KeyedObject). entry.object)) there.1);
     })
+
+pub found_in : (parts : Parts) (key : ℕ) (items : List KeyedObject) → IsGraph parts → IsSome (object_at parts.objects key) → items ≡ parts.objects → IsFoundAt items key
+found_in parts key items graph some same = let found = Holds-some (object_at parts.objects key) some in found_there parts key found.item items graph found.is same
+
+pub found_at_place : (parts : Parts) (key from count : ℕ) (items : List KeyedObject) → IsGraph parts → IsRoom parts key from count → items ≡ parts.objects → IsFoundAt items key
+found_at_place parts key from count items graph room same = found_there parts key room.object items graph room.stands same
 
 pub room_plane : (parts : Parts) (key from count : ℕ) (items : List KeyedObject) → IsGraph parts → IsRoom parts key from count → items ≡ parts.objects → IfSome (object_at items key) (λ object. from + count ≤ length object.plane)
 room_plane parts key from count items graph room same =

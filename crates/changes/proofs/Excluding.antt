@@ -1,5 +1,5 @@
 -- Numbers that pairs exclude, one after another; and live objects.
-use Rattle.std.proofs.Common.{◌≡◌, ℕ, zero, suc, ◌+◌, ◌<◌, ◌≤◌, Bool, true, false, ◌&&◌, ◌||◌, List, [], ◌∷◌, length, drop, nat_eq, Option, None, Some, refl, sym, ◌∙◌, ap, subst, eqb-true, eq-eqb, arith}
+use Rattle.std.proofs.Common.{◌≡◌, ℕ, zero, suc, ◌+◌, ◌<◌, ◌≤◌, Bool, true, false, ◌&&◌, ◌||◌, List, [], ◌∷◌, length, drop, nat_eq, Some, refl, sym, ◌∙◌, ap, subst, eqb-true, eq-eqb, arith}
 use Rattle.std.specs.Prelude.{slice_get, if◌then◌else◌}
 use Rattle.std.specs.List.{list_any}
 use Rattle.std.specs.Option.{option_map_or}
@@ -8,9 +8,8 @@ use Rattle.graph.specs.declared.object.Object.{Object}
 use Rattle.graph.specs.declared.parts.KeyedObject.{KeyedObject}
 use Rattle.graph.specs.declared.parts.Parts.{Parts}
 use Rattle.graph.specs.Maps.{object_at}
-use Rattle.graph.specs.Whole.{IsGraph}
 use Rattle.graph.proofs.Tests.{and_both}
-use Rattle.changes.specs.Reaching.{is_excluded, are_excluded, has_live_object}
+use Rattle.changes.specs.Reaching.{is_excluded, are_excluded}
 
 -- one that is not excluded
 pub one_left : (parts : Parts) (key number bound : ℕ) → number < bound → is_excluded parts key number ≡ false → are_excluded parts key bound ≡ false

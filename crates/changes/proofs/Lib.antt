@@ -22,3 +22,17 @@ pub mod Excluding
 pub mod Shown
 pub mod Entries
 pub mod Accesses
+pub mod Emptied
+pub mod Died
+pub mod DeadAlike
+pub mod MeansAlike
+pub mod Led
+pub mod MergedNode
+pub mod PairSides
+pub mod MergedMeets
+pub mod Cleared
+pub mod MergedPairs
+pub mod MergedForm
+pub mod MergedGraph
+pub mod DeadForm
+pub mod AnyShown

@@ -81,7 +81,7 @@ module _ (parts : Parts) (state : State) (given : Assignment) (form : IsWellForm
     pub is : object_at parts.objects object ≡ Some found
     pub region : found.shape ≡ RegionShape
 
-  region_at : (object : ℕ) (offset : ℤ) → value_at parts.values at ≡ Some (Address object offset Region) → IsRegionAt object
+  pub region_at : (object : ℕ) (offset : ℤ) → value_at parts.values at ≡ Some (Address object offset Region) → IsRegionAt object
   region_at object offset stands =
       let leads = found-all (λ (entry : KeyedValue). entry.key) (λ entry. entry.value) (leads_to_object parts) parts.values at (Address object offset Region) form.addresses_lead_to_objects stands in
       let held = Holds-some (object_at parts.objects object) (passes-some (λ found. target_fits Region found.shape) (object_at parts.objects object) leads) in
@@ -104,7 +104,7 @@ module _ (parts : Parts) (state : State) (given : Assignment) (form : IsWellForm
       record { number = is.0; blocks = is.1; at_number = is.2 }
 
   -- the word of an address of a region
-  word_of : (object number : ℕ) (offset : ℤ) → value_at parts.values at ≡ Some (Address object offset Region) → given.blocks object ≡ number ∷ [] → given.word at ≡ To number offset
+  pub word_of : (object number : ℕ) (offset : ℤ) → value_at parts.values at ≡ Some (Address object offset Region) → given.blocks object ≡ number ∷ [] → given.word at ≡ To number offset
   word_of object number offset stands blocks = meets.values at (Address object offset Region) stands ∙ ap (λ (ns : List ℕ). block_word (first_of ns) offset) blocks
 
   reach_by : (value : Value) → value_at parts.values at ≡ Some value → reach_of parts at count ≡ value_reach parts at (Some value) count
@@ -222,7 +222,7 @@ module _ (parts : Parts) (state : State) (given : Assignment) (form : IsWellForm
 
   -- Kinds: each that the state meets is listed.
 
-  any_excluded : (number : ℕ) (pairs : List Pair) → list_any (tells_apart parts at number) pairs ≡ true → ((place : ℕ) (pair : Pair) → slice_get pairs place ≡ Some pair → given.word pair.left ≢ given.word pair.right) → given.word at ≢ Plain number
+  pub any_excluded : (number : ℕ) (pairs : List Pair) → list_any (tells_apart parts at number) pairs ≡ true → ((place : ℕ) (pair : Pair) → slice_get pairs place ≡ Some pair → given.word pair.left ≢ given.word pair.right) → given.word at ≢ Plain number
   any_excluded number [] any apart same = false≢true any
   any_excluded number (pair ∷ rest) any apart same = by_pair (nat_eq pair.left at) refl (is_number_at parts number pair.right) refl (nat_eq pair.right at) refl (is_number_at parts number pair.left) refl any
       (λ later. any_excluded number rest later (λ place found there. apart (suc place) found there) same)

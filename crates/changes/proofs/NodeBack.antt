@@ -141,6 +141,18 @@ module _ (parts : Parts) (count : ℕ) (blocks : ℕ → List ℕ) (ends : ℕ �
       subst (λ (n : ℕ). HaveClasses object.plane (table (byte_at word blank object.edges) 0 n)) long
       (HaveClasses-table (byte_at word blank object.edges) 0 object.plane (λ i d below. subst (λ (n : ℕ). HasClass (get_or object.plane i d) (byte_at word blank object.edges n)) (let e : i ≡ 0 + i = omega arith in e) (byte_has object.plane object.edges i d has below)))
 
+  -- a live block with these bytes is one of the object
+  pub node_made : (object : Object) (block : Block) → block.live ≡ true → block.kind ≡ object.kind → block.bytes ≡ bytes_of word object → length object.plane ≡ object.size →
+      are_disjoint object.edges ≡ true → list_all (lies_in object.size) object.edges ≡ true → list_all (λ edge. nat_le edge.size 8) object.edges ≡ true →
+      list_all (edge_has_class parts object.plane) object.edges ≡ true → IsNode object.size object.kind (own_node object) word block
+  node_made object block live kind made long disjoint lie small has = record {
+    live = live;
+    kind = kind;
+    size = ap length made ∙ length-table (byte_at word blank object.edges) 0 object.size;
+    edges = subst (λ (bytes : List Byte). HoldEdges bytes word object.edges) (sym made) (HoldEdges-table word blank object.edges object.size disjoint lie small);
+    classes = subst (λ (bytes : List Byte). HaveClasses object.plane bytes) (sym made) (bytes_have object long has);
+  }
+
   pub long_range : (object : Object) (from count : ℕ) → from + count ≤ object.size → length (range_of word object from count) ≡ count
   long_range object from count within =
       length-take count (drop from (bytes_of word object)) ∙ ap (min count) (length-drop from (bytes_of word object))

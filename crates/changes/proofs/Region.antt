@@ -88,6 +88,15 @@ region_block parts state given key object meets stands live region =
     let is = subst (λ (shape : Shape). HasShape shape state.memory object given.word (λ value. own_offset (value_at parts.values value)) (given.blocks key)) region has in
     record { number = is.0; blocks = is.1; block = is.2.block; there = is.2.there; node = is.2.node }
 
+-- an edge has at most eight bytes
+pub small_edge : (parts : Parts) → IsWellFormed parts → (edge : HasValue) → edge_has_size parts edge ≡ true → nat_le edge.size 8 ≡ true
+small_edge parts form edge has =
+    let held = Holds-some (value_at parts.values edge.value) (passes-some (λ value. nat_eq (value_size value) edge.size) (value_at parts.values edge.value) has) in
+    let equal = eqb-true _ _ (subst (λ (o : Option Value). option_map_or (λ value. nat_eq (value_size value) edge.size) o false ≡ true) held.is has) in
+    let sized = found-all (λ (entry : KeyedValue). entry.key) (λ entry. entry.value) is_sized parts.values edge.value held.item form.values_are_sized held.is in
+    let small = size_of_sized held.item sized in
+    le-leb _ _ (omega arith)
+
 module _ (parts : Parts) (form : IsWellFormed parts) (state : State) (given : Assignment) (key from count : ℕ) (object : Object) (inside : List HasValue) (classes : List ℕ)
     (stands : object_at parts.objects key ≡ Some object) (live : object.live ≡ true) (region : object.shape ≡ RegionShape) (room : from + count ≤ object.size) where
   abbrev pub after : Parts
@@ -109,15 +118,6 @@ module _ (parts : Parts) (form : IsWellFormed parts) (state : State) (given : As
       (slice_get-set_same state.memory number block (block_with block (spliced block.bytes from new)) there)
       (node_in_range object from count inside classes given.word block new long room (fit_now parts form key object stands region live).inside has holds node)))
       meets
-
-  -- an edge has at most eight bytes
-  small_edge : (edge : HasValue) → edge_has_size parts edge ≡ true → nat_le edge.size 8 ≡ true
-  small_edge edge has =
-      let held = Holds-some (value_at parts.values edge.value) (passes-some (λ value. nat_eq (value_size value) edge.size) (value_at parts.values edge.value) has) in
-      let equal = eqb-true _ _ (subst (λ (o : Option Value). option_map_or (λ value. nat_eq (value_size value) edge.size) o false ≡ true) held.is has) in
-      let sized = found-all (λ (entry : KeyedValue). entry.key) (λ entry. entry.value) is_sized parts.values edge.value held.item form.values_are_sized held.is in
-      let small = size_of_sized held.item sized in
-      le-leb _ _ (omega arith)
 
   module _ (many : length classes ≡ count) (cuts : cuts_none from count object.edges ≡ true) (meets : Meets (maps_of after) state given) where
     -- the block behind
@@ -147,7 +147,7 @@ module _ (parts : Parts) (form : IsWellFormed parts) (state : State) (given : As
     node_then =
         let fit = fit_now parts form key object stands region live in
         node_before parts (length state.memory) given.blocks (ends_of (object_at after.objects) given.word) given.word words_before object from count inside classes behind.block many room (plane_long parts form key object stands region live)
-        (disjoint_in_order object.edges fit.order) fit.inside (list_all-implies (edge_has_size parts) (λ edge. nat_le edge.size 8) small_edge object.edges fit.sizes) fit.classes cuts behind.node
+        (disjoint_in_order object.edges fit.order) fit.inside (list_all-implies (edge_has_size parts) (λ edge. nat_le edge.size 8) (small_edge parts form) object.edges fit.sizes) fit.classes cuts behind.node
 
     pub before_there : slice_get state_before.memory behind.number ≡ Some block_before
     before_there = slice_get-set_same state.memory behind.number behind.block block_before behind.there

@@ -1,38 +1,34 @@
 -- A fault of an access that a graph lists is met in some state that the graph stands for.
-use Rattle.std.proofs.Common.{◌≡◌, ◌≢◌, ℕ, zero, suc, ◌+◌, ◌-◌, ◌*◌, ◌^◌, ◌<◌, ◌≤◌, Bool, true, false, not, ◌||◌, ◌&&◌, List, [], ◌∷◌, length, ℤ, pos, negsuc, nat_eq, nat_lt, Option, None, Some, refl, sym, ◌∙◌, ap, subst, eqb-true, eq-eqb, ltb-true, lt-ltb, arith}
-use Rattle.std.specs.Prelude.{IsSome, IsTrue, slice_get, Contains, if◌then◌else◌}
-use Rattle.std.specs.List.{list_all, list_any}
+use Rattle.std.proofs.Common.{◌≡◌, ℕ, zero, suc, ◌+◌, ◌-◌, ◌*◌, ◌^◌, ◌<◌, Bool, true, false, not, ◌||◌, ◌&&◌, List, [], ◌∷◌, length, nat_eq, nat_lt, Option, None, Some, refl, sym, ◌∙◌, ap, subst, eqb-true, eq-eqb, ltb-true, lt-ltb, arith}
+use Rattle.std.specs.Prelude.{slice_get, if◌then◌else◌}
+use Rattle.std.specs.List.{list_any}
 use Rattle.std.specs.Option.{option_map_or}
 use Rattle.std.proofs.lemmas.Bool.{false≢true}
 use Rattle.std.proofs.lemmas.Option.{same_Some, none-some}
 use Rattle.bytes_core.specs.declared.byte.Byte.{Byte}
 use Rattle.bytes_core.specs.declared.byte.Byte.TheVariants.{Num}
 use Rattle.bytes_core.specs.declared.word.Word.{Word}
-use Rattle.bytes_core.specs.declared.word.Word.TheVariants.{Plain, To}
+use Rattle.bytes_core.specs.declared.word.Word.TheVariants.{Plain}
 use Rattle.bytes_core.specs.Fault.{null_pointer_dereference, access_through_invalid_address}
 use Rattle.bytes_core.specs.Access.{access_fault}
-use Rattle.graph.specs.declared.object.Object.{Object}
 use Rattle.graph.specs.declared.parts.Pair.{Pair}
 use Rattle.graph.specs.declared.parts.Parts.{Parts}
 use Rattle.graph.specs.declared.value.Value.{Value}
 use Rattle.graph.specs.declared.value.Value.TheVariants.{Const, Number, Any, Address}
 use Rattle.graph.specs.Choices.{IsChoice}
 use Rattle.graph.specs.Maps.{value_at}
-use Rattle.graph.specs.Numbers.{AreSomeNumbers, AreNumbers, AreAmong, IsMadeWithNumbers, HasRoom, SomeNumbersMayBeChosen}
-use Rattle.graph.specs.Renaming.{numbered}
-use Rattle.graph.specs.Sizes.{is_number, is_constant}
+use Rattle.graph.specs.Numbers.{AreSomeNumbers, AreNumbers, AreAmong, IsMadeWithNumbers, HasRoom}
 use Rattle.graph.specs.State.{State, IsState}
-use Rattle.graph.specs.WellFormed.{IsWellFormed, passes_at, are_numbers, may_be_unequal, is_unequal_pair, nodes, is_within_limits}
+use Rattle.graph.specs.WellFormed.{passes_at, are_numbers, may_be_unequal, is_unequal_pair, nodes}
 use Rattle.graph.specs.Whole.{IsGraph}
-use Rattle.graph.specs.Meaning.{maps_of, Assignment, Meets, StandsFor}
+use Rattle.graph.specs.Meaning.{maps_of, Assignment, Meets}
 use Rattle.graph.proofs.Chosen.{is_in, Free, free_below, not_in-rest, not_in-first}
 use Rattle.graph.proofs.Closed.{passes-at}
 use Rattle.graph.proofs.OwnPlaces.{graph_numbered}
 use Rattle.graph.proofs.Tests.{and_left, and_right}
 use Rattle.graph.proofs.Witness.{some_state, some_numbers_may_be_chosen}
-use Rattle.changes.specs.declared.reach.Reach.{Reach}
 use Rattle.changes.specs.declared.reach.Reach.TheVariants as to
-use Rattle.changes.specs.Reaching.{number_kind, is_constant_of, is_number_at, tells_apart, is_excluded, are_excluded, value_reach, reach_of, names_no_segment}
+use Rattle.changes.specs.Reaching.{number_kind, is_constant_of, is_number_at, tells_apart, is_excluded, are_excluded, reach_of, names_no_segment}
 use Rattle.changes.proofs.Meeting.{known_fault}
 use Rattle.changes.proofs.NodeBack.{zero_has}
 

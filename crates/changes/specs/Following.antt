@@ -1,5 +1,5 @@
 -- What a step does with a state, what the post of a step says of the states that follow, and what it leaves of the graph.
-use Rattle.std.specs.Prelude.{◌≡◌, ◌≢◌, ℕ, Bool, true, List, Option, None, Some, IsSome, Contains, nat_eq, option_map}
+use Rattle.std.specs.Prelude.{◌≡◌, ◌≢◌, ℕ, Bool, true, false, List, Option, None, Some, IsSome, Contains, nat_eq, option_map}
 use Rattle.std.specs.Option.{option_map_or}
 use Rattle.bytes_core.specs.declared.block.Block.{Block}
 use Rattle.bytes_core.specs.declared.block.BlockKind.{BlockKind}

@@ -4,3 +4,8 @@ pub mod Places
 pub mod Posted
 pub mod Reaching
 pub mod Following
+pub mod FollowingAlike
+pub mod Dying
+pub mod Merging
+pub mod Fitting
+pub mod AnyWords

@@ -1,11 +1,13 @@
 //! Posts: what a step comes to, as the code gives it.
-ghost use Rattle.std.specs.Prelude.{◌≡◌, [], ◌∷◌, IfOk};
+ghost use Rattle.std.specs.Prelude.{◌≡◌, [], ◌∷◌, None, IfOk};
 ghost use Rattle.graph.specs.Whole.{IsGraph};
+ghost use Rattle.changes.specs.Parts.{without_registers};
 ghost use Rattle.changes.specs.Posted.{IsPost, reach_faults};
 
 use crate::reach::Reach;
+use crate::registers::without_registers;
 use cbase::{List, NoMemory, Stop};
-use graph::{Parts, Post, built};
+use graph::{Graph, Parts, Post, built};
 use std::alloc::Global;
 
 /// A post without a graph.
@@ -41,6 +43,19 @@ pub fn with_graph(alloc: Global, parts: Parts, loss: Option<u8>) -> Result<Post,
             }
         }
         Err(_) => Err(NoMemory),
+    }
+}
+
+/// The post of a step that empties registers, and does nothing else.
+pub fn emptied_post(alloc: Global, graph: &Graph, gone: &[u32]) -> Result<Post, NoMemory>
+    ensures { IfOk result (λ post. IsPost (record { graphs = without_registers gone.now graph.now ∷ []; kinds = []; loss = None }) post) }
+{
+    match graph.parts(alloc) {
+        Err(error) => Err(error),
+        Ok(parts) => match without_registers(alloc, parts, gone) {
+            Err(error) => Err(error),
+            Ok(after) => with_graph(alloc, after, None),
+        },
     }
 }
 

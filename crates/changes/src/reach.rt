@@ -109,7 +109,7 @@ fn tells_apart(graph: &Graph, key: u32, number: u64, pair: &Pair) -> bool
 }
 
 /// Whether a pair says that the value with a key is not this number.
-fn is_excluded(graph: &Graph, key: u32, number: u64) -> bool
+pub fn is_excluded(graph: &Graph, key: u32, number: u64) -> bool
     ensures { result ≡ is_excluded graph.now key number }
 {
     let mut left = graph.unequal();

@@ -1,5 +1,5 @@
-//! A value in place of what a range of an object's bytes held.
-ghost use Rattle.std.specs.Prelude.{◌≡◌, ◌+◌, ◌≤◌, ◌<◌, true, Some, map, length, slice_get, option_map, IfOk, IfSome, OnOk};
+//! Other edges and classes, or a value, in place of what a range of an object's bytes held.
+ghost use Rattle.std.specs.Prelude.{◌≡◌, ◌+◌, ◌≤◌, ◌<◌, true, Some, map, length, replicate, slice_get, option_map, IfOk, IfSome, OnOk};
 ghost use Rattle.std.specs.List.{list_all, AllPairs};
 ghost use Rattle.graph.specs.Maps.{object_at};
 ghost use Rattle.graph.specs.Sizes.{is_zero};
@@ -7,7 +7,7 @@ ghost use Rattle.graph.specs.WellFormed.{lies_in};
 ghost use Rattle.graph.specs.Whole.{IsGraph};
 ghost use Rattle.changes.specs.Parts.{replaced, with_object};
 ghost use Rattle.changes.specs.Places.{IsRoom};
-ghost use Rattle.changes.specs.Ranges.{class_for, written_object};
+ghost use Rattle.changes.specs.Ranges.{class_for, with_range, written_object};
 
 use crate::ranges::edges_around;
 use cbase::{List, NoMemory};
@@ -37,47 +37,94 @@ pub fn class_for(value: Value) -> u8
     }
 }
 
-/// Writes a value into an object.
-fn write_into(
+/// Puts other edges, and bytes of one class, into a range of an object.
+fn put_into(
     alloc: Global,
     object: &mut Object,
-    edge: HasValue,
-    value: Value,
+    from: u32,
+    count: u32,
+    inside: &[HasValue],
+    class: u8,
 ) -> Result<(), NoMemory>
-    requires range { edge.at + edge.size ≤ length object.old.plane }
-    requires small { edge.at + edge.size ≤ 65536 }
+    requires range { from + count ≤ length object.old.plane }
+    requires small { from + count ≤ 65536 }
+    requires class { class ≤ 2 }
     requires inside { list_all (lies_in 65536) object.old.edges ≡ true }
-    ensures { OnOk result (object.new ≡ written_object object.old edge value) }
+    ensures { OnOk result (object.new ≡ with_range object.old from count inside.now (replicate count class)) }
 {
-    let from = edge.at;
-    let count = edge.size as u32;
-    if is_zero(value) {
-        object.edges = edges_around(alloc, object.edges.as_slice(), from, count, &[])?;
-    } else {
-        object.edges = edges_around(alloc, object.edges.as_slice(), from, count, &[edge])?;
-    }
-    object.plane.fill(from, count, class_for(value));
+    object.edges = edges_around(alloc, object.edges.as_slice(), from, count, inside)?;
+    object.plane.fill(from, count, class);
     Ok(())
 }
 
-/// Writes a value into the object with a key, which is the place of its entry.
-fn write_at(
+/// Puts them into the object with a key, which is the place of its entry.
+fn put_at(
     alloc: Global,
     objects: &mut Vec<KeyedObject>,
     key: u32,
-    edge: HasValue,
-    value: Value,
+    from: u32,
+    count: u32,
+    inside: &[HasValue],
+    class: u8,
 ) -> Result<(), NoMemory>
     requires ascending { AllPairs (λ one other. one.key < other.key) objects.old.items }
     requires within { key < length objects.old.items }
     requires key { option_map (λ entry. entry.key) (slice_get objects.old.items key) ≡ Some key }
     requires object { object_at objects.old.items key ≡ option_map (λ entry. entry.object) (slice_get objects.old.items key) }
-    requires range { IfSome (object_at objects.old.items key) (λ object. edge.at + edge.size ≤ length object.plane) }
-    requires small { edge.at + edge.size ≤ 65536 }
+    requires range { IfSome (object_at objects.old.items key) (λ object. from + count ≤ length object.plane) }
+    requires small { from + count ≤ 65536 }
+    requires class { class ≤ 2 }
     requires inside { IfSome (object_at objects.old.items key) (λ object. list_all (lies_in 65536) object.edges ≡ true) }
-    ensures { OnOk result (IfSome (object_at objects.old.items key) (λ object. objects.new.items ≡ map (replaced key (written_object object edge value)) objects.old.items)) }
+    ensures { OnOk result (IfSome (object_at objects.old.items key) (λ object. objects.new.items ≡ map (replaced key (with_range object from count inside.now (replicate count class))) objects.old.items)) }
 {
-    write_into(alloc, &mut objects[key as usize].object, edge, value)
+    put_into(
+        alloc,
+        &mut objects[key as usize].object,
+        from,
+        count,
+        inside,
+        class,
+    )
+}
+
+/// A graph's parts with other edges, and bytes of one class, in a range of the object with a key.
+pub fn put_range(
+    alloc: Global,
+    parts: Parts,
+    key: u32,
+    from: u32,
+    count: u32,
+    inside: &[HasValue],
+    class: u8,
+) -> Result<Parts, NoMemory>
+    requires graph { IsGraph parts }
+    requires room { IsRoom parts key from count }
+    requires class { class ≤ 2 }
+    ensures { IfOk result (λ after. IfSome (object_at parts.objects key) (λ object. after ≡ with_object key (with_range object from count inside.now (replicate count class)) parts)) }
+{
+    let Parts {
+        objects,
+        values,
+        variables,
+        registers,
+        ports,
+        unequal,
+    } = parts;
+    let mut objects = objects.into_vec();
+    match put_at(alloc, &mut objects, key, from, count, inside, class) {
+        Ok(()) => Ok(Parts {
+            objects: List::from_vec(objects),
+            values,
+            variables,
+            registers,
+            ports,
+            unequal,
+        }),
+        Err(error) => {
+            drop(objects);
+            Err(error)
+        }
+    }
 }
 
 /// A graph's parts with a value in place of what a range of the object with a key held.
@@ -92,27 +139,10 @@ pub fn write_object(
     requires room { IsRoom parts key edge.at edge.size }
     ensures { IfOk result (λ after. IfSome (object_at parts.objects key) (λ object. after ≡ with_object key (written_object object edge value) parts)) }
 {
-    let Parts {
-        objects,
-        values,
-        variables,
-        registers,
-        ports,
-        unequal,
-    } = parts;
-    let mut objects = objects.into_vec();
-    match write_at(alloc, &mut objects, key, edge, value) {
-        Ok(()) => Ok(Parts {
-            objects: List::from_vec(objects),
-            values,
-            variables,
-            registers,
-            ports,
-            unequal,
-        }),
-        Err(error) => {
-            drop(objects);
-            Err(error)
-        }
+    let class = class_for(value);
+    if is_zero(value) {
+        put_range(alloc, parts, key, edge.at, edge.size as u32, &[], class)
+    } else {
+        put_range(alloc, parts, key, edge.at, edge.size as u32, &[edge], class)
     }
 }

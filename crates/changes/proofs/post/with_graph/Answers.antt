@@ -1,4 +1,4 @@
-use Rattle.std.proofs.Common.{◌≡◌, List, [], ◌∷◌, ◌++◌, refl, ◌∙◌, ap}
+use Rattle.std.proofs.Common.{List, [], ◌∷◌, ◌++◌, refl, ◌∙◌, ap}
 use Rattle.graph.specs.declared.parts.Parts.{Parts}
 use Rattle.changes.proofs.Built.{built_same}
 use Rattle.changes.proofs.post.with_graph.Goals as goal
