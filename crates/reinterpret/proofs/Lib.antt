@@ -10,3 +10,13 @@ pub mod ReadExact
 pub mod ReadMeans
 pub mod Classes
 pub mod ReadReady
+pub mod Apart
+pub mod Told
+pub mod Opened
+pub mod PairGraph
+pub mod PairsApart
+pub mod HeldMerged
+pub mod EqualSound
+pub mod EqualExact
+pub mod EqualMeans
+pub mod TestExamples

@@ -38,7 +38,9 @@ use Rattle.reinterpret.proofs.Into.{into_held}
 use Rattle.reinterpret.proofs.Loaded.{value_of_passes}
 use Rattle.reinterpret.proofs.ReadSound.{readable_is, fresh_fit, zero_fit, read_sound, read_kinds}
 use Rattle.reinterpret.proofs.ReadExact.{target, target_value, post, read_follows}
-use Rattle.changes.proofs.Accesses.{lives_replaced, kinds_ascend, kinds_met}
+use Rattle.changes.proofs.Accesses.{lives_replaced, kinds_ascend, kinds_met, all_kinds_met}
+use Rattle.changes.specs.AnyWords.{MeetsListed}
+use Rattle.changes.proofs.Shown.{IsShown}
 
 -- what stands in a region may be held by a register
 pub region_held : (parts : Parts) (key : ℕ) (object : Object) (at : ℕ) (value : Value) → IsWellFormed parts → object_at parts.objects key ≡ Some object → object.shape ≡ RegionShape → value_at parts.values at ≡ Some value → may_stand_in key value ≡ true → may_be_held value ≡ true
@@ -99,21 +101,34 @@ module _ (parts : Parts) (graph : IsGraph parts) (at size : ℕ) (pointer : Bool
       by_edge (Some value) = refl
       by_edge None = by_bytes (are_class 0 object.plane from size) (are_class 1 object.plane from size && meets_none from size object.edges)
 
+  read_faults : (kind : ℕ) → IsShown parts (target parts graph at size pointer into address scalar whole).0 size kind → SomeFaults parts (FaultsReading at size kind)
+  read_faults kind shown = record {
+    state = shown.state;
+    is = shown.is;
+    stands = record { given = shown.given; meets = shown.meets };
+    faults = record {
+      to = shown.given.word (target parts graph at size pointer into address scalar whole).0;
+      address = shown.meets.registers at ∙ ap (option_map shown.given.word) (target parts graph at size pointer into address scalar whole).1;
+      fault = shown.fault;
+    };
+  }
+
   read_met : (kind : ℕ) → (read_post parts at size pointer into).loss ≢ Some 4 → Contains (read_post parts at size pointer into).kinds kind → SomeFaults parts (FaultsReading at size kind)
   read_met kind precise listed =
       let is = post parts graph at size pointer into address scalar whole in
-      let shown = kinds_met parts graph (target parts graph at size pointer into address scalar whole).0 size (target_value parts graph at size pointer into address scalar whole) onward silent kind
-      (λ any. precise (ap (λ (p : Posted). p.loss) is ∙ any)) (subst (λ (p : Posted). Contains p.kinds kind) is listed) in
-      record {
-        state = shown.state;
-        is = shown.is;
-        stands = record { given = shown.given; meets = shown.meets };
-        faults = record {
-          to = shown.given.word (target parts graph at size pointer into address scalar whole).0;
-          address = shown.meets.registers at ∙ ap (option_map shown.given.word) (target parts graph at size pointer into address scalar whole).1;
-          fault = shown.fault;
-        };
-      }
+      read_faults kind
+      (kinds_met parts graph (target parts graph at size pointer into address scalar whole).0 size (target_value parts graph at size pointer into address scalar whole) onward silent kind
+      (λ any. precise (ap (λ (p : Posted). p.loss) is ∙ any)) (subst (λ (p : Posted). Contains p.kinds kind) is listed))
+
+  -- through any word too, where with an object a region lives and the graph may have one object more
+  pub read_listed : (given : Post) → IsPost (read_post parts at size pointer into) given → MeetsListed parts (λ kind. FaultsReading at size kind) given
+  read_listed given is = record {
+    met = λ place kind listed.
+        let post_is = post parts graph at size pointer into address scalar whole in
+        read_faults kind
+        (all_kinds_met parts graph (target parts graph at size pointer into address scalar whole).0 size (target_value parts graph at size pointer into address scalar whole) onward silent kind place
+        (subst (λ (p : Posted). Contains p.kinds kind) post_is (subst (λ (kinds : List ℕ). Contains kinds kind) is.kinds listed)));
+  }
 
   more_tail : (value : Value) → IsFitValue parts value → value_size value ≡ size → ReadTail parts gone into size (with_fresh gone into (length parts.values) (with_value value parts))
   more_tail value fit sized =

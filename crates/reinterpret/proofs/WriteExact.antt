@@ -1,8 +1,6 @@
 -- Where no loss is named, each state of the graph of a write's post follows, but for dead blocks that nothing names.
-use Rattle.std.proofs.Common.{◌≡◌, ℕ, ◌+◌, ◌≤◌, Bool, true, false, List, [], ◌∷◌, length, take, drop, set, replicate, pos, nat_eq, Option, None, Some, refl, sym, ◌∙◌, ap, subst, eqb-true, le-leb, arith}
+use Rattle.std.proofs.Common.{◌≡◌, ℕ, ◌≤◌, Bool, true, false, List, [], ◌∷◌, length, take, drop, set, replicate, pos, Option, None, Some, refl, sym, ◌∙◌, ap, subst, arith}
 use Rattle.std.specs.Prelude.{slice_get, option_map, Contains, if◌then◌else◌}
-use Rattle.std.specs.Option.{option_map_or}
-use Rattle.std.proofs.lemmas.Bool.{false≢true}
 use Rattle.std.proofs.lemmas.List.{length-replicate}
 use Rattle.std.proofs.lemmas.Option.{same_Some, none-some}
 use Rattle.bytes_core.specs.declared.byte.Byte.{Byte}
@@ -10,8 +8,7 @@ use Rattle.bytes_core.specs.declared.byte.Byte.TheVariants.{Num}
 use Rattle.bytes_core.specs.declared.block.Block.{Block}
 use Rattle.bytes_core.specs.declared.word.Word.{Word}
 use Rattle.bytes_core.specs.declared.word.Word.TheVariants.{To}
-use Rattle.bytes_core.specs.Fault.{access_outside_object, access_to_dead_object}
-use Rattle.bytes_core.specs.Access.{is_within, block_fault, access_fault, stored}
+use Rattle.bytes_core.specs.Access.{access_fault, stored}
 use Rattle.bytes_core.specs.Value.{word_bytes}
 use Rattle.graph.specs.declared.edges.HasValue.{HasValue}
 use Rattle.graph.specs.declared.object.Object.{Object}
@@ -19,15 +16,12 @@ use Rattle.graph.specs.declared.parts.Parts.{Parts}
 use Rattle.graph.specs.declared.value.Target.TheVariants.{Region}
 use Rattle.graph.specs.declared.value.Value.{Value}
 use Rattle.graph.specs.declared.value.Value.TheVariants.{Address}
-use Rattle.graph.specs.Maps.{object_at, value_at, held_by}
-use Rattle.graph.specs.Sizes.{value_size}
+use Rattle.graph.specs.Maps.{object_at, held_by}
 use Rattle.graph.specs.State.{State, IsState}
-use Rattle.graph.specs.WellFormed.{IsWellFormed, passes_at, may_be_held}
+use Rattle.graph.specs.WellFormed.{IsWellFormed, may_be_held}
 use Rattle.graph.specs.Whole.{IsGraph}
 use Rattle.graph.specs.Meaning.{block_word, first_of, ends_of, maps_of, Assignment, Meets, StandsFor}
 use Rattle.graph.proofs.AllThere.{all_blocks_may_be_there}
-use Rattle.graph.proofs.Found.{Holds-some}
-use Rattle.graph.proofs.Sent.{passes-some}
 use Rattle.changes.specs.Parts.{with_object, without_registers}
 use Rattle.changes.specs.Posted.{Posted, on_reach}
 use Rattle.changes.specs.Ranges.{spliced, cuts_none, with_range, edge_for, class_for, written_object}

@@ -1,40 +1,27 @@
 -- What the post of a write says, together.
-use Rattle.std.proofs.Common.{◌≡◌, ◌≢◌, ℕ, zero, suc, ◌≤◌, Bool, true, false, not, List, [], ◌∷◌, ℤ, pos, negsuc, nat_eq, Option, None, Some, refl, sym, ◌∙◌, ap, subst, eqb-true, eq-eqb, arith}
-use Rattle.std.specs.Prelude.{Contains, option_map, if◌then◌else◌}
-use Rattle.std.proofs.lemmas.Bool.{false≢true}
-use Rattle.bytes_core.specs.Fault.{access_outside_object, access_to_dead_object}
-use Rattle.bytes_core.specs.Access.{is_within}
+use Rattle.std.proofs.Common.{◌≡◌, ◌≢◌, ℕ, ◌≤◌, true, List, [], ◌∷◌, Some, refl, sym, ◌∙◌, ap, subst}
+use Rattle.std.specs.Prelude.{Contains, option_map}
 use Rattle.graph.specs.declared.object.Object.{Object}
-use Rattle.graph.specs.declared.parts.KeyedValue.{KeyedValue}
 use Rattle.graph.specs.declared.parts.Parts.{Parts}
 use Rattle.graph.specs.declared.post.Post.{Post}
-use Rattle.graph.specs.declared.value.Value.{Value}
-use Rattle.graph.specs.declared.value.Value.TheVariants.{Const, Number, Any, Address}
-use Rattle.graph.specs.Maps.{object_at, value_at}
-use Rattle.graph.specs.Sizes.{value_size, is_sized}
 use Rattle.graph.specs.WellFormed.{are_ascending}
 use Rattle.graph.specs.Whole.{IsGraph}
-use Rattle.graph.proofs.Found.{found-all, IsSome-holds}
-use Rattle.graph.proofs.Scalars.{size_of_sized}
-use Rattle.changes.specs.declared.reach.Reach.{Reach}
-use Rattle.changes.specs.declared.reach.Reach.TheVariants as to
 use Rattle.changes.specs.Parts.{with_object, without_registers}
-use Rattle.changes.specs.Posted.{Posted, IsPost, on_object, on_reach, SomeStandsFor}
+use Rattle.changes.specs.Posted.{Posted, IsPost, SomeStandsFor}
 use Rattle.changes.specs.Ranges.{written_object}
-use Rattle.changes.specs.Reaching.{are_excluded, object_reach, value_reach, reach_of, is_address_held, names_no_segment}
-use Rattle.changes.proofs.Held.{IsAddress}
-use Rattle.changes.proofs.Objects.{replaced-here, replaced-other}
-use Rattle.changes.proofs.Reached.{only_one, none_in, IsReached, reach_graph, IsRoomAt, room_at}
+use Rattle.changes.specs.Reaching.{reach_of, is_address_held}
+use Rattle.changes.proofs.Reached.{only_one, IsReached, reach_graph, IsRoomAt, room_at}
 use Rattle.changes.proofs.RangeForm.{graph_written}
 use Rattle.changes.proofs.RegisterForm.{graph_without}
 use Rattle.changes.proofs.RegistersChanged.{held_without}
-use Rattle.changes.proofs.Shown.{IsShown, known_shown, small_shown, large_shown}
 use Rattle.changes.specs.Following.{holds_size, SomeFaults}
-use Rattle.changes.specs.Following.{StepMeans, life, WriteTail}
+use Rattle.changes.specs.Following.{StepMeans, WriteTail}
 use Rattle.reinterpret.specs.States.{Writes, FaultsWriting}
 use Rattle.reinterpret.specs.Writing.{edge_at, value_written, write_post}
 use Rattle.reinterpret.proofs.WriteSound.{write_sound, write_kinds}
-use Rattle.changes.proofs.Accesses.{sized_at, lives_replaced, kinds_ascend, kinds_met}
+use Rattle.changes.proofs.Accesses.{size_small, lives_replaced, kinds_ascend, kinds_met, all_kinds_met}
+use Rattle.changes.specs.AnyWords.{MeetsListed}
+use Rattle.changes.proofs.Shown.{IsShown}
 use Rattle.reinterpret.proofs.WriteExact.{source, source_held, target, target_value, post, write_follows}
 
 -- The post of a write.
@@ -43,23 +30,36 @@ module _ (parts : Parts) (graph : IsGraph parts) (at size from : ℕ) (address :
   abbrev onward : ℕ → Object → ℕ → Posted
   onward = value_written parts (at ∷ from ∷ []) size (source parts graph at size from address sized small).key (Some (source parts graph at size from address sized small).value)
 
+  write_faults : (kind : ℕ) → IsShown parts (target parts graph at size from address sized small).0 size kind → SomeFaults parts (FaultsWriting at size from kind)
+  write_faults kind shown = record {
+    state = shown.state;
+    is = shown.is;
+    stands = record { given = shown.given; meets = shown.meets };
+    faults = record {
+      to = shown.given.word (target parts graph at size from address sized small).0;
+      word = shown.given.word (source parts graph at size from address sized small).key;
+      address = shown.meets.registers at ∙ ap (option_map shown.given.word) (target parts graph at size from address sized small).1;
+      value = shown.meets.registers from ∙ ap (option_map shown.given.word) (source parts graph at size from address sized small).held;
+      fault = shown.fault;
+    };
+  }
+
   write_met : (kind : ℕ) → (write_post parts at size from).loss ≢ Some 4 → Contains (write_post parts at size from).kinds kind → SomeFaults parts (FaultsWriting at size from kind)
   write_met kind precise listed =
       let is = post parts graph at size from address sized small in
-      let shown = kinds_met parts graph (target parts graph at size from address sized small).0 size (target_value parts graph at size from address sized small) onward (λ key start object. refl) kind
-      (λ any. precise (ap (λ (p : Posted). p.loss) is ∙ any)) (subst (λ (p : Posted). Contains p.kinds kind) is listed) in
-      record {
-        state = shown.state;
-        is = shown.is;
-        stands = record { given = shown.given; meets = shown.meets };
-        faults = record {
-          to = shown.given.word (target parts graph at size from address sized small).0;
-          word = shown.given.word (source parts graph at size from address sized small).key;
-          address = shown.meets.registers at ∙ ap (option_map shown.given.word) (target parts graph at size from address sized small).1;
-          value = shown.meets.registers from ∙ ap (option_map shown.given.word) (source parts graph at size from address sized small).held;
-          fault = shown.fault;
-        };
-      }
+      write_faults kind
+      (kinds_met parts graph (target parts graph at size from address sized small).0 size (target_value parts graph at size from address sized small) onward (λ key start object. refl) kind
+      (λ any. precise (ap (λ (p : Posted). p.loss) is ∙ any)) (subst (λ (p : Posted). Contains p.kinds kind) is listed))
+
+  -- through any word too, where with an object a region lives and the graph may have one object more
+  written_listed : (given : Post) → IsPost (write_post parts at size from) given → MeetsListed parts (λ kind. FaultsWriting at size from kind) given
+  written_listed given is = record {
+    met = λ place kind listed.
+        let post_is = post parts graph at size from address sized small in
+        write_faults kind
+        (all_kinds_met parts graph (target parts graph at size from address sized small).0 size (target_value parts graph at size from address sized small) onward (λ key start object. refl) kind place
+        (subst (λ (p : Posted). Contains p.kinds kind) post_is (subst (λ (kinds : List ℕ). Contains kinds kind) is.kinds listed)));
+  }
 
   write_tail : (after : Parts) → Contains (write_post parts at size from).graphs after → WriteTail parts (at ∷ from ∷ []) after
   write_tail after among = subst (WriteTail parts (at ∷ from ∷ [])) same tail
@@ -108,3 +108,7 @@ write_means parts at size from given graph address sized is = record {
   where
     small : size ≤ 8
     small = size_small parts from size graph sized
+
+pub write_listed : (parts : Parts) (at size from : ℕ) (given : Post) → IsGraph parts → is_address_held parts at ≡ true → holds_size parts from size ≡ true → IsPost (write_post parts at size from) given →
+    MeetsListed parts (λ kind. FaultsWriting at size from kind) given
+write_listed parts at size from given graph address sized is = written_listed parts graph at size from address sized (size_small parts from size graph sized) given is

@@ -3,3 +3,8 @@ pub mod Writing
 pub mod Exact
 pub mod Means
 pub mod Reading
+pub mod Comparing
+pub mod Testing
+pub mod Sameness
+pub mod Open
+pub mod TestExamples

@@ -5,6 +5,7 @@ ghost use Rattle.graph.specs.Maps.{object_at};
 ghost use Rattle.graph.specs.Sizes.{is_scalar_size, is_sized};
 ghost use Rattle.graph.specs.WellFormed.{lies_in, passes_at, may_be_held, leads_to_object};
 ghost use Rattle.graph.specs.Whole.{IsGraph};
+ghost use Rattle.changes.specs.AnyWords.{MeetsListed};
 ghost use Rattle.changes.specs.Parts.{with_value};
 ghost use Rattle.changes.specs.Places.{IsRoom};
 ghost use Rattle.changes.specs.Posted.{IsPost, on_object, on_reach};
@@ -351,7 +352,8 @@ fn read_by(
 /// (C11 6.3.2.1p2). The register `at` is empty then.
 ///
 /// The size is 1, 2, 4 or 8, and 8 for a pointer. The address is none of a node of a segment. Loss 3 is named where no edge tells what is read and it is not known from the
-/// classes of the bytes, and loss 4 where the address may be any word: no graph then stands for what follows.
+/// classes of the bytes, and loss 4 where the address may be any word: no graph then stands for what follows. Each fault that is listed is met by
+/// some state, through any word where with an object a region lives and the graph may have one object more.
 pub fn read(
     alloc: Global,
     graph: &Graph,
@@ -365,6 +367,7 @@ pub fn read(
     requires whole { pointer ≡ true → size ≡ 8 }
     ensures post { IfOk result (λ post. IsPost (read_post graph.now at size pointer into) post) }
     ensures means { IfOk result (λ post. StepMeans graph.now (Reads at size pointer into) (λ kind. FaultsReading at size kind) (ReadTail graph.now (at ∷ []) into size) post) }
+    ensures listed { IfOk result (λ post. MeetsListed graph.now (λ kind. FaultsReading at size kind) post) }
 {
     let registers = graph.registers();
     read_by(alloc, graph, registers, at, size, pointer, into)

@@ -2,6 +2,7 @@
 ghost use Rattle.std.specs.Prelude.{◌≡◌, ◌∷◌, [], true, None, Some, IfOk, IfSome, if◌then◌else◌};
 ghost use Rattle.graph.specs.Maps.{object_at};
 ghost use Rattle.graph.specs.Whole.{IsGraph};
+ghost use Rattle.changes.specs.AnyWords.{MeetsListed};
 ghost use Rattle.changes.specs.Places.{IsRoom};
 ghost use Rattle.changes.specs.Posted.{IsPost, on_object, on_reach};
 ghost use Rattle.changes.specs.Ranges.{cuts_none};
@@ -20,7 +21,7 @@ use graph::{Graph, HasValue, Held, Post, Value};
 use std::alloc::Global;
 
 /// What a write to bytes of an object loses: what is known of an edge that reaches into them from outside.
-#[tactic(auto, using(crate::proofs::Ready::edges_small))]
+#[tactic(auto, using(changes::proofs::Led::edges_small))]
 fn loss_at(graph: &Graph, key: u32, from: u32, size: u8) -> Option<u8>
     requires graph { IsGraph graph.now }
     requires room { IsRoom graph.now key from size }
@@ -136,13 +137,15 @@ fn write_by(
 ///
 /// The value has `size` bytes, and the address eight; it is none of a node of a segment. The edges of the bytes that are written
 /// go, and the others stay. Loss 3 is named where one of these reached into the bytes from outside, and loss 4 where the address may
-/// be any word: no graph then stands for what follows. It costs one copy of the graph, and
+/// be any word: no graph then stands for what follows. Each fault that is listed is met by some state, through any word where with an
+/// object a region lives and the graph may have one object more. It costs one copy of the graph, and
 /// where no graph comes what `reach_of` of `changes` costs.
 pub fn write(alloc: Global, graph: &Graph, at: u32, size: u8, from: u32) -> Result<Post, NoMemory>
     requires address { is_address_held graph.now at ≡ true }
     requires value { holds_size graph.now from size ≡ true }
     ensures post { IfOk result (λ post. IsPost (write_post graph.now at size from) post) }
     ensures means { IfOk result (λ post. StepMeans graph.now (Writes at size from) (λ kind. FaultsWriting at size from kind) (WriteTail graph.now (at ∷ from ∷ [])) post) }
+    ensures listed { IfOk result (λ post. MeetsListed graph.now (λ kind. FaultsWriting at size from kind) post) }
 {
     let registers = graph.registers();
     write_by(alloc, graph, registers, at, size, from)

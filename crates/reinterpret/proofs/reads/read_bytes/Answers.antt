@@ -2,7 +2,8 @@ use Rattle.std.proofs.Common.{◌≡◌, true, List, take, drop, sym, subst}
 use Rattle.std.specs.List.{list_all}
 use Rattle.graph.specs.declared.edges.HasValue.{HasValue}
 use Rattle.graph.specs.WellFormed.{lies_in}
-use Rattle.reinterpret.proofs.Ready.{edges_small, room_small}
+use Rattle.changes.proofs.Entries.{room_small}
+use Rattle.changes.proofs.Led.{edges_small}
 use Rattle.reinterpret.proofs.ReadReady.{plane_range, unknown_fit}
 use Rattle.reinterpret.proofs.reads.read_bytes.Goals as goal
 

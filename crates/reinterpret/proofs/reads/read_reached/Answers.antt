@@ -1,5 +1,5 @@
 use Rattle.std.proofs.Common.{sym}
-use Rattle.reinterpret.proofs.Ready.{room_reached}
+use Rattle.changes.proofs.Led.{room_reached}
 use Rattle.reinterpret.proofs.reads.read_reached.Goals as goal
 
 pub read_room-requires-clause-room : goal.read_room-requires-clause-room

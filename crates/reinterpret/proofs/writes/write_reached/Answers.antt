@@ -1,5 +1,5 @@
 use Rattle.std.proofs.Common.{sym}
-use Rattle.reinterpret.proofs.Ready.{room_reached}
+use Rattle.changes.proofs.Led.{room_reached}
 use Rattle.reinterpret.proofs.writes.write_reached.Goals as goal
 
 pub write_room-requires-clause-room : goal.write_room-requires-clause-room
