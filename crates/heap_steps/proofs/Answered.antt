@@ -16,7 +16,7 @@ use Rattle.heap_steps.specs.Looking.{loses_some, looked_by, looked}
 use Rattle.heap_steps.specs.Posts.{refuse_post, finish_post}
 use Rattle.heap_steps.specs.Steps.{Refuses, Finishes, FaultsFinishing}
 use Rattle.heap_steps.specs.Unreached.{is_unreached, unreached, may_lead_anywhere}
-use Rattle.heap_steps.proofs.Emptied.{finish_sound, finish_listed, finish_met, finish_exact}
+use Rattle.heap_steps.proofs.Finished.{finish_sound, finish_listed, finish_met, finish_exact}
 use Rattle.heap_steps.proofs.Listed.{Contains-none}
 use Rattle.heap_steps.proofs.Looked.{some_unreached}
 use Rattle.heap_steps.proofs.Refused.{refuse_sound, refuse_exact}

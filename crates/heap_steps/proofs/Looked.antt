@@ -20,7 +20,7 @@ use Rattle.heap_steps.proofs.Loses.{kept_from, kept_to, unreached_loses, loses_u
 use Rattle.heap_steps.proofs.Tame.{some_at}
 
 -- some item passes
-some_item : {X : Type 0} (test : X → Bool) (xs : List X) → list_any test xs ≡ true → (x : X) × (test x ≡ true) × Contains xs x
+pub some_item : {X : Type 0} (test : X → Bool) (xs : List X) → list_any test xs ≡ true → (x : X) × (test x ≡ true) × Contains xs x
 some_item test [] some = absurd (false≢true some)
 some_item test (first ∷ rest) some = by_first (test first) refl some (λ later. some_item test rest later)
   where

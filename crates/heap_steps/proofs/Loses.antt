@@ -51,7 +51,7 @@ use Rattle.heap_steps.proofs.Tame.{no_segment, tame_bound, tame_made}
 use Rattle.heap_steps.proofs.Ways.{led_by_ways}
 
 -- a memory that is made with null and zeros
-made_state : (parts : Parts) → IsGraph parts → (state : State) × IsState state × IsMadeWith parts (λ value. Plain 0) (λ key place. Num 0) state
+pub made_state : (parts : Parts) → IsGraph parts → (state : State) × IsState state × IsMadeWith parts (λ value. Plain 0) (λ key place. Num 0) state
 made_state parts graph =
     subst (λ (p : Parts). (state : State) × IsState state × IsMadeWith p (λ value. Plain 0) (λ key place. Num 0) state) (graph_numbered parts graph)
     (chosen_state parts (λ value. Plain 0) (λ key place. Num 0) graph.ascending graph.well_formed graph.within_limits choice)
@@ -75,13 +75,13 @@ object_there parts graph place entry is =
     found_entry (λ (entry : KeyedObject). entry.key) (λ (entry : KeyedObject). entry.object) parts.objects (sym (ascending_by (λ (entry : KeyedObject). entry.key) parts.objects) ∙ ascending_objects parts graph.ascending) place entry is
 
 -- a block of a live object
-record IsBlockOf (state : State) (object : Object) (number : ℕ) : Type 0 where
-  block : Block
-  there : slice_get state.memory number ≡ Some block
-  live : block.live ≡ true
-  kind : block.kind ≡ object.kind
+pub record IsBlockOf (state : State) (object : Object) (number : ℕ) : Type 0 where
+  pub block : Block
+  pub there : slice_get state.memory number ≡ Some block
+  pub live : block.live ≡ true
+  pub kind : block.kind ≡ object.kind
 
-block_of : (parts : Parts) (state : State) (given : Assignment) → IsGraph parts → Meets (maps_of parts) state given → (key : ℕ) (object : Object) → object_at parts.objects key ≡ Some object → object.live ≡ true →
+pub block_of : (parts : Parts) (state : State) (given : Assignment) → IsGraph parts → Meets (maps_of parts) state given → (key : ℕ) (object : Object) → object_at parts.objects key ≡ Some object → object.live ≡ true →
     (place number : ℕ) → slice_get (given.blocks key) place ≡ Some number → IsBlockOf state object number
 block_of parts state given graph meets key object stands live place number is = by_shape object.shape refl
   where
@@ -104,7 +104,7 @@ block_of parts state given graph meets key object stands live place number is = 
         record { block = node.block; there = node.there; live = node.live; kind = node.kind }
 
 -- an object that has a block in each memory
-first_block : (parts : Parts) (state : State) (given : Assignment) → IsGraph parts → Meets (maps_of parts) state given → (key : ℕ) (object : Object) → object_at parts.objects key ≡ Some object → object.live ≡ true →
+pub first_block : (parts : Parts) (state : State) (given : Assignment) → IsGraph parts → Meets (maps_of parts) state given → (key : ℕ) (object : Object) → object_at parts.objects key ≡ Some object → object.live ≡ true →
     ((links : Links) → links_in object.shape ≡ Some links → 1 ≤ links.least) → (number : ℕ) × (slice_get (given.blocks key) 0 ≡ Some number)
 first_block parts state given graph meets key object stands live some = by_shape object.shape refl
   where
@@ -179,14 +179,14 @@ module _ (parts : Parts) (graph : IsGraph parts) where
   pub end_reached : (place : ℕ) → (IsTrue (is_end_reached parts place) ↔ IsLed place)
   end_reached place = led_by_ways (2 * count) (first_places parts) (places_behind parts) way_inside place
 
-  not_led : (key : ℕ) → is_object_reached parts key ≡ false → (IsLed key → ⊥) × (IsLed (count + key) → ⊥)
+  pub not_led : (key : ℕ) → is_object_reached parts key ≡ false → (IsLed key → ⊥) × (IsLed (count + key) → ⊥)
   not_led key none = (
     λ led. false≢true (sym none ∙ or_left (is_end_reached parts key) (is_end_reached parts (count + key)) ((end_reached key).1 led)),
     λ led. false≢true (sym none ∙ or_right (is_end_reached parts key) (is_end_reached parts (count + key)) ((end_reached (count + key)).1 led)),
   )
 
   -- where nothing leads anywhere but what edges and links hold, all blocks of an object that is not reached are lost
-  lost_there : (state : State) (given : Assignment) → IsState state → Meets (maps_of parts) state given → IsTame parts state given → (key : ℕ) (object : Object) → object_at parts.objects key ≡ Some object → object.live ≡ true → is_heap object.kind ≡ true →
+  pub lost_there : (state : State) (given : Assignment) → IsState state → Meets (maps_of parts) state given → IsTame parts state given → (key : ℕ) (object : Object) → object_at parts.objects key ≡ Some object → object.live ≡ true → is_heap object.kind ≡ true →
       (IsLed key → ⊥) → (IsLed (count + key) → ⊥) → (place number : ℕ) → slice_get (given.blocks key) place ≡ Some number → IsLost state number
   lost_there state given is_state meets tame key object stands live heap not_first not_last place number is =
       let block = block_of parts state given graph meets key object stands live place number is in record {
@@ -265,34 +265,42 @@ module _ (parts : Parts) (graph : IsGraph parts) where
       let inner = and_parts (is_heap mapped.1.object.kind) (not (is_object_reached parts mapped.1.key)) outer.1 in
       subst IsUnreachedAt mapped.3 (record { object = mapped.1.object; stands = object_there parts graph at.0 mapped.1 at.1; live = outer.0; heap = inner.0; none = not-true (is_object_reached parts mapped.1.key) inner.1 })
 
+  -- nor does a way lead to it where it stands for one node at least
+  pub raised_free : (key : ℕ) → IsUnreachedAt key → (IsLed (raised key parts) (raised_graph key parts graph) key → ⊥) × (IsLed (raised key parts) (raised_graph key parts graph) (length (raised key parts).objects + key) → ⊥)
+  raised_free key at = (
+    λ led. misses (way_lowered key parts graph key led),
+    λ led. passes_by (way_lowered key parts graph (length parts.objects + key) (subst (λ (n : ℕ). Way (first_places (raised key parts)) (places_behind (raised key parts)) (n + key)) (same_count key parts graph) led)),
+  )
+    where
+      free : (IsLed parts graph key → ⊥) × (IsLed parts graph (length parts.objects + key) → ⊥)
+      free = not_led parts graph key at.none
+
+      misses : IsLed parts graph key ⊎ (IsLed parts graph key ⊎ IsLed parts graph (length parts.objects + key)) → ⊥
+      misses (inl led) = free.0 led
+      misses (inr (inl led)) = free.0 led
+      misses (inr (inr led)) = free.1 led
+
+      passes_by : IsLed parts graph (length parts.objects + key) ⊎ (IsLed parts graph key ⊎ IsLed parts graph (length parts.objects + key)) → ⊥
+      passes_by (inl led) = free.1 led
+      passes_by (inr (inl led)) = free.0 led
+      passes_by (inr (inr led)) = free.1 led
+
+  pub raised_there : (key : ℕ) (at : IsUnreachedAt key) → object_at (raised key parts).objects key ≡ Some (raised_object at.object)
+  raised_there key at =
+      raised_at key parts.objects key ∙ ap (option_map (λ (object : Object). if nat_eq key key then raised_object object else object)) at.stands ∙ ap (λ (b : Bool). Some (if b then raised_object at.object else at.object)) (eq-eqb key key refl)
+
+  pub one_at_least : (shape : Shape) (links : Links) → links_in (raised_shape shape) ≡ Some links → 1 ≤ links.least
+  one_at_least RegionShape links linked = absurd (none-some links linked)
+  one_at_least (Segment twofold head next prev back least next_value prev_value node) links linked = let least_is : max 1 least ≡ links.least = ap (λ (l : Links). l.least) (same_Some _ _ linked) in omega arith
+
   pub unreached_loses : (key : ℕ) → Contains (unreached parts) key → SomeMemoryLoses parts key
   unreached_loses key there =
       let at = unreached_at key there in
-      let free = not_led parts graph key at.none in
-      lowered at free (loses_some (raised key parts) (raised_graph key parts graph) key (raised_object at.object)
-      (raised_at key parts.objects key ∙ ap (option_map (λ (object : Object). if nat_eq key key then raised_object object else object)) at.stands ∙ ap (λ (b : Bool). Some (if b then raised_object at.object else at.object)) (eq-eqb key key refl))
-      at.live at.heap (λ led. misses at free (way_lowered key parts graph key led))
-      (λ led. passes_by at free (way_lowered key parts graph (length parts.objects + key) (subst (λ (n : ℕ). Way (first_places (raised key parts)) (places_behind (raised key parts)) (n + key)) (same_count key parts graph) led)))
-      (one_at_least at.object.shape))
+      let free = raised_free key at in
+      lowered at (loses_some (raised key parts) (raised_graph key parts graph) key (raised_object at.object) (raised_there key at) at.live at.heap free.0 free.1 (one_at_least at.object.shape))
     where
-      one_at_least : (shape : Shape) (links : Links) → links_in (raised_shape shape) ≡ Some links → 1 ≤ links.least
-      one_at_least RegionShape links linked = absurd (none-some links linked)
-      one_at_least (Segment twofold head next prev back least next_value prev_value node) links linked = let least_is : max 1 least ≡ links.least = ap (λ (l : Links). l.least) (same_Some _ _ linked) in omega arith
-
-      misses : (at : IsUnreachedAt key) → (IsLed parts graph key → ⊥) × (IsLed parts graph (length parts.objects + key) → ⊥) →
-          IsLed parts graph key ⊎ (IsLed parts graph key ⊎ IsLed parts graph (length parts.objects + key)) → ⊥
-      misses at free (inl led) = free.0 led
-      misses at free (inr (inl led)) = free.0 led
-      misses at free (inr (inr led)) = free.1 led
-
-      passes_by : (at : IsUnreachedAt key) → (IsLed parts graph key → ⊥) × (IsLed parts graph (length parts.objects + key) → ⊥) →
-          IsLed parts graph (length parts.objects + key) ⊎ (IsLed parts graph key ⊎ IsLed parts graph (length parts.objects + key)) → ⊥
-      passes_by at free (inl led) = free.1 led
-      passes_by at free (inr (inl led)) = free.0 led
-      passes_by at free (inr (inr led)) = free.1 led
-
-      lowered : (at : IsUnreachedAt key) → (IsLed parts graph key → ⊥) × (IsLed parts graph (length parts.objects + key) → ⊥) → SomeMemoryLoses (raised key parts) key → SomeMemoryLoses parts key
-      lowered at free loses = record {
+      lowered : (at : IsUnreachedAt key) → SomeMemoryLoses (raised key parts) key → SomeMemoryLoses parts key
+      lowered at loses = record {
         there = IsSome-holds (object_at parts.objects key) at.object at.stands;
         state = loses.state;
         is = loses.is;

@@ -23,7 +23,7 @@ use Rattle.changes.proofs.Value.{with_word, word-here, value_more, value_less}
 use Rattle.changes.proofs.ValueForm.{value_new, has_one_more, graph_with_value}
 use Rattle.heap_steps.specs.Posts.{refuse_post}
 use Rattle.heap_steps.specs.Steps.{Refuses}
-use Rattle.heap_steps.proofs.Emptied.{with_held, leaves_agrees, held_state}
+use Rattle.changes.proofs.Emptied.{with_held, leaves_agrees, held_state}
 use Rattle.heap_steps.proofs.Listed.{Contains-first, Contains-cases, Contains-none}
 
 module _ (into : ℕ) (parts : Parts) (graph : IsGraph parts) where

@@ -5,4 +5,6 @@ pub mod Unreached
 pub mod Looking
 pub mod Steps
 pub mod Posts
-pub mod Filling
+pub mod Leaving
+pub mod Closing
+pub mod Regions

@@ -159,7 +159,7 @@ fn objects_hold_any(graph: &Graph) -> bool
 }
 
 /// Whether something of a graph may lead anywhere: a byte of class 2 in no edge, or a value that is any word.
-pub(crate) fn may_lead_anywhere(alloc: Global, graph: &Graph) -> Result<bool, NoMemory>
+pub fn may_lead_anywhere(alloc: Global, graph: &Graph) -> Result<bool, NoMemory>
     ensures { IfOk result (λ anywhere. anywhere ≡ may_lead_anywhere graph.now) }
 {
     if some_loose(alloc, graph)? {

@@ -13,7 +13,7 @@ use graph::{Graph, Object};
 use std::alloc::Global;
 
 /// Whether blocks of a kind are allocated.
-fn is_heap(kind: BlockKind) -> bool
+pub(crate) fn is_heap(kind: BlockKind) -> bool
     ensures { result ≡ is_heap kind }
 {
     match kind {
