@@ -1,0 +1,16 @@
+pub mod FillSound
+pub mod FillExact
+pub mod FillMet
+pub mod FillMeans
+pub mod FillReady
+pub mod Untold
+pub mod Told
+pub mod Moving
+pub mod Between
+pub mod Roomy
+pub mod Ranged
+pub mod CopySound
+pub mod CopyExact
+pub mod CopyMeans
+pub mod CopyReady
+pub mod CopyExamples

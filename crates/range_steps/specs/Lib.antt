@@ -1,0 +1,5 @@
+pub mod Filling
+pub mod Copies
+pub mod Copying
+pub mod Places
+pub mod CopyExamples
