@@ -1,0 +1,5 @@
+pub mod Lines
+pub mod Gaining
+pub mod States
+pub mod Steps
+pub mod Cases
