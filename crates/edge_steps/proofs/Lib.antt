@@ -1,0 +1,10 @@
+pub mod Registers
+pub mod Outcomes
+pub mod There
+pub mod Back
+pub mod Chains
+pub mod Lost
+pub mod Entered
+pub mod Left
+pub mod Ready
+pub mod SeenSteps

@@ -1,0 +1,5 @@
+pub mod Four
+pub mod Ready
+pub mod Asked
+pub mod Meaning
+pub mod Sound

@@ -1,0 +1,176 @@
+-- What steps say of states is what is asked of the post of an edge.
+use Rattle.std.proofs.Common.{◌≡◌, ◌≢◌, ℕ, Bool, true, false, [], map, length, None, Some, refl, sym, ◌∙◌, ap, subst}
+use Rattle.std.specs.Prelude.{ℤ, List, Result, Ok, Err, IfOk, Contains, ◌↔◌}
+use Rattle.cbase.specs.declared.no_memory.NoMemory.{NoMemory}
+use Rattle.cbase.specs.declared.stop.Stop.{Stop}
+use Rattle.bytes_core.specs.declared.block.Block.{Block}
+use Rattle.graph.specs.declared.parts.Parts.{Parts}
+use Rattle.graph.specs.declared.post.Post.{Post}
+use Rattle.graph.specs.Meaning.{StandsFor}
+use Rattle.graph.specs.State.{State, IsState}
+use Rattle.graph.specs.WellFormed.{are_ascending}
+use Rattle.changes.specs.Following.{Follows, StepMeans, SomeFaults}
+use Rattle.changes.specs.Parts.{without_registers}
+use Rattle.changes.specs.FollowingAlike.{StepMeansAlike}
+use Rattle.changes.specs.Posted.{IsPost, SomeStandsFor}
+use Rattle.changes.proofs.MeansAlike.{follows_alike, means_alike}
+use Rattle.changes.proofs.Reached.{none_in}
+use Rattle.flow.specs.declared.flow_graph.Flow.{Flow}
+use Rattle.flow.specs.declared.instruction.Instr.{Instr}
+use Rattle.flow.specs.declared.instruction.Instr.TheVariants.{Shift, ShiftBy, Convert, AllocateNone, Enter, Leave, Finish}
+use Rattle.flow.specs.Machine.{size_in}
+use Rattle.reinterpret.specs.Sameness.{StepSound}
+use Rattle.heap_steps.specs.Leaving.{HasRoomFor, LeavesScope, FaultsLeaving, LeaveTail, leave_post}
+use Rattle.heap_steps.specs.Looking.{loses_some, looked_by, looked}
+use Rattle.heap_steps.specs.Posts.{finish_post}
+use Rattle.heap_steps.specs.Steps.{Refuses, Finishes, FaultsFinishing}
+use Rattle.heap_steps.specs.Unreached.{may_lead_anywhere}
+use Rattle.block_steps.specs.Blocks.{AnyMemory}
+use Rattle.block_steps.specs.Entering.{EnterTail, Enters, enter_post}
+use Rattle.register_steps.specs.Gaining.{size_held}
+use Rattle.register_steps.specs.States.{Shifts, ShiftsBy, Converts, NoFault}
+use Rattle.register_steps.specs.Steps.{shift_post, shift_by_post, convert_post}
+use Rattle.edge_steps.specs.EdgeSteps.{EdgeSteps, EdgeFaults}
+use Rattle.edge_steps.specs.Laws.{sizes_at}
+use Rattle.transfer.specs.Means.{HasRoomBack, StandsForAll, EdgeMeans, stopped}
+use Rattle.transfer.specs.Posts.{edge_post}
+use Rattle.transfer.proofs.Four.{compares, four_kinds}
+
+module _ (parts : Parts) (Steps : State → State → Type 0) (Faults : ℕ → State → Type 0) where
+  alike_all : (Tail : Parts → Type 0) (Room : List Block → Type 0) (post : Post) → ((post.loss ≡ Some 4 → post.kinds ≡ []) → post.loss ≢ Some 4) → StepMeansAlike parts Steps Faults Tail Room post →
+      StandsForAll parts Steps Faults Room post
+  alike_all Tail Room post other means = record {
+    sound = λ state next is stands steps excuse. means.sound state next is stands steps (other excuse);
+    exact = means.exact;
+    kinds = means.kinds;
+    met = means.met;
+    ascending = means.ascending;
+  }
+
+-- An instruction of a kind.
+
+module _ (flow : Flow) (point : ℕ) (instr kind : Instr) (parts : Parts) (is : instr ≡ kind) where
+  abbrev Steps : State → State → Type 0
+  Steps = EdgeSteps flow (sizes_at flow point) kind
+
+  abbrev Faults : ℕ → State → Type 0
+  Faults = EdgeFaults kind
+
+  back : (post : Post) → StandsForAll parts Steps Faults (HasRoomBack kind) post → EdgeMeans flow point instr parts post
+  back post means = subst (λ (i : Instr). EdgeMeans flow point i parts post) (sym is) means
+
+  not_four : (post : Post) → compares kind ≡ false → IsPost (edge_post flow kind parts) post → (post.loss ≡ Some 4 → post.kinds ≡ []) → post.loss ≢ Some 4
+  not_four post plain posted excuse loss = four_kinds flow kind parts plain (sym posted.loss ∙ loss) (sym posted.kinds ∙ excuse loss)
+
+  pub alike_step : (Tail : Parts → Type 0) (result : Result Post Stop) → compares kind ≡ false → IfOk result (λ post. IsPost (edge_post flow kind parts) post) →
+      IfOk result (λ post. StepMeansAlike parts Steps Faults Tail (HasRoomBack kind) post) → IfOk result (λ post. EdgeMeans flow point instr parts post)
+  alike_step Tail (Ok post) plain posted means = back post (alike_all parts Steps Faults Tail (HasRoomBack kind) post (not_four post plain posted) means)
+  alike_step Tail (Err error) plain posted means = tt
+
+  pub plain_step : (Tail : Parts → Type 0) (result : Result Post Stop) → compares kind ≡ false → IfOk result (λ post. IsPost (edge_post flow kind parts) post) →
+      IfOk result (λ post. StepMeans parts Steps Faults Tail post) → IfOk result (λ post. EdgeMeans flow point instr parts post)
+  plain_step Tail (Ok post) plain posted means =
+      back post (alike_all parts Steps Faults Tail (HasRoomBack kind) post (not_four post plain posted) (means_alike parts Steps Faults Tail (HasRoomBack kind) post means))
+  plain_step Tail (Err error) plain posted means = tt
+
+  pub stopped_step : (Tail : Parts → Type 0) (answer : Result Post NoMemory) (result : Result Post Stop) → compares kind ≡ false → result ≡ stopped answer → IfOk answer (λ post. IsPost (edge_post flow kind parts) post) →
+      IfOk answer (λ post. StepMeans parts Steps Faults Tail post) → IfOk result (λ post. EdgeMeans flow point instr parts post)
+  stopped_step Tail answer result plain same posted means =
+      plain_step Tail result plain (by_answer (λ post. IsPost (edge_post flow kind parts) post) posted) (by_answer (λ post. StepMeans parts Steps Faults Tail post) means)
+    where
+      on_answer : (P : Post → Type 0) (given : Result Post NoMemory) → IfOk given P → IfOk (stopped given) P
+      on_answer P (Ok post) holds = holds
+      on_answer P (Err error) holds = tt
+
+      by_answer : (P : Post → Type 0) → IfOk answer P → IfOk result P
+      by_answer P holds = subst (λ (r : Result Post Stop). IfOk r P) (sym same) (on_answer P answer holds)
+
+  -- a test stands for all that follow, whatever it loses
+  pub test_step : (Tail : Parts → Type 0) (result : Result Post Stop) → IfOk result (λ post. StepMeans parts Steps Faults Tail post) → IfOk result (λ post. StepSound parts Steps post) →
+      IfOk result (λ post. EdgeMeans flow point instr parts post)
+  test_step Tail (Ok post) means sounds = back post (record {
+    sound = λ state next state_is stands steps excuse. sounds.sound state next state_is stands steps;
+    exact = λ after next none among next_is stands room. follows_alike parts Steps next next_is (means.exact after next none among next_is stands);
+    kinds = λ state fault state_is stands faults. means.kinds state fault stands faults;
+    met = means.met;
+    ascending = means.ascending;
+  })
+  test_step Tail (Err error) means sounds = tt
+
+-- Those that say it in clauses of their own.
+
+pub refuse_step : (flow : Flow) (point : ℕ) (instr : Instr) (parts : Parts) (into : ℕ) (result : Result Post Stop) → instr ≡ AllocateNone into →
+    IfOk result (λ post. (state next : State) → StandsFor parts state → Refuses into state next → SomeStandsFor post.graphs next) →
+    IfOk result (λ post. (next : State) → IsState next → SomeStandsFor post.graphs next → Follows parts (Refuses into) next) → IfOk result (λ post. post.kinds ≡ []) → IfOk result (λ post. EdgeMeans flow point instr parts post)
+refuse_step flow point instr parts into (Ok post) is sound exact faultless = back flow point instr (AllocateNone into) parts is post (record {
+  sound = λ state next state_is stands steps excuse. sound state next stands steps;
+  exact = λ after next none among next_is stands room. follows_alike parts (Refuses into) next next_is (exact next next_is (record { graph = after; among = among; stands = stands }));
+  kinds = λ state kind state_is stands faults. absurd faults;
+  met = λ kind precise listed. none_in kind (subst (λ (kinds : List ℕ). Contains kinds kind) faultless listed);
+  ascending = ap are_ascending faultless;
+})
+refuse_step flow point instr parts into (Err error) is sound exact faultless = tt
+
+looked_ascend : (parts : Parts) → are_ascending (looked parts).kinds ≡ true
+looked_ascend parts = by_tests (loses_some parts) (may_lead_anywhere parts)
+  where
+    by_tests : (a b : Bool) → are_ascending (looked_by parts a b).kinds ≡ true
+    by_tests false b = refl
+    by_tests true false = refl
+    by_tests true true = refl
+
+pub finish_step : (flow : Flow) (point : ℕ) (instr : Instr) (parts : Parts) (registers : List ℕ) (result : Result Post Stop) → instr ≡ Finish registers →
+    IfOk result (λ post. IsPost (finish_post parts registers) post) →
+    IfOk result (λ post. (state next : State) → IsState state → StandsFor parts state → Finishes registers state next → SomeStandsFor post.graphs next) →
+    IfOk result (λ post. post.loss ≡ None → (next : State) → IsState next → SomeStandsFor post.graphs next → Follows parts (Finishes registers) next) →
+    IfOk result (λ post. (kind : ℕ) → (Contains post.kinds kind ↔ SomeFaults parts (FaultsFinishing registers kind))) → IfOk result (λ post. EdgeMeans flow point instr parts post)
+finish_step flow point instr parts registers (Ok post) is posted sound exact lists = back flow point instr (Finish registers) parts is post (record {
+  sound = λ state next state_is stands steps excuse. sound state next state_is stands steps;
+  exact = λ after next none among next_is stands room. follows_alike parts (Finishes registers) next next_is (exact none next next_is (record { graph = after; among = among; stands = stands }));
+  kinds = λ state kind state_is stands faults. (lists kind).1 (record { state = state; is = state_is; stands = stands; faults = faults });
+  met = λ kind precise listed. (lists kind).0 listed;
+  ascending = ap are_ascending posted.kinds ∙ looked_ascend (without_registers registers parts);
+})
+finish_step flow point instr parts registers (Err error) is posted sound exact lists = tt
+
+-- An offset as the code hands it on.
+pub shift_step : (flow : Flow) (point : ℕ) (instr : Instr) (parts : Parts) (into address : ℕ) (by given : ℤ) (Tail : Parts → Type 0) (answer : Result Post NoMemory) (result : Result Post Stop) →
+    instr ≡ Shift into address by → given ≡ by → result ≡ stopped answer → IfOk answer (λ post. IsPost (shift_post parts into address given) post) →
+    IfOk answer (λ post. StepMeans parts (Shifts into address given) NoFault Tail post) → IfOk result (λ post. EdgeMeans flow point instr parts post)
+shift_step flow point instr parts into address by given Tail answer result is same same' posted means =
+    stopped_step flow point instr (Shift into address by) parts is Tail answer result refl same'
+    (subst (λ (z : ℤ). IfOk answer (λ post. IsPost (shift_post parts into address z) post)) same posted)
+    (subst (λ (z : ℤ). IfOk answer (λ post. StepMeans parts (Shifts into address z) NoFault Tail post)) same means)
+
+pub shift_by_step : (flow : Flow) (point : ℕ) (instr : Instr) (parts : Parts) (into address by : ℕ) (scale given : ℤ) (Tail : Parts → Type 0) (answer : Result Post NoMemory) (result : Result Post Stop) →
+    instr ≡ ShiftBy into address by scale → given ≡ scale → result ≡ stopped answer → IfOk answer (λ post. IsPost (shift_by_post parts into address by given) post) →
+    IfOk answer (λ post. StepMeans parts (ShiftsBy into address by given) NoFault Tail post) → IfOk result (λ post. EdgeMeans flow point instr parts post)
+shift_by_step flow point instr parts into address by scale given Tail answer result is same same' posted means =
+    stopped_step flow point instr (ShiftBy into address by scale) parts is Tail answer result refl same'
+    (subst (λ (z : ℤ). IfOk answer (λ post. IsPost (shift_by_post parts into address by z) post)) same posted)
+    (subst (λ (z : ℤ). IfOk answer (λ post. StepMeans parts (ShiftsBy into address by z) NoFault Tail post)) same means)
+
+-- A conversion asks for the size that is held, and that is the one that stands.
+pub convert_step : (flow : Flow) (point : ℕ) (instr : Instr) (parts : Parts) (into from size : ℕ) (signed : Bool) (Tail : Parts → Type 0) (answer : Result Post NoMemory) (result : Result Post Stop) →
+    instr ≡ Convert into from size signed → size_held parts from ≡ sizes_at flow point from → result ≡ stopped answer → IfOk answer (λ post. IsPost (convert_post parts into from size signed) post) →
+    IfOk answer (λ post. StepMeans parts (Converts into from (size_held parts from) size signed) NoFault Tail post) → IfOk result (λ post. EdgeMeans flow point instr parts post)
+convert_step flow point instr parts into from size signed Tail answer result is held same posted means =
+    stopped_step flow point instr (Convert into from size signed) parts is Tail answer result refl same posted
+    (subst (λ (was : ℕ). IfOk answer (λ post. StepMeans parts (Converts into from was size signed) NoFault Tail post)) held means)
+
+-- A scope that is left or entered, by the variables as the code has them.
+pub leave_step : (flow : Flow) (point : ℕ) (instr : Instr) (parts : Parts) (variables given : List ℕ) (result : Result Post Stop) →
+    instr ≡ Leave variables → given ≡ variables → IfOk result (λ post. IsPost (leave_post parts given) post) →
+    IfOk result (λ post. StepMeansAlike parts (LeavesScope given) (FaultsLeaving given) (LeaveTail parts given) (HasRoomFor (length given)) post) → IfOk result (λ post. EdgeMeans flow point instr parts post)
+leave_step flow point instr parts variables given result is same posted means =
+    alike_step flow point instr (Leave variables) parts is (LeaveTail parts variables) result refl
+    (subst (λ (vs : List ℕ). IfOk result (λ post. IsPost (leave_post parts vs) post)) same posted)
+    (subst (λ (vs : List ℕ). IfOk result (λ post. StepMeansAlike parts (LeavesScope vs) (FaultsLeaving vs) (LeaveTail parts vs) (HasRoomFor (length vs)) post)) same means)
+
+pub enter_step : (flow : Flow) (point : ℕ) (instr : Instr) (parts : Parts) (variables given : List ℕ) (result : Result Post Stop) →
+    instr ≡ Enter variables → given ≡ variables → IfOk result (λ post. IsPost (enter_post parts given (map (size_in flow) given)) post) →
+    IfOk result (λ post. StepMeansAlike parts (Enters given (map (size_in flow) given)) NoFault (EnterTail parts given (map (size_in flow) given)) AnyMemory post) → IfOk result (λ post. EdgeMeans flow point instr parts post)
+enter_step flow point instr parts variables given result is same posted means =
+    alike_step flow point instr (Enter variables) parts is (EnterTail parts variables (map (size_in flow) variables)) result refl
+    (subst (λ (vs : List ℕ). IfOk result (λ post. IsPost (enter_post parts vs (map (size_in flow) vs)) post)) same posted)
+    (subst (λ (vs : List ℕ). IfOk result (λ post. StepMeansAlike parts (Enters vs (map (size_in flow) vs)) NoFault (EnterTail parts vs (map (size_in flow) vs)) AnyMemory post)) same means)

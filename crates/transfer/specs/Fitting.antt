@@ -1,0 +1,38 @@
+-- When a graph is one of states at a point of a flow graph.
+use Rattle.std.specs.Prelude.{◌≡◌, ℕ, Bool, true, ◌||◌, [], nat_eq, Option, option_map, is_some, IsTrue, All}
+use Rattle.std.specs.List.{list_all, list_any}
+use Rattle.std.specs.Option.{option_and_then}
+use Rattle.graph.specs.declared.parts.Parts.{Parts}
+use Rattle.graph.specs.Maps.{value_at, storage_of, held_by}
+use Rattle.graph.specs.Nodes.{is_region}
+use Rattle.graph.specs.Sizes.{value_size}
+use Rattle.flow.specs.declared.flow_graph.Flow.{Flow}
+use Rattle.flow.specs.declared.instruction.Instr.{Instr}
+use Rattle.flow.specs.Holding.{size_of}
+use Rattle.flow.specs.Standing.{stands_at}
+use Rattle.flow.specs.Valid.{is_fixed, is_object_size, has_sizes, has_scope, reads_what_stands, tests_one_size}
+
+-- the size of what a register holds
+abbrev pub held_size : Parts → ℕ → Option ℕ
+held_size parts register = option_and_then (λ key. option_map value_size (value_at parts.values key)) (held_by parts.registers register)
+
+-- a variable is there at a point: it is a static one, or it stands there
+abbrev pub is_there : Flow → ℕ → ℕ → Bool
+is_there flow point variable = is_fixed flow variable || list_any (nat_eq variable) (stands_at flow point).variables
+
+-- a graph of regions names exactly the static variables and those that stand at a point, holds exactly the registers that stand there, each
+-- value in its size, and shares no word with surroundings
+pub record FitsAt (flow : Flow) (point : ℕ) (parts : Parts) : Type 0 where
+  pub variables : (variable : ℕ) → is_some (storage_of parts.variables variable) ≡ is_there flow point variable
+  pub registers : (register : ℕ) → held_size parts register ≡ size_of (stands_at flow point).registers register
+  pub ports : parts.ports ≡ []
+  pub regions : list_all (λ entry. is_region entry.object.shape) parts.objects ≡ true
+
+-- an instruction may follow at a point where such a graph is
+pub record MayFollow (flow : Flow) (point : ℕ) (instr : Instr) (parts : Parts) : Type 0 where
+  pub fits : FitsAt flow point parts
+  pub reads : IsTrue (reads_what_stands flow (stands_at flow point) instr)
+  pub sizes : IsTrue (has_sizes instr)
+  pub tests : IsTrue (tests_one_size (stands_at flow point) instr)
+  pub scope : IsTrue (has_scope flow (stands_at flow point) instr)
+  pub variables : All (λ variable. IsTrue (is_object_size variable.size)) flow.variables

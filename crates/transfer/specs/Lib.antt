@@ -1,0 +1,4 @@
+pub mod Fitting
+pub mod Posts
+pub mod Means
+pub mod Machine
