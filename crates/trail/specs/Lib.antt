@@ -1,0 +1,5 @@
+pub mod Seen
+pub mod Analysis
+pub mod Trail
+pub mod Theorems
+pub mod Witness

@@ -1,0 +1,34 @@
+-- What trails show.
+use Rattle.std.specs.Prelude.{◌≡◌, ℕ, List, Some, slice_get, All}
+use Rattle.cbase.specs.declared.place.Place.{Place}
+use Rattle.flow.specs.declared.flow_graph.Flow.{Flow}
+use Rattle.flow.specs.declared.flow_graph.FlowEdge.{FlowEdge}
+use Rattle.flow.specs.Exclusive.{IsExclusive}
+use Rattle.flow.specs.Memories.{HasInitialOffset}
+use Rattle.flow.specs.Runs.{RunFaults}
+use Rattle.flow.specs.Valid.{IsFlow}
+use Rattle.trail.specs.declared.trail.Entry.{Entry}
+use Rattle.trail.specs.Seen.{HasNoCalls}
+use Rattle.trail.specs.Analysis.{Analysis, Tests, tested, alike_by, IsSound, Alike, IsExact, GoAlike}
+use Rattle.trail.specs.Trail.{At, AreHonest, IsClosed, IsClean, IsReal, HasKind}
+
+-- the offsets of what static variables hold at the start are of 64 bits
+abbrev pub HaveOffsets : Flow → Type 0
+HaveOffsets flow = All (λ scalar. HasInitialOffset scalar.word) flow.initial
+
+-- the theorems, for one analysis
+abbrev pub ShowsSafe : Analysis → Type 0
+ShowsSafe analysis = (flow : Flow) (trail : List Entry) → IsFlow flow → HaveOffsets flow → HasNoCalls flow → IsSound analysis flow →
+    AreHonest analysis flow trail → IsClosed analysis flow trail → IsClean analysis flow trail →
+    (kind : ℕ) (place : Place) → RunFaults flow kind place → ⊥
+
+abbrev pub MeetsErrors : Analysis → Alike → Type 0
+MeetsErrors analysis alike = (flow : Flow) (trail : List Entry) → IsExclusive flow → IsExact analysis alike flow → GoAlike analysis alike flow →
+    AreHonest analysis flow trail → (at : ℕ) (entry : Entry) (number kind : ℕ) (edge : FlowEdge) → IsReal trail at → At trail at entry →
+    slice_get flow.edges number ≡ Some edge → HasKind analysis flow entry number kind → RunFaults flow kind edge.place
+
+abbrev pub IsSafeShown : Type 0
+IsSafeShown = (tests : Tests) → ShowsSafe (tested tests)
+
+abbrev pub IsErrorMet : Type 0
+IsErrorMet = (tests : Tests) → MeetsErrors (tested tests) (alike_by tests)

@@ -1,0 +1,102 @@
+-- Honest and closed trails.
+use Rattle.std.specs.Prelude.{◌≡◌, ℕ, List, true, Option, None, Some, slice_get, take, ◌⊎◌, Contains}
+use Rattle.graph.specs.declared.parts.Parts.{Parts}
+use Rattle.graph.specs.declared.post.Post.{Post}
+use Rattle.flow.specs.declared.flow_graph.Flow.{Flow}
+use Rattle.flow.specs.declared.flow_graph.FlowEdge.{FlowEdge}
+use Rattle.flow.specs.InRange.{entry_of}
+use Rattle.trail.specs.declared.trail.Cause.{Cause}
+use Rattle.trail.specs.declared.trail.Cause.TheVariants.{Start, Step}
+use Rattle.trail.specs.declared.trail.Entry.{Entry}
+use Rattle.trail.specs.Seen.{is_ordinary}
+use Rattle.trail.specs.Analysis.{Analysis, Fits, IsStart, IsPost, Covers}
+
+-- the entry of that number
+abbrev pub At : List Entry → ℕ → Entry → Type 0
+At trail number entry = slice_get trail number ≡ Some entry
+
+-- an entry is the graph of that number of a post of an earlier one
+pub record IsResult (analysis : Analysis) (flow : Flow) (before : List Entry) (entry : Entry) (from number result : ℕ) (loss : Option ℕ) : Type 0 where
+  pub earlier : Entry
+  pub there : At before from earlier
+  pub kept : earlier.kept ≡ true
+  pub edge : FlowEdge
+  pub stands : slice_get flow.edges number ≡ Some edge
+  pub ordinary : is_ordinary edge.instr ≡ true
+  pub leaves : edge.from ≡ earlier.point
+  pub arrives : entry.point ≡ edge.to
+  pub post : Post
+  pub is : IsPost analysis flow number earlier.graph post
+  pub graph : slice_get post.graphs result ≡ Some entry.graph
+  pub loss_is : post.loss ≡ loss
+
+-- what a cause says of its entry
+abbrev pub Made : Analysis → Flow → List Entry → Entry → Cause → Type 0
+Made analysis flow before entry Start = (entry.point ≡ entry_of flow flow.main) × IsStart analysis flow entry.graph
+Made analysis flow before entry (Step from number result loss) = IsResult analysis flow before entry from number result loss
+
+pub record IsHonest (analysis : Analysis) (flow : Flow) (before : List Entry) (entry : Entry) : Type 0 where
+  pub fits : Fits analysis flow entry.point entry.graph
+  pub made : Made analysis flow before entry entry.cause
+  -- a kept entry was covered by none at its point that was kept then
+  pub uncovered : entry.kept ≡ true → (number : ℕ) (earlier : Entry) → At before number earlier → earlier.kept ≡ true →
+      earlier.point ≡ entry.point → Covers analysis earlier.graph entry.graph → ⊥
+  -- no two entries have one cause
+  pub new : (number : ℕ) (earlier : Entry) → At before number earlier → earlier.cause ≡ entry.cause → ⊥
+
+abbrev pub AreHonest : Analysis → Flow → List Entry → Type 0
+AreHonest analysis flow trail = (number : ℕ) (entry : Entry) → At trail number entry → IsHonest analysis flow (take number trail) entry
+
+-- a kept entry at the same point covers the entry
+pub record IsCovered (analysis : Analysis) (trail : List Entry) (entry : Entry) : Type 0 where
+  pub number : ℕ
+  pub other : Entry
+  pub there : At trail number other
+  pub kept : other.kept ≡ true
+  pub point : other.point ≡ entry.point
+  pub covers : Covers analysis other.graph entry.graph
+
+-- an entry with that cause, point and graph stands in the trail
+pub record StandsAsStep (trail : List Entry) (cause : Cause) (point : ℕ) (graph : Parts) : Type 0 where
+  pub number : ℕ
+  pub entry : Entry
+  pub there : At trail number entry
+  pub cause_is : entry.cause ≡ cause
+  pub point_is : entry.point ≡ point
+  pub graph_is : entry.graph ≡ graph
+
+-- all graphs of a post of the entry along this edge stand in the trail
+pub record IsDone (analysis : Analysis) (flow : Flow) (trail : List Entry) (from : ℕ) (entry : Entry) (number : ℕ) (edge : FlowEdge) : Type 0 where
+  pub post : Post
+  pub is : IsPost analysis flow number entry.graph post
+  pub all : (result : ℕ) (graph : Parts) → slice_get post.graphs result ≡ Some graph →
+      StandsAsStep trail (Step from number result post.loss) edge.to graph
+
+-- and so it is of each edge out of the entry's point
+abbrev pub IsExpanded : Analysis → Flow → List Entry → ℕ → Entry → Type 0
+IsExpanded analysis flow trail from entry =
+    (number : ℕ) (edge : FlowEdge) → slice_get flow.edges number ≡ Some edge → is_ordinary edge.instr ≡ true → edge.from ≡ entry.point →
+    IsDone analysis flow trail from entry number edge
+
+pub record IsClosed (analysis : Analysis) (flow : Flow) (trail : List Entry) : Type 0 where
+  pub begins : (number : ℕ) × (entry : Entry) × At trail number entry × (entry.cause ≡ Start)
+  pub settled : (number : ℕ) (entry : Entry) → At trail number entry → (entry.kept ≡ true) ⊎ IsCovered analysis trail entry
+  pub expanded : (number : ℕ) (entry : Entry) → At trail number entry → entry.kept ≡ true → IsExpanded analysis flow trail number entry
+
+-- a post of the entry along this edge has the kind
+pub record HasKind (analysis : Analysis) (flow : Flow) (entry : Entry) (number kind : ℕ) : Type 0 where
+  pub edge : FlowEdge
+  pub stands : slice_get flow.edges number ≡ Some edge
+  pub leaves : edge.from ≡ entry.point
+  pub post : Post
+  pub is : IsPost analysis flow number entry.graph post
+  pub has : Contains post.kinds kind
+
+-- no post of a kept entry has a kind
+abbrev pub IsClean : Analysis → Flow → List Entry → Type 0
+IsClean analysis flow trail = (at : ℕ) (entry : Entry) (number kind : ℕ) → At trail at entry → entry.kept ≡ true → HasKind analysis flow entry number kind → ⊥
+
+-- a chain of steps without loss
+pub data IsReal (trail : List Entry) : ℕ → Type 0 where
+  RealStart : (number : ℕ) (entry : Entry) → At trail number entry → entry.cause ≡ Start → IsReal trail number
+  RealStep : (number from edge result : ℕ) (entry : Entry) → At trail number entry → entry.cause ≡ Step from edge result None → IsReal trail from → IsReal trail number
