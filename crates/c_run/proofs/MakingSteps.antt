@@ -1,6 +1,6 @@
 -- Steps that make room.
 use Rattle.std.proofs.Common.{◌≡◌, ℕ, Bool, true, false, List, [], ◌∷◌, length, None, Some, Result, Ok, Err, refl, sym, ap, ◌∙◌, subst}
-use Rattle.std.specs.Prelude.{IfOk, MatchResult}
+use Rattle.std.specs.Prelude.{IfOk, MatchResult, OnErr}
 use Rattle.choices.specs.declared.choice.Choice.{Choice}
 use Rattle.c_machine.specs.State.{TaskIn, StateIn, State, Went, doing}
 use Rattle.c_machine.specs.declared.task.Task.{Task}
@@ -106,3 +106,14 @@ answered_by {A} {E} steps P Q (Err error) result onward is says = subst (λ (cam
 pub same_task : (t : Text) (task other : TaskIn t) (stepped : Stepped) (before after : StateIn t) (choices rest : List Choice) → task ≡ other →
     IsStepOf t task stepped before choices after rest → IsStepOf t other stepped before choices after rest
 same_task t task other stepped before after choices rest is done = subst (λ (this : TaskIn t). IsStepOf t this stepped before choices after rest) is done
+
+-- where no answer is given, none is given of the step that it makes
+pub wanting_by : {A E : Type 0} (steps : A → Stepped) (P : Type 0) (answer : Result A E) (result : Result Stepped E) →
+    MatchResult answer (λ value. result ≡ Ok (steps value)) (λ error. result ≡ Err error) → OnErr answer P → OnErr result P
+wanting_by {A} {E} steps P (Ok value) result is keeps = subst (λ (came : Result Stepped E). OnErr came P) (sym is) tt
+wanting_by {A} {E} steps P (Err error) result is keeps = subst (λ (came : Result Stepped E). OnErr came P) (sym is) keeps
+
+-- a step that is given no choices takes none
+pub none_taken : {A E : Type 0} (result : Result A E) (choices : List Choice) → OnErr result (choices ≡ choices)
+none_taken (Ok value) choices = tt
+none_taken (Err error) choices = refl

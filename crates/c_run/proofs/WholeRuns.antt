@@ -67,6 +67,13 @@ ComesSo text items strict choices steps outcome =
     (n : Numbering) (p : Program) → StandsFor n text p → p.items ≡ items → p.strict ≡ strict
     → (state : StateIn (text_of p)) × (rest : List Choice) × (run_of (text_of p) choices steps ≡ comes_to outcome state rest)
 
+-- the start in a state in which nothing is made, with all of these choices
+pub begun_with : (text : Context) (functions : List FunctionItem) (items : List Item) (strict : Bool) (stepped : Stepped) (before after : State Expr Stmt Init) (given choices rest : List Choice) →
+    given ≡ choices → ((p : Program) → before ≡ blank (text_of p) []) → Started text functions items strict stepped before given after rest →
+    (n : Numbering) (p : Program) → StandsFor n text p → p.strict ≡ strict → functions ≡ functions_in p.items → p.items ≡ items → IsStart (text_of p) stepped choices after rest
+begun_with text functions items strict stepped before after given choices rest is none started =
+    λ n p stands held defined same. subst (λ (these : List Choice). IsStart (text_of p) stepped these after rest) is (started n p stands held defined same (none p))
+
 pub over_at_start : (text : Context) (functions : List FunctionItem) (items : List Item) (strict : Bool) (choices : List Choice) (steps : ℕ) (stepped : Stepped) (before after : State Expr Stmt Init) (rest : List Choice) →
     goes_on stepped ≡ false → Started text functions items strict stepped before choices after rest → Runs text functions items strict choices steps before after stepped
 over_at_start text functions items strict choices steps stepped before after rest over started =

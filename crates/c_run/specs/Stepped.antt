@@ -1,5 +1,5 @@
 -- What a step and a run come to, where the types of which they speak are kept.
-use Rattle.std.specs.Prelude.{◌≡◌, ℕ, zero, suc, Bool, true, false, ◌&&◌, List, [], ◌∷◌, length, Option, None, Some, slice_get}
+use Rattle.std.specs.Prelude.{◌≡◌, ◌<◌, ℕ, zero, suc, Bool, true, false, ◌&&◌, List, [], ◌∷◌, length, Option, None, Some, slice_get}
 use Rattle.choices.specs.declared.choice.Choice.{Choice}
 use Rattle.c_machine.specs.declared.kind.Kind.{Kind}
 use Rattle.c_machine.specs.declared.task.Task.TheVariants.{ValueOf, AddressOf, Pick, Execute, Initialise, CallDefined}
@@ -82,3 +82,7 @@ abbrev pub IsRun : (t : Text) → ℕ → Stepped → StateIn t → List Choice 
 IsRun t steps (Came outcome) before choices after left =
     (comes_to outcome after left ≡ run steps t before choices) × (keeps_kinds_for steps t before choices ≡ true)
 IsRun t steps NotKept before choices after left = keeps_kinds_for steps t before choices ≡ false
+
+-- fewer than so many steps that went leave these choices, in some state
+abbrev pub LeavesChoices : (t : Text) → ℕ → StateIn t → List Choice → List Choice → Type 0
+LeavesChoices t steps before choices left = (done : ℕ) × (state : StateIn t) × (done < steps) × (run done t before choices ≡ Went state left)

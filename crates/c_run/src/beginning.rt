@@ -15,34 +15,43 @@ use c_steps::{Choices, Outcome, State};
 use c_text::statics::{StaticSets, static_sets};
 use c_text::{FunctionItem, Functions, TypedText};
 use cbase::{Item, NoMemory};
+use choices::Choice;
 use std::alloc::Global;
 
-/// What the start of a run comes to, with the state there.
+/// What the start of a run comes to, with the state there and the choices that are left.
 #[derive(Drop)]
-pub struct Started<'a> {
+pub struct Started<'a, 'c> {
     /// What it comes to.
     pub stepped: Stepped,
     /// The state, which is of use where the run goes on.
     pub state: TreeState<'a>,
+    /// The choices that are not taken yet.
+    pub choices: Choices<'c>,
 }
 
 /// The start of a run (C11 5.1.2p1): the objects that live as long as it are made and initialised, and main is called, where there is one.
 ///
-/// `functions` are those of the items that have a body. `strict` says whether main may not return while an allocated block lives.
-pub fn start<'a>(
+/// `functions` are those of the items that have a body. `strict` says whether main may not return while an allocated block lives. Where memory is wanting
+/// there is no state, and no choice is taken.
+pub fn start<'a, 'c>(
     alloc: Global,
     text: &TypedText,
     functions: &Functions<'a>,
     strict: bool,
     items: &'a [Item],
-    choices: &mut Choices,
-) -> Result<Started<'a>, NoMemory>
+    choices: &'c [Choice],
+) -> Result<Started<'a, 'c>, NoMemory>
     ensures { IfOk result (λ started. (n : Numbering) (p : Program) → StandsFor n text.now p → p.strict ≡ strict → functions.now ≡ functions_in p.items → p.items ≡ items.now
-        → IsStart (text_of p) started.stepped choices.old started.state choices.new) }
+        → IsStart (text_of p) started.stepped choices.now started.state started.choices) }
 {
     let mut state = State::blank(alloc);
-    match start_from(alloc, text, functions, strict, items, &mut state, choices) {
-        Ok(stepped) => Ok(Started { stepped, state }),
+    let mut left = Choices::of(choices);
+    match start_from(alloc, text, functions, strict, items, &mut state, &mut left) {
+        Ok(stepped) => Ok(Started {
+            stepped,
+            state,
+            choices: left,
+        }),
         Err(error) => Err(error),
     }
 }

@@ -1,9 +1,9 @@
-ghost use Rattle.std.specs.Prelude.{◌≡◌, IfOk};
+ghost use Rattle.std.specs.Prelude.{◌≡◌, IfOk, OnErr};
 ghost use Rattle.c_machine.specs.Program.{Program, functions_in};
 ghost use Rattle.c_machine.specs.Trees.{text_of};
 ghost use Rattle.expressions.specs.Numbers.{Numbering};
 ghost use Rattle.c_text.specs.Stands.{StandsFor};
-ghost use Rattle.c_run.specs.Stepped.{IsRun};
+ghost use Rattle.c_run.specs.Stepped.{IsRun, LeavesChoices};
 
 use crate::stepped::{Stepped, goes_on};
 use crate::stepping::step;
@@ -15,7 +15,8 @@ use std::alloc::Global;
 
 /// At most so many steps of a run, fewer where it is over, waits or cannot go on (C11 5.1.2.3).
 ///
-/// `functions` are those of the program that have a body. `strict` says whether main may not return while an allocated block lives.
+/// `functions` are those of the program that have a body. `strict` says whether main may not return while an allocated block lives. Where memory is wanting the
+/// choices are those that the steps before have left, and nothing is said of the state.
 pub fn run<'a>(
     alloc: Global,
     text: &TypedText,
@@ -25,8 +26,10 @@ pub fn run<'a>(
     choices: &mut Choices,
     steps: u64,
 ) -> Result<Stepped, NoMemory>
-    ensures { IfOk result (λ stepped. (n : Numbering) (p : Program) → StandsFor n text.now p → p.strict ≡ strict → functions.now ≡ functions_in p.items
+    ensures ok { IfOk result (λ stepped. (n : Numbering) (p : Program) → StandsFor n text.now p → p.strict ≡ strict → functions.now ≡ functions_in p.items
         → IsRun (text_of p) steps stepped state.old choices.old state.new choices.new) }
+    ensures err { OnErr result ((n : Numbering) (p : Program) → StandsFor n text.now p → p.strict ≡ strict → functions.now ≡ functions_in p.items
+        → LeavesChoices (text_of p) steps state.old choices.old choices.new) }
 {
     let mut left = steps;
     while left > 0 {

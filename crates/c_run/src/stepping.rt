@@ -1,4 +1,4 @@
-ghost use Rattle.std.specs.Prelude.{◌≡◌, IfOk, IfSome};
+ghost use Rattle.std.specs.Prelude.{◌≡◌, IfOk, IfSome, OnErr};
 ghost use Rattle.c_machine.specs.Program.{Program, functions_in};
 ghost use Rattle.c_machine.specs.Trees.{text_of};
 ghost use Rattle.c_steps.specs.PlainStep.{plain_step};
@@ -23,7 +23,7 @@ use std::alloc::Global;
 ///
 /// `functions` are those of the program that have a body. `strict` says whether main may not return while an allocated block lives. A step takes time for what it
 /// puts there or changes, `break`, `continue` and `return` for what is to be done up to the end of the body that they leave, and a look for loss for the bytes of
-/// the memory, the objects and the operands.
+/// the memory, the objects and the operands. Where memory is wanting no choice is taken, and nothing is said of the state.
 pub fn step<'a>(
     alloc: Global,
     text: &TypedText,
@@ -32,8 +32,9 @@ pub fn step<'a>(
     state: &mut TreeState<'a>,
     choices: &mut Choices,
 ) -> Result<Stepped, NoMemory>
-    ensures { IfOk result (λ stepped. (n : Numbering) (p : Program) → StandsFor n text.now p → p.strict ≡ strict → functions.now ≡ functions_in p.items
+    ensures ok { IfOk result (λ stepped. (n : Numbering) (p : Program) → StandsFor n text.now p → p.strict ≡ strict → functions.now ≡ functions_in p.items
         → IsStep (text_of p) stepped state.old choices.old state.new choices.new) }
+    ensures err { OnErr result (choices.new ≡ choices.old) }
 {
     match state.next_task() {
         None => Ok(Stepped::Came(Outcome::Ended)),
@@ -51,8 +52,9 @@ fn do_task<'a>(
     choices: &mut Choices,
     task: Task<Tree<'a, Expr>, Tree<'a, Stmt>, Tree<'a, Init>>,
 ) -> Result<Stepped, NoMemory>
-    ensures { IfOk result (λ stepped. (n : Numbering) (p : Program) → StandsFor n text.now p → p.strict ≡ strict → functions.now ≡ functions_in p.items
+    ensures ok { IfOk result (λ stepped. (n : Numbering) (p : Program) → StandsFor n text.now p → p.strict ≡ strict → functions.now ≡ functions_in p.items
         → IsStepOf (text_of p) task.entry stepped state.old choices.old state.new choices.new) }
+    ensures err { OnErr result (choices.new ≡ choices.old) }
 {
     match task {
         Task::ValueOf(expr) => value_step(text, functions, state, expr.get()),
@@ -79,8 +81,9 @@ fn other_step<'a>(
     strict: bool,
     task: Task<Tree<'a, Expr>, Tree<'a, Stmt>, Tree<'a, Init>>,
 ) -> Result<Stepped, NoMemory>
-    ensures { IfOk result (λ stepped. (p : Program) → p.strict ≡ strict
+    ensures ok { IfOk result (λ stepped. (p : Program) → p.strict ≡ strict
         → IfSome (plain_step strict task.entry state.old choices.old) (λ comes. IsStepOf (text_of p) task.entry stepped state.old choices.old state.new choices.new)) }
+    ensures err { OnErr result (choices.new ≡ choices.old) }
 {
     came(plain_step(alloc, state, choices, strict, task))
 }

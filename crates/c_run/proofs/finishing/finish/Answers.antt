@@ -24,7 +24,7 @@ returns-then-not-goes_on-clause-done c = λ n p stands strict defined.
     last_step (text_of p) c.args.steps (c.turns.left - 1) c.in_ok-stepped.stepped c.args.state.now c.turns.state c.step.new.state c.args.choices.now c.turns.choices c.step.new.choices
     (subst (λ (left : ℕ). Finishes (text_of p) c.args.steps left c.args.state.now c.args.choices.now c.turns.state c.turns.choices) next (c.turns.invariant.goes n p stands strict defined))
     (some_there c.is_done.result c.turns.state.tasks c.is_done.ensures.1 c.turns-test.true)
-    (sym c.goes_on.ensures ∙ c.if-not-goes_on.true) (c.in_ok-stepped.ensures n p stands strict defined)
+    (sym c.goes_on.ensures ∙ c.if-not-goes_on.true) (c.in_ok-stepped.ensures.ok n p stands strict defined)
 
 pub turns-smaller : goal.turns-smaller
 turns-smaller c = omega (arith, c.if-left-eq0.false)
@@ -37,5 +37,5 @@ turns-preserved c = record {
       one_step_on (text_of p) c.args.steps (c.turns.left - 1) c.in_ok-stepped.stepped c.args.state.now c.turns.state c.step.new.state c.args.choices.now c.turns.choices c.step.new.choices
       (subst (λ (left : ℕ). Finishes (text_of p) c.args.steps left c.args.state.now c.args.choices.now c.turns.state c.turns.choices) next (c.turns.invariant.goes n p stands strict defined))
       (some_there c.is_done.result c.turns.state.tasks c.is_done.ensures.1 c.turns-test.true)
-      (sym c.goes_on.ensures ∙ c.if-not-goes_on.false) (c.in_ok-stepped.ensures n p stands strict defined);
+      (sym c.goes_on.ensures ∙ c.if-not-goes_on.false) (c.in_ok-stepped.ensures.ok n p stands strict defined);
 }

@@ -14,4 +14,4 @@ returns c = on_ok _ _ c.run.result
     (λ ran going.
     over_later c.args.text.now c.args.functions.now c.args.items.now c.args.strict c.args.choices.now c.args.steps c.in_ok-stepped.stepped ran c.args.state.now c.start_from.new.state c.run.new.state
     c.start_from.new.choices c.run.new.choices (sym c.goes_on.ensures ∙ c.if-not-goes_on.false) (rw c.of-left.ensures at c.in_ok-stepped.ensures) going)
-    (rw c.from.ensures at c.run.ensures)
+    (rw c.from.ensures at c.run.ensures.ok)
