@@ -2,6 +2,7 @@
 use crate::fault::Fault;
 use crate::shown::shown;
 use crate::spelled::parts_of_text;
+use crate::steps::answer_of_step;
 use cbase::{NoMemory, Stop};
 use cover::covers;
 use graph::{Graph, Parts, graph_of};
@@ -13,8 +14,10 @@ pub fn answer_of_line(alloc: Global, line: &str) -> Result<String, NoMemory> {
         return said(alloc, line);
     }
     let (kind, text) = line.split_once(' ').unwrap_or((line, ""));
-    if kind == "covers" {
-        return answer_of_two(alloc, text);
+    match kind {
+        "covers" => return answer_of_two(alloc, text),
+        "built" | "kept" | "large" | "moved" | "taken" | "copied" | "counted" => (),
+        _ => return answer_of_step(alloc, kind, text),
     }
     match parts_of_text(alloc, text) {
         Ok(parts) => answer_of_parts(alloc, kind, parts),
@@ -56,7 +59,7 @@ fn answer_beside(alloc: Global, wide: &Graph, text: &str) -> Result<String, NoMe
 }
 
 /// The graph that a text spells, if it spells one that is not too large.
-fn graph_of_text(alloc: Global, text: &str) -> Result<Option<Graph>, NoMemory> {
+pub fn graph_of_text(alloc: Global, text: &str) -> Result<Option<Graph>, NoMemory> {
     match parts_of_text(alloc, text) {
         Ok(parts) => graph_of_ascending(alloc, parts),
         Err(Fault::NoRow) => Ok(None),
@@ -77,7 +80,7 @@ fn graph_of_ascending(alloc: Global, parts: Parts) -> Result<Option<Graph>, NoMe
 }
 
 /// A text as it stands.
-fn said(alloc: Global, text: &str) -> Result<String, NoMemory> {
+pub fn said(alloc: Global, text: &str) -> Result<String, NoMemory> {
     Ok(String::from_str(alloc, text)?)
 }
 

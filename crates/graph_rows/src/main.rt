@@ -6,8 +6,10 @@
 
 mod answers;
 mod fault;
+mod gains;
 mod shown;
 mod spelled;
+mod steps;
 mod word;
 
 use answers::answer_of_line;
