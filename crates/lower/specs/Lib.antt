@@ -17,3 +17,15 @@ pub mod ByToken
 pub mod Clauses
 pub mod Latest
 pub mod Graphs
+pub mod Source
+pub mod Reading
+pub mod Calls
+pub mod Made
+pub mod Lefts
+pub mod Words
+pub mod Inner
+pub mod Returns
+pub mod Around
+pub mod Jobs
+pub mod Ways
+pub mod TwoTests
