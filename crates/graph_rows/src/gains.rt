@@ -1,6 +1,6 @@
 //! Steps in which a register gets a value: `number INTO:NUMBER:SIZE`, `address INTO:VARIABLE`, `move INTO:FROM`, `shift INTO:AT:BY`, `shiftby INTO:AT:BY:SCALE`,
 //! `OPERATOR INTO:LEFT:RIGHT:SIZE:SIGNED`, `convert INTO:FROM:SIZE:SIGNED` and `input INTO:SIZE:TRUTH`. A shift is by `BY` less 100, an item has `SCALE` less 100 bytes.
-use crate::steps::{Came, is_size};
+use crate::steps::{Came, is_size, size_in};
 use arithmetic::Op;
 use cbase::NoMemory;
 use graph::Graph;
@@ -21,7 +21,7 @@ pub fn gaining(alloc: Global, kind: &str, graph: &Graph, fields: &[u32]) -> Resu
                 *into,
                 *left,
                 *right,
-                *size as u8,
+                size_in(*size),
                 *signed == 1,
             )
         }
@@ -60,7 +60,7 @@ fn gaining_two(
         }
         "shift" => Ok(Came::Post(shift(alloc, graph, into, one, other as i64 - 100)?)),
         "input" => {
-            let size = one as u8;
+            let size = size_in(one);
             if !is_size(size) {
                 return Ok(Came::NoRow);
             }
@@ -85,7 +85,7 @@ fn gaining_three(
             Ok(Came::Post(shift_by(alloc, graph, into, one, other, scale)?))
         }
         "convert" => {
-            let size = other as u8;
+            let size = size_in(other);
             if !is_size(size) {
                 return Ok(Came::NoRow);
             }

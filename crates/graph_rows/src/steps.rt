@@ -148,6 +148,11 @@ pub fn is_size(size: u8) -> bool
     size == 1 || size == 2 || size == 4 || size == 8
 }
 
+/// A size in bytes; 0, which no value has, for a number that is none.
+pub fn size_in(number: u32) -> u8 {
+    if number < 256 { number as u8 } else { 0 }
+}
+
 /// The number that a field spells, if it is one.
 fn number_of(field: &str) -> Option<u32> {
     field.parse::<u32>().ok()
@@ -169,7 +174,7 @@ fn numbers_of(alloc: Global, fields: &str) -> Result<Option<List<u32>>, NoMemory
 fn reading(alloc: Global, graph: &Graph, fields: &[u32]) -> Result<Came, NoMemory> {
     match fields {
         [at, size, pointer, into] => {
-            let size = *size as u8;
+            let size = size_in(*size);
             let whole = *pointer == 1;
             if !holds_address(graph, *at) || !is_size(size) || (whole && size != 8) {
                 return Ok(Came::NoRow);
@@ -184,7 +189,7 @@ fn reading(alloc: Global, graph: &Graph, fields: &[u32]) -> Result<Came, NoMemor
 fn writing(alloc: Global, graph: &Graph, fields: &[u32]) -> Result<Came, NoMemory> {
     match fields {
         [at, size, from] => {
-            let size = *size as u8;
+            let size = size_in(*size);
             if !holds_address(graph, *at) || !holds(graph, *from, size) {
                 return Ok(Came::NoRow);
             }
