@@ -19,6 +19,7 @@ pub mod ReleaseNumber
 pub mod ReleaseSound
 pub mod ReleaseExact
 pub mod ReleaseMet
+pub mod ReleaseListed
 pub mod ReleaseReady
 pub mod ReleaseMeans
 pub mod ReleaseRegions

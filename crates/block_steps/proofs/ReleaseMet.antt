@@ -1,4 +1,4 @@
--- Each fault that a release's post lists is met, but through any word.
+-- Each fault that a release lists is met by some state, if those through any word are.
 use Rattle.std.proofs.Common.{◌≡◌, ◌≢◌, ℕ, Bool, true, false, ◌&&◌, List, [], ◌∷◌, ℤ, pos, nat_eq, None, Some, refl, ◌∙◌, ap, subst}
 use Rattle.std.specs.Prelude.{Contains, option_map, if◌then◌else◌}
 use Rattle.std.specs.Ordering.{int_eq}
@@ -34,11 +34,11 @@ module _ (parts : Parts) (graph : IsGraph parts) (at : ℕ) (address : is_addres
   abbrev gone : List ℕ
   gone = at ∷ []
 
-  abbrev key : ℕ
+  abbrev pub key : ℕ
   key = (target parts graph at address).0
 
   -- a state that the graph stands for, in which the release meets a fault
-  shown : (kind : ℕ) (state : State) (given : Assignment) → IsState state → Meets (maps_of parts) state given → free_fault state.memory (given.word key) ≡ Some kind → SomeFaults parts (FaultsReleasing at kind)
+  pub shown : (kind : ℕ) (state : State) (given : Assignment) → IsState state → Meets (maps_of parts) state given → free_fault state.memory (given.word key) ≡ Some kind → SomeFaults parts (FaultsReleasing at kind)
   shown kind state given is meets fault = record {
     state = state;
     is = is;
@@ -54,8 +54,10 @@ module _ (parts : Parts) (graph : IsGraph parts) (at : ℕ) (address : is_addres
       let meets = found.2.meets in
       shown kind found.0 found.2.given found.1 meets (faults found.0 found.2.given found.1 meets (meets.registers at ∙ ap (option_map found.2.given.word) (target parts graph at address).1))
 
-  pub release_met : (kind : ℕ) → (release_post parts at).loss ≢ Some 4 → Contains (release_post parts at).kinds kind → SomeFaults parts (FaultsReleasing at kind)
-  release_met kind precise listed = by_value aimed.value aimed.is aimed.names aimed.size
+  -- each kind that is listed is met, if those through any word are
+  pub met_if : (kind : ℕ) → (value_at parts.values key ≡ Some Any → Contains (double_free ∷ invalid_free ∷ []) kind → SomeFaults parts (FaultsReleasing at kind)) → Contains (release_post parts at).kinds kind →
+      SomeFaults parts (FaultsReleasing at kind)
+  met_if kind through_any listed = by_value aimed.value aimed.is aimed.names aimed.size
     where
       aimed : IsAddress parts key
       aimed = target_value parts graph at address
@@ -100,5 +102,9 @@ module _ (parts : Parts) (graph : IsGraph parts) (at : ℕ) (address : is_addres
       by_value : (value : Value) → value_at parts.values key ≡ Some value → names_no_segment value ≡ true → value_size value ≡ 8 → SomeFaults parts (FaultsReleasing at kind)
       by_value (Const number size) stands names sized = constant number size stands (nat_eq number 0) refl (in_post (Const number size) stands)
       by_value (Number size) stands names sized = number (stands ∙ ap (λ (n : ℕ). Some (Number n)) sized)
-      by_value Any stands names sized = absurd (precise (ap (λ (p : Posted). p.loss) (release_held parts at key Any (target parts graph at address).1 stands)))
+      by_value Any stands names sized = through_any stands (in_post Any stands)
       by_value (Address at_key offset t) stands names sized = object at_key offset (stands ∙ ap (λ (t : Target). Some (Address at_key offset t)) (region_target at_key offset t names))
+
+  -- so it is but through any word
+  pub release_met : (kind : ℕ) → (release_post parts at).loss ≢ Some 4 → Contains (release_post parts at).kinds kind → SomeFaults parts (FaultsReleasing at kind)
+  release_met kind precise listed = met_if kind (λ any two. absurd (precise (ap (λ (p : Posted). p.loss) (release_held parts at key Any (target parts graph at address).1 any)))) listed

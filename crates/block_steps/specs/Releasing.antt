@@ -14,7 +14,7 @@
 --   that of another byte of d  kind 6
 --   that of v                  kind 6
 --   any word                   kinds 5 and 6; loss 4
-use Rattle.std.specs.Prelude.{◌≡◌, ℕ, ◌≤◌, true, ◌&&◌, List, [], ◌∷◌, map, length, nat_eq, ℤ, pos, Option, None, Some, IsSome, option_map, ◌⊎◌, if◌then◌else◌}
+use Rattle.std.specs.Prelude.{◌≡◌, ℕ, ◌+◌, ◌^◌, ◌<◌, ◌≤◌, true, ◌&&◌, List, [], ◌∷◌, map, length, nat_eq, ℤ, pos, Option, None, Some, IsSome, option_map, Contains, ◌⊎◌, if◌then◌else◌}
 use Rattle.std.specs.Ordering.{int_eq}
 use Rattle.bytes_core.specs.declared.word.Word.{Word}
 use Rattle.bytes_core.specs.Fault.{double_free, invalid_free}
@@ -24,11 +24,13 @@ use Rattle.graph.specs.declared.object.Shape.TheVariants.{Region as RegionShape}
 use Rattle.graph.specs.declared.value.Value.{Value}
 use Rattle.graph.specs.declared.value.Value.TheVariants.{Const, Number, Any, Address}
 use Rattle.graph.specs.declared.parts.Parts.{Parts}
+use Rattle.graph.specs.declared.post.Post.{Post}
 use Rattle.graph.specs.Maps.{object_at, value_at, held_by}
 use Rattle.graph.specs.State.{State}
+use Rattle.graph.specs.WellFormed.{nodes}
 use Rattle.graph.specs.Whole.{IsGraph}
 use Rattle.changes.specs.Dying.{died}
-use Rattle.changes.specs.Following.{Leaves, life}
+use Rattle.changes.specs.Following.{Leaves, SomeFaults, life}
 use Rattle.changes.specs.Merging.{merged}
 use Rattle.changes.specs.Parts.{emptied, with_object, with_value, without_registers}
 use Rattle.changes.specs.Posted.{Posted, no_post, fault_only, on_held, on_object}
@@ -77,6 +79,10 @@ value_released parts gone key (Some (Address object offset target)) = on_object 
 
 abbrev pub release_post : Parts → ℕ → Posted
 release_post parts at = on_held (held_by parts.registers at) (λ key. value_released parts (at ∷ []) key (value_at parts.values key))
+
+-- each fault that is listed is met by some state, also through any word, where the graph may have one object more
+pub record MeetsReleased (parts : Parts) (at : ℕ) (post : Post) : Type 0 where
+  pub met : nodes parts + 1 < 2 ^ 30 → (kind : ℕ) → Contains post.kinds kind → SomeFaults parts (FaultsReleasing at kind)
 
 -- the object with a key is there, and a region
 pub record IsRegionFound (parts : Parts) (key : ℕ) : Type 0 where

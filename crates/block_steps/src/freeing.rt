@@ -3,7 +3,7 @@ ghost use Rattle.std.specs.Prelude.{◌≡◌, ◌&&◌, [], ◌∷◌, length, 
 ghost use Rattle.std.specs.Ordering.{int_eq};
 ghost use Rattle.bytes_core.specs.Release.{is_heap};
 ghost use Rattle.heap_steps.specs.Regions.{IsExactOfRegions};
-ghost use Rattle.block_steps.specs.Releasing.{Releases, FaultsReleasing, ReleaseTail, IsRegionFound, IsFreeable, with_null, only_graph, object_released, number_released, value_released, release_post};
+ghost use Rattle.block_steps.specs.Releasing.{Releases, FaultsReleasing, MeetsReleased, ReleaseTail, IsRegionFound, IsFreeable, with_null, only_graph, object_released, number_released, value_released, release_post};
 ghost use Rattle.changes.specs.Dying.{died};
 ghost use Rattle.changes.specs.FollowingAlike.{StepMeansAlike};
 ghost use Rattle.changes.specs.Parts.{with_object, without_registers};
@@ -188,7 +188,8 @@ fn release_by(alloc: Global, graph: &Graph, registers: &[Held], at: u32) -> Resu
 /// The value has eight bytes, and is no address of a node of a segment. A null pointer changes nothing. Kind 5 is for the first byte of a
 /// dead allocated object, and kind 6 for all else that is not null and not the first byte of a live allocated object, so a number always
 /// lists it; where it may be null there is a graph in which it is. Of an object that dies nothing is said any more, neither its edges nor
-/// the classes of its bytes. Where the value may be any word, kinds 5 and 6 are listed with loss 4, and no graph stands for what follows.
+/// the classes of its bytes. Where the value may be any word, kinds 5 and 6 are listed with loss 4, and no graph stands for what follows;
+/// some state meets each of them, where the graph may have one object more.
 ///
 /// Each state of the graphs is alike one that follows, where its memory has room for the block that died: of that the graph says not where it
 /// lay. Where all the graph's objects are regions it has room. It costs a copy of the graph, and two where the value is a number.
@@ -197,6 +198,7 @@ pub fn release(alloc: Global, graph: &Graph, at: u32) -> Result<Post, Stop>
     ensures post { IfOk result (λ post. IsPost (release_post graph.now at) post) }
     ensures means { IfOk result (λ post. StepMeansAlike graph.now (Releases at) (λ kind. FaultsReleasing at kind) (ReleaseTail graph.now (at ∷ [])) (λ memory. HasRoom memory) post) }
     ensures regions { IfOk result (λ post. IsExactOfRegions graph.now (Releases at) post) }
+    ensures listed { IfOk result (λ post. MeetsReleased graph.now at post) }
     ensures small { IfErr result (λ stop. stop ≡ Stop.NoMemory) }
 {
     let registers = graph.registers();

@@ -1,5 +1,5 @@
 -- The post of a copy, by where its source and its target lead.
-use Rattle.std.proofs.Common.{◌≡◌, ℕ, zero, suc, Bool, true, false, ◌&&◌, List, [], ◌∷◌, ◌++◌, length, Option, None, Some, refl, sym, ◌∙◌, ap, subst, arith}
+use Rattle.std.proofs.Common.{◌≡◌, ℕ, zero, suc, Bool, true, false, ◌&&◌, List, [], ◌∷◌, ◌++◌, length, Option, None, Some, ◌⊎◌, inl, inr, refl, sym, ◌∙◌, ap, subst, arith}
 use Rattle.std.specs.Prelude.{Contains, if◌then◌else◌}
 use Rattle.bytes_core.specs.Fault.{overlapping_copy}
 use Rattle.graph.specs.declared.object.Object.{Object}
@@ -45,9 +45,34 @@ overlap_keeps false posted kind has = has
 pub overlap_has : (some : Bool) (posted : Posted) → some ≡ true → Contains (with_overlap some posted).kinds overlapping_copy
 overlap_has some posted is = subst (λ (b : Bool). Contains (with_overlap b posted).kinds overlapping_copy) (sym is) (contains_last posted.kinds overlapping_copy)
 
+last_cases : (xs : List ℕ) (x kind : ℕ) → Contains (xs ++ x ∷ []) kind → Contains xs kind ⊎ (x ≡ kind)
+last_cases [] x kind (zero, below, is) = inr is
+last_cases [] x kind (suc place, below, is) = absurd (omega arith)
+last_cases (first ∷ rest) x kind (zero, below, is) = inl (0, omega arith, is)
+last_cases (first ∷ rest) x kind (suc place, below, is) = later (last_cases rest x kind (place, omega arith, is))
+  where
+    later : Contains rest kind ⊎ (x ≡ kind) → Contains (first ∷ rest) kind ⊎ (x ≡ kind)
+    later (inl has) = inl (contains_later first kind rest has)
+    later (inr same) = inr same
+
+-- a kind among the faults is one without the overlap, or that
+pub overlap_cases : (some : Bool) (posted : Posted) (kind : ℕ) → Contains (with_overlap some posted).kinds kind → Contains posted.kinds kind ⊎ ((some ≡ true) × (overlapping_copy ≡ kind))
+overlap_cases false posted kind has = inl has
+overlap_cases true posted kind has = by_last (last_cases posted.kinds overlapping_copy kind has)
+  where
+    by_last : Contains posted.kinds kind ⊎ (overlapping_copy ≡ kind) → Contains posted.kinds kind ⊎ ((true ≡ true) × (overlapping_copy ≡ kind))
+    by_last (inl own) = inl own
+    by_last (inr same) = inr (refl, same)
+
 pub no_overlap : (disjoint : Bool) (posted : Posted) → with_overlap (disjoint && false) posted ≡ posted
 no_overlap true posted = refl
 no_overlap false posted = refl
+
+-- an overlap is never met where the source or the target is never right
+pub never : (disjoint other : Bool) (posted : Posted) → with_overlap (disjoint && (other && false)) posted ≡ posted
+never true true posted = refl
+never true false posted = refl
+never false other posted = refl
 
 module _ (parts : Parts) (gone : List ℕ) (disjoint : Bool) (count : ℕ) (source target : Reach) where
   abbrev pub behind_source : ℕ → Object → ℕ → Posted

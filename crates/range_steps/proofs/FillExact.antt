@@ -1,6 +1,6 @@
 -- Where no loss is named, each state of the graph of a fill's post follows, but for dead blocks that nothing names.
-use Rattle.std.proofs.Common.{◌≡◌, ℕ, zero, suc, ◌+◌, ◌%◌, ◌≤◌, Bool, true, false, List, [], ◌∷◌, length, take, drop, set, replicate, pos, Option, None, Some, refl, sym, ◌∙◌, ap, subst, le-leb, arith}
-use Rattle.std.specs.Prelude.{IsSome, slice_get, option_map, Contains, if◌then◌else◌}
+use Rattle.std.proofs.Common.{◌≡◌, ℕ, zero, suc, ◌%◌, Bool, true, false, List, [], ◌∷◌, length, take, drop, set, replicate, pos, None, Some, refl, sym, ◌∙◌, ap, subst, arith}
+use Rattle.std.specs.Prelude.{IsSome, slice_get, option_map, Contains}
 use Rattle.std.proofs.lemmas.List.{length-replicate}
 use Rattle.std.proofs.lemmas.Option.{none-some}
 use Rattle.bytes_core.specs.declared.byte.Byte.{Byte}
@@ -8,8 +8,7 @@ use Rattle.bytes_core.specs.declared.byte.Byte.TheVariants.{Num, Part}
 use Rattle.bytes_core.specs.declared.block.Block.{Block}
 use Rattle.bytes_core.specs.declared.word.Word.{Word}
 use Rattle.bytes_core.specs.declared.word.Word.TheVariants.{To}
-use Rattle.bytes_core.specs.Access.{is_within, block_fault, access_fault, filled}
-use Rattle.bytes_core.specs.Fault.{access_outside_object, access_to_dead_object}
+use Rattle.bytes_core.specs.Access.{access_fault, filled}
 use Rattle.bytes_core.specs.Value.{address_number}
 use Rattle.bytes_core.proofs.Kept.{written_nothing}
 use Rattle.graph.specs.declared.object.Object.{Object}

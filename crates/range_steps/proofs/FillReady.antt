@@ -1,5 +1,5 @@
 -- What calls of a fill need where there is room.
-use Rattle.std.proofs.Common.{◌≡◌, ℕ, Bool, List, [], ◌∷◌, replicate, Option, None, Some, sym, ◌∙◌, ap, subst}
+use Rattle.std.proofs.Common.{◌≡◌, ℕ, Bool, List, [], ◌∷◌, replicate, Option, Some, sym, ◌∙◌, ap, subst}
 use Rattle.std.specs.Prelude.{IfSome}
 use Rattle.graph.specs.declared.object.Object.{Object}
 use Rattle.graph.specs.declared.parts.Parts.{Parts}

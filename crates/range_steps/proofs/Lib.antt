@@ -11,6 +11,8 @@ pub mod Roomy
 pub mod Ranged
 pub mod CopySound
 pub mod CopyExact
+pub mod CopyMet
+pub mod CopyListed
 pub mod CopyMeans
 pub mod CopyReady
 pub mod CopyExamples

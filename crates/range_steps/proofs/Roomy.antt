@@ -18,10 +18,12 @@ use Rattle.graph.specs.declared.template.Node.{Node}
 use Rattle.graph.specs.declared.parts.KeyedObject.{KeyedObject}
 use Rattle.graph.specs.declared.parts.Parts.{Parts}
 use Rattle.graph.specs.Maps.{object_at, value_at}
+use Rattle.graph.specs.Nodes.{is_region}
 use Rattle.graph.specs.State.{State}
+use Rattle.graph.specs.Whole.{IsGraph}
 use Rattle.graph.specs.Meaning.{IsGone, AreNodes, HasShape, HasBlocksAs, own_offset, maps_of, Assignment, Meets}
 use Rattle.graph.proofs.Found.{Holds-some}
-use Rattle.graph.proofs.Tests.{and_both}
+use Rattle.graph.proofs.Tests.{and_left, and_right, and_both}
 use Rattle.changes.specs.Reaching.{has_live_object}
 use Rattle.changes.proofs.Meeting.{contains_first, contains_later}
 use Rattle.range_steps.specs.Copying.{has_room}
@@ -184,3 +186,66 @@ roomy_done parts count key many is over = go parts.objects key (subst (λ (n : �
     go [] (suc key) over = refl
     go (first ∷ rest) zero over = absurd (omega arith)
     go (first ∷ rest) (suc key) over = go rest key (omega arith)
+
+-- A live region that is roomy.
+
+pub record IsObjectOf (parts : Parts) (test : Object → Bool) : Type 0 where
+  pub key : ℕ
+  pub object : Object
+  pub stands : object_at parts.objects key ≡ Some object
+  pub passes : test object ≡ true
+
+-- where some object passes a test it stands under a key
+pub object_of : (parts : Parts) → IsGraph parts → (test : Object → Bool) → list_any (λ entry. test entry.object) parts.objects ≡ true → IsObjectOf parts test
+object_of parts graph test some =
+    let found = go 0 parts.objects (λ place entry stands. graph.keys.objects place entry stands ∙ (let e : place ≡ 0 + place = omega arith in e)) some in
+    record { key = 0 + found.0; object = found.1; stands = found.2; passes = found.3 }
+  where
+    go : (from : ℕ) (entries : List KeyedObject) → ((place : ℕ) (entry : KeyedObject) → slice_get entries place ≡ Some entry → entry.key ≡ from + place) → list_any (λ entry. test entry.object) entries ≡ true →
+        (place : ℕ) × (object : Object) × (object_at entries (from + place) ≡ Some object) × (test object ≡ true)
+    go from [] in_place some = absurd (false≢true some)
+    go from (first ∷ rest) in_place some = by_first (test first.object) refl some
+        (λ later. go (suc from) rest (λ place entry stands. in_place (suc place) entry stands ∙ (let e : from + suc place ≡ suc from + place = omega arith in e)) later)
+      where
+        miss : (b : Bool) (place : ℕ) → nat_eq first.key (from + suc place) ≡ b → nat_eq first.key (from + suc place) ≡ false
+        miss false place is = is
+        miss true place is = let k = eqb-true _ _ is in let p = in_place 0 first refl in absurd (omega arith)
+
+        by_first : (b : Bool) → test first.object ≡ b → (b || list_any (λ entry. test entry.object) rest) ≡ true →
+            (list_any (λ entry. test entry.object) rest ≡ true → (place : ℕ) × (object : Object) × (object_at rest (suc from + place) ≡ Some object) × (test object ≡ true)) →
+            (place : ℕ) × (object : Object) × (object_at (first ∷ rest) (from + place) ≡ Some object) × (test object ≡ true)
+        by_first true passes some later = (0, first.object, ap (λ (b : Bool). if b then Some first.object else object_at rest (from + 0)) (eq-eqb first.key (from + 0) (in_place 0 first refl)), passes)
+        by_first false fails some later =
+            let found = later some in (
+              suc found.0,
+              found.1,
+              ap (λ (b : Bool). if b then Some first.object else object_at rest (from + suc found.0)) (miss (nat_eq first.key (from + suc found.0)) found.0 refl)
+                  ∙ ap (object_at rest) (let e : from + suc found.0 ≡ suc from + found.0 = omega arith in e) ∙ found.2,
+              found.3,
+            )
+
+-- a region of an object, with a range of so many bytes
+pub record IsRoomyRegion (parts : Parts) (count : ℕ) : Type 0 where
+  pub key : ℕ
+  pub object : Object
+  pub stands : object_at parts.objects key ≡ Some object
+  pub live : object.live ≡ true
+  pub region : object.shape ≡ RegionShape
+  pub room : count ≤ object.size
+
+pub roomy_region : (parts : Parts) (count : ℕ) → IsGraph parts → list_any (λ entry. entry.object.live && (is_region entry.object.shape && nat_le count entry.object.size)) parts.objects ≡ true → IsRoomyRegion parts count
+roomy_region parts count graph some =
+    let found = object_of parts graph (λ object. object.live && (is_region object.shape && nat_le count object.size)) some in
+    let roomy = and_right found.object.live (is_region found.object.shape && nat_le count found.object.size) found.passes in
+    record {
+      key = found.key;
+      object = found.object;
+      stands = found.stands;
+      live = and_left found.object.live (is_region found.object.shape && nat_le count found.object.size) found.passes;
+      region = region_only found.object.shape (and_left (is_region found.object.shape) (nat_le count found.object.size) roomy);
+      room = leb-true _ _ (and_right (is_region found.object.shape) (nat_le count found.object.size) roomy);
+    }
+  where
+    region_only : (shape : Shape) → is_region shape ≡ true → shape ≡ RegionShape
+    region_only RegionShape is = refl
+    region_only (Segment twofold head next prev back least next_value prev_value node) is = absurd (false≢true is)

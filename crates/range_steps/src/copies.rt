@@ -7,6 +7,7 @@ ghost use Rattle.changes.specs.Posted.{IsPost, on_object};
 ghost use Rattle.changes.specs.Reaching.{is_address_held, reach_of};
 ghost use Rattle.graph.specs.Maps.{object_at};
 ghost use Rattle.graph.specs.Whole.{IsGraph};
+ghost use Rattle.range_steps.specs.AnyCopies.{MeetsCopied};
 ghost use Rattle.range_steps.specs.Copies.{Copies, FaultsCopying};
 ghost use Rattle.range_steps.specs.Copying.{copied_object, object_written, object_copied, copied_between, copied_by, copy_post};
 
@@ -212,6 +213,9 @@ fn copy_by(
 /// range, and the class of each of its bytes, stand in the target's in place of what stood there. Loss 3 is named where an edge is cut,
 /// of the source or of the target, and where a byte of the source that may be other than 0 stands in no edge: that the two bytes are equal
 /// is not kept. Loss 4 is named where the source or a target behind it may be any word, so that no graph stands for what follows.
+/// Each fault that is listed is met by some state, through any word where with an object a region lives, with one that has `length` bytes
+/// such a one, and the graph may have one object more.
+///
 /// It costs a copy of the graph and one of the source's classes, and where no graph comes what `reach_of` of `changes` costs, twice.
 pub fn copy(
     alloc: Global,
@@ -225,6 +229,7 @@ pub fn copy(
     requires source { is_address_held graph.now from ≡ true }
     ensures post { IfOk result (λ post. IsPost (copy_post graph.now to from length disjoint) post) }
     ensures means { IfOk result (λ post. StepMeans graph.now (Copies to from length disjoint) (λ kind. FaultsCopying to from length disjoint kind) (WriteTail graph.now (to ∷ from ∷ [])) post) }
+    ensures listed { IfOk result (λ post. MeetsCopied graph.now to from length disjoint post) }
     ensures small { IfErr result (λ stop. stop ≡ Stop.NoMemory) }
 {
     let registers = graph.registers();

@@ -1,5 +1,6 @@
 //! Fills of bytes with one number.
 ghost use Rattle.std.specs.Prelude.{◌≡◌, ◌≤◌, [], ◌∷◌, true, Some, IfOk, IfErr, IfSome, IsSome};
+ghost use Rattle.changes.specs.AnyWords.{MeetsListed};
 ghost use Rattle.changes.specs.Following.{StepMeans, WriteTail, LeadsToRegion};
 ghost use Rattle.changes.specs.Places.{IsRoom};
 ghost use Rattle.changes.specs.Posted.{IsPost, on_object, on_reach};
@@ -159,12 +160,14 @@ fn fill_by(
 /// The address has eight bytes, and is none of a node of a segment. A fill of no byte is no access. The edges of the bytes that are filled
 /// go, and the others stay. Loss 3 is named where one of these reached into the bytes from outside, loss 4 where the address may be any
 /// word, so that no graph stands for what follows, and loss 6 where the number is not known to be 0: that the bytes are one and the same is
-/// not kept. It costs one copy of the graph, and where no graph comes what `reach_of` of `changes` costs.
+/// not kept. Each fault that is listed is met by some state, through any word where with an object a region lives and the graph may have one
+/// object more. It costs one copy of the graph, and where no graph comes what `reach_of` of `changes` costs.
 pub fn fill(alloc: Global, graph: &Graph, at: u32, from: u32, length: u32) -> Result<Post, Stop>
     requires address { is_address_held graph.now at ≡ true }
     requires value { IsSome (held_by graph.now.registers from) }
     ensures post { IfOk result (λ post. IsPost (fill_post graph.now at from length) post) }
     ensures means { IfOk result (λ post. StepMeans graph.now (Fills at from length) (λ kind. FaultsFilling at from length kind) (WriteTail graph.now (at ∷ from ∷ [])) post) }
+    ensures listed { IfOk result (λ post. MeetsListed graph.now (λ kind. FaultsFilling at from length kind) post) }
     ensures small { IfErr result (λ stop. stop ≡ Stop.NoMemory) }
 {
     let registers = graph.registers();
