@@ -1,4 +1,4 @@
--- Where the post of an edge names loss 4 it lists a kind, but for tests whether two values are the same.
+-- Where the post of an edge names loss 4 it is that of an access through any word, and lists a kind, but for tests whether two values are the same.
 use Rattle.std.proofs.Common.{◌≡◌, ℕ, zero, suc, Bool, true, false, ◌&&◌, List, [], ◌∷◌, ◌++◌, nat_eq, Option, None, Some, refl, sym, ◌∙◌, ap}
 use Rattle.std.specs.Prelude.{ℤ, if◌then◌else◌}
 use Rattle.std.proofs.lemmas.Option.{none-some, same_Some}
@@ -164,20 +164,20 @@ release_kinds parts at = held_kinds (held_by parts.registers at) _ (λ key. by_v
     by_value key (Some Any) loss none = some_kind _ _ none
     by_value key (Some (Address object offset target)) loss none = by_object object offset (object_at parts.objects object) loss none
 
-looked_kinds : (parts : Parts) → HasKinds (looked parts)
-looked_kinds parts = by_tests (loses_some parts) (may_lead_anywhere parts)
+looked_not : (parts : Parts) → (looked parts).loss ≡ Some 4 → ⊥
+looked_not parts = by_tests (loses_some parts) (may_lead_anywhere parts)
   where
-    by_tests : (a b : Bool) → HasKinds (looked_by parts a b)
-    by_tests false b loss none = none-some 4 loss
-    by_tests true false loss none = none-some 4 loss
-    by_tests true true loss none = other_loss 3 refl loss
+    by_tests : (a b : Bool) → (looked_by parts a b).loss ≡ Some 4 → ⊥
+    by_tests false b loss = none-some 4 loss
+    by_tests true false loss = none-some 4 loss
+    by_tests true true loss = other_loss 3 refl loss
 
-close_kinds : (parts : Parts) → HasKinds (closed_by parts (has_live_heap parts))
-close_kinds parts = by_test (has_live_heap parts)
+close_not : (parts : Parts) → (closed_by parts (has_live_heap parts)).loss ≡ Some 4 → ⊥
+close_not parts = by_test (has_live_heap parts)
   where
-    by_test : (b : Bool) → HasKinds (closed_by parts b)
-    by_test true loss none = none-some 4 loss
-    by_test false loss none = none-some 4 loss
+    by_test : (b : Bool) → (closed_by parts b).loss ≡ Some 4 → ⊥
+    by_test true loss = none-some 4 loss
+    by_test false loss = none-some 4 loss
 
 beside_not : (parts : Parts) → loss_beside parts ≡ Some 4 → ⊥
 beside_not parts = by_test (may_lead_anywhere parts)
@@ -265,29 +265,72 @@ compares (instr.IfSame one other) = true
 compares (instr.IfDifferent one other) = true
 compares other = false
 
-pub four_kinds : (flow : Flow) (kind : Instr) (parts : Parts) → compares kind ≡ false → HasKinds (edge_post flow kind parts)
-four_kinds flow (instr.Number into number size) parts plain loss none = none-some 4 loss
-four_kinds flow (instr.Address into variable) parts plain loss none = address_not (storage_of parts.variables variable) loss
-four_kinds flow (instr.Move into from) parts plain loss none = entry_not (entry_held parts from) (λ held. kept held.key) (λ entry is. none-some 4 is) loss
-four_kinds flow (instr.Read into at size pointer) parts plain loss none = read_kinds parts at size pointer into loss none
-four_kinds flow (instr.Write at from size) parts plain loss none = write_kinds parts at size from loss none
-four_kinds flow (instr.Shift into at by) parts plain loss none = entry_not (entry_held parts at) (λ address. shifted address.value by) (λ entry. shifted_not entry.value by) loss
-four_kinds flow (instr.ShiftBy into at by scale) parts plain loss none =
+-- one that may lead through any word
+abbrev pub accesses : Instr → Bool
+accesses (instr.Read into at size pointer) = true
+accesses (instr.Write at from size) = true
+accesses (instr.Release at) = true
+accesses (instr.Fill at from count) = true
+accesses (instr.Copy target from count disjoint) = true
+accesses other = false
+
+-- no other names loss 4
+pub never_four : (flow : Flow) (kind : Instr) (parts : Parts) → compares kind ≡ false → accesses kind ≡ false → (edge_post flow kind parts).loss ≡ Some 4 → ⊥
+never_four flow (instr.Number into number size) parts plain alone loss = none-some 4 loss
+never_four flow (instr.Address into variable) parts plain alone loss = address_not (storage_of parts.variables variable) loss
+never_four flow (instr.Move into from) parts plain alone loss = entry_not (entry_held parts from) (λ held. kept held.key) (λ entry is. none-some 4 is) loss
+never_four flow (instr.Read into at size pointer) parts plain alone loss = absurd cc
+never_four flow (instr.Write at from size) parts plain alone loss = absurd cc
+never_four flow (instr.Shift into at by) parts plain alone loss = entry_not (entry_held parts at) (λ address. shifted address.value by) (λ entry. shifted_not entry.value by) loss
+never_four flow (instr.ShiftBy into at by scale) parts plain alone loss =
     entry_not (entry_held parts at) _ (λ address. entry_not (entry_held parts by) (λ number. shifted_by address.value number.value scale) (λ number. shifted_by_not address.value number.value scale)) loss
-four_kinds flow (instr.Compute into op one other size signed) parts plain loss none =
+never_four flow (instr.Compute into op one other size signed) parts plain alone loss =
     entry_not (entry_held parts one) _ (λ first. entry_not (entry_held parts other) (λ second. computed_line op size signed first.value second.value) (λ second. computed_not op size signed first.value second.value)) loss
-four_kinds flow (instr.Convert into from size signed) parts plain loss none = entry_not (entry_held parts from) (λ held. converted_line held.key held.value size signed) (λ held. converted_not held.key held.value size signed) loss
-four_kinds flow (instr.IfSame one other) parts plain loss none = absurd cc
-four_kinds flow (instr.IfDifferent one other) parts plain loss none = absurd cc
-four_kinds flow (instr.Allocate into bytes zeroed) parts plain loss none = beside_not parts loss
-four_kinds flow (instr.AllocateNone into) parts plain loss none = none-some 4 loss
-four_kinds flow (instr.Release at) parts plain loss none = release_kinds parts at loss none
-four_kinds flow (instr.Fill at from count) parts plain loss none = fill_kinds parts at from count loss none
-four_kinds flow (instr.Copy target from count disjoint) parts plain loss none = copy_kinds parts target from count disjoint loss none
-four_kinds flow (instr.Enter variables) parts plain loss none = entering_not variables parts loss
-four_kinds flow (instr.Leave variables) parts plain loss none = looked_kinds (left variables parts) loss none
-four_kinds flow (instr.Finish registers) parts plain loss none = looked_kinds (without_registers registers parts) loss none
-four_kinds flow (instr.Input into size signed test) parts plain loss none = input_not size test loss
-four_kinds flow (instr.Call function arguments into) parts plain loss none = none-some 4 loss
-four_kinds flow (instr.Return from) parts plain loss none = none-some 4 loss
-four_kinds flow instr.Close parts plain loss none = close_kinds parts loss none
+never_four flow (instr.Convert into from size signed) parts plain alone loss = entry_not (entry_held parts from) (λ held. converted_line held.key held.value size signed) (λ held. converted_not held.key held.value size signed) loss
+never_four flow (instr.IfSame one other) parts plain alone loss = absurd cc
+never_four flow (instr.IfDifferent one other) parts plain alone loss = absurd cc
+never_four flow (instr.Allocate into bytes zeroed) parts plain alone loss = beside_not parts loss
+never_four flow (instr.AllocateNone into) parts plain alone loss = none-some 4 loss
+never_four flow (instr.Release at) parts plain alone loss = absurd cc
+never_four flow (instr.Fill at from count) parts plain alone loss = absurd cc
+never_four flow (instr.Copy target from count disjoint) parts plain alone loss = absurd cc
+never_four flow (instr.Enter variables) parts plain alone loss = entering_not variables parts loss
+never_four flow (instr.Leave variables) parts plain alone loss = looked_not (left variables parts) loss
+never_four flow (instr.Finish registers) parts plain alone loss = looked_not (without_registers registers parts) loss
+never_four flow (instr.Input into size signed test) parts plain alone loss = input_not size test loss
+never_four flow (instr.Call function arguments into) parts plain alone loss = none-some 4 loss
+never_four flow (instr.Return from) parts plain alone loss = none-some 4 loss
+never_four flow instr.Close parts plain alone loss = close_not parts loss
+
+-- where loss 4 is named of one of these, a kind is listed
+pub access_kinds : (flow : Flow) (kind : Instr) (parts : Parts) → accesses kind ≡ true → HasKinds (edge_post flow kind parts)
+access_kinds flow (instr.Read into at size pointer) parts is loss none = read_kinds parts at size pointer into loss none
+access_kinds flow (instr.Write at from size) parts is loss none = write_kinds parts at size from loss none
+access_kinds flow (instr.Release at) parts is loss none = release_kinds parts at loss none
+access_kinds flow (instr.Fill at from count) parts is loss none = fill_kinds parts at from count loss none
+access_kinds flow (instr.Copy target from count disjoint) parts is loss none = copy_kinds parts target from count disjoint loss none
+access_kinds flow (instr.Number into number size) parts is loss none = absurd cc
+access_kinds flow (instr.Address into variable) parts is loss none = absurd cc
+access_kinds flow (instr.Move into from) parts is loss none = absurd cc
+access_kinds flow (instr.Shift into at by) parts is loss none = absurd cc
+access_kinds flow (instr.ShiftBy into at by scale) parts is loss none = absurd cc
+access_kinds flow (instr.Compute into op one other size signed) parts is loss none = absurd cc
+access_kinds flow (instr.Convert into from size signed) parts is loss none = absurd cc
+access_kinds flow (instr.IfSame one other) parts is loss none = absurd cc
+access_kinds flow (instr.IfDifferent one other) parts is loss none = absurd cc
+access_kinds flow (instr.Allocate into bytes zeroed) parts is loss none = absurd cc
+access_kinds flow (instr.AllocateNone into) parts is loss none = absurd cc
+access_kinds flow (instr.Enter variables) parts is loss none = absurd cc
+access_kinds flow (instr.Leave variables) parts is loss none = absurd cc
+access_kinds flow (instr.Finish registers) parts is loss none = absurd cc
+access_kinds flow (instr.Input into size signed test) parts is loss none = absurd cc
+access_kinds flow (instr.Call function arguments into) parts is loss none = absurd cc
+access_kinds flow (instr.Return from) parts is loss none = absurd cc
+access_kinds flow instr.Close parts is loss none = absurd cc
+
+pub four_kinds : (flow : Flow) (kind : Instr) (parts : Parts) → compares kind ≡ false → HasKinds (edge_post flow kind parts)
+four_kinds flow kind parts plain = by_kind (accesses kind) refl
+  where
+    by_kind : (b : Bool) → accesses kind ≡ b → HasKinds (edge_post flow kind parts)
+    by_kind true is loss none = access_kinds flow kind parts is loss none
+    by_kind false is loss none = never_four flow kind parts plain is loss

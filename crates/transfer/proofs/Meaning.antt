@@ -34,16 +34,18 @@ use Rattle.edge_steps.specs.EdgeSteps.{EdgeSteps, EdgeFaults}
 use Rattle.edge_steps.specs.Laws.{sizes_at}
 use Rattle.transfer.specs.Means.{HasRoomBack, StandsForAll, EdgeMeans, stopped}
 use Rattle.transfer.specs.Posts.{edge_post}
-use Rattle.transfer.proofs.Four.{compares, four_kinds}
+use Rattle.transfer.proofs.Four.{compares, accesses, never_four, four_kinds}
+use Rattle.transfer.proofs.Listed.{MeetsAll}
 
 module _ (parts : Parts) (Steps : State → State → Type 0) (Faults : ℕ → State → Type 0) where
-  alike_all : (Tail : Parts → Type 0) (Room : List Block → Type 0) (post : Post) → ((post.loss ≡ Some 4 → post.kinds ≡ []) → post.loss ≢ Some 4) → StepMeansAlike parts Steps Faults Tail Room post →
+  alike_all : (Tail : Parts → Type 0) (Room : List Block → Type 0) (post : Post) → ((post.loss ≡ Some 4 → post.kinds ≡ []) → post.loss ≢ Some 4) → MeetsAll parts Faults post → StepMeansAlike parts Steps Faults Tail Room post →
       StandsForAll parts Steps Faults Room post
-  alike_all Tail Room post other means = record {
+  alike_all Tail Room post other all means = record {
     sound = λ state next is stands steps excuse. means.sound state next is stands steps (other excuse);
     exact = means.exact;
     kinds = means.kinds;
     met = means.met;
+    through_any = all.met;
     ascending = means.ascending;
   }
 
@@ -62,21 +64,22 @@ module _ (flow : Flow) (point : ℕ) (instr kind : Instr) (parts : Parts) (is : 
   not_four : (post : Post) → compares kind ≡ false → IsPost (edge_post flow kind parts) post → (post.loss ≡ Some 4 → post.kinds ≡ []) → post.loss ≢ Some 4
   not_four post plain posted excuse loss = four_kinds flow kind parts plain (sym posted.loss ∙ loss) (sym posted.kinds ∙ excuse loss)
 
-  pub alike_step : (Tail : Parts → Type 0) (result : Result Post Stop) → compares kind ≡ false → IfOk result (λ post. IsPost (edge_post flow kind parts) post) →
-      IfOk result (λ post. StepMeansAlike parts Steps Faults Tail (HasRoomBack kind) post) → IfOk result (λ post. EdgeMeans flow point instr parts post)
-  alike_step Tail (Ok post) plain posted means = back post (alike_all parts Steps Faults Tail (HasRoomBack kind) post (not_four post plain posted) means)
-  alike_step Tail (Err error) plain posted means = tt
+  -- one that may lead through any word
+  pub alike_access : (Tail : Parts → Type 0) (result : Result Post Stop) → compares kind ≡ false → IfOk result (λ post. IsPost (edge_post flow kind parts) post) →
+      IfOk result (λ post. StepMeansAlike parts Steps Faults Tail (HasRoomBack kind) post) → IfOk result (λ post. MeetsAll parts Faults post) → IfOk result (λ post. EdgeMeans flow point instr parts post)
+  alike_access Tail (Ok post) plain posted means all = back post (alike_all parts Steps Faults Tail (HasRoomBack kind) post (not_four post plain posted) all means)
+  alike_access Tail (Err error) plain posted means all = tt
 
-  pub plain_step : (Tail : Parts → Type 0) (result : Result Post Stop) → compares kind ≡ false → IfOk result (λ post. IsPost (edge_post flow kind parts) post) →
-      IfOk result (λ post. StepMeans parts Steps Faults Tail post) → IfOk result (λ post. EdgeMeans flow point instr parts post)
-  plain_step Tail (Ok post) plain posted means =
-      back post (alike_all parts Steps Faults Tail (HasRoomBack kind) post (not_four post plain posted) (means_alike parts Steps Faults Tail (HasRoomBack kind) post means))
-  plain_step Tail (Err error) plain posted means = tt
+  pub plain_access : (Tail : Parts → Type 0) (result : Result Post Stop) → compares kind ≡ false → IfOk result (λ post. IsPost (edge_post flow kind parts) post) →
+      IfOk result (λ post. StepMeans parts Steps Faults Tail post) → IfOk result (λ post. MeetsAll parts Faults post) → IfOk result (λ post. EdgeMeans flow point instr parts post)
+  plain_access Tail (Ok post) plain posted means all =
+      back post (alike_all parts Steps Faults Tail (HasRoomBack kind) post (not_four post plain posted) all (means_alike parts Steps Faults Tail (HasRoomBack kind) post means))
+  plain_access Tail (Err error) plain posted means all = tt
 
-  pub stopped_step : (Tail : Parts → Type 0) (answer : Result Post NoMemory) (result : Result Post Stop) → compares kind ≡ false → result ≡ stopped answer → IfOk answer (λ post. IsPost (edge_post flow kind parts) post) →
-      IfOk answer (λ post. StepMeans parts Steps Faults Tail post) → IfOk result (λ post. EdgeMeans flow point instr parts post)
-  stopped_step Tail answer result plain same posted means =
-      plain_step Tail result plain (by_answer (λ post. IsPost (edge_post flow kind parts) post) posted) (by_answer (λ post. StepMeans parts Steps Faults Tail post) means)
+  pub stopped_access : (Tail : Parts → Type 0) (answer : Result Post NoMemory) (result : Result Post Stop) → compares kind ≡ false → result ≡ stopped answer → IfOk answer (λ post. IsPost (edge_post flow kind parts) post) →
+      IfOk answer (λ post. StepMeans parts Steps Faults Tail post) → IfOk answer (λ post. MeetsAll parts Faults post) → IfOk result (λ post. EdgeMeans flow point instr parts post)
+  stopped_access Tail answer result plain same posted means all =
+      plain_access Tail result plain (by_answer (λ post. IsPost (edge_post flow kind parts) post) posted) (by_answer (λ post. StepMeans parts Steps Faults Tail post) means) (by_answer (λ post. MeetsAll parts Faults post) all)
     where
       on_answer : (P : Post → Type 0) (given : Result Post NoMemory) → IfOk given P → IfOk (stopped given) P
       on_answer P (Ok post) holds = holds
@@ -85,17 +88,46 @@ module _ (flow : Flow) (point : ℕ) (instr kind : Instr) (parts : Parts) (is : 
       by_answer : (P : Post → Type 0) → IfOk answer P → IfOk result P
       by_answer P holds = subst (λ (r : Result Post Stop). IfOk r P) (sym same) (on_answer P answer holds)
 
-  -- a test stands for all that follow, whatever it loses
-  pub test_step : (Tail : Parts → Type 0) (result : Result Post Stop) → IfOk result (λ post. StepMeans parts Steps Faults Tail post) → IfOk result (λ post. StepSound parts Steps post) →
-      IfOk result (λ post. EdgeMeans flow point instr parts post)
-  test_step Tail (Ok post) means sounds = back post (record {
+  -- and one that may not
+  all_met : {E : Type 0} (answer : Result Post E) → compares kind ≡ false → accesses kind ≡ false → IfOk answer (λ post. IsPost (edge_post flow kind parts) post) →
+      IfOk answer (λ post. (fault : ℕ) → post.loss ≢ Some 4 → Contains post.kinds fault → SomeFaults parts (Faults fault)) → IfOk answer (λ post. MeetsAll parts Faults post)
+  all_met (Ok post) plain alone posted met = record { met = λ room fault listed. met fault (λ loss. never_four flow kind parts plain alone (sym posted.loss ∙ loss)) listed }
+  all_met (Err error) plain alone posted met = tt
+
+  alike_met : (Tail : Parts → Type 0) (result : Result Post Stop) → IfOk result (λ post. StepMeansAlike parts Steps Faults Tail (HasRoomBack kind) post) →
+      IfOk result (λ post. (fault : ℕ) → post.loss ≢ Some 4 → Contains post.kinds fault → SomeFaults parts (Faults fault))
+  alike_met Tail (Ok post) means = means.met
+  alike_met Tail (Err error) means = tt
+
+  plain_met : {E : Type 0} (Tail : Parts → Type 0) (answer : Result Post E) → IfOk answer (λ post. StepMeans parts Steps Faults Tail post) →
+      IfOk answer (λ post. (fault : ℕ) → post.loss ≢ Some 4 → Contains post.kinds fault → SomeFaults parts (Faults fault))
+  plain_met Tail (Ok post) means = means.met
+  plain_met Tail (Err error) means = tt
+
+  pub alike_step : (Tail : Parts → Type 0) (result : Result Post Stop) → compares kind ≡ false → accesses kind ≡ false → IfOk result (λ post. IsPost (edge_post flow kind parts) post) →
+      IfOk result (λ post. StepMeansAlike parts Steps Faults Tail (HasRoomBack kind) post) → IfOk result (λ post. EdgeMeans flow point instr parts post)
+  alike_step Tail result plain alone posted means = alike_access Tail result plain posted means (all_met result plain alone posted (alike_met Tail result means))
+
+  pub plain_step : (Tail : Parts → Type 0) (result : Result Post Stop) → compares kind ≡ false → accesses kind ≡ false → IfOk result (λ post. IsPost (edge_post flow kind parts) post) →
+      IfOk result (λ post. StepMeans parts Steps Faults Tail post) → IfOk result (λ post. EdgeMeans flow point instr parts post)
+  plain_step Tail result plain alone posted means = plain_access Tail result plain posted means (all_met result plain alone posted (plain_met Tail result means))
+
+  pub stopped_step : (Tail : Parts → Type 0) (answer : Result Post NoMemory) (result : Result Post Stop) → compares kind ≡ false → accesses kind ≡ false → result ≡ stopped answer →
+      IfOk answer (λ post. IsPost (edge_post flow kind parts) post) → IfOk answer (λ post. StepMeans parts Steps Faults Tail post) → IfOk result (λ post. EdgeMeans flow point instr parts post)
+  stopped_step Tail answer result plain alone same posted means = stopped_access Tail answer result plain same posted means (all_met answer plain alone posted (plain_met Tail answer means))
+
+  -- a test stands for all that follow, whatever it loses, and lists no kind
+  pub test_step : (Tail : Parts → Type 0) (result : Result Post Stop) → (edge_post flow kind parts).kinds ≡ [] → IfOk result (λ post. IsPost (edge_post flow kind parts) post) →
+      IfOk result (λ post. StepMeans parts Steps Faults Tail post) → IfOk result (λ post. StepSound parts Steps post) → IfOk result (λ post. EdgeMeans flow point instr parts post)
+  test_step Tail (Ok post) none posted means sounds = back post (record {
     sound = λ state next state_is stands steps excuse. sounds.sound state next state_is stands steps;
     exact = λ after next none among next_is stands room. follows_alike parts Steps next next_is (means.exact after next none among next_is stands);
     kinds = λ state fault state_is stands faults. means.kinds state fault stands faults;
     met = means.met;
+    through_any = λ room fault listed. none_in fault (subst (λ (kinds : List ℕ). Contains kinds fault) (posted.kinds ∙ none) listed);
     ascending = means.ascending;
   })
-  test_step Tail (Err error) means sounds = tt
+  test_step Tail (Err error) none posted means sounds = tt
 
 -- Those that say it in clauses of their own.
 
@@ -107,6 +139,7 @@ refuse_step flow point instr parts into (Ok post) is sound exact faultless = bac
   exact = λ after next none among next_is stands room. follows_alike parts (Refuses into) next next_is (exact next next_is (record { graph = after; among = among; stands = stands }));
   kinds = λ state kind state_is stands faults. absurd faults;
   met = λ kind precise listed. none_in kind (subst (λ (kinds : List ℕ). Contains kinds kind) faultless listed);
+  through_any = λ room kind listed. none_in kind (subst (λ (kinds : List ℕ). Contains kinds kind) faultless listed);
   ascending = ap are_ascending faultless;
 })
 refuse_step flow point instr parts into (Err error) is sound exact faultless = tt
@@ -129,6 +162,7 @@ finish_step flow point instr parts registers (Ok post) is posted sound exact lis
   exact = λ after next none among next_is stands room. follows_alike parts (Finishes registers) next next_is (exact none next next_is (record { graph = after; among = among; stands = stands }));
   kinds = λ state kind state_is stands faults. (lists kind).1 (record { state = state; is = state_is; stands = stands; faults = faults });
   met = λ kind precise listed. (lists kind).0 listed;
+  through_any = λ room kind listed. (lists kind).0 listed;
   ascending = ap are_ascending posted.kinds ∙ looked_ascend (without_registers registers parts);
 })
 finish_step flow point instr parts registers (Err error) is posted sound exact lists = tt
@@ -138,7 +172,7 @@ pub shift_step : (flow : Flow) (point : ℕ) (instr : Instr) (parts : Parts) (in
     instr ≡ Shift into address by → given ≡ by → result ≡ stopped answer → IfOk answer (λ post. IsPost (shift_post parts into address given) post) →
     IfOk answer (λ post. StepMeans parts (Shifts into address given) NoFault Tail post) → IfOk result (λ post. EdgeMeans flow point instr parts post)
 shift_step flow point instr parts into address by given Tail answer result is same same' posted means =
-    stopped_step flow point instr (Shift into address by) parts is Tail answer result refl same'
+    stopped_step flow point instr (Shift into address by) parts is Tail answer result refl refl same'
     (subst (λ (z : ℤ). IfOk answer (λ post. IsPost (shift_post parts into address z) post)) same posted)
     (subst (λ (z : ℤ). IfOk answer (λ post. StepMeans parts (Shifts into address z) NoFault Tail post)) same means)
 
@@ -146,7 +180,7 @@ pub shift_by_step : (flow : Flow) (point : ℕ) (instr : Instr) (parts : Parts) 
     instr ≡ ShiftBy into address by scale → given ≡ scale → result ≡ stopped answer → IfOk answer (λ post. IsPost (shift_by_post parts into address by given) post) →
     IfOk answer (λ post. StepMeans parts (ShiftsBy into address by given) NoFault Tail post) → IfOk result (λ post. EdgeMeans flow point instr parts post)
 shift_by_step flow point instr parts into address by scale given Tail answer result is same same' posted means =
-    stopped_step flow point instr (ShiftBy into address by scale) parts is Tail answer result refl same'
+    stopped_step flow point instr (ShiftBy into address by scale) parts is Tail answer result refl refl same'
     (subst (λ (z : ℤ). IfOk answer (λ post. IsPost (shift_by_post parts into address by z) post)) same posted)
     (subst (λ (z : ℤ). IfOk answer (λ post. StepMeans parts (ShiftsBy into address by z) NoFault Tail post)) same means)
 
@@ -155,7 +189,7 @@ pub convert_step : (flow : Flow) (point : ℕ) (instr : Instr) (parts : Parts) (
     instr ≡ Convert into from size signed → size_held parts from ≡ sizes_at flow point from → result ≡ stopped answer → IfOk answer (λ post. IsPost (convert_post parts into from size signed) post) →
     IfOk answer (λ post. StepMeans parts (Converts into from (size_held parts from) size signed) NoFault Tail post) → IfOk result (λ post. EdgeMeans flow point instr parts post)
 convert_step flow point instr parts into from size signed Tail answer result is held same posted means =
-    stopped_step flow point instr (Convert into from size signed) parts is Tail answer result refl same posted
+    stopped_step flow point instr (Convert into from size signed) parts is Tail answer result refl refl same posted
     (subst (λ (was : ℕ). IfOk answer (λ post. StepMeans parts (Converts into from was size signed) NoFault Tail post)) held means)
 
 -- A scope that is left or entered, by the variables as the code has them.
@@ -163,7 +197,7 @@ pub leave_step : (flow : Flow) (point : ℕ) (instr : Instr) (parts : Parts) (va
     instr ≡ Leave variables → given ≡ variables → IfOk result (λ post. IsPost (leave_post parts given) post) →
     IfOk result (λ post. StepMeansAlike parts (LeavesScope given) (FaultsLeaving given) (LeaveTail parts given) (HasRoomFor (length given)) post) → IfOk result (λ post. EdgeMeans flow point instr parts post)
 leave_step flow point instr parts variables given result is same posted means =
-    alike_step flow point instr (Leave variables) parts is (LeaveTail parts variables) result refl
+    alike_step flow point instr (Leave variables) parts is (LeaveTail parts variables) result refl refl
     (subst (λ (vs : List ℕ). IfOk result (λ post. IsPost (leave_post parts vs) post)) same posted)
     (subst (λ (vs : List ℕ). IfOk result (λ post. StepMeansAlike parts (LeavesScope vs) (FaultsLeaving vs) (LeaveTail parts vs) (HasRoomFor (length vs)) post)) same means)
 
@@ -171,6 +205,6 @@ pub enter_step : (flow : Flow) (point : ℕ) (instr : Instr) (parts : Parts) (va
     instr ≡ Enter variables → given ≡ variables → IfOk result (λ post. IsPost (enter_post parts given (map (size_in flow) given)) post) →
     IfOk result (λ post. StepMeansAlike parts (Enters given (map (size_in flow) given)) NoFault (EnterTail parts given (map (size_in flow) given)) AnyMemory post) → IfOk result (λ post. EdgeMeans flow point instr parts post)
 enter_step flow point instr parts variables given result is same posted means =
-    alike_step flow point instr (Enter variables) parts is (EnterTail parts variables (map (size_in flow) variables)) result refl
+    alike_step flow point instr (Enter variables) parts is (EnterTail parts variables (map (size_in flow) variables)) result refl refl
     (subst (λ (vs : List ℕ). IfOk result (λ post. IsPost (enter_post parts vs (map (size_in flow) vs)) post)) same posted)
     (subst (λ (vs : List ℕ). IfOk result (λ post. StepMeansAlike parts (Enters vs (map (size_in flow) vs)) NoFault (EnterTail parts vs (map (size_in flow) vs)) AnyMemory post)) same means)

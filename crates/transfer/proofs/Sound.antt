@@ -39,7 +39,7 @@ scalar_width (first ∷ rest) held all among =
     by_cases (inl same) later = ap (λ (h : Held). is_scalar_size h.size) (sym same) ∙ and_left (is_scalar_size first.size) (list_all (λ (w : Width). is_scalar_size w.size) (map width rest)) all
     by_cases (inr within) later = later within
 
-at_point : (P : Standing → Type 0) (flow : Flow) (point : ℕ) → P (record { variables = []; registers = [] }) → All P flow.stands → P (stands_at flow point)
+pub at_point : (P : Standing → Type 0) (flow : Flow) (point : ℕ) → P (record { variables = []; registers = [] }) → All P flow.stands → P (stands_at flow point)
 at_point P flow point none all = by_found (slice_get flow.stands point) refl
   where
     by_found : (found : Option Standing) → slice_get flow.stands point ≡ found → P (option_map_or (λ standing. standing) found (record { variables = []; registers = [] }))

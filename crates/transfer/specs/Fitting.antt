@@ -1,14 +1,17 @@
 -- When a graph is one of states at a point of a flow graph.
-use Rattle.std.specs.Prelude.{◌≡◌, ℕ, Bool, true, ◌||◌, [], nat_eq, Option, option_map, is_some, IsTrue, All}
+use Rattle.std.specs.Prelude.{◌≡◌, ℕ, Bool, true, ◌||◌, List, [], nat_eq, Option, Some, option_map, is_some, slice_get, IsTrue, All}
 use Rattle.std.specs.List.{list_all, list_any}
 use Rattle.std.specs.Option.{option_and_then}
+use Rattle.graph.specs.declared.object.Object.{Object}
 use Rattle.graph.specs.declared.parts.Parts.{Parts}
-use Rattle.graph.specs.Maps.{value_at, storage_of, held_by}
+use Rattle.graph.specs.Maps.{object_at, value_at, storage_of, held_by}
 use Rattle.graph.specs.Nodes.{is_region}
 use Rattle.graph.specs.Sizes.{value_size}
 use Rattle.flow.specs.declared.flow_graph.Flow.{Flow}
+use Rattle.flow.specs.declared.flow_graph.Standing.{Standing}
 use Rattle.flow.specs.declared.instruction.Instr.{Instr}
 use Rattle.flow.specs.Holding.{size_of}
+use Rattle.flow.specs.Machine.{size_in}
 use Rattle.flow.specs.Standing.{stands_at}
 use Rattle.flow.specs.Valid.{is_fixed, is_object_size, has_sizes, has_scope, reads_what_stands, tests_one_size}
 
@@ -27,6 +30,23 @@ pub record FitsAt (flow : Flow) (point : ℕ) (parts : Parts) : Type 0 where
   pub registers : (register : ℕ) → held_size parts register ≡ size_of (stands_at flow point).registers register
   pub ports : parts.ports ≡ []
   pub regions : list_all (λ entry. is_region entry.object.shape) parts.objects ≡ true
+
+-- so does each of these graphs, at a point or where this stands
+pub record FitAt (flow : Flow) (point : ℕ) (graphs : List Parts) : Type 0 where
+  pub each : (place : ℕ) (parts : Parts) → slice_get graphs place ≡ Some parts → FitsAt flow point parts
+
+pub record FitsWith (flow : Flow) (standing : Standing) (parts : Parts) : Type 0 where
+  pub variables : (variable : ℕ) → is_some (storage_of parts.variables variable) ≡ (is_fixed flow variable || list_any (nat_eq variable) standing.variables)
+  pub registers : (register : ℕ) → held_size parts register ≡ size_of standing.registers register
+  pub ports : parts.ports ≡ []
+  pub regions : list_all (λ entry. is_region entry.object.shape) parts.objects ≡ true
+
+pub record FitWith (flow : Flow) (standing : Standing) (graphs : List Parts) : Type 0 where
+  pub each : (place : ℕ) (parts : Parts) → slice_get graphs place ≡ Some parts → FitsWith flow standing parts
+
+-- the storage of each variable that a graph names has the variable's size
+pub record HasStorages (flow : Flow) (parts : Parts) : Type 0 where
+  pub sizes : (variable key : ℕ) (object : Object) → storage_of parts.variables variable ≡ Some key → object_at parts.objects key ≡ Some object → object.size ≡ size_in flow variable
 
 -- an instruction may follow at a point where such a graph is
 pub record MayFollow (flow : Flow) (point : ℕ) (instr : Instr) (parts : Parts) : Type 0 where

@@ -1,5 +1,5 @@
 -- What the post of an edge says of the states that follow, and of the faults that are met.
-use Rattle.std.specs.Prelude.{◌≡◌, ◌≢◌, ℕ, true, List, [], length, Result, Ok, Err, None, Some, Contains}
+use Rattle.std.specs.Prelude.{◌≡◌, ◌≢◌, ℕ, ◌+◌, ◌^◌, ◌<◌, true, List, [], length, Result, Ok, Err, None, Some, Contains}
 use Rattle.cbase.specs.declared.no_memory.NoMemory.{NoMemory}
 use Rattle.cbase.specs.declared.stop.Stop.{Stop}
 use Rattle.cbase.specs.declared.stop.Stop.TheVariants as stops
@@ -9,7 +9,7 @@ use Rattle.graph.specs.declared.post.Post.{Post}
 use Rattle.graph.specs.Meaning.{StandsFor}
 use Rattle.graph.specs.Numbers.{HasRoom}
 use Rattle.graph.specs.State.{State, IsState}
-use Rattle.graph.specs.WellFormed.{are_ascending}
+use Rattle.graph.specs.WellFormed.{are_ascending, nodes}
 use Rattle.changes.specs.Following.{SomeFaults}
 use Rattle.changes.specs.FollowingAlike.{FollowsAlike}
 use Rattle.changes.specs.Posted.{SomeStandsFor}
@@ -36,9 +36,10 @@ pub record StandsForAll (parts : Parts) (Steps : State → State → Type 0) (Fa
   pub sound : (state next : State) → IsState state → StandsFor parts state → Steps state next → (post.loss ≡ Some 4 → post.kinds ≡ []) → SomeStandsFor post.graphs next
   -- where nothing is lost they stand for these alone, up to alike states
   pub exact : (after : Parts) (next : State) → post.loss ≡ None → Contains post.graphs after → IsState next → StandsFor after next → Room next.memory → FollowsAlike parts Steps next
-  -- each fault that a state meets is listed, and each that is listed is met by some state, but for an access through any word
+  -- each fault that a state meets is listed, and each that is listed is met by some state: through any word where the graph may have one object more
   pub kinds : (state : State) (kind : ℕ) → IsState state → StandsFor parts state → Faults kind state → Contains post.kinds kind
   pub met : (kind : ℕ) → post.loss ≢ Some 4 → Contains post.kinds kind → SomeFaults parts (Faults kind)
+  pub through_any : nodes parts + 1 < 2 ^ 30 → (kind : ℕ) → Contains post.kinds kind → SomeFaults parts (Faults kind)
   pub ascending : are_ascending post.kinds ≡ true
 
 -- of what a graph sees of the states of the flow machine at a point

@@ -1,12 +1,14 @@
 //! The post of an edge.
-ghost use Rattle.std.specs.Prelude.{◌≡◌, true, map, IfOk, IfSome, IsSome, slice_get};
-ghost use Rattle.block_steps.specs.Blocks.{AnyMemory, NoFault};
+ghost use Rattle.std.specs.Prelude.{◌≡◌, true, false, map, length, IfOk, IfErr, IfSome, IsSome, slice_get};
+ghost use Rattle.block_steps.specs.Blocks.{AnyMemory, NoFault, has_room};
 ghost use Rattle.block_steps.specs.Entering.{EnterTail, MayEnter, Enters, enter_post};
 ghost use Rattle.changes.specs.FollowingAlike.{StepMeansAlike};
 ghost use Rattle.changes.specs.Posted.{IsPost};
 ghost use Rattle.flow.specs.Machine.{size_in};
+ghost use Rattle.flow.specs.Standing.{stands_at, stands_after};
 ghost use Rattle.flow.specs.Valid.{IsFlow};
-ghost use Rattle.transfer.specs.Fitting.{FitsAt, MayFollow};
+ghost use Rattle.transfer.specs.Along.{is_full};
+ghost use Rattle.transfer.specs.Fitting.{FitsAt, FitAt, FitWith, MayFollow};
 ghost use Rattle.transfer.specs.Means.{EdgeMeans, stopped};
 ghost use Rattle.transfer.specs.Posts.{has_step, edge_post};
 
@@ -36,6 +38,7 @@ fn entered(alloc: Global, flow: &Flow, graph: &Graph, variables: &[u32]) -> Resu
     requires may { MayEnter graph.now variables.now (map (size_in flow.now) variables.now) }
     ensures post { IfOk result (λ post. IsPost (enter_post graph.now variables.now (map (size_in flow.now) variables.now)) post) }
     ensures means { IfOk result (λ post. StepMeansAlike graph.now (Enters variables.now (map (size_in flow.now) variables.now)) NoFault (EnterTail graph.now variables.now (map (size_in flow.now) variables.now)) AnyMemory post) }
+    ensures large { IfErr result (λ stop. stop ≡ Stop.Large → has_room graph.now (length variables.now) ≡ false) }
 {
     match sizes_in(alloc, flow, variables) {
         Err(NoMemory) => Err(Stop::NoMemory),
@@ -51,10 +54,13 @@ fn post_of(
     instr: &Instr,
     graph: &Graph,
 ) -> Result<Post, Stop>
+    requires flow { IsFlow flow.now }
     requires step { has_step instr.now ≡ true }
     requires may { MayFollow flow.now point instr.now graph.now }
     ensures post { IfOk result (λ post. IsPost (edge_post flow.now instr.now graph.now) post) }
     ensures means { IfOk result (λ post. EdgeMeans flow.now point instr.now graph.now post) }
+    ensures fits { IfOk result (λ post. FitWith flow.now (stands_after flow.now instr.now (stands_at flow.now point)) post.graphs) }
+    ensures large { IfErr result (λ stop. stop ≡ Stop.Large → is_full instr.now graph.now ≡ true) }
 {
     let _ = graph.value_count();
     match instr {
@@ -127,6 +133,8 @@ pub fn post(alloc: Global, flow: &Flow, edge: u32, graph: &Graph) -> Result<Post
     requires fits { IfSome (slice_get flow.now.edges edge) (λ edge. FitsAt flow.now edge.from graph.now) }
     ensures post { IfOk result (λ post. IfSome (slice_get flow.now.edges edge) (λ edge. IsPost (edge_post flow.now edge.instr graph.now) post)) }
     ensures means { IfOk result (λ post. IfSome (slice_get flow.now.edges edge) (λ edge. EdgeMeans flow.now edge.from edge.instr graph.now post)) }
+    ensures fits { IfOk result (λ post. IfSome (slice_get flow.now.edges edge) (λ edge. FitAt flow.now edge.to post.graphs)) }
+    ensures large { IfErr result (λ stop. stop ≡ Stop.Large → IfSome (slice_get flow.now.edges edge) (λ edge. is_full edge.instr graph.now ≡ true)) }
 {
     match flow.edges.as_slice().get(edge as usize) {
         None => unreachable!(),

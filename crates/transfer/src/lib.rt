@@ -5,7 +5,11 @@
 #![tactic(auto)]
 
 mod edge;
+mod initials;
 pub mod laws;
 mod sizes;
+mod starting;
+mod statics;
 
 pub use edge::post;
+pub use starting::start;
