@@ -1,0 +1,11 @@
+pub mod Marked
+pub mod Tests
+pub mod MayGo
+pub mod Told
+pub mod Kept
+pub mod Answered
+pub mod Fits
+pub mod Addressed
+pub mod Lists
+pub mod Sizes
+pub mod Tidy

@@ -1,0 +1,10 @@
+use Rattle.std.proofs.Common.{◌≡◌, ◌++◌, length}
+use Rattle.std.specs.List.{filter}
+use Rattle.tidying.specs.Marks.{is_marked}
+use Rattle.tidying.proofs.keeping.keep_values.Given as goal
+
+abbrev pub invariant-loop-left : goal.invariant-loop-left
+invariant-loop-left l = l.fn.kept ++ filter (λ entry. is_marked l.marks entry.key) l.values ≡ l.kept ++ filter (λ entry. is_marked l.marks entry.key) l.left
+
+abbrev pub decreases-loop-left : goal.decreases-loop-left
+decreases-loop-left l = length l.left

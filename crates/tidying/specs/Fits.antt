@@ -1,0 +1,25 @@
+-- What of a graph stays the same where it fits a point of a program.
+use Rattle.std.specs.Prelude.{◌≡◌, ℕ, true, [], map, Option, option_map, is_some}
+use Rattle.std.specs.List.{list_all}
+use Rattle.std.specs.Option.{option_and_then}
+use Rattle.graph.specs.declared.parts.Parts.{Parts}
+use Rattle.graph.specs.Maps.{value_at, storage_of, held_by}
+use Rattle.graph.specs.Nodes.{is_region}
+use Rattle.graph.specs.Sizes.{value_size}
+
+-- the size of the value with a key
+abbrev pub size_at : Parts → ℕ → Option ℕ
+size_at parts key = option_map value_size (value_at parts.values key)
+
+-- the size of what a register holds
+abbrev pub size_held : Parts → ℕ → Option ℕ
+size_held parts register = option_and_then (size_at parts) (held_by parts.registers register)
+
+-- both name the same variables, hold something in the same registers, in the same sizes, and have as many ports, in the same sizes; where the
+-- one has regions alone, so has the other
+pub record FitsAs (parts after : Parts) : Type 0 where
+  pub variables : (variable : ℕ) → is_some (storage_of after.variables variable) ≡ is_some (storage_of parts.variables variable)
+  pub registers : (register : ℕ) → size_held after register ≡ size_held parts register
+  pub ports : map (size_at after) after.ports ≡ map (size_at parts) parts.ports
+  pub without_ports : parts.ports ≡ [] → after.ports ≡ []
+  pub regions : list_all (λ entry. is_region entry.object.shape) parts.objects ≡ true → list_all (λ entry. is_region entry.object.shape) after.objects ≡ true
