@@ -1,5 +1,6 @@
 pub mod Steps
 pub mod Sound
 pub mod Real
+pub mod Grow
 pub mod Witness
 pub mod NullWitness

@@ -170,7 +170,7 @@ exact = record {
           (of.run.stands.frame.registers ∙ ap (λ (p : ℕ). (stands_at null p).registers) point)),
     ),
   );
-  steps = λ number edge graph post result after next there is loss result_is of stands point. elim is [
+  steps = λ number edge graph post result after next there fits is loss result_is of stands point. elim is [
     | inl (number_is, graph_is, post_is) ↦
         let one : null_edge ≡ edge = null_edge_is number edge number_is there in
         let after_is : holds 0 8 ≡ after = only_result result after (sym (ap (λ (p : Post). slice_get p.graphs result) post_is) ∙ result_is) in
@@ -185,7 +185,7 @@ exact = record {
         )
     | inr (number_is, graph_is, post_is) ↦ let none : slice_get {X = Parts} [] result ≡ Some after = sym (ap (λ (p : Post). slice_get p.graphs result) post_is) ∙ result_is in absurd (no_result result after none)
   ];
-  faults = λ number edge graph post kind there is has. elim is [
+  faults = λ number edge graph post kind there fits is has. elim is [
     | inl (number_is, graph_is, post_is) ↦ absurd (no_kind kind (subst (λ (p : Post). Contains p.kinds kind) post_is has))
     | inr (number_is, graph_is, post_is) ↦
         let one : read_edge ≡ edge = read_edge_is number edge number_is there in
@@ -216,7 +216,7 @@ exact = record {
 alike : GoAlike for_null same_registers null
 alike = record {
   behind = λ one other third a b. (a.0 ∙ b.0, a.1 ∙ b.1);
-  steps = λ number graph post one other next is loss of stands are steps. elim is [
+  steps = λ number edge graph post one other next there fits is loss of stands are steps. elim is [
     | inl (number_is, graph_is, post_is) ↦
         let edge_is : null_edge ≡ steps.edge = null_edge_is number steps.edge number_is steps.stands in
         let goes : step_along null null_edge other steps.choices ≡ Went next steps.rest = subst (λ (e : FlowEdge). step_along null e other steps.choices ≡ Went next steps.rest) (sym edge_is) steps.goes in
@@ -236,7 +236,7 @@ alike = record {
         let none : Faulted null_pointer_dereference (here 2) ≡ Went next steps.rest = sym (along_read other steps.choices point registers) ∙ goes in
         absurd cc
   ];
-  faults = λ number graph post kind one other is of stands are faults. elim is [
+  faults = λ number edge graph post kind one other there fits is of stands are faults. elim is [
     | inl (number_is, graph_is, post_is) ↦
         let edge_is : null_edge ≡ faults.edge = null_edge_is number faults.edge number_is faults.stands in
         let goes : step_along null null_edge other faults.choices ≡ Faulted kind faults.edge.place = subst (λ (e : FlowEdge). step_along null e other faults.choices ≡ Faulted kind faults.edge.place) (sym edge_is) faults.faults in

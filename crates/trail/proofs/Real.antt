@@ -14,7 +14,7 @@ use Rattle.flow.proofs.ChoosingLaws.{steps_by_first, runs_keep_more}
 use Rattle.trail.specs.declared.trail.Cause.TheVariants.{Start}
 use Rattle.trail.specs.declared.trail.Entry.{Entry}
 use Rattle.trail.specs.Seen.{seen, IsOf}
-use Rattle.trail.specs.Analysis.{Analysis, Alike, IsExact, GoAlike, Are}
+use Rattle.trail.specs.Analysis.{Analysis, Alike, IsExact, GoAlike, Are, Fits}
 use Rattle.trail.specs.Trail.{At, Made, IsResult, AreHonest, IsReal, RealStart, RealStep}
 use Rattle.trail.specs.Theorems.{MeetsErrors}
 use Rattle.trail.proofs.Steps.{whole, whole_none, whole_last}
@@ -112,17 +112,20 @@ real analysis alike flow trail exclusive exact go honest number (RealStep _ from
     let one : last ≡ entry = same_some last entry (sym at ∙ there) in
     let made : IsResult analysis flow (take number trail) entry from edge result None =
     subst (Made analysis flow (take number trail) entry) (ap (λ (x : Entry). x.cause) (sym one) ∙ is) (honest number entry there).made in
+    let fits : Fits analysis flow made.edge.from made.earlier.graph =
+    subst (λ (p : ℕ). Fits analysis flow p made.earlier.graph) (sym made.leaves) (honest from made.earlier (at_front trail number from made.earlier made.there)).fits in
     let (old, gone, point_is, of', stands', steps, are) =
-    exact.steps edge made.edge made.earlier.graph made.post result entry.graph state made.stands made.is made.loss_is made.graph of stands (point ∙ made.arrives) in
+    exact.steps edge made.edge made.earlier.graph made.post result entry.graph state made.stands fits made.is made.loss_is made.graph of stands (point ∙ made.arrives) in
     let near : IsNear alike flow old =
     real analysis alike flow trail exclusive exact go honest from before made.earlier (at_front trail number from made.earlier made.there) old of' stands' (point_is ∙ made.leaves) in
-    let (new, steps', are') = go.steps edge made.earlier.graph made.post near.near old gone made.is made.loss_is of' stands' near.are steps in
+    let (new, steps', are') = go.steps edge made.edge made.earlier.graph made.post near.near old gone made.stands fits made.is made.loss_is of' stands' near.are steps in
     record { near = new; reached = reaches flow exclusive edge near.near new near.reached steps'; are = go.behind new gone state are' are }
 
 pub error_met : (analysis : Analysis) (alike : Alike) → MeetsErrors analysis alike
 error_met analysis alike flow trail exclusive exact go honest at entry number kind edge chain there stands has =
-    let (state, point, of, stands', faults) = exact.faults number has.edge entry.graph has.post kind has.stands has.is has.has in
+    let fits : Fits analysis flow has.edge.from entry.graph = subst (λ (p : ℕ). Fits analysis flow p entry.graph) (sym has.leaves) (honest at entry there).fits in
+    let (state, point, of, stands', faults) = exact.faults number has.edge entry.graph has.post kind has.stands fits has.is has.has in
     let near : IsNear alike flow state = real analysis alike flow trail exclusive exact go honest at chain entry there state of stands' (point ∙ has.leaves) in
-    let faults' : FaultsAlong flow number near.near kind = go.faults number entry.graph has.post kind near.near state has.is of stands' near.are faults in
+    let faults' : FaultsAlong flow number near.near kind = go.faults number has.edge entry.graph has.post kind near.near state has.stands fits has.is of stands' near.are faults in
     let one : faults'.edge ≡ edge = same_some faults'.edge edge (sym faults'.stands ∙ stands) in
     subst (λ (e : FlowEdge). RunFaults flow kind e.place) one (faults_there flow exclusive number kind near.near near.reached faults')

@@ -19,8 +19,8 @@ use Rattle.trail.specs.declared.trail.Cause.TheVariants.{Start, Step}
 use Rattle.trail.specs.declared.trail.Entry.{Entry}
 use Rattle.trail.specs.Seen.{seen, IsOf, is_call, is_ordinary, HasNoCalls}
 use Rattle.trail.specs.Analysis.{Analysis, Fits, IsSound, StandsAmong}
-use Rattle.trail.specs.Trail.{At, Made, AreHonest, IsCovered, StandsAsStep, IsDone, IsClosed, IsClean, HasKind}
-use Rattle.trail.specs.Theorems.{HaveOffsets, ShowsSafe}
+use Rattle.trail.specs.Trail.{At, Made, AreHonest, IsCovered, StandsAsStep, IsDone, IsClosed, IsClean, HasKind, IsHeld}
+use Rattle.trail.specs.Theorems.{HaveOffsets, ShowsSafe, ShowsStay}
 use Rattle.trail.proofs.Steps.{IsAt, Nowhere, told_state, told_place, begins, executes, returns_end, GoesFrom, goes_from, ComesAlong, comes_along, whole, whole_none, ComesLast, comes_last}
 
 pub same_some : {A : Type 0} (x y : A) → Some x ≡ Some y → x ≡ y
@@ -34,15 +34,6 @@ contained (first ∷ rest) (suc number) item there = let more = contained rest n
 -- an element of a list has what all have
 pub at_number : {A : Type 0} (P : A → Type 0) (items : List A) (number : ℕ) (item : A) → All P items → slice_get items number ≡ Some item → P item
 at_number P items number item all there = All-contains P items item all (contained items number item there)
-
--- a kept entry at the state's point stands for it
-pub record IsHeld (trail : List Entry) (state : State) : Type 0 where
-  pub number : ℕ
-  pub entry : Entry
-  pub there : At trail number entry
-  pub kept : entry.kept ≡ true
-  pub point : entry.point ≡ state.point
-  pub stands : StandsFor entry.graph (seen state)
 
 -- what an entry stands for a kept one does
 settles : (analysis : Analysis) (flow : Flow) (trail : List Entry) → IsSound analysis flow → AreHonest analysis flow trail → IsClosed analysis flow trail →
@@ -231,3 +222,7 @@ pub safe_shown : (analysis : Analysis) → ShowsSafe analysis
 safe_shown analysis flow trail valid offsets calls sound honest closed clean kind place faults =
     let so : IsShown analysis flow trail kind place = shown analysis flow trail valid offsets calls sound honest closed clean kind place faults.choices faults.steps faults.faults in
     clean so.number so.entry so.edge kind so.there so.kept so.has
+
+pub stay_shown : (analysis : Analysis) → ShowsStay analysis
+stay_shown analysis flow trail valid offsets calls sound honest closed clean steps choices rest state goes =
+    (met analysis flow trail valid offsets calls sound honest closed clean steps choices rest state goes).held

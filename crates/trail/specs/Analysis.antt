@@ -75,23 +75,25 @@ Are alike one other = alike.are one other
 abbrev pub alike_by : Tests → Alike
 alike_by tests = record { are = λ one other. tests.alike one other ≡ true }
 
--- and nothing is added, up to alike states, where no loss is named
+-- and nothing is added, up to alike states, where no loss is named and the graph fits
 pub record IsExact (analysis : Analysis) (alike : Alike) (flow : Flow) : Type 0 where
   pub start : (graph : Parts) (state : State) → IsStart analysis flow graph → IsOf flow state → StandsFor graph (seen state) →
       state.point ≡ entry_of flow flow.main → (begun : State) × (choices : List Choice) × (start flow choices ≡ Went begun []) × Are alike begun state
   pub steps : (number : ℕ) (edge : FlowEdge) (graph : Parts) (post : Post) (result : ℕ) (after : Parts) (next : State) →
-      slice_get flow.edges number ≡ Some edge → IsPost analysis flow number graph post → post.loss ≡ None →
+      slice_get flow.edges number ≡ Some edge → Fits analysis flow edge.from graph → IsPost analysis flow number graph post → post.loss ≡ None →
       slice_get post.graphs result ≡ Some after → IsOf flow next → StandsFor after (seen next) → next.point ≡ edge.to →
       (state : State) × (gone : State) × (state.point ≡ edge.from) × IsOf flow state × StandsFor graph (seen state) × StepsTo flow number state gone × Are alike gone next
   pub faults : (number : ℕ) (edge : FlowEdge) (graph : Parts) (post : Post) (kind : ℕ) →
-      slice_get flow.edges number ≡ Some edge → IsPost analysis flow number graph post → Contains post.kinds kind →
+      slice_get flow.edges number ≡ Some edge → Fits analysis flow edge.from graph → IsPost analysis flow number graph post → Contains post.kinds kind →
       (state : State) × (state.point ≡ edge.from) × IsOf flow state × StandsFor graph (seen state) × FaultsAlong flow number state kind
 
 -- alike states go alike, where no loss is named, and fault alike
 pub record GoAlike (analysis : Analysis) (alike : Alike) (flow : Flow) : Type 0 where
   pub behind : (one other third : State) → Are alike one other → Are alike other third → Are alike one third
-  pub steps : (number : ℕ) (graph : Parts) (post : Post) (one other next : State) → IsPost analysis flow number graph post → post.loss ≡ None →
+  pub steps : (number : ℕ) (edge : FlowEdge) (graph : Parts) (post : Post) (one other next : State) → slice_get flow.edges number ≡ Some edge → Fits analysis flow edge.from graph →
+      IsPost analysis flow number graph post → post.loss ≡ None →
       IsOf flow other → StandsFor graph (seen other) → Are alike one other → StepsTo flow number other next →
       (gone : State) × StepsTo flow number one gone × Are alike gone next
-  pub faults : (number : ℕ) (graph : Parts) (post : Post) (kind : ℕ) (one other : State) → IsPost analysis flow number graph post →
+  pub faults : (number : ℕ) (edge : FlowEdge) (graph : Parts) (post : Post) (kind : ℕ) (one other : State) → slice_get flow.edges number ≡ Some edge → Fits analysis flow edge.from graph →
+      IsPost analysis flow number graph post →
       IsOf flow other → StandsFor graph (seen other) → Are alike one other → FaultsAlong flow number other kind → FaultsAlong flow number one kind

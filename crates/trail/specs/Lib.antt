@@ -1,5 +1,6 @@
 pub mod Seen
 pub mod Analysis
 pub mod Trail
+pub mod Work
 pub mod Theorems
 pub mod Witness

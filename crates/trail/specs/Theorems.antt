@@ -10,7 +10,7 @@ use Rattle.flow.specs.Valid.{IsFlow}
 use Rattle.trail.specs.declared.trail.Entry.{Entry}
 use Rattle.trail.specs.Seen.{HasNoCalls}
 use Rattle.trail.specs.Analysis.{Analysis, Tests, tested, alike_by, IsSound, Alike, IsExact, GoAlike}
-use Rattle.trail.specs.Trail.{At, AreHonest, IsClosed, IsClean, IsReal, HasKind}
+use Rattle.trail.specs.Trail.{At, AreHonest, IsClosed, IsClean, IsReal, HasKind, DoRunsStay}
 
 -- the offsets of what static variables hold at the start are of 64 bits
 abbrev pub HaveOffsets : Flow → Type 0
@@ -22,6 +22,11 @@ ShowsSafe analysis = (flow : Flow) (trail : List Entry) → IsFlow flow → Have
     AreHonest analysis flow trail → IsClosed analysis flow trail → IsClean analysis flow trail →
     (kind : ℕ) (place : Place) → RunFaults flow kind place → ⊥
 
+-- each state of a run stays within the trail
+abbrev pub ShowsStay : Analysis → Type 0
+ShowsStay analysis = (flow : Flow) (trail : List Entry) → IsFlow flow → HaveOffsets flow → HasNoCalls flow → IsSound analysis flow →
+    AreHonest analysis flow trail → IsClosed analysis flow trail → IsClean analysis flow trail → DoRunsStay flow trail
+
 abbrev pub MeetsErrors : Analysis → Alike → Type 0
 MeetsErrors analysis alike = (flow : Flow) (trail : List Entry) → IsExclusive flow → IsExact analysis alike flow → GoAlike analysis alike flow →
     AreHonest analysis flow trail → (at : ℕ) (entry : Entry) (number kind : ℕ) (edge : FlowEdge) → IsReal trail at → At trail at entry →
@@ -29,6 +34,9 @@ MeetsErrors analysis alike = (flow : Flow) (trail : List Entry) → IsExclusive 
 
 abbrev pub IsSafeShown : Type 0
 IsSafeShown = (tests : Tests) → ShowsSafe (tested tests)
+
+abbrev pub IsStayShown : Type 0
+IsStayShown = (tests : Tests) → ShowsStay (tested tests)
 
 abbrev pub IsErrorMet : Type 0
 IsErrorMet = (tests : Tests) → MeetsErrors (tested tests) (alike_by tests)

@@ -2,13 +2,17 @@
 use Rattle.std.specs.Prelude.{◌≡◌, ℕ, List, true, Option, None, Some, slice_get, take, ◌⊎◌, Contains}
 use Rattle.graph.specs.declared.parts.Parts.{Parts}
 use Rattle.graph.specs.declared.post.Post.{Post}
+use Rattle.graph.specs.Meaning.{StandsFor}
+use Rattle.choices.specs.declared.choice.Choice.{Choice}
 use Rattle.flow.specs.declared.flow_graph.Flow.{Flow}
 use Rattle.flow.specs.declared.flow_graph.FlowEdge.{FlowEdge}
 use Rattle.flow.specs.InRange.{entry_of}
+use Rattle.flow.specs.Machine.{State, Went}
+use Rattle.flow.specs.Runs.{start, run, then_go}
 use Rattle.trail.specs.declared.trail.Cause.{Cause}
 use Rattle.trail.specs.declared.trail.Cause.TheVariants.{Start, Step}
 use Rattle.trail.specs.declared.trail.Entry.{Entry}
-use Rattle.trail.specs.Seen.{is_ordinary}
+use Rattle.trail.specs.Seen.{is_ordinary, seen}
 use Rattle.trail.specs.Analysis.{Analysis, Fits, IsStart, IsPost, Covers}
 
 -- the entry of that number
@@ -95,6 +99,19 @@ pub record HasKind (analysis : Analysis) (flow : Flow) (entry : Entry) (number k
 -- no post of a kept entry has a kind
 abbrev pub IsClean : Analysis → Flow → List Entry → Type 0
 IsClean analysis flow trail = (at : ℕ) (entry : Entry) (number kind : ℕ) → At trail at entry → entry.kept ≡ true → HasKind analysis flow entry number kind → ⊥
+
+-- a kept entry at a state's point stands for it
+pub record IsHeld (trail : List Entry) (state : State) : Type 0 where
+  pub number : ℕ
+  pub entry : Entry
+  pub there : At trail number entry
+  pub kept : entry.kept ≡ true
+  pub point : entry.point ≡ state.point
+  pub stands : StandsFor entry.graph (seen state)
+
+-- and so it is of each state of a run
+abbrev pub DoRunsStay : Flow → List Entry → Type 0
+DoRunsStay flow trail = (steps : ℕ) (choices rest : List Choice) (state : State) → then_go (start flow choices) (run steps flow) ≡ Went state rest → IsHeld trail state
 
 -- a chain of steps without loss
 pub data IsReal (trail : List Entry) : ℕ → Type 0 where
