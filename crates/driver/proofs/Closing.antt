@@ -1,0 +1,296 @@
+-- How it begins, and what a verdict says.
+use Rattle.std.proofs.Common.{◌≡◌, ℕ, zero, suc, ◌<◌, ◌≤◌, List, [], ◌∷◌, Bool, true, false, refl, sym, ap, subst, ◌∙◌, inl, inr, Option, None, Some, length, get_or, take, set, replicate, ◌↔◌, arith}
+use Rattle.std.specs.Prelude.{slice_get, slice_index_or}
+use Rattle.std.specs.Option.{option_map_or}
+use Rattle.std.proofs.lemmas.Bool.{cases_lt}
+use Rattle.std.proofs.lemmas.List.{get_or-replicate, length-replicate, length-set}
+use Rattle.std.proofs.lemmas.Option.{slice_get_within}
+use Rattle.cbase.specs.declared.place.Place.{Place}
+use Rattle.graph.specs.declared.parts.Parts.{Parts}
+use Rattle.graph.specs.Whole.{IsGraph}
+use Rattle.flow.specs.declared.flow_graph.Flow.{Flow}
+use Rattle.flow.specs.declared.flow_graph.FlowFunction.{FlowFunction}
+use Rattle.flow.specs.InRange.{entry_of}
+use Rattle.flow.specs.Valid.{IsFlow}
+use Rattle.transfer.specs.Fitting.{FitsAt}
+use Rattle.transfer.specs.Start.{IsStartGraph}
+use Rattle.trail.specs.declared.trail.Cause.TheVariants.{Start, Step}
+use Rattle.trail.specs.declared.trail.Cause.{Cause}
+use Rattle.trail.specs.declared.trail.Entry.{Entry}
+use Rattle.trail.specs.Seen.{HasNoCalls}
+use Rattle.trail.specs.Theorems.{HaveOffsets}
+use Rattle.trail.specs.Trail.{At, Made, IsHonest, AreHonest, IsClosed, IsClean, IsReal}
+use Rattle.trail.proofs.Real.{error_met}
+use Rattle.flow.specs.Exclusive.{IsExclusive}
+use Rattle.flow.specs.Runs.{RunFaults}
+use Rattle.trail.specs.Work.{IsWorked, IsBefore, AreBefore}
+use Rattle.trail.proofs.Sound.{same_some, at_number, safe_shown, stay_shown}
+use Rattle.trail.proofs.Grow.{first_pushed, closes}
+use Rattle.driver.specs.declared.verdict.Warning.{Warning}
+use Rattle.driver.specs.declared.work.Work.{Work}
+use Rattle.driver.specs.Driven.{driven, is_small}
+use Rattle.driver.specs.Peers.{SaysLast, ArePeers}
+use Rattle.driver.specs.Growing.{kept_count, candidate}
+use Rattle.driver.specs.Telling.{IsAmong, IsTold, IsToldBy, IsWarning, AreWarnings, AreTold}
+use Rattle.driver.specs.Chains.{IsFromEarlier, AreFromEarlier}
+use Rattle.driver.specs.Errors.{IsErrorTold, alike_runs, AreErrorsMet}
+use Rattle.driver.specs.Ordering.{marked, AreInOrder}
+use Rattle.driver.specs.Looping.{Worked, IsWhy, IsResting, IsEnded}
+use Rattle.driver.specs.Verdicts.{IsSafe, EndsSo, IsWarned, IsSpent, IsLarge}
+use Rattle.driver.proofs.Walked.{peers_kept}
+use Rattle.driver.proofs.Leading.{nothing_at}
+use Rattle.driver.proofs.Sounding.{sound}
+use Rattle.driver.proofs.InOrder.{marked_there, marked_of}
+
+-- the entry of main is a point
+pub entry_within : (flow : Flow) → IsFlow flow → entry_of flow flow.main < flow.points
+entry_within flow valid = by_function (slice_get flow.functions flow.main) refl
+  where
+    not_within : (xs : List FlowFunction) (k : ℕ) → k < length xs → slice_get xs k ≡ None → ⊥
+    not_within [] k lt is = omega arith
+    not_within (x ∷ xs) zero lt is = absurd cc
+    not_within (x ∷ xs) (suc k) lt is = not_within xs k (omega arith) is
+
+    by_function : (found : Option FlowFunction) → slice_get flow.functions flow.main ≡ found → option_map_or (λ function. function.entry) found 0 < flow.points
+    by_function None there = absurd (not_within flow.functions flow.main valid.in_range.main there)
+    by_function (Some function) there =
+        (at_number (λ (f : FlowFunction). (f.entry < flow.points) × (f.exit < flow.points)) flow.functions flow.main function valid.in_range.functions there).0
+
+-- no mark yet
+abbrev none_yet : ℕ → List ℕ
+none_yet count = replicate count 0
+
+zeros : (count point : ℕ) → get_or (none_yet count) point 0 ≡ 0
+zeros count point = elim (cases_lt point count) [
+  | inl less ↦ get_or-replicate count point 0 0 less
+  | inr more ↦ beyond (none_yet count) point (omega (arith, length_of))
+]
+  where
+    length_of : length (none_yet count) ≡ count
+    length_of = length-replicate count 0
+
+    beyond : (marks : List ℕ) (point : ℕ) → length marks ≤ point → get_or marks point 0 ≡ 0
+    beyond [] point more = refl
+    beyond (mark ∷ marks) zero more = absurd (omega arith)
+    beyond (mark ∷ marks) (suc point) more = beyond marks point (omega arith)
+
+no_peers : (count : ℕ) → ArePeers [] (none_yet count) []
+no_peers count = record {
+  points = λ point. subst (λ (mark : ℕ). SaysLast [] point 0 mark) (sym (zeros count point))
+      (record { all = λ number less peer. absurd (omega arith); there = λ number is. absurd (omega (arith, is)); within = omega arith });
+  entries = λ point number peer. nothing_at number peer.entry peer.there;
+  long = refl;
+}
+
+pub worked_first : (flow : Flow) (budget : ℕ) (work : Work) (point : ℕ) (graph : Parts) → IsFlow flow → 1 ≤ budget → IsStartGraph flow graph → IsGraph graph → is_small graph ≡ true →
+    FitsAt flow (entry_of flow flow.main) graph → point ≡ entry_of flow flow.main → work.trail ≡ candidate point Start graph true ∷ [] →
+    work.newest.items ≡ set (replicate flow.points 0) point 1 →
+    work.before.items ≡ 0 ∷ [] → work.kept ≡ 1 → work.warnings ≡ [] → work.next ≡ None → Worked flow budget work 0
+worked_first flow budget work point graph valid some start graph_is small fits main trail_is newest_is before_is kept_is warnings_is next_is = record {
+  known = record {
+    worked = subst (λ (trail : List Entry). IsWorked driven flow trail 0) (sym trail_is) (first_pushed driven flow first honest refl refl);
+    booked = record {
+      peers = peers_there work.trail work.newest.items work.before.items trail_is newest_is before_is;
+      kept = kept_is ∙ ap kept_count (sym trail_is);
+      within = omega (arith, kept_is);
+    };
+    points = long;
+    warnings = subst (λ (ws : List Warning). AreWarnings flow work.trail ws) (sym warnings_is) (record { each = λ warning among. no_warning warning among });
+    told = record { told = λ place entry number kind below there kept has. absurd (omega arith) };
+  };
+  next = next_is;
+  within = omega arith;
+  causes = subst (λ (trail : List Entry). AreBefore trail 0 0 0) (sym trail_is) (record { before = by_place });
+}
+  where
+    zeros_long : length (none_yet flow.points) ≡ flow.points
+    zeros_long = length-replicate flow.points 0
+
+    long : length work.newest.items ≡ flow.points
+    long = ap (λ (items : List ℕ). length items) newest_is ∙ (length-set (none_yet flow.points) point 1 ∙ zeros_long)
+
+    first : Entry
+    first = candidate point Start graph true
+
+    no_warning : {A : Type 0} (warning : Warning) → IsAmong [] warning → A
+    no_warning warning among = nothing_at among.number warning among.there
+
+    honest : IsHonest driven flow [] first
+    honest = record {
+      fits = record { graph_is = graph_is; small = small; fits = subst (λ (p : ℕ). FitsAt flow p graph) (sym main) fits };
+      made = (main, start);
+      uncovered = λ kept number earlier there kept' same covers. nothing_at number earlier there;
+      new = λ number earlier there same. nothing_at number earlier there;
+    }
+
+    by_place : (place : ℕ) (entry : Entry) → slice_get (first ∷ []) place ≡ Some entry → IsBefore entry.cause 0 0 0
+    by_place zero entry there = subst (λ (x : Entry). IsBefore x.cause 0 0 0) (same_some first entry there) tt
+    by_place (suc place) entry there = nothing_at place entry there
+
+    point_within : point < length (none_yet flow.points)
+    point_within = let within : entry_of flow flow.main < flow.points = entry_within flow valid in
+        subst (λ (n : ℕ). point < n) (sym zeros_long) (subst (λ (p : ℕ). p < flow.points) (sym main) within)
+
+    peers_there : (trail : List Entry) (newest marks : List ℕ) → trail ≡ first ∷ [] → newest ≡ set (none_yet flow.points) point 1 → marks ≡ 0 ∷ [] → ArePeers trail newest marks
+    peers_there trail newest marks one two three =
+        subst (λ (t : List Entry). ArePeers t newest marks) (sym one)
+        (subst (λ (n : List ℕ). ArePeers (first ∷ []) n marks) (sym two)
+        (subst (λ (m : List ℕ). ArePeers (first ∷ []) (set (none_yet flow.points) point 1) m) (sym three)
+        (subst (λ (mark : ℕ). ArePeers (first ∷ []) (set (none_yet flow.points) point 1) (mark ∷ [])) (zeros flow.points point)
+        (peers_kept [] first (none_yet flow.points) [] point (no_peers flow.points) point_within refl refl))))
+
+-- all is followed
+clean_there : (flow : Flow) (trail : List Entry) (warnings : List Warning) (at : ℕ) → AreTold flow trail warnings at → length trail ≤ at → warnings ≡ [] → IsClean driven flow trail
+clean_there flow trail warnings at so all none place entry number kind there kept has =
+    let within : place < length trail = slice_get_within trail place entry there in
+    let told : IsToldBy warnings place has.edge.place.at kind = so.told place entry number kind (omega arith) there kept has in
+    no_told (subst (λ (ws : List Warning). IsToldBy ws place has.edge.place.at kind) none told)
+  where
+    no_told : {token : ℕ} → IsToldBy [] place token kind → ⊥
+    no_told told = nothing_at told.among.number told.warning told.among.there
+
+pub safe_there : (flow : Flow) (budget : ℕ) (work : Work) (at : ℕ) → IsFlow flow → HasNoCalls flow → HaveOffsets flow → Worked flow budget work at → length work.trail ≤ at →
+    work.warnings ≡ [] → IsSafe flow work.trail
+safe_there flow budget work at valid calls offsets so all none =
+    let closed : IsClosed driven flow work.trail = closes driven flow work.trail at so.known.worked all in
+    let clean : IsClean driven flow work.trail = clean_there flow work.trail work.warnings at so.known.told all none in
+    record {
+      calls = calls;
+      honest = so.known.worked.honest;
+      closed = closed;
+      clean = clean;
+      stays = stay_shown driven flow work.trail valid offsets calls (sound flow valid) so.known.worked.honest closed clean;
+      safe = λ kind place faults. safe_shown driven flow work.trail valid offsets calls (sound flow valid) so.known.worked.honest closed clean kind place faults;
+    }
+
+-- entries come from earlier ones
+pub from_earlier : (flow : Flow) (trail : List Entry) → AreHonest driven flow trail → AreFromEarlier trail
+from_earlier flow trail honest = record { each = λ number entry there. by_cause number entry there entry.cause refl }
+  where
+    within : (items : List Entry) (count number : ℕ) (item : Entry) → slice_get (take count items) number ≡ Some item → number < count
+    within items zero number item there = nothing_at number item there
+    within [] (suc count) number item there = nothing_at number item there
+    within (first ∷ rest) (suc count) zero item there = omega arith
+    within (first ∷ rest) (suc count) (suc number) item there = let less : number < count = within rest count number item there in omega arith
+
+    by_cause : (number : ℕ) (entry : Entry) → At trail number entry → (cause : Cause) → entry.cause ≡ cause → IsFromEarlier cause number
+    by_cause number entry there Start is = tt
+    by_cause number entry there (Step from edge result loss) is =
+        let made : Made driven flow (take number trail) entry (Step from edge result loss) = subst (Made driven flow (take number trail) entry) is (honest number entry there).made in
+        within trail number from made.earlier made.there
+
+-- in order
+module _ (flow : Flow) (trail : List Entry) (raw ordered : List Warning) (so : AreInOrder trail raw ordered) where
+  ordered_keeps : (place token kind : ℕ) → IsToldBy raw place token kind → IsTold ordered token kind
+  ordered_keeps place token kind told =
+      let there : IsTold ordered told.warning.place.at told.warning.kind =
+      so.put.told told.among.number (marked so.marks told.warning) (slice_get_within raw told.among.number told.warning told.among.there)
+      (marked_there so.marks raw told.among.number told.warning told.among.there) in
+      record { warning = there.warning; among = there.among; token_is = there.token_is ∙ told.token_is; kind_is = there.kind_is ∙ told.kind_is }
+
+  ordered_errors : (place token kind : ℕ) → place < length trail → IsReal trail place → IsToldBy raw place token kind → IsErrorTold ordered token kind
+  ordered_errors place token kind within real told =
+      let mark : slice_index_or so.marks told.warning.entry false ≡ true = ap (λ (n : ℕ). slice_index_or so.marks n false) told.entry_is ∙ (so.chained.is place within).1 real in
+      let there : IsErrorTold ordered told.warning.place.at told.warning.kind =
+      so.put.errors told.among.number (marked so.marks told.warning) (slice_get_within raw told.among.number told.warning told.among.there)
+      (marked_there so.marks raw told.among.number told.warning told.among.there) mark in
+      record { warning = there.warning; among = there.among; token_is = there.token_is ∙ told.token_is; kind_is = there.kind_is ∙ told.kind_is; error = there.error }
+
+  ordered_some : (raw ≡ [] → ⊥) → ordered ≡ [] → ⊥
+  ordered_some some none = by_first raw refl
+    where
+      by_first : (ws : List Warning) → raw ≡ ws → ⊥
+      by_first [] is = some is
+      by_first (first ∷ rest) is =
+          let there : slice_get raw 0 ≡ Some first = ap (λ (ws : List Warning). slice_get ws 0) is in
+          let told : IsTold ordered first.place.at first.kind =
+          ordered_keeps first.entry first.place.at first.kind (record { warning = first; among = record { number = 0; there = there }; entry_is = refl; token_is = refl; kind_is = refl }) in
+          let empty : IsTold [] first.place.at first.kind = subst (λ (ws : List Warning). IsTold ws first.place.at first.kind) none told in
+          nothing_at empty.among.number empty.warning empty.among.there
+
+  warning_marked : AreWarnings flow trail raw → (warning : Warning) → IsAmong ordered warning → IsWarning flow trail warning
+  warning_marked each warning among =
+      let of_one = marked_of so.marks raw warning (so.put.each warning among) in
+      let one : IsWarning flow trail of_one.one = each.each of_one.one of_one.among in
+      subst (λ (w : Warning). IsWarning flow trail w) (sym of_one.is) (record { entry = one.entry; there = one.there; kept = one.kept; has = one.has; place_is = one.place_is })
+
+  ordered_each : AreWarnings flow trail raw → AreWarnings flow trail ordered
+  ordered_each each = record { each = λ warning among. warning_marked each warning among }
+
+  error_is : AreWarnings flow trail raw → (warning : Warning) → IsAmong ordered warning → (warning.error ≡ true) ↔ IsReal trail warning.entry
+  error_is each warning among =
+      let of_one = marked_of so.marks raw warning (so.put.each warning among) in
+      let named : IsWarning flow trail of_one.one = each.each of_one.one of_one.among in
+      let within : of_one.one.entry < length trail = slice_get_within trail of_one.one.entry named.entry named.there in
+      subst (λ (w : Warning). (w.error ≡ true) ↔ IsReal trail w.entry) (sym of_one.is) (so.chained.is of_one.one.entry within)
+
+  ordered_met : IsExclusive flow → AreHonest driven flow trail → AreWarnings flow trail raw → AreErrorsMet flow ordered
+  ordered_met exclusive honest each exact warning among error =
+      let named : IsWarning flow trail warning = warning_marked each warning among in
+      subst (λ (p : Place). RunFaults flow warning.kind p) (sym named.place_is)
+      (error_met driven (alike_runs flow) flow trail exclusive exact.exact exact.alike honest warning.entry named.entry warning.edge warning.kind named.has.edge
+      ((error_is each warning among).0 error) named.there named.has.stands named.has)
+
+  pub warned : (budget at : ℕ) (complete : Bool) (next : Option Entry) → IsExclusive flow → HasNoCalls flow → AreHonest driven flow trail → (raw ≡ [] → ⊥) → AreWarnings flow trail raw →
+      AreTold flow trail raw at → length trail ≤ at → EndsSo flow budget trail complete next → IsWarned flow budget ordered trail complete next
+  warned budget at complete next exclusive calls honest some each told all ends = record {
+    calls = calls;
+    honest = honest;
+    some = ordered_some some;
+    each = ordered_each each;
+    sorted = so.put.sorted;
+    all = record {
+      told = λ place entry number kind there kept has.
+          let within : place < length trail = slice_get_within trail place entry there in
+          ordered_keeps place has.edge.place.at kind (told.told place entry number kind (omega arith) there kept has);
+    };
+    errors = record {
+      each = λ warning among. error_is each warning among;
+      named = λ place entry number kind there kept real has.
+          let within : place < length trail = slice_get_within trail place entry there in
+          ordered_errors place has.edge.place.at kind within real (told.told place entry number kind (omega arith) there kept has);
+    };
+    met = ordered_met exclusive honest each;
+    ends = ends;
+  }
+
+in_there : (trail : List Entry) (warnings ordered : List Warning) (trail' : List Entry) (raw : List Warning) → trail' ≡ trail → raw ≡ warnings → AreInOrder trail' raw ordered →
+    AreInOrder trail warnings ordered
+in_there trail warnings ordered trail' raw same same' put = subst (λ (ws : List Warning). AreInOrder trail ws ordered) same' (subst (λ (t : List Entry). AreInOrder t raw ordered) same put)
+
+-- all of it, or up to where it ended
+pub warned_there : (flow : Flow) (budget : ℕ) (work : Work) (at : ℕ) (trail : List Entry) (raw ordered : List Warning) → IsExclusive flow → HasNoCalls flow → Worked flow budget work at →
+    length work.trail ≤ at → (work.warnings ≡ [] → ⊥) → trail ≡ work.trail → raw ≡ work.warnings → AreInOrder trail raw ordered → IsWarned flow budget ordered work.trail true None
+warned_there flow budget work at trail raw ordered exclusive calls so all some same same' put =
+    warned flow work.trail work.warnings ordered (in_there work.trail work.warnings ordered trail raw same same' put) budget at true None exclusive calls so.known.worked.honest some so.known.warnings
+    so.known.told all (closes driven flow work.trail at so.known.worked all)
+
+-- it ended before
+pub warned_halted : (flow : Flow) (budget : ℕ) (work : Work) (at : ℕ) (next : Entry) (trail : List Entry) (raw ordered : List Warning) → IsExclusive flow → HasNoCalls flow →
+    IsResting flow budget work at (length work.trail) → work.next ≡ Some next → (work.warnings ≡ [] → ⊥) → trail ≡ work.trail → raw ≡ work.warnings → AreInOrder trail raw ordered →
+    IsWarned flow budget ordered work.trail false (Some next)
+warned_halted flow budget work at next trail raw ordered exclusive calls so is some same same' put =
+    warned flow work.trail work.warnings ordered (in_there work.trail work.warnings ordered trail raw same same' put) budget (length work.trail) false (Some next) exclusive calls
+    so.halted.known.worked.honest some so.halted.known.warnings so.told (omega arith) (subst (λ (n : Option Entry). IsWhy flow budget work.trail at n) is so.halted.why)
+
+pub spent_halted : (flow : Flow) (budget : ℕ) (work : Work) (at : ℕ) (next : Entry) → HasNoCalls flow → IsResting flow budget work at (length work.trail) → work.next ≡ Some next →
+    work.warnings ≡ [] → IsSpent flow budget work.trail next
+spent_halted flow budget work at next calls so is none = record {
+  calls = calls;
+  honest = so.halted.known.worked.honest;
+  clean = clean_there flow work.trail work.warnings (length work.trail) so.told (omega arith) none;
+  next_is = subst (λ (n : Option Entry). IsWhy flow budget work.trail at n) is so.halted.why;
+}
+
+pub large_halted : (flow : Flow) (budget : ℕ) (work : Work) (at which : ℕ) → HasNoCalls flow → IsResting flow budget work at which → work.next ≡ None → IsLarge flow work.trail (Some at)
+large_halted flow budget work at which calls so is = record {
+  calls = calls;
+  honest = so.halted.known.worked.honest;
+  large = subst (λ (n : Option Entry). IsWhy flow budget work.trail at n) is so.halted.why;
+}
+
+pub large_ended : (flow : Flow) (trail : List Entry) (which : ℕ) → HasNoCalls flow → IsEnded flow trail which → IsLarge flow trail (Some which)
+large_ended flow trail which calls so = record { calls = calls; honest = so.honest; large = so.large }
+
+pub large_start : (flow : Flow) → HasNoCalls flow → 33554432 ≤ length flow.variables → IsLarge flow [] None
+large_start flow calls large = record { calls = calls; honest = λ number entry there. nothing_at number entry there; large = large }

@@ -1,0 +1,14 @@
+pub mod Left
+pub mod Walked
+pub mod Booked
+pub mod Told
+pub mod Leading
+pub mod Followed
+pub mod Rested
+pub mod Sounding
+pub mod InOrder
+pub mod Closing
+pub mod Chained
+pub mod Called
+pub mod Ways
+pub mod Fewer

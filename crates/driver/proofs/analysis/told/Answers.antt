@@ -1,0 +1,5 @@
+use Rattle.driver.proofs.Closing.{from_earlier}
+use Rattle.driver.proofs.analysis.told.Goals as goal
+
+pub chained-requires : goal.chained-requires
+chained-requires c = record { earlier = from_earlier c.args.flow.now c.args.trail.now c.requires.honest }

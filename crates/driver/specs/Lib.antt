@@ -1,0 +1,12 @@
+pub mod Leaving
+pub mod Driven
+pub mod Peers
+pub mod Growing
+pub mod Telling
+pub mod Looping
+pub mod Chains
+pub mod Errors
+pub mod Ordering
+pub mod Calls
+pub mod Verdicts
+pub mod Few
