@@ -13,19 +13,19 @@ use Rattle.flow.specs.declared.flow_graph.Flow.{Flow}
 use Rattle.simulation.specs.Running.{Setting, Running}
 use Rattle.simulation.specs.Slots.{Slot, KnownAs, Truth}
 use Rattle.simulation.specs.Lowered.{Stop, IsTrues, ConvertsKnown}
-use Rattle.lower.specs.Kinds.{width, conversion}
-use Rattle.lower.specs.declared.conversion.Conversion.{Conversion}
-use Rattle.lower.specs.declared.conversion.Conversion.TheVariants.{Tested}
-use Rattle.lower.specs.LetGo.{AsTest, left_of, left_by_test}
-use Rattle.lower.specs.Moves.{Asks}
-use Rattle.lower.specs.Placing.{Made, Around, place_test, go}
-use Rattle.lower.proofs.ComputedFits.{power_some}
-use Rattle.lower.proofs.KindFacts.{Means, conversion_means}
-use Rattle.lower.proofs.LeftStays.{test_left}
-use Rattle.lower.proofs.Modes.{IsAround, is_condition, Rest, Ready, IsAt, AskIs, AskKnownIs, AskTruthIs}
-use Rattle.lower.proofs.Placings.{IsSpelled}
-use Rattle.lower.proofs.SpellingConditions.{KnownFormIs, not_known, both_known, either_known, zero_ask, zero_truth}
-use Rattle.lower.proofs.SpellingEquality.{equal_known, unequal_known}
+use Rattle.lowering.specs.Kinds.{width, conversion}
+use Rattle.lowering.specs.declared.conversion.Conversion.{Conversion}
+use Rattle.lowering.specs.declared.conversion.Conversion.TheVariants.{Tested}
+use Rattle.lowering.specs.LetGo.{AsTest, left_of, left_by_test}
+use Rattle.lowering.specs.Moves.{Asks}
+use Rattle.lowering.specs.Placing.{Made, Around, place_test, go}
+use Rattle.lowering.proofs.ComputedFits.{power_some}
+use Rattle.lowering.proofs.KindFacts.{Means, conversion_means}
+use Rattle.lowering.proofs.LeftStays.{test_left}
+use Rattle.lowering.proofs.Modes.{IsAround, is_condition, Rest, Ready, IsAt, AskIs, AskKnownIs, AskTruthIs}
+use Rattle.lowering.proofs.Placings.{IsSpelled}
+use Rattle.lowering.proofs.SpellingConditions.{KnownFormIs, not_known, both_known, either_known, zero_ask, zero_truth}
+use Rattle.lowering.proofs.SpellingEquality.{equal_known, unequal_known}
 
 one_in : (size : ℕ) → 0 < size → 1 < 256 ^ size
 one_in zero some = absurd (omega arith)

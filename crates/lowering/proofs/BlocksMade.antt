@@ -7,7 +7,7 @@ use Rattle.c_machine.specs.declared.object.Object.{Object}
 use Rattle.c_machine.specs.declared.task.Task.TheVariants.{MakeObject}
 use Rattle.c_machine.specs.Blocks.{made, entered, names_in, objects_in as objects_made}
 use Rattle.c_machine.specs.Text.{Text}
-use Rattle.lower.specs.Placing.{objects_of_name, objects_of, objects_in}
+use Rattle.lowering.specs.Placing.{objects_of_name, objects_of, objects_in}
 
 flat_mapped : {A B C : Type 0} (make : A → B) (one : C → List A) (other : C → List B) → ((x : C) → other x ≡ map make (one x)) → (xs : List C) → flat_map other xs ≡ map make (flat_map one xs)
 flat_mapped make one other each [] = refl

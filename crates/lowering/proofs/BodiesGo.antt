@@ -22,27 +22,27 @@ use Rattle.simulation.specs.Lowered.{Lowered}
 use Rattle.simulation.specs.Names.{Name, variables_of, variable_in, is_other, are_new}
 use Rattle.simulation.specs.Running.{Running, Result, given_slot}
 use Rattle.simulation.specs.Slots.{InRegister, KnownAs}
-use Rattle.lower.specs.Kinds.{is_void}
-use Rattle.lower.specs.Lowering.{parameter_objects, end_moves}
-use Rattle.lower.specs.Moves.{Move, Does}
-use Rattle.lower.specs.Placing.{Made, Around, stands_at, after, named_from, objects_in, enters, go}
-use Rattle.lower.specs.Table.{result_into}
-use Rattle.lower.proofs.BodiesSpelled.{in_front, locals_named, around_function, IsFunctionSpelled}
-use Rattle.lower.proofs.FunctionsLowered.{IsBodySpelled}
+use Rattle.lowering.specs.Kinds.{is_void}
+use Rattle.lowering.specs.Lowering.{parameter_objects, end_moves}
+use Rattle.lowering.specs.Moves.{Move, Does}
+use Rattle.lowering.specs.Placing.{Made, Around, stands_at, after, named_from, objects_in, enters, go}
+use Rattle.lowering.specs.Table.{result_into}
+use Rattle.lowering.proofs.BodiesSpelled.{in_front, locals_named, around_function, IsFunctionSpelled}
+use Rattle.lowering.proofs.FunctionsLowered.{IsBodySpelled}
 use Rattle.cbase.specs.declared.abi.Abi.{Abi}
-use Rattle.lower.proofs.GraphParts.{IsGraphOf, PlacesLocals, statics_made_of, placed_of}
-use Rattle.lower.proofs.Jumping.{AreApart, given_by, HasExit, AreJumps}
-use Rattle.lower.proofs.Joined.{ExpressionsMore, all_at}
-use Rattle.lower.proofs.Modes.{IsAround}
-use Rattle.lower.proofs.Placed.{go_placing}
-use Rattle.lower.proofs.PlacedForms.{along_placing}
-use Rattle.lower.proofs.ProgramsMeet.{setting_of, DoBodiesGo, told_same}
-use Rattle.lower.proofs.SpellingCalls.{given_of}
-use Rattle.lower.proofs.StaticsLowered.{told}
-use Rattle.lower.proofs.StatementsJumps.{LeavesWith, leave_form, end_slot, end_form, moves_begin}
-use Rattle.lower.proofs.Doing.{IsKept, DoesIs, behind_edge}
-use Rattle.lower.proofs.DoingBlocks.{locals}
-use Rattle.lower.proofs.DoingJumps.{left_at, may_lead}
+use Rattle.lowering.proofs.GraphParts.{IsGraphOf, PlacesLocals, statics_made_of, placed_of}
+use Rattle.lowering.proofs.Jumping.{AreApart, given_by, HasExit, AreJumps}
+use Rattle.lowering.proofs.Joined.{ExpressionsMore, all_at}
+use Rattle.lowering.proofs.Modes.{IsAround}
+use Rattle.lowering.proofs.Placed.{go_placing}
+use Rattle.lowering.proofs.PlacedForms.{along_placing}
+use Rattle.lowering.proofs.ProgramsMeet.{setting_of, DoBodiesGo, told_same}
+use Rattle.lowering.proofs.SpellingCalls.{given_of}
+use Rattle.lowering.proofs.StaticsLowered.{told}
+use Rattle.lowering.proofs.StatementsJumps.{LeavesWith, leave_form, end_slot, end_form, moves_begin}
+use Rattle.lowering.proofs.Doing.{IsKept, DoesIs, behind_edge}
+use Rattle.lowering.proofs.DoingBlocks.{locals}
+use Rattle.lowering.proofs.DoingJumps.{left_at, may_lead}
 
 -- names of objects behind one another
 named_more : (first : ℕ) (one other : List Object) → named_from first (one ++ other) ≡ named_from first one ++ named_from (first + length one) other

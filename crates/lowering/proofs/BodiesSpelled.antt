@@ -14,13 +14,13 @@ use Rattle.flow.specs.declared.instruction.Instr.{Instr}
 use Rattle.flow.specs.declared.instruction.Instr.TheVariants as i
 use Rattle.simulation.specs.Edges.{One}
 use Rattle.simulation.specs.Names.{Name}
-use Rattle.lower.specs.Table.{result_into}
-use Rattle.lower.specs.Lowering.{Functions, body_moves, at_entry, at_exit, nothing, around_body, parameter_objects, place_function, flow_function, place_functions, with_main, main_number}
-use Rattle.lower.specs.Placing.{Made, Around, emit, with_point, with_registers, with_objects, named_from, objects_in, along, go}
-use Rattle.lower.proofs.Placings.{outs, outs-same, edge_of, IsSound, IsPlacing, nothing_placed, then_placing, emit_placing, point_placing, registers_placing, objects_placing, IsSpelled, spelled_first}
-use Rattle.lower.proofs.FunctionsPlaced.{sound_start, body_placing, function_placing, functions_placing}
-use Rattle.lower.proofs.FunctionsLowered.{IsPlacedAt}
-use Rattle.lower.proofs.GraphParts.{IsGraphOf, statics_made_of, placed_of}
+use Rattle.lowering.specs.Table.{result_into}
+use Rattle.lowering.specs.Lowering.{Functions, body_moves, at_entry, at_exit, nothing, around_body, parameter_objects, place_function, flow_function, place_functions, with_main, main_number}
+use Rattle.lowering.specs.Placing.{Made, Around, emit, with_point, with_registers, with_objects, named_from, objects_in, along, go}
+use Rattle.lowering.proofs.Placings.{outs, outs-same, edge_of, IsSound, IsPlacing, nothing_placed, then_placing, emit_placing, point_placing, registers_placing, objects_placing, IsSpelled, spelled_first}
+use Rattle.lowering.proofs.FunctionsPlaced.{sound_start, body_placing, function_placing, functions_placing}
+use Rattle.lowering.proofs.FunctionsLowered.{IsPlacedAt}
+use Rattle.lowering.proofs.GraphParts.{IsGraphOf, statics_made_of, placed_of}
 
 -- what is made of a function in front of its body
 abbrev pub in_front : (t : Text) → Made → Function t.Stmt → Made

@@ -6,15 +6,15 @@ use Rattle.c_machine.specs.declared.kind.Kind.{Kind}
 use Rattle.c_machine.specs.declared.kind.Kind.TheVariants.{Void}
 use Rattle.c_machine.specs.Trees.{text_of}
 use Rattle.flow.specs.declared.instruction.Instr.TheVariants.{Call}
-use Rattle.lower.specs.declared.called.Called.TheVariants.{Body}
-use Rattle.lower.specs.Calls.{IsLineOfCalled, called_line}
-use Rattle.lower.specs.Moves.{Emits, run_of, taking}
-use Rattle.lower.specs.Source.{Source}
-use Rattle.lower.specs.Table.{argument_moves, registers_from, result_into}
-use Rattle.lower.specs.Told.{IsLine, trees}
-use Rattle.lower.proofs.Onward.{Moves, line_as}
-use Rattle.lower.proofs.SameLines.{same_arguments}
-use Rattle.lower.proofs.Turns.{run_as}
+use Rattle.lowering.specs.declared.called.Called.TheVariants.{Body}
+use Rattle.lowering.specs.Calls.{IsLineOfCalled, called_line}
+use Rattle.lowering.specs.Moves.{Emits, run_of, taking}
+use Rattle.lowering.specs.Source.{Source}
+use Rattle.lowering.specs.Table.{argument_moves, registers_from, result_into}
+use Rattle.lowering.specs.Told.{IsLine, trees}
+use Rattle.lowering.proofs.Onward.{Moves, line_as}
+use Rattle.lowering.proofs.SameLines.{same_arguments}
+use Rattle.lowering.proofs.Turns.{run_as}
 
 -- the line of a call of a function that the program defines
 pub body_is : (args : List Expr) (params : List Kind) (spare first r taken' count : ℕ) (registers : List ℕ) (number : ℕ) (made : Kind) (into : ℕ) (result : Option ℕ) (place : Place)

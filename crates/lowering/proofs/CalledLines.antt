@@ -13,15 +13,15 @@ use Rattle.c_machine.specs.Text.{Standing, ObjectStands, ConstantStands, BuiltIn
 use Rattle.c_machine.specs.Trees.{body_stands, text_of}
 use Rattle.c_text.specs.declared.standing.Standing.{Standing as Told}
 use Rattle.c_text.specs.Standing.{body_by, standing_by}
-use Rattle.lower.specs.declared.called.Called.{Called}
-use Rattle.lower.specs.declared.called.Called.TheVariants.{BuiltIn as OfBuiltIn, Body, Nothing}
-use Rattle.lower.specs.Calls.{Calls, IsBodyCalled, IsCalled, IsLineOfCalled, called_line, is_callable, fills_called, Fills}
-use Rattle.lower.specs.LetGo.{fills, fills_by}
-use Rattle.lower.specs.Reading.{IsCalledLine}
-use Rattle.lower.specs.Source.{Source, IsSource}
-use Rattle.lower.specs.Table.{are_sized, body_line, call_line}
-use Rattle.lower.proofs.Onward.{Moves, line_as}
-use Rattle.lower.proofs.Sources.{Tells, stands_as}
+use Rattle.lowering.specs.declared.called.Called.{Called}
+use Rattle.lowering.specs.declared.called.Called.TheVariants.{BuiltIn as OfBuiltIn, Body, Nothing}
+use Rattle.lowering.specs.Calls.{Calls, IsBodyCalled, IsCalled, IsLineOfCalled, called_line, is_callable, fills_called, Fills}
+use Rattle.lowering.specs.LetGo.{fills, fills_by}
+use Rattle.lowering.specs.Reading.{IsCalledLine}
+use Rattle.lowering.specs.Source.{Source, IsSource}
+use Rattle.lowering.specs.Table.{are_sized, body_line, call_line}
+use Rattle.lowering.proofs.Onward.{Moves, line_as}
+use Rattle.lowering.proofs.Sources.{Tells, stands_as}
 
 -- what is told of a name is what it stands for
 pub called_as : (source : Source) (own : Context) (callee : Expr) (told : Told) (name : Option (List ℕ)) (called : Called) → own ≡ source.context →

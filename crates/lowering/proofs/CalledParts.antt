@@ -17,13 +17,13 @@ use Rattle.c_text.specs.Functions.{parameter_object}
 use Rattle.c_text.specs.Kept.{is_sized, kept, kept_objects}
 use Rattle.c_text.specs.Parameters.{types_by}
 use Rattle.c_text.specs.Stands.{StandsFor}
-use Rattle.lower.specs.declared.called.Called.{Called}
-use Rattle.lower.specs.declared.called.Called.TheVariants.{Body}
-use Rattle.lower.specs.Calls.{AreFirstKinds, AreParameterKinds, Calls, IsDefinedCalled, IsNumberedCalled, are_sized_as}
-use Rattle.lower.specs.Kinds.{is_void, width}
-use Rattle.lower.specs.Source.{Source}
-use Rattle.lower.specs.Table.{are_sized}
-use Rattle.lower.proofs.Sources.{kept_is}
+use Rattle.lowering.specs.declared.called.Called.{Called}
+use Rattle.lowering.specs.declared.called.Called.TheVariants.{Body}
+use Rattle.lowering.specs.Calls.{AreFirstKinds, AreParameterKinds, Calls, IsDefinedCalled, IsNumberedCalled, are_sized_as}
+use Rattle.lowering.specs.Kinds.{is_void, width}
+use Rattle.lowering.specs.Source.{Source}
+use Rattle.lowering.specs.Table.{are_sized}
+use Rattle.lowering.proofs.Sources.{kept_is}
 
 -- parameters one by one
 map_take : {A B : Type 0} (f : A → B) (xs : List A) (at : ℕ) (x : A) → slice_get xs at ≡ Some x → map f (take (suc at) xs) ≡ map f (take at xs) ++ f x ∷ []

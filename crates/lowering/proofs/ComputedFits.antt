@@ -18,7 +18,7 @@ use Rattle.bytes_core.specs.Value.{wrapped, moved}
 use Rattle.flow.specs.Machine.{size_after}
 use Rattle.flow.specs.Memories.{IsOffset}
 use Rattle.simulation.specs.Slots.{Suits}
-use Rattle.lower.proofs.KindFacts.{wrapped_small}
+use Rattle.lowering.proofs.KindFacts.{wrapped_small}
 
 -- numbers of so many bytes
 pub power_some : (size : ℕ) → 0 < 256 ^ size

@@ -20,17 +20,17 @@ use Rattle.simulation.specs.Names.{Name}
 use Rattle.simulation.specs.Running.{Setting, Running}
 use Rattle.simulation.specs.Slots.{Slot, is_whole, is_in, are_in}
 use Rattle.simulation.proofs.Wider.{Within, wider}
-use Rattle.lower.proofs.Jumping.{in_rest, none_within}
-use Rattle.lower.specs.Moves.{Move, Emits, Does, Clears, Initialises}
-use Rattle.lower.specs.Placing.{Made, Loop as LoopAround, Around, with_point, stands_at, registers_of, registers_left, within, blocks_left, is_none, leaves_none, is_empty_within, does_nothing, idle_where, Way, Idle, Leads, Goes as GoesOn, jumps, way_by, Begin, Here, New, begin_by, begins, break_way, continue_way, along_from, along_at, go}
-use Rattle.lower.proofs.Placings.{IsSound, point_placing, IsSpelled}
-use Rattle.lower.proofs.PlacedForms.{moves_placing}
-use Rattle.lower.proofs.Placed.{go_placing}
-use Rattle.lower.proofs.Stood.{stood_before, last_stood, left_all}
-use Rattle.lower.proofs.Jumping.{JumpIs, IsInLoop, LoopIs, AreJumps, jumps_wider}
-use Rattle.lower.proofs.Ready.{AreBelow, below_more, free_below, IsReady, mid, head_spelled, tail_spelled, fills, one_at}
-use Rattle.lower.proofs.Modes.{IsAround}
-use Rattle.lower.proofs.Statements.{executes, idle_form, without_rest}
+use Rattle.lowering.proofs.Jumping.{in_rest, none_within}
+use Rattle.lowering.specs.Moves.{Move, Emits, Does, Clears, Initialises}
+use Rattle.lowering.specs.Placing.{Made, Loop as LoopAround, Around, with_point, stands_at, registers_of, registers_left, within, blocks_left, is_none, leaves_none, is_empty_within, does_nothing, idle_where, Way, Idle, Leads, Goes as GoesOn, jumps, way_by, Begin, Here, New, begin_by, begins, break_way, continue_way, along_from, along_at, go}
+use Rattle.lowering.proofs.Placings.{IsSound, point_placing, IsSpelled}
+use Rattle.lowering.proofs.PlacedForms.{moves_placing}
+use Rattle.lowering.proofs.Placed.{go_placing}
+use Rattle.lowering.proofs.Stood.{stood_before, last_stood, left_all}
+use Rattle.lowering.proofs.Jumping.{JumpIs, IsInLoop, LoopIs, AreJumps, jumps_wider}
+use Rattle.lowering.proofs.Ready.{AreBelow, below_more, free_below, IsReady, mid, head_spelled, tail_spelled, fills, one_at}
+use Rattle.lowering.proofs.Modes.{IsAround}
+use Rattle.lowering.proofs.Statements.{executes, idle_form, without_rest}
 
 -- a statement in no block of the loop's body stands where the loop does
 abbrev pub NothingLeft : Around → Stood → Option LoopAround → Type 0

@@ -28,19 +28,19 @@ use Rattle.simulation.specs.Running.{Setting, Running}
 use Rattle.simulation.specs.Slots.{Slot, are_in}
 use Rattle.simulation.specs.Standing.{are_named}
 use Rattle.simulation.proofs.Wider.{Within, wider}
-use Rattle.lower.proofs.Jumping.{in_rest, none_within}
-use Rattle.lower.specs.Moves.{Move, Emits, Does}
-use Rattle.lower.specs.Placing.{Made, Around, with_point, with_objects, stands_at, after, registers_of, named_from, within, objects_in, enters, leaves, Begin, Here, New, begins, Goes as GoesOn, along_from, along_at, along, go}
-use Rattle.lower.proofs.BlocksMade.{blocks_made}
-use Rattle.lower.proofs.Jumping.{in_block_jumps}
-use Rattle.lower.proofs.Modes.{IsAround}
-use Rattle.lower.proofs.Placed.{go_placing}
-use Rattle.lower.proofs.PlacedForms.{along_placing, moves_placing}
-use Rattle.lower.proofs.Placings.{IsPlacing, objects_placing, IsSpelled, spelled_more}
-use Rattle.lower.proofs.Ready.{head_spelled, one_at}
-use Rattle.lower.proofs.Stood.{emptied_none}
-use Rattle.lower.proofs.Statements.{executes, without_rest}
-use Rattle.lower.proofs.Doing.{Goes, IsKept, DoesIs, nothing_within, behind_edge}
+use Rattle.lowering.proofs.Jumping.{in_rest, none_within}
+use Rattle.lowering.specs.Moves.{Move, Emits, Does}
+use Rattle.lowering.specs.Placing.{Made, Around, with_point, with_objects, stands_at, after, registers_of, named_from, within, objects_in, enters, leaves, Begin, Here, New, begins, Goes as GoesOn, along_from, along_at, along, go}
+use Rattle.lowering.proofs.BlocksMade.{blocks_made}
+use Rattle.lowering.proofs.Jumping.{in_block_jumps}
+use Rattle.lowering.proofs.Modes.{IsAround}
+use Rattle.lowering.proofs.Placed.{go_placing}
+use Rattle.lowering.proofs.PlacedForms.{along_placing, moves_placing}
+use Rattle.lowering.proofs.Placings.{IsPlacing, objects_placing, IsSpelled, spelled_more}
+use Rattle.lowering.proofs.Ready.{head_spelled, one_at}
+use Rattle.lowering.proofs.Stood.{emptied_none}
+use Rattle.lowering.proofs.Statements.{executes, without_rest}
+use Rattle.lowering.proofs.Doing.{Goes, IsKept, DoesIs, nothing_within, behind_edge}
 
 -- what the graph promises of the one edge out of a point
 pub of_edge : (flow : Flow) (P : FlowEdge → Type 0) (from to : ℕ) (instr : Instr) (place : Place) → All P flow.edges → One flow from instr to place →

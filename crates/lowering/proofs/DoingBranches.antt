@@ -18,19 +18,19 @@ use Rattle.simulation.specs.Lowered.{Stop, IsIn, First, Behind, Ends, Loop, Test
 use Rattle.simulation.specs.Running.{Setting, Running}
 use Rattle.simulation.specs.Slots.{Slot, is_in, are_in}
 use Rattle.simulation.proofs.Wider.{wider}
-use Rattle.lower.proofs.Jumping.{none_within}
-use Rattle.lower.specs.LetGo.{AsWork, AsTest, left_of}
-use Rattle.lower.specs.Moves.{Move, Emits, Works, Does, run_of}
-use Rattle.lower.specs.Placing.{Made, Loop as LoopAround, Around, with_point, with_registers, with_spares, stands_at, after, registers_of, go, Goes as GoesOn, way_by, place_full, branch, other_moves, in_loop, passes, is_break, is_declaration, place_do}
-use Rattle.lower.proofs.Jumping.{AreUnder, jumps_later, jumps_wider, in_body_of}
-use Rattle.lower.proofs.KindFacts.{let_go}
-use Rattle.lower.proofs.Modes.{IsAround, IsAt}
-use Rattle.lower.proofs.Placings.{point_placing, IsSpelled, spelled_registers, emit_spelled}
-use Rattle.lower.proofs.Ready.{AreBelow, mid, head_spelled, tail_spelled, one_at}
-use Rattle.lower.proofs.Stood.{stood_before, of_behind, stand_behind, left_among, left_itself, finished_widths}
-use Rattle.lower.proofs.Statements.{free_run, executes, at_sides, BranchIs, branch_is, SideGoes, branches, head_of, again_at_head}
-use Rattle.lower.proofs.StatementsJumps.{turn_of, idle_body, body_made, do_is, is_break_clause}
-use Rattle.lower.proofs.Doing.{NothingLeft, Goes, IsKept, DoesIs, kept_more, full_ready, one_behind, one_alone}
+use Rattle.lowering.proofs.Jumping.{none_within}
+use Rattle.lowering.specs.LetGo.{AsWork, AsTest, left_of}
+use Rattle.lowering.specs.Moves.{Move, Emits, Works, Does, run_of}
+use Rattle.lowering.specs.Placing.{Made, Loop as LoopAround, Around, with_point, with_registers, with_spares, stands_at, after, registers_of, go, Goes as GoesOn, way_by, place_full, branch, other_moves, in_loop, passes, is_break, is_declaration, place_do}
+use Rattle.lowering.proofs.Jumping.{AreUnder, jumps_later, jumps_wider, in_body_of}
+use Rattle.lowering.proofs.KindFacts.{let_go}
+use Rattle.lowering.proofs.Modes.{IsAround, IsAt}
+use Rattle.lowering.proofs.Placings.{point_placing, IsSpelled, spelled_registers, emit_spelled}
+use Rattle.lowering.proofs.Ready.{AreBelow, mid, head_spelled, tail_spelled, one_at}
+use Rattle.lowering.proofs.Stood.{stood_before, of_behind, stand_behind, left_among, left_itself, finished_widths}
+use Rattle.lowering.proofs.Statements.{free_run, executes, at_sides, BranchIs, branch_is, SideGoes, branches, head_of, again_at_head}
+use Rattle.lowering.proofs.StatementsJumps.{turn_of, idle_body, body_made, do_is, is_break_clause}
+use Rattle.lowering.proofs.Doing.{NothingLeft, Goes, IsKept, DoesIs, kept_more, full_ready, one_behind, one_alone}
 
 -- what is let go of is held nowhere
 in_any : (gone : List ℕ) (kind : Kind) → is_in gone (let_go kind) ≡ true

@@ -23,19 +23,19 @@ use Rattle.simulation.specs.Lowered.{Stop, Objects, Statics, Shifts, ShiftsNothi
 use Rattle.simulation.specs.Names.{Name, names_of, variable_in}
 use Rattle.simulation.specs.Running.{Setting, Running}
 use Rattle.simulation.specs.Slots.{Slot, InRegister, KnownAs, Gone, is_free, is_whole, is_in}
-use Rattle.lower.specs.LetGo.{AsPlace, left_of, left_as}
-use Rattle.lower.specs.Moves.{Move, Emits, Locates, Converts, Clears, Initialises, Fails, run_of}
-use Rattle.lower.specs.Table.{object_moves}
-use Rattle.lower.specs.Placing.{Made, Around, with_point, with_registers, failed, stands_at, after, variable_of, does_nothing, has_no_value, is_empty_within, idle_where, Way, Idle, Leads, Goes as GoesOn, Begin, Here, New, begin_by, begins, along_from, along, along_at, go, zeroed, declared_by, declared_moves, writes, set_by, left_by_set, place_set, place_initialiser}
-use Rattle.lower.proofs.KindFacts.{scalar_slot, both_free}
-use Rattle.lower.proofs.LeftOf.{own_place, own_as}
-use Rattle.lower.proofs.Modes.{IsAround, IsAt, found_behind, found_first}
-use Rattle.lower.proofs.Placed.{go_placing}
-use Rattle.lower.proofs.PlacedForms.{moves_placing}
-use Rattle.lower.proofs.Placings.{IsSpelled, spelled_registers}
-use Rattle.lower.proofs.Ready.{AreBelow, free_below, free_beside, own_target, slot_ready, mid, head_spelled, tail_spelled, fills, one_at, never}
-use Rattle.lower.proofs.Statements.{executes, without_rest, free_run}
-use Rattle.lower.proofs.Doing.{Goes, IsKept, ClearsIs, InitialisesIs, kept_more, full_ready}
+use Rattle.lowering.specs.LetGo.{AsPlace, left_of, left_as}
+use Rattle.lowering.specs.Moves.{Move, Emits, Locates, Converts, Clears, Initialises, Fails, run_of}
+use Rattle.lowering.specs.Table.{object_moves}
+use Rattle.lowering.specs.Placing.{Made, Around, with_point, with_registers, failed, stands_at, after, variable_of, does_nothing, has_no_value, is_empty_within, idle_where, Way, Idle, Leads, Goes as GoesOn, Begin, Here, New, begin_by, begins, along_from, along, along_at, go, zeroed, declared_by, declared_moves, writes, set_by, left_by_set, place_set, place_initialiser}
+use Rattle.lowering.proofs.KindFacts.{scalar_slot, both_free}
+use Rattle.lowering.proofs.LeftOf.{own_place, own_as}
+use Rattle.lowering.proofs.Modes.{IsAround, IsAt, found_behind, found_first}
+use Rattle.lowering.proofs.Placed.{go_placing}
+use Rattle.lowering.proofs.PlacedForms.{moves_placing}
+use Rattle.lowering.proofs.Placings.{IsSpelled, spelled_registers}
+use Rattle.lowering.proofs.Ready.{AreBelow, free_below, free_beside, own_target, slot_ready, mid, head_spelled, tail_spelled, fills, one_at, never}
+use Rattle.lowering.proofs.Statements.{executes, without_rest, free_run}
+use Rattle.lowering.proofs.Doing.{Goes, IsKept, ClearsIs, InitialisesIs, kept_more, full_ready}
 
 some_none : {A : Type 0} (value : A) → Some value ≡ None → ⊥
 some_none value is = none-some value (sym is)

@@ -19,26 +19,26 @@ use Rattle.simulation.specs.Names.{Name, names_of, variables_of, are_new, AreMad
 use Rattle.simulation.specs.Running.{Setting, Running}
 use Rattle.simulation.specs.Slots.{Slot, is_whole, are_in}
 use Rattle.simulation.proofs.Wider.{wider}
-use Rattle.lower.proofs.Jumping.{none_within}
-use Rattle.lower.specs.LetGo.{AsTest, left_of}
-use Rattle.lower.specs.Moves.{Move, Does}
-use Rattle.lower.specs.Placing.{Made, Around, with_point, with_head, behind_widths, stands_at, after, registers_of, registers_left, within, objects_of, enters, along, along_from, go, Way, Idle, Leads, Goes as GoesOn, Here, way_by, blocks_left, is_none, in_loop, passes, is_declaration, is_at_head, place_turn, place_next, place_for}
-use Rattle.lower.proofs.BlocksMade.{block_made}
-use Rattle.lower.proofs.Ready.{below_more}
-use Rattle.lower.proofs.Jumping.{AreUnder, under_more, jumps_later, jumps_wider, in_block_jumps, in_body_of}
-use Rattle.lower.proofs.Modes.{IsAround, IsAt}
-use Rattle.lower.proofs.Placed.{go_placing, turn_placing, next_placing}
-use Rattle.lower.proofs.PlacedForms.{along_placing}
-use Rattle.lower.proofs.Placings.{outs, IsSound, IsPlacing, then_placing, point_placing, head_placing, emit_placing, IsSpelled, spelled_more, spelled_point, spelled_first, spelled_rest, emit_spelled, none_spelled}
-use Rattle.lower.proofs.Stood.{stood_before, last_stood, under_widths, left_itself, emptied_none}
-use Rattle.lower.proofs.Statements.{executes, at_sides, branch_is, branches}
-use Rattle.lower.proofs.StatementsJumps.{idle_body}
+use Rattle.lowering.proofs.Jumping.{none_within}
+use Rattle.lowering.specs.LetGo.{AsTest, left_of}
+use Rattle.lowering.specs.Moves.{Move, Does}
+use Rattle.lowering.specs.Placing.{Made, Around, with_point, with_head, behind_widths, stands_at, after, registers_of, registers_left, within, objects_of, enters, along, along_from, go, Way, Idle, Leads, Goes as GoesOn, Here, way_by, blocks_left, is_none, in_loop, passes, is_declaration, is_at_head, place_turn, place_next, place_for}
+use Rattle.lowering.proofs.BlocksMade.{block_made}
+use Rattle.lowering.proofs.Ready.{below_more}
+use Rattle.lowering.proofs.Jumping.{AreUnder, under_more, jumps_later, jumps_wider, in_block_jumps, in_body_of}
+use Rattle.lowering.proofs.Modes.{IsAround, IsAt}
+use Rattle.lowering.proofs.Placed.{go_placing, turn_placing, next_placing}
+use Rattle.lowering.proofs.PlacedForms.{along_placing}
+use Rattle.lowering.proofs.Placings.{outs, IsSound, IsPlacing, then_placing, point_placing, head_placing, emit_placing, IsSpelled, spelled_more, spelled_point, spelled_first, spelled_rest, emit_spelled, none_spelled}
+use Rattle.lowering.proofs.Stood.{stood_before, last_stood, under_widths, left_itself, emptied_none}
+use Rattle.lowering.proofs.Statements.{executes, at_sides, branch_is, branches}
+use Rattle.lowering.proofs.StatementsJumps.{idle_body}
 use Rattle.flow.specs.Standing.{stands_at as flow_stands_at}
 use Rattle.flow.specs.Valid.{IsFlow}
 use Rattle.simulation.specs.Standing.{are_named}
-use Rattle.lower.proofs.DoingBlocks.{first_edge, enters_new, around_within}
-use Rattle.lower.proofs.Doing.{NothingLeft, Goes, IsKept, DoesIs, blocks_of, nothing_within, kept_more, full_ready, one_behind, one_alone}
-use Rattle.lower.proofs.DoingBranches.{full_form, turn_side, no_side}
+use Rattle.lowering.proofs.DoingBlocks.{first_edge, enters_new, around_within}
+use Rattle.lowering.proofs.Doing.{NothingLeft, Goes, IsKept, DoesIs, blocks_of, nothing_within, kept_more, full_ready, one_behind, one_alone}
+use Rattle.lowering.proofs.DoingBranches.{full_form, turn_side, no_side}
 
 -- Four parts behind what is taken in front: from the point where the whole begins, and from points that were taken.
 pub record FourSpelled (flow : Flow) (m0 m1 m2 m3 m4 : Made) (from head again out : ℕ) : Type 0 where

@@ -37,24 +37,24 @@ use Rattle.simulation.specs.Names.{Name, names_of, variables_of, is_other, are_n
 use Rattle.simulation.specs.Running.{Setting, Running, Result, GivesNothing, Gives, given_slot}
 use Rattle.simulation.specs.Slots.{Slot, InRegister, KnownAs, Truth, Gone, Suits, is_free, are_in}
 use Rattle.simulation.specs.Turning.{Turns, Stays, Turned}
-use Rattle.lower.specs.Kinds.{width, is_void, is_address, conversion}
-use Rattle.lower.specs.declared.conversion.Conversion.{Conversion}
-use Rattle.lower.specs.declared.conversion.Conversion.TheVariants.{Nothing, Resized, Tested, Dropped, Unknown}
-use Rattle.lower.specs.LetGo.{AsValue, left_of}
-use Rattle.lower.specs.Moves.{Move, Emits, Evaluates, Tells, Fails, adapts, stands_in, run_of}
-use Rattle.lower.specs.Placing.{Made, Loop as LoopAround, Around, with_point, with_registers, stands_at, after, registers_of, registers_left, blocks_left, is_none, leaves_none, Way, Goes as GoesOn, Begin, New, begins, along_from, jumps, break_way, continue_way, along_at, go, leaves, closings, function_leaves, place_break, place_continue, place_return}
-use Rattle.lower.proofs.Jumping.{AreApart, given_by, LoopIs, HasExit}
-use Rattle.lower.proofs.KindFacts.{IsAsPlain, not_holds, Means, conversion_means}
-use Rattle.lower.proofs.LeftOf.{own_value}
-use Rattle.lower.proofs.Modes.{IsAround, IsAt}
-use Rattle.lower.proofs.Placings.{IsSpelled, spelled_registers}
-use Rattle.lower.proofs.Ready.{AreBelow, below_more, free_below, free_beside, own_target, mid, head_spelled, tail_spelled, fills, one_at, never}
-use Rattle.lower.proofs.Stood.{of_emptied, emptied_none, asked_all, left_apart, left_all}
-use Rattle.lower.proofs.Statements.{executes}
-use Rattle.lower.proofs.StatementsJumps.{IsLeft, IsBody, leave_form, return_nothing_form, break_form, continue_form}
-use Rattle.lower.proofs.Told.{told_turns}
-use Rattle.lower.proofs.Doing.{NothingLeft, Goes, IsKept, full_ready, blocks_of, in_front}
-use Rattle.lower.proofs.DoingBlocks.{of_edge}
+use Rattle.lowering.specs.Kinds.{width, is_void, is_address, conversion}
+use Rattle.lowering.specs.declared.conversion.Conversion.{Conversion}
+use Rattle.lowering.specs.declared.conversion.Conversion.TheVariants.{Nothing, Resized, Tested, Dropped, Unknown}
+use Rattle.lowering.specs.LetGo.{AsValue, left_of}
+use Rattle.lowering.specs.Moves.{Move, Emits, Evaluates, Tells, Fails, adapts, stands_in, run_of}
+use Rattle.lowering.specs.Placing.{Made, Loop as LoopAround, Around, with_point, with_registers, stands_at, after, registers_of, registers_left, blocks_left, is_none, leaves_none, Way, Goes as GoesOn, Begin, New, begins, along_from, jumps, break_way, continue_way, along_at, go, leaves, closings, function_leaves, place_break, place_continue, place_return}
+use Rattle.lowering.proofs.Jumping.{AreApart, given_by, LoopIs, HasExit}
+use Rattle.lowering.proofs.KindFacts.{IsAsPlain, not_holds, Means, conversion_means}
+use Rattle.lowering.proofs.LeftOf.{own_value}
+use Rattle.lowering.proofs.Modes.{IsAround, IsAt}
+use Rattle.lowering.proofs.Placings.{IsSpelled, spelled_registers}
+use Rattle.lowering.proofs.Ready.{AreBelow, below_more, free_below, free_beside, own_target, mid, head_spelled, tail_spelled, fills, one_at, never}
+use Rattle.lowering.proofs.Stood.{of_emptied, emptied_none, asked_all, left_apart, left_all}
+use Rattle.lowering.proofs.Statements.{executes}
+use Rattle.lowering.proofs.StatementsJumps.{IsLeft, IsBody, leave_form, return_nothing_form, break_form, continue_form}
+use Rattle.lowering.proofs.Told.{told_turns}
+use Rattle.lowering.proofs.Doing.{NothingLeft, Goes, IsKept, full_ready, blocks_of, in_front}
+use Rattle.lowering.proofs.DoingBlocks.{of_edge}
 
 -- blocks that are apart from those around them have distinct variables
 others_swap : (names others more : List Name) → ((variable : ℕ) → is_other variable others ≡ true → is_other variable more ≡ true) → are_new names others ≡ true → are_new names more ≡ true

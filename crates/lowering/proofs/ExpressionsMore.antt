@@ -6,15 +6,15 @@ use Rattle.c_machine.specs.Text.{Text}
 use Rattle.flow.specs.declared.flow_graph.Flow.{Flow}
 use Rattle.flow.specs.Valid.{IsFlow}
 use Rattle.simulation.specs.Running.{Setting, Running}
-use Rattle.lower.proofs.AskJoined.{ask_joined, ask_known_joined, ask_truth_joined}
-use Rattle.lower.proofs.Joined.{ExpressionsMore}
-use Rattle.lower.proofs.PlaceJoined.{place_joined}
-use Rattle.lower.proofs.ProgramsMeet.{gives_of, setting_of}
-use Rattle.lower.proofs.SpellingCalled.{AreCalled}
-use Rattle.lower.proofs.SpellingConditions.{answered, answered_truth}
-use Rattle.lower.proofs.SpellingConversions.{convert_form}
-use Rattle.lower.proofs.ValueJoined.{value_joined}
-use Rattle.lower.proofs.WorkJoined.{work_joined}
+use Rattle.lowering.proofs.AskJoined.{ask_joined, ask_known_joined, ask_truth_joined}
+use Rattle.lowering.proofs.Joined.{ExpressionsMore}
+use Rattle.lowering.proofs.PlaceJoined.{place_joined}
+use Rattle.lowering.proofs.ProgramsMeet.{gives_of, setting_of}
+use Rattle.lowering.proofs.SpellingCalled.{AreCalled}
+use Rattle.lowering.proofs.SpellingConditions.{answered, answered_truth}
+use Rattle.lowering.proofs.SpellingConversions.{convert_form}
+use Rattle.lowering.proofs.ValueJoined.{value_joined}
+use Rattle.lowering.proofs.WorkJoined.{work_joined}
 
 pub expressions_more : (t : Text) (flow : Flow) (setting : Setting) (running : Running) (valid : IsFlow flow) → AreCalled t flow setting running → ExpressionsMore t flow setting running valid
 expressions_more t flow setting running valid called levels less all = record {

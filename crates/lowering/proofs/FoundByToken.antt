@@ -4,7 +4,7 @@ use Rattle.std.proofs.lemmas.Bool.{eqb-true}
 use Rattle.std.specs.Map.{lookup}
 use Rattle.c_machine.specs.State.{is_named}
 use Rattle.simulation.specs.Names.{Name, variable_in}
-use Rattle.lower.specs.ByToken.{AreByToken}
+use Rattle.lowering.specs.ByToken.{AreByToken}
 
 passed : (front : List Name) (name : Name) (token : ℕ) → is_named name.token token ≡ false → variable_in (front ++ name ∷ []) token ≡ variable_in front token
 passed [] name token other = ap (λ (found : Bool). if found then Some name.variable else None) other

@@ -19,13 +19,13 @@ use Rattle.simulation.specs.Functions.{IsFunctionLowered, IsMainLowered}
 use Rattle.simulation.specs.Lowered.{Lowered, Widens}
 use Rattle.simulation.specs.Names.{Name, variables_of, is_other, are_new, AreMade}
 use Rattle.simulation.specs.Running.{Setting, Running, Result}
-use Rattle.lower.specs.Lowering.{flow_function, place_function, place_functions}
+use Rattle.lowering.specs.Lowering.{flow_function, place_function, place_functions}
 use Rattle.simulation.specs.Names.{Name as NameHere}
-use Rattle.lower.specs.Placing.{Made, named_from, objects_in}
-use Rattle.lower.proofs.BlocksMade.{blocks_made}
-use Rattle.lower.proofs.Placings.{IsSound}
-use Rattle.lower.proofs.FunctionsPlaced.{function_placing}
-use Rattle.lower.proofs.StaticsLowered.{told}
+use Rattle.lowering.specs.Placing.{Made, named_from, objects_in}
+use Rattle.lowering.proofs.BlocksMade.{blocks_made}
+use Rattle.lowering.proofs.Placings.{IsSound}
+use Rattle.lowering.proofs.FunctionsPlaced.{function_placing}
+use Rattle.lowering.proofs.StaticsLowered.{told}
 
 -- the variables of objects stand in the graph in order, behind those that were there
 abbrev pub locals_of : List Object → List Variable

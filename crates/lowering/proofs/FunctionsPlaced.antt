@@ -4,12 +4,12 @@ use Rattle.c_machine.specs.Text.{Function, Text}
 use Rattle.flow.specs.declared.flow_graph.FlowFunction.{FlowFunction}
 use Rattle.flow.specs.declared.instruction.Instr.TheVariants as i
 use Rattle.simulation.specs.Names.{Name}
-use Rattle.lower.specs.Lowering.{body_moves, at_entry, at_exit, nothing, around_body, parameter_objects, place_named, place_function, flow_function, place_functions, nothing_made}
-use Rattle.lower.specs.Placing.{Made, Around, with_point, with_registers, with_objects, named_from, objects_in, along, go}
-use Rattle.lower.specs.Table.{result_into}
-use Rattle.lower.proofs.Placings.{IsSound, IsPlacing, nothing_placed, then_placing, emit_placing, point_placing, registers_placing, objects_placing}
-use Rattle.lower.proofs.PlacedForms.{along_placing}
-use Rattle.lower.proofs.Placed.{go_placing}
+use Rattle.lowering.specs.Lowering.{body_moves, at_entry, at_exit, nothing, around_body, parameter_objects, place_named, place_function, flow_function, place_functions, nothing_made}
+use Rattle.lowering.specs.Placing.{Made, Around, with_point, with_registers, with_objects, named_from, objects_in, along, go}
+use Rattle.lowering.specs.Table.{result_into}
+use Rattle.lowering.proofs.Placings.{IsSound, IsPlacing, nothing_placed, then_placing, emit_placing, point_placing, registers_placing, objects_placing}
+use Rattle.lowering.proofs.PlacedForms.{along_placing}
+use Rattle.lowering.proofs.Placed.{go_placing}
 
 -- a body between its entry and its exit
 pub body_placing : (t : Text) (around : Around) (made : Made) (function : Function t.Stmt) (names : List Name) (entry exit : ℕ) → entry < made.points → exit < made.points → entry ≤ exit → IsSound made →

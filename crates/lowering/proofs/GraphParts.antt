@@ -10,11 +10,11 @@ use Rattle.flow.specs.declared.flow_graph.Flow.{Flow}
 use Rattle.flow.specs.declared.flow_graph.Initial.{Initial}
 use Rattle.flow.specs.declared.flow_graph.Variable.{Variable}
 use Rattle.simulation.specs.Running.{Setting}
-use Rattle.lower.specs.Initials.{initials_of}
-use Rattle.lower.specs.Lowering.{Functions, place_all, main_number, first_number, nothing_made, graph_of, graph_where, flow_in}
-use Rattle.lower.specs.Placing.{Made, named_from, with_objects}
-use Rattle.lower.proofs.StaticsLowered.{told, HasStatics}
-use Rattle.lower.proofs.StaticsMade.{AreLocal}
+use Rattle.lowering.specs.Initials.{initials_of}
+use Rattle.lowering.specs.Lowering.{Functions, place_all, main_number, first_number, nothing_made, graph_of, graph_where, flow_in}
+use Rattle.lowering.specs.Placing.{Made, named_from, with_objects}
+use Rattle.lowering.proofs.StaticsLowered.{told, HasStatics}
+use Rattle.lowering.proofs.StaticsMade.{AreLocal}
 
 -- what is made in front of the functions, and behind them
 abbrev pub statics_made_of : Text → Made

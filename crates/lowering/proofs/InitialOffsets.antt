@@ -12,8 +12,8 @@ use Rattle.c_machine.specs.Words.{scalar_bytes}
 use Rattle.flow.specs.declared.flow_graph.Initial.{Initial}
 use Rattle.flow.specs.Memories.{HasInitialOffset}
 use Rattle.simulation.specs.Names.{Name, variable_in}
-use Rattle.lower.specs.Initials.{initial_word, has_offset, bytes_of, scalar_by, set_initial, joined, joined_all, initials_by, initials_within, is_same_scalar, latest, initials_of}
-use Rattle.lower.specs.Known.{known_word, word_as}
+use Rattle.lowering.specs.Initials.{initial_word, has_offset, bytes_of, scalar_by, set_initial, joined, joined_all, initials_by, initials_within, is_same_scalar, latest, initials_of}
+use Rattle.lowering.specs.Known.{known_word, word_as}
 
 abbrev HaveOffsets : List Initial → Type 0
 HaveOffsets [] = Unit {0}

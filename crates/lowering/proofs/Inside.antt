@@ -6,11 +6,11 @@ use Rattle.c_machine.specs.declared.kind.Kind.TheVariants.{Void}
 use Rattle.c_machine.specs.Program.{Program}
 use Rattle.c_machine.specs.Text.{Text}
 use Rattle.c_machine.specs.Trees.{text_of}
-use Rattle.lower.specs.Inner.{until_last}
-use Rattle.lower.specs.Moves.{Does}
-use Rattle.lower.specs.Placing.{last_moves, valued_moves}
-use Rattle.lower.specs.Table.{ending, last_of}
-use Rattle.lower.specs.Told.{trees}
+use Rattle.lowering.specs.Inner.{until_last}
+use Rattle.lowering.specs.Moves.{Does}
+use Rattle.lowering.specs.Placing.{last_moves, valued_moves}
+use Rattle.lowering.specs.Table.{ending, last_of}
+use Rattle.lowering.specs.Told.{trees}
 
 -- a program's statements are read as the trees are
 same_empty : (p : Program) (body : List Stmt) → are_empty (trees Void) body ≡ are_empty (text_of p) body

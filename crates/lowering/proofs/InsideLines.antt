@@ -15,13 +15,13 @@ use Rattle.c_text.specs.Kept.{is_sized, kept_object}
 use Rattle.c_text.specs.Stands.{StandsFor}
 use Rattle.expressions.specs.Context.{Context}
 use Rattle.expressions.specs.Numbers.{Numbering}
-use Rattle.lower.specs.Inner.{AreLastMoves, AreValuedMoves, IsDeclared, until_last}
-use Rattle.lower.specs.Moves.{Does, Initialises}
-use Rattle.lower.specs.Placing.{declared_by, last_moves, zeroed}
-use Rattle.lower.specs.Source.{Source}
-use Rattle.lower.specs.Told.{trees}
-use Rattle.lower.proofs.Inside.{same_until, valued_at, valued_none}
-use Rattle.lower.proofs.Onward.{Moves}
+use Rattle.lowering.specs.Inner.{AreLastMoves, AreValuedMoves, IsDeclared, until_last}
+use Rattle.lowering.specs.Moves.{Does, Initialises}
+use Rattle.lowering.specs.Placing.{declared_by, last_moves, zeroed}
+use Rattle.lowering.specs.Source.{Source}
+use Rattle.lowering.specs.Told.{trees}
+use Rattle.lowering.proofs.Inside.{same_until, valued_at, valued_none}
+use Rattle.lowering.proofs.Onward.{Moves}
 
 -- the statements of a block
 pub valued_nothing : (source : Source) (spare count into : ℕ) (body : List Stmt) (moves : Moves) → until_last (trees Void) body ≡ 0 →

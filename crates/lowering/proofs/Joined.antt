@@ -17,18 +17,18 @@ use Rattle.simulation.specs.Names.{Name, names_of}
 use Rattle.simulation.specs.Running.{Setting, Running}
 use Rattle.simulation.specs.Slots.{Slot, are_in}
 use Rattle.simulation.specs.Standing.{are_named}
-use Rattle.lower.specs.Moves.{Does}
-use Rattle.lower.specs.Placing.{Made, Around, with_head, with_objects, failed, behind_widths, stands_at, after, registers_of, named_from, objects_of, within, enters, does_nothing, idle_where, Way, Idle, Leads, Goes as GoesOn, way_by, go, passes, is_break, is_declaration, is_at_head, place_do, place_for, place_statement}
-use Rattle.lower.proofs.Modes.{IsAround, IsAt}
-use Rattle.lower.proofs.Placed.{go_placing, do_placing, for_placing}
-use Rattle.lower.proofs.Placings.{head_placing, objects_placing, failed_placing, IsSpelled, spelled_more}
-use Rattle.lower.proofs.Stood.{stood_in, under_widths}
-use Rattle.lower.proofs.Doing.{NothingLeft, Goes, IsKept, DoesIs, ClearsIs, InitialisesIs, kept_more}
-use Rattle.lower.proofs.DoingBranches.{eval_form, if_form, while_form, do_idle_form, do_break_form, do_form}
-use Rattle.lower.proofs.DoingFor.{for_form}
-use Rattle.lower.proofs.DoingBlocks.{spelled_made, block_form}
-use Rattle.lower.proofs.DoingJumps.{break_goes_on, continue_goes_on, return_form}
-use Rattle.lower.proofs.DoingDeclarations.{clears_form, initialises_form, declare_form}
+use Rattle.lowering.specs.Moves.{Does}
+use Rattle.lowering.specs.Placing.{Made, Around, with_head, with_objects, failed, behind_widths, stands_at, after, registers_of, named_from, objects_of, within, enters, does_nothing, idle_where, Way, Idle, Leads, Goes as GoesOn, way_by, go, passes, is_break, is_declaration, is_at_head, place_do, place_for, place_statement}
+use Rattle.lowering.proofs.Modes.{IsAround, IsAt}
+use Rattle.lowering.proofs.Placed.{go_placing, do_placing, for_placing}
+use Rattle.lowering.proofs.Placings.{head_placing, objects_placing, failed_placing, IsSpelled, spelled_more}
+use Rattle.lowering.proofs.Stood.{stood_in, under_widths}
+use Rattle.lowering.proofs.Doing.{NothingLeft, Goes, IsKept, DoesIs, ClearsIs, InitialisesIs, kept_more}
+use Rattle.lowering.proofs.DoingBranches.{eval_form, if_form, while_form, do_idle_form, do_break_form, do_form}
+use Rattle.lowering.proofs.DoingFor.{for_form}
+use Rattle.lowering.proofs.DoingBlocks.{spelled_made, block_form}
+use Rattle.lowering.proofs.DoingJumps.{break_goes_on, continue_goes_on, return_form}
+use Rattle.lowering.proofs.DoingDeclarations.{clears_form, initialises_form, declare_form}
 
 abbrev makes_edges : Way → Bool
 makes_edges Idle = false

@@ -23,7 +23,7 @@ use Rattle.simulation.specs.Names.{Name, names_of, variable_in, are_new}
 use Rattle.simulation.specs.Running.{Setting, Running, given_slot}
 use Rattle.simulation.specs.Slots.{Slot, InRegister, KnownAs, Truth, Gone, is_free, is_whole, are_free, is_in, are_in}
 use Rattle.simulation.proofs.Wider.{wider}
-use Rattle.lower.specs.Placing.{Loop as LoopAround, Around, within, in_loop, registers_of}
+use Rattle.lowering.specs.Placing.{Loop as LoopAround, Around, within, in_loop, registers_of}
 
 -- registers below a number
 abbrev pub AreUnder : ℕ → List ℕ → Type 0

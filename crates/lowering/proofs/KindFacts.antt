@@ -15,10 +15,10 @@ use Rattle.c_machine.specs.declared.kind.Kind.{Kind}
 use Rattle.c_machine.specs.declared.kind.Kind.TheVariants.{Integer, Pointer, Array, Struct, Void}
 use Rattle.c_machine.specs.Words.{scalar_bytes, is_pointer, decayed, as_kind, is_same, are_alike}
 use Rattle.simulation.specs.Slots.{Slot, InRegister, KnownAs, Gone, is_free, are_free, is_in, IsPlainWhere, Suits}
-use Rattle.lower.specs.Kinds.{width, is_void, is_address, fits, conversion}
-use Rattle.lower.specs.declared.conversion.Conversion.{Conversion}
-use Rattle.lower.specs.declared.conversion.Conversion.TheVariants.{Nothing, Resized, Tested, Dropped, Unknown as NoConversion}
-use Rattle.lower.proofs.Ready.{slot_of}
+use Rattle.lowering.specs.Kinds.{width, is_void, is_address, fits, conversion}
+use Rattle.lowering.specs.declared.conversion.Conversion.{Conversion}
+use Rattle.lowering.specs.declared.conversion.Conversion.TheVariants.{Nothing, Resized, Tested, Dropped, Unknown as NoConversion}
+use Rattle.lowering.proofs.Ready.{slot_of}
 
 -- a number is plain
 abbrev pub IsAsPlain : Kind → Bool → Type 0

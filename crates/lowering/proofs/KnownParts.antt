@@ -7,12 +7,12 @@ use Rattle.c_machine.specs.declared.kind.Kind.TheVariants.{Void}
 use Rattle.c_machine.specs.Program.{Program}
 use Rattle.c_machine.specs.Text.{Standing, ObjectStands, ConstantStands, BuiltInStands, BodyStands, NothingStands}
 use Rattle.c_machine.specs.Trees.{text_of}
-use Rattle.lower.specs.declared.called.Called.{Called}
-use Rattle.lower.specs.declared.called.Called.TheVariants.{BuiltIn as OfBuiltIn, Body, Nothing}
-use Rattle.lower.specs.Calls.{Calls, IsCalled}
-use Rattle.lower.specs.Made.{IsResult, kind_of_called}
-use Rattle.lower.specs.Source.{Source}
-use Rattle.lower.specs.Table.{result_of}
+use Rattle.lowering.specs.declared.called.Called.{Called}
+use Rattle.lowering.specs.declared.called.Called.TheVariants.{BuiltIn as OfBuiltIn, Body, Nothing}
+use Rattle.lowering.specs.Calls.{Calls, IsCalled}
+use Rattle.lowering.specs.Made.{IsResult, kind_of_called}
+use Rattle.lowering.specs.Source.{Source}
+use Rattle.lowering.specs.Table.{result_of}
 
 -- the kind of the result of a call
 result_as : (p : Program) (called : Called) (standing : Standing) → Calls p called standing → kind_of_called called ≡ result_of (text_of p) standing

@@ -15,8 +15,8 @@ use Rattle.c_machine.specs.Expressions.{value_kind}
 use Rattle.c_machine.specs.Words.{is_true, told, as_kind, as_address, operated, moved_by}
 use Rattle.typing.specs.values.Values.{of_unary, of_binary}
 use Rattle.simulation.specs.Names.{Name, variable_in}
-use Rattle.lower.specs.Known.{Asked, Value, Place as PlaceAsked, operated_on, applied_to, converted_to, answered, truth_of, named_word, name_word, both, and_then, or_else, picked, binary_word, word_as, value_word, place_word, known_word}
-use Rattle.lower.proofs.KnownWords.{array_at, some_both, some_then, some_map}
+use Rattle.lowering.specs.Known.{Asked, Value, Place as PlaceAsked, operated_on, applied_to, converted_to, answered, truth_of, named_word, name_word, both, and_then, or_else, picked, binary_word, word_as, value_word, place_word, known_word}
+use Rattle.lowering.proofs.KnownWords.{array_at, some_both, some_then, some_map}
 
 module _ (t : Text) (names : List Name) (Is : ℕ → Type 0) (each : (token variable : ℕ) → variable_in names token ≡ Some variable → Is variable) where
   abbrev pub Leads : Word → Type 0

@@ -22,8 +22,8 @@ use Rattle.c_machine.specs.Run.{then_go, done_within}
 use Rattle.c_machine.specs.Expressions.{value_kind, named, address_parts, value_parts, binary_parts, name_parts, known as machine_known}
 use Rattle.c_machine.specs.Words.{is_true, told, as_kind, as_address, applied, operated}
 use Rattle.simulation.specs.Names.{Name, variable_in}
-use Rattle.lower.specs.Known.{Asked, Value, Place as PlaceAsked, operated_on, applied_to, converted_to, answered, truth_of, loaded_from, named_word, name_word, both, and_then, or_else, picked, binary_word, word_as, value_word, place_word, known_word}
-use Rattle.lower.proofs.StartSteps.{before_main, Takes, takes_none, takes_both, takes_less}
+use Rattle.lowering.specs.Known.{Asked, Value, Place as PlaceAsked, operated_on, applied_to, converted_to, answered, truth_of, loaded_from, named_word, name_word, both, and_then, or_else, picked, binary_word, word_as, value_word, place_word, known_word}
+use Rattle.lowering.proofs.StartSteps.{before_main, Takes, takes_none, takes_both, takes_less}
 
 -- words that are plain numbers are the same to every memory
 same_plain : (memory : List Block) (left right : Kind) (one other : ℕ) →

@@ -4,9 +4,9 @@ use Rattle.std.specs.List.{list_any}
 use Rattle.std.proofs.lemmas.List.{reverse-append}
 use Rattle.std.proofs.lemmas.Bool.{eqb-true, and_parts}
 use Rattle.flow.specs.declared.flow_graph.Initial.{Initial}
-use Rattle.lower.specs.declared.latest.ScalarKey.{ScalarKey}
-use Rattle.lower.specs.Initials.{is_same_scalar, latest}
-use Rattle.lower.specs.Latest.{is_scalar, key_of, AreLatest}
+use Rattle.lowering.specs.declared.latest.ScalarKey.{ScalarKey}
+use Rattle.lowering.specs.Initials.{is_same_scalar, latest}
+use Rattle.lowering.specs.Latest.{is_scalar, key_of, AreLatest}
 
 -- the same scalars, where two are the same
 same_in : (one other : Initial) (rest : List Initial) → is_same_scalar one other ≡ true → list_any (is_same_scalar one) rest ≡ list_any (is_same_scalar other) rest

@@ -15,7 +15,7 @@ use Rattle.bytes_core.proofs.Written.{slice_get-set_same, slice_get-set_other, l
 use Rattle.flow.specs.declared.flow_graph.Initial.{Initial}
 use Rattle.flow.specs.Holding.{Owned, block_of}
 use Rattle.flow.specs.Runs.{initial_word, with_initial, with_initials}
-use Rattle.lower.specs.Initials.{is_same_scalar, latest}
+use Rattle.lowering.specs.Initials.{is_same_scalar, latest}
 
 -- bytes with others written over them, one by one
 module _ (bytes : List Byte) (from : ℕ) (written : List Byte) (room : from + length written ≤ length bytes) where

@@ -5,14 +5,14 @@ use Rattle.c_machine.specs.Trees.{text_of}
 use Rattle.flow.specs.declared.flow_graph.Flow.{Flow}
 use Rattle.flow.specs.declared.flow_graph.Initial.{Initial}
 use Rattle.flow.specs.Memories.{HasInitialOffset}
-use Rattle.lower.specs.Laws.{DoGraphsMeet}
-use Rattle.lower.specs.Placing.{named_from}
-use Rattle.lower.proofs.BodiesGo.{bodies_go, statics_fixed}
-use Rattle.lower.proofs.BodiesSpelled.{statics_placing}
-use Rattle.lower.proofs.ExpressionsMore.{expressions_more}
-use Rattle.lower.proofs.GraphParts.{is_graph_of}
-use Rattle.lower.proofs.InitialOffsets.{offsets_of}
-use Rattle.lower.proofs.ProgramsMeet.{gives_of, setting_of, places_locals, meets}
+use Rattle.lowering.specs.Laws.{DoGraphsMeet}
+use Rattle.lowering.specs.Placing.{named_from}
+use Rattle.lowering.proofs.BodiesGo.{bodies_go, statics_fixed}
+use Rattle.lowering.proofs.BodiesSpelled.{statics_placing}
+use Rattle.lowering.proofs.ExpressionsMore.{expressions_more}
+use Rattle.lowering.proofs.GraphParts.{is_graph_of}
+use Rattle.lowering.proofs.InitialOffsets.{offsets_of}
+use Rattle.lowering.proofs.ProgramsMeet.{gives_of, setting_of, places_locals, meets}
 
 pub graphs_meet : DoGraphsMeet
 graphs_meet p flow is valid =

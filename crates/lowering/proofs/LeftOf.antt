@@ -11,10 +11,10 @@ use Rattle.c_machine.specs.declared.kind.Kind.TheVariants.{Integer}
 use Rattle.c_machine.specs.Text.{Standing, BuiltInStands, Form, Name, Unary, Binary, Choose, Cast, Index, Member, Call, Text}
 use Rattle.c_machine.specs.Expressions.{value_kind, built_in}
 use Rattle.c_machine.specs.Words.{scalar_bytes}
-use Rattle.lower.specs.Kinds.{conversion, as_operand}
-use Rattle.lower.specs.declared.conversion.Conversion.{Conversion}
-use Rattle.lower.specs.declared.conversion.Conversion.TheVariants.{Nothing, Resized, Tested, Dropped, Unknown}
-use Rattle.lower.specs.LetGo.{Wanted, AsValue, AsPlace, AsWork, AsTest, left_converted, left_as, left_by_load, in_spare_still, stays, left_by_built_in, left_by_call, left_by_value, left_by_place, left_within, left_of}
+use Rattle.lowering.specs.Kinds.{conversion, as_operand}
+use Rattle.lowering.specs.declared.conversion.Conversion.{Conversion}
+use Rattle.lowering.specs.declared.conversion.Conversion.TheVariants.{Nothing, Resized, Tested, Dropped, Unknown}
+use Rattle.lowering.specs.LetGo.{Wanted, AsValue, AsPlace, AsWork, AsTest, left_converted, left_as, left_by_load, in_spare_still, stays, left_by_built_in, left_by_call, left_by_value, left_by_place, left_within, left_of}
 
 one_zero : (one other : ℕ) → max one other ≡ 0 → one ≡ 0
 one_zero one other is = omega arith

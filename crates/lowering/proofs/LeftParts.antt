@@ -13,9 +13,9 @@ use Rattle.c_machine.specs.Expressions.{value_kind}
 use Rattle.c_machine.specs.Program.{Program}
 use Rattle.c_machine.specs.Text.{Form, Unary, Binary}
 use Rattle.c_machine.specs.Trees.{text_of}
-use Rattle.lower.specs.Kinds.{is_void}
-use Rattle.lower.specs.LetGo.{AsPlace, AsValue, leaves_nothing, left_by_arguments, left_both, left_within}
-use Rattle.lower.specs.Lefts.{As, OfOtherWork, OfTest, OfValue, Stored, TwoSides, TwoValues, Whole, left_part}
+use Rattle.lowering.specs.Kinds.{is_void}
+use Rattle.lowering.specs.LetGo.{AsPlace, AsValue, leaves_nothing, left_by_arguments, left_both, left_within}
+use Rattle.lowering.specs.Lefts.{As, OfOtherWork, OfTest, OfValue, Stored, TwoSides, TwoValues, Whole, left_part}
 
 -- operators
 pub unary_apart : (p : Program) (levels : ℕ) (expr : Expr) (op : UnaryOp) (arg : Expr) (in_spare : Bool) →

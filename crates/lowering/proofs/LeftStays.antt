@@ -14,18 +14,18 @@ use Rattle.c_machine.specs.Text.{Standing, NothingStands, ObjectStands, Constant
 use Rattle.c_machine.specs.Expressions.{value_kind, built_in}
 use Rattle.c_machine.specs.Words.{scalar_bytes, decayed, kind_after}
 use Rattle.flow.specs.declared.flow_graph.Standing.{Standing as Stood}
-use Rattle.lower.specs.Kinds.{width, is_void, fits, conversion, as_operand, is_plain_operator, made_by, sides}
-use Rattle.lower.specs.declared.conversion.Conversion.{Conversion}
-use Rattle.lower.specs.declared.conversion.Conversion.TheVariants.{Nothing, Resized, Tested, Dropped, Unknown}
+use Rattle.lowering.specs.Kinds.{width, is_void, fits, conversion, as_operand, is_plain_operator, made_by, sides}
+use Rattle.lowering.specs.declared.conversion.Conversion.{Conversion}
+use Rattle.lowering.specs.declared.conversion.Conversion.TheVariants.{Nothing, Resized, Tested, Dropped, Unknown}
 use Rattle.flow.specs.declared.instruction.Instr.TheVariants as i
-use Rattle.lower.specs.Known.{size_as}
-use Rattle.lower.specs.LetGo.{Wanted, AsValue, AsPlace, AsWork, AsTest, left_converted, left_as, left_by_load, in_spare_still, stays, left_by_binary, left_by_assign, left_by_arguments, behind_spare, left_by_built_in, left_by_body, left_by_call, left_by_value, left_by_place, left_by_work, left_by_test, leaves_nothing, left_within, left_of}
-use Rattle.lower.specs.Moves.{Move, Emits, Pairs, Parts, Evaluates, Converts, Answers, Tells, Locates, Works, Asks, Does, Clears, Initialises, Stops, Fails, Line, taking, pads}
-use Rattle.lower.specs.Table.{addressed, place_line, load_line, plus_line, unary_line, binary_line, store_line, assign_line, update_moves, update_line, count_line, argument_moves, fill_moves, copy_moves, built_in_line, body_line, registers_from, result_into, are_sized, gives, call_line, value_line, dropped_line, void_line, work_line, converted_line, kind_made, is_made}
-use Rattle.lower.specs.Placing.{Made, Around, with_point, with_registers, failed, stands_at, with_spares, after, Way, Idle, Leads, Goes, way_of, Begin, Here, New, begin_by, begins, Go, along_from, along_at, along, along_line, equality_moves, zero_test, two_tests, place_test, place_answer, place_arms, arm_moves, place_choose, place_value_form, place_value, place_void, place_work, variable_of, go as go_levels}
-use Rattle.lower.proofs.Placings.{IsSound, IsPlacing, point_placing, registers_placing}
-use Rattle.lower.proofs.PlacedForms.{begins_behind, moves_placing, along_placing}
-use Rattle.lower.proofs.Placed.{go_placing}
+use Rattle.lowering.specs.Known.{size_as}
+use Rattle.lowering.specs.LetGo.{Wanted, AsValue, AsPlace, AsWork, AsTest, left_converted, left_as, left_by_load, in_spare_still, stays, left_by_binary, left_by_assign, left_by_arguments, behind_spare, left_by_built_in, left_by_body, left_by_call, left_by_value, left_by_place, left_by_work, left_by_test, leaves_nothing, left_within, left_of}
+use Rattle.lowering.specs.Moves.{Move, Emits, Pairs, Parts, Evaluates, Converts, Answers, Tells, Locates, Works, Asks, Does, Clears, Initialises, Stops, Fails, Line, taking, pads}
+use Rattle.lowering.specs.Table.{addressed, place_line, load_line, plus_line, unary_line, binary_line, store_line, assign_line, update_moves, update_line, count_line, argument_moves, fill_moves, copy_moves, built_in_line, body_line, registers_from, result_into, are_sized, gives, call_line, value_line, dropped_line, void_line, work_line, converted_line, kind_made, is_made}
+use Rattle.lowering.specs.Placing.{Made, Around, with_point, with_registers, failed, stands_at, with_spares, after, Way, Idle, Leads, Goes, way_of, Begin, Here, New, begin_by, begins, Go, along_from, along_at, along, along_line, equality_moves, zero_test, two_tests, place_test, place_answer, place_arms, arm_moves, place_choose, place_value_form, place_value, place_void, place_work, variable_of, go as go_levels}
+use Rattle.lowering.proofs.Placings.{IsSound, IsPlacing, point_placing, registers_placing}
+use Rattle.lowering.proofs.PlacedForms.{begins_behind, moves_placing, along_placing}
+use Rattle.lowering.proofs.Placed.{go_placing}
 
 both : (one other one' other' : ℕ) → one ≡ one' → other ≡ other' → max one other ≡ max one' other'
 both one other one' other' is is' = ap (λ (n : ℕ). max n other) is ∙ ap (λ (n : ℕ). max one' n) is'

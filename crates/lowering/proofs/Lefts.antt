@@ -6,12 +6,12 @@ use Rattle.cbase.specs.declared.tree.expr.Expr.{Expr}
 use Rattle.c_machine.specs.declared.kind.Kind.{Kind}
 use Rattle.c_machine.specs.Program.{Program}
 use Rattle.c_machine.specs.Trees.{text_of}
-use Rattle.lower.specs.declared.left.Pending.{Pending}
-use Rattle.lower.specs.declared.left.Search.{Search}
-use Rattle.lower.specs.LetGo.{Wanted, left_within}
-use Rattle.lower.specs.Lefts.{Part, As, Whole, IsAdded, ComesTo, IsLeft, IsLeftAs, left_part, most_in, worth}
-use Rattle.lower.specs.Source.{Source, IsSource}
-use Rattle.lower.proofs.Onward.{on_ok}
+use Rattle.lowering.specs.declared.left.Pending.{Pending}
+use Rattle.lowering.specs.declared.left.Search.{Search}
+use Rattle.lowering.specs.LetGo.{Wanted, left_within}
+use Rattle.lowering.specs.Lefts.{Part, As, Whole, IsAdded, ComesTo, IsLeft, IsLeftAs, left_part, most_in, worth}
+use Rattle.lowering.specs.Source.{Source, IsSource}
+use Rattle.lowering.proofs.Onward.{on_ok}
 
 -- the greatest of three
 before : (a b c : ℕ) → max a (max b c) ≤ max b (max a c)

@@ -1,6 +1,6 @@
-mod Meeting
-mod WorkedOut
-mod Written
+pub mod Meeting
+pub mod WorkedOut
+pub mod Written
 pub mod BlocksMade
 pub mod FunctionsPlaced
 pub mod GraphParts
@@ -84,4 +84,3 @@ pub mod Lefts
 pub mod LeftParts
 pub mod CalledParts
 pub mod ScopesLeft
-pub mod TwoTestsLead

@@ -11,13 +11,13 @@ use Rattle.c_machine.specs.Program.{Program}
 use Rattle.c_machine.specs.Text.{Standing, ObjectStands, ConstantStands, BuiltInStands, BodyStands, NothingStands, Form, Name, Unary, Assign, Count, Cast, Index, Member, Call}
 use Rattle.c_machine.specs.Trees.{text_of}
 use Rattle.c_machine.specs.Words.{scalar_bytes}
-use Rattle.lower.specs.Moves.{Converts, taking}
-use Rattle.lower.specs.Reading.{IsKind, IsNoConstant, IsLoadLine, IsValueLine, IsAssignedLine, IsCountedLine, IsCalledLine}
-use Rattle.lower.specs.Source.{Source}
-use Rattle.lower.specs.Table.{load_line, name_line, assign_line, update_line, count_line, value_line}
-use Rattle.lower.specs.Told.{IsLine, trees}
-use Rattle.lower.proofs.Onward.{Moves, alone, line_as}
-use Rattle.lower.proofs.SameLines.{same_load, same_assign, same_update, same_count}
+use Rattle.lowering.specs.Moves.{Converts, taking}
+use Rattle.lowering.specs.Reading.{IsKind, IsNoConstant, IsLoadLine, IsValueLine, IsAssignedLine, IsCountedLine, IsCalledLine}
+use Rattle.lowering.specs.Source.{Source}
+use Rattle.lowering.specs.Table.{load_line, name_line, assign_line, update_line, count_line, value_line}
+use Rattle.lowering.specs.Told.{IsLine, trees}
+use Rattle.lowering.proofs.Onward.{Moves, alone, line_as}
+use Rattle.lowering.proofs.SameLines.{same_load, same_assign, same_update, same_count}
 
 -- a load
 pub load_is : (context : Context) (expr : Expr) (kind : Kind) (spare into taken taken' : ℕ) (before after : Moves) →

@@ -1,7 +1,7 @@
 -- The programs hold by computation.
 use Rattle.std.proofs.Common.{refl}
 use Rattle.bytes_core.specs.Loss.{reached_within}
-use Rattle.lower.specs.Programs.{DoUpdatesMeet, DoCountsMeet, DoTestsMeet, DoChoicesMeet, DoOperatorsMeet, DoMembersMeet, DoCallsMeet, DoLoopsMeet, DoJumpsMeet, DoReturnsMeet, DoObjectsMeet, DoStaticsMeet}
+use Rattle.lowering.specs.Programs.{DoUpdatesMeet, DoCountsMeet, DoTestsMeet, DoChoicesMeet, DoOperatorsMeet, DoMembersMeet, DoCallsMeet, DoLoopsMeet, DoJumpsMeet, DoReturnsMeet, DoObjectsMeet, DoStaticsMeet}
 
 pub do_updates_meet : DoUpdatesMeet
 unfolding reached_within

@@ -14,14 +14,14 @@ use Rattle.simulation.specs.Lowered.{Stop, Lowered}
 use Rattle.simulation.specs.Names.{Name, names_of, variable_in, is_other}
 use Rattle.simulation.specs.Running.{Setting, Running}
 use Rattle.simulation.specs.Slots.{Slot, InRegister, KnownAs, Truth, is_free}
-use Rattle.lower.specs.Kinds.{width, is_void, conversion}
-use Rattle.lower.specs.declared.conversion.Conversion.TheVariants.{Tested}
-use Rattle.lower.specs.LetGo.{AsValue, AsPlace, AsWork, AsTest, left_as, left_of}
-use Rattle.lower.specs.Moves.{Evaluates, Converts, Answers, Locates, Works, Asks}
-use Rattle.lower.specs.Placing.{Made, Around, go}
-use Rattle.lower.proofs.KindFacts.{IsAsPlain, some_none, let_go}
-use Rattle.lower.proofs.Placings.{IsSpelled}
-use Rattle.lower.proofs.Ready.{slot_of, IsReady, IsTarget}
+use Rattle.lowering.specs.Kinds.{width, is_void, conversion}
+use Rattle.lowering.specs.declared.conversion.Conversion.TheVariants.{Tested}
+use Rattle.lowering.specs.LetGo.{AsValue, AsPlace, AsWork, AsTest, left_as, left_of}
+use Rattle.lowering.specs.Moves.{Evaluates, Converts, Answers, Locates, Works, Asks}
+use Rattle.lowering.specs.Placing.{Made, Around, go}
+use Rattle.lowering.proofs.KindFacts.{IsAsPlain, some_none, let_go}
+use Rattle.lowering.proofs.Placings.{IsSpelled}
+use Rattle.lowering.proofs.Ready.{slot_of, IsReady, IsTarget}
 
 -- the objects of blocks are none of the static ones, and these are the ones that stand in the derivation
 pub record IsAround (setting : Setting) (around : Around) : Type 0 where

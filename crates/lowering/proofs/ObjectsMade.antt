@@ -4,7 +4,7 @@ use Rattle.std.specs.List.{list_all}
 use Rattle.c_machine.specs.declared.object.Object.{Object}
 use Rattle.flow.specs.declared.flow_graph.Variable.{Variable}
 use Rattle.flow.specs.Valid.{is_object_size}
-use Rattle.lower.specs.Placing.{Made, with_objects}
+use Rattle.lowering.specs.Placing.{Made, with_objects}
 
 and_assoc : (one other third : Bool) → (one && (other && true)) && third ≡ one && (other && third)
 and_assoc true true third = refl

@@ -4,8 +4,8 @@ use Rattle.std.specs.Prelude.{Option, None, Some, Result, Ok, Err, OnOk, IfOk, I
 use Rattle.cbase.specs.declared.tree.expr.Expr.{Expr}
 use Rattle.cbase.specs.declared.tree.init.Init.{Init}
 use Rattle.cbase.specs.declared.tree.stmt.Stmt.{Stmt}
-use Rattle.lower.specs.Moves.{MoveOf, LineOf, taking}
-use Rattle.lower.specs.Told.{IsLine}
+use Rattle.lowering.specs.Moves.{MoveOf, LineOf, taking}
+use Rattle.lowering.specs.Told.{IsLine}
 
 pub on_ok : {V E : Type 0} {A B : Type 0} (result : Result V E) → (A → B) → OnOk result A → OnOk result B
 on_ok (Ok value) onward is = onward is

@@ -37,12 +37,12 @@ use Rattle.flow.specs.Machine.{size_after}
 use Rattle.simulation.specs.Edges.{One}
 use Rattle.simulation.specs.Slots.{Suits}
 use Rattle.simulation.specs.Turning.{Combines, Computed, ComputedAround, Moved, MovedAround}
-use Rattle.lower.specs.Kinds.{width, as_count, as_operand, Sides, sides, between_integers, tested, made_by}
-use Rattle.lower.specs.declared.conversion.Conversion.{Conversion}
-use Rattle.lower.specs.declared.conversion.Conversion.TheVariants.{Nothing, Resized, Unknown as NoConversion}
-use Rattle.lower.specs.Moves.{Emits, Fails, combines}
-use Rattle.lower.proofs.ComputedFits.{power_some, computed_fits, moved_suits}
-use Rattle.lower.proofs.KindFacts.{IsAsPlain}
+use Rattle.lowering.specs.Kinds.{width, as_count, as_operand, Sides, sides, between_integers, tested, made_by}
+use Rattle.lowering.specs.declared.conversion.Conversion.{Conversion}
+use Rattle.lowering.specs.declared.conversion.Conversion.TheVariants.{Nothing, Resized, Unknown as NoConversion}
+use Rattle.lowering.specs.Moves.{Emits, Fails, combines}
+use Rattle.lowering.proofs.ComputedFits.{power_some, computed_fits, moved_suits}
+use Rattle.lowering.proofs.KindFacts.{IsAsPlain}
 
 -- an integer keeps its bits in its own size
 pub same_size : (size : ℕ) (signed : Bool) (number : ℕ) → number < 256 ^ size → converted size signed size number ≡ number

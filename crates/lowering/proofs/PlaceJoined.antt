@@ -3,11 +3,11 @@ use Rattle.std.proofs.Common.{◌≤◌, ℕ, suc, nat_eq, refl, sym, subst}
 use Rattle.c_machine.specs.Text.{Form, Text}
 use Rattle.flow.specs.declared.flow_graph.Flow.{Flow}
 use Rattle.simulation.specs.Running.{Setting, Running}
-use Rattle.lower.proofs.LeftStays.{place_left}
-use Rattle.lower.proofs.Modes.{Ready, IsAt, PlaceIs}
-use Rattle.lower.proofs.Ready.{IsTarget}
-use Rattle.lower.proofs.Spelling.{PlaceFormIs, place_form}
-use Rattle.lower.proofs.SpellingOperators.{index_place}
+use Rattle.lowering.proofs.LeftStays.{place_left}
+use Rattle.lowering.proofs.Modes.{Ready, IsAt, PlaceIs}
+use Rattle.lowering.proofs.Ready.{IsTarget}
+use Rattle.lowering.proofs.Spelling.{PlaceFormIs, place_form}
+use Rattle.lowering.proofs.SpellingOperators.{index_place}
 
 module _ (t : Text) (flow : Flow) (setting : Setting) (running : Running) where
   place_by : (levels : ℕ) → IsAt t flow setting running levels → (form : Form t.Expr t.Stmt) → PlaceFormIs t flow setting running levels form

@@ -11,14 +11,14 @@ use Rattle.c_machine.specs.declared.kind.Kind.{Kind}
 use Rattle.c_machine.specs.Program.{Program}
 use Rattle.c_machine.specs.Text.{Standing, ObjectStands, ConstantStands, BuiltInStands, BodyStands, NothingStands, Form, Name, Assign, Count, Member, Call}
 use Rattle.c_machine.specs.Trees.{text_of}
-use Rattle.lower.specs.Kinds.{is_void}
-use Rattle.lower.specs.LetGo.{leaves_nothing}
-use Rattle.lower.specs.Moves.{Evaluates, Locates, taking}
-use Rattle.lower.specs.Reading.{IsValueKind, IsPlaceLine, IsOtherWorkLine, IsVoidLine, IsAssignedLine, IsCountedLine, IsCalledLine, LeavesNothing, named_variable}
-use Rattle.lower.specs.Source.{Source, Reads}
-use Rattle.lower.specs.Table.{addressed, dropped_line, named_moves, object_moves, place_line, shifted_in, shifts, void_line}
-use Rattle.lower.specs.Told.{IsLine}
-use Rattle.lower.proofs.Onward.{Moves, Line, alone, line_as}
+use Rattle.lowering.specs.Kinds.{is_void}
+use Rattle.lowering.specs.LetGo.{leaves_nothing}
+use Rattle.lowering.specs.Moves.{Evaluates, Locates, taking}
+use Rattle.lowering.specs.Reading.{IsValueKind, IsPlaceLine, IsOtherWorkLine, IsVoidLine, IsAssignedLine, IsCountedLine, IsCalledLine, LeavesNothing, named_variable}
+use Rattle.lowering.specs.Source.{Source, Reads}
+use Rattle.lowering.specs.Table.{addressed, dropped_line, named_moves, object_moves, place_line, shifted_in, shifts, void_line}
+use Rattle.lowering.specs.Told.{IsLine}
+use Rattle.lowering.proofs.Onward.{Moves, Line, alone, line_as}
 
 -- a line that is that of an address
 place_as : (context : Context) (found : Option ℕ) (expr : Expr) (spare into : ℕ) (form : Form Expr Stmt) (line : Line) (taken taken' : ℕ) (before after : Moves) →

@@ -9,13 +9,13 @@ use Rattle.flow.specs.declared.instruction.Instr.{Instr}
 use Rattle.flow.specs.declared.instruction.Instr.TheVariants as i
 use Rattle.flow.specs.declared.flow_graph.Standing.{Standing}
 use Rattle.simulation.specs.Names.{Name as Named, variables_of}
-use Rattle.lower.specs.Kinds.{is_void, conversion}
-use Rattle.lower.specs.LetGo.{AsTest, AsValue, AsWork, left_of}
-use Rattle.lower.specs.Moves.{Move, Emits, Pairs, Parts, Evaluates, Converts, Answers, Tells, Locates, Works, Asks, Does, Clears, Initialises, Stops, Fails, Line, run_of}
-use Rattle.lower.specs.Table.{value_line, place_line, work_line, converted_line, last_of, kind_of_last, kind_made, is_made}
-use Rattle.lower.specs.Placing.{Made, Loop, Around, emit, with_point, with_registers, with_head, failed, stands_at, with_width, with_spares, after, named_from, with_objects, is_empty_within, objects_of, objects_in, within, Go, along, along_line, place_told, without_register, enters, leaves, valued_moves, full_moves, finishes, function_leaves, registers_of, return_moves, set_moves, left_at_end, place_scope, place_inner, place_value_form, place_value, place_void, place_work, place_branch, branch, other_moves, place_full, in_loop, passes, is_break, is_declaration, place_do_body, place_do, place_turn, place_next, is_at_head, place_turns, place_for, jump_moves, place_break, place_continue, place_return, declared_moves, clear_moves, left_by_set, place_set, place_initialiser, place_statement, variable_of, go as go_levels}
-use Rattle.lower.proofs.Placings.{IsSound, IsPlacing, nothing_placed, then_placing, emit_placing, point_placing, registers_placing, head_placing, failed_placing, objects_placing}
-use Rattle.lower.proofs.PlacedForms.{along_placing, line_placing, answer_placing, test_by_form, choose_placing, told_placing}
+use Rattle.lowering.specs.Kinds.{is_void, conversion}
+use Rattle.lowering.specs.LetGo.{AsTest, AsValue, AsWork, left_of}
+use Rattle.lowering.specs.Moves.{Move, Emits, Pairs, Parts, Evaluates, Converts, Answers, Tells, Locates, Works, Asks, Does, Clears, Initialises, Stops, Fails, Line, run_of}
+use Rattle.lowering.specs.Table.{value_line, place_line, work_line, converted_line, last_of, kind_of_last, kind_made, is_made}
+use Rattle.lowering.specs.Placing.{Made, Loop, Around, emit, with_point, with_registers, with_head, failed, stands_at, with_width, with_spares, after, named_from, with_objects, is_empty_within, objects_of, objects_in, within, Go, along, along_line, place_told, without_register, enters, leaves, valued_moves, full_moves, finishes, function_leaves, registers_of, return_moves, set_moves, left_at_end, place_scope, place_inner, place_value_form, place_value, place_void, place_work, place_branch, branch, other_moves, place_full, in_loop, passes, is_break, is_declaration, place_do_body, place_do, place_turn, place_next, is_at_head, place_turns, place_for, jump_moves, place_break, place_continue, place_return, declared_moves, clear_moves, left_by_set, place_set, place_initialiser, place_statement, variable_of, go as go_levels}
+use Rattle.lowering.proofs.Placings.{IsSound, IsPlacing, nothing_placed, then_placing, emit_placing, point_placing, registers_placing, head_placing, failed_placing, objects_placing}
+use Rattle.lowering.proofs.PlacedForms.{along_placing, line_placing, answer_placing, test_by_form, choose_placing, told_placing}
 
 module _ (t : Text) (go : Around → Go t)
     (placing : (around : Around) (made : Made) (from : ℕ) (move : Move t) (to : ℕ) → from < made.points → IsSound made → IsPlacing made from (go around made from move to)) where

@@ -9,11 +9,11 @@ use Rattle.c_machine.specs.Text.{Form, Unary, Binary, Text}
 use Rattle.c_machine.specs.Expressions.{value_kind}
 use Rattle.flow.specs.declared.instruction.Instr.TheVariants as i
 use Rattle.flow.specs.declared.flow_graph.Standing.{Standing}
-use Rattle.lower.specs.Kinds.{width, sides}
-use Rattle.lower.specs.LetGo.{AsTest, left_of, left_as}
-use Rattle.lower.specs.Moves.{Move, Emits, Pairs, Parts, Evaluates, Converts, Answers, Tells, Locates, Works, Asks, Does, Clears, Initialises, Stops, Fails, Line, pads}
-use Rattle.lower.specs.Placing.{Made, Around, emit, with_point, with_registers, stands_at, with_spares, after, Way, Idle, Leads, Goes, way_of, Begin, Here, New, begin_by, begins, Go, along_from, along_at, along, along_line, zero_test, equality_moves, equality, two_tests, place_test, place_answer, place_told, place_arms, arm_moves, place_choose}
-use Rattle.lower.proofs.Placings.{IsSound, IsPlacing, nothing_placed, then_placing, emit_placing, point_placing, registers_placing}
+use Rattle.lowering.specs.Kinds.{width, sides}
+use Rattle.lowering.specs.LetGo.{AsTest, left_of, left_as}
+use Rattle.lowering.specs.Moves.{Move, Emits, Pairs, Parts, Evaluates, Converts, Answers, Tells, Locates, Works, Asks, Does, Clears, Initialises, Stops, Fails, Line, pads}
+use Rattle.lowering.specs.Placing.{Made, Around, emit, with_point, with_registers, stands_at, with_spares, after, Way, Idle, Leads, Goes, way_of, Begin, Here, New, begin_by, begins, Go, along_from, along_at, along, along_line, zero_test, equality_moves, equality, two_tests, place_test, place_answer, place_told, place_arms, arm_moves, place_choose}
+use Rattle.lowering.proofs.Placings.{IsSound, IsPlacing, nothing_placed, then_placing, emit_placing, point_placing, registers_placing}
 
 abbrev is_there : Begin → Bool
 is_there (Here point) = true

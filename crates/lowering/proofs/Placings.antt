@@ -13,7 +13,7 @@ use Rattle.flow.specs.declared.flow_graph.Variable.{Variable}
 use Rattle.flow.specs.declared.flow_graph.Flow.{Flow}
 use Rattle.flow.specs.Valid.{is_object_size}
 use Rattle.simulation.specs.Edges.{One, Two, NoEdge}
-use Rattle.lower.specs.Placing.{Made, emit, with_point, with_registers, behind_widths, stands_at, with_head, with_objects, failed}
+use Rattle.lowering.specs.Placing.{Made, emit, with_point, with_registers, behind_widths, stands_at, with_head, with_objects, failed}
 
 -- the edges out of a point
 abbrev pub outs : List FlowEdge → ℕ → List FlowEdge

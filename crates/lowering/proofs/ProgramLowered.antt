@@ -8,11 +8,11 @@ use Rattle.simulation.specs.Names.{Name}
 use Rattle.simulation.specs.Functions.{AreFunctionsLowered, IsMainLowered}
 use Rattle.simulation.specs.Running.{Setting, Result}
 use Rattle.simulation.specs.Starting.{IsProgramLowered}
-use Rattle.lower.specs.Lowering.{Functions, flow_function, place_functions, with_main}
-use Rattle.lower.specs.Placing.{named_from}
-use Rattle.lower.proofs.FunctionsLowered.{front_found, IsBodySpelled, IsPlacedAt, placed_at, function_lowered, main_lowered}
-use Rattle.lower.proofs.GraphParts.{IsGraphOf, statics_made_of}
-use Rattle.lower.proofs.StaticsLowered.{HasStatics, HasSteps, statics_lowered}
+use Rattle.lowering.specs.Lowering.{Functions, flow_function, place_functions, with_main}
+use Rattle.lowering.specs.Placing.{named_from}
+use Rattle.lowering.proofs.FunctionsLowered.{front_found, IsBodySpelled, IsPlacedAt, placed_at, function_lowered, main_lowered}
+use Rattle.lowering.proofs.GraphParts.{IsGraphOf, statics_made_of}
+use Rattle.lowering.proofs.StaticsLowered.{HasStatics, HasSteps, statics_lowered}
 
 -- a function where it was placed
 abbrev pub At : (t : Text) → ℕ → Function t.Stmt → Type 0

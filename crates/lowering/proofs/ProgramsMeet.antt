@@ -18,18 +18,18 @@ use Rattle.simulation.specs.Names.{Name}
 use Rattle.simulation.specs.Running.{Setting, Running, Result, GivesNothing}
 use Rattle.simulation.specs.Starting.{IsProgramLowered}
 use Rattle.simulation.proofs.Whole.{programs_meet}
-use Rattle.lower.specs.Lowering.{main_number, flow_of}
-use Rattle.lower.specs.Placing.{Made, named_from}
-use Rattle.lower.proofs.BodiesSpelled.{IsFunctionSpelled, functions_of, body_there, second_there, second_stands, statics_placing}
-use Rattle.lower.proofs.FunctionsLowered.{IsBodySpelled, main_lowered}
-use Rattle.lower.proofs.GraphParts.{IsGraphOf, is_graph_of, statics_made_of, placed_of, PlacesLocals, has_statics, main_is_there}
+use Rattle.lowering.specs.Lowering.{main_number, flow_of}
+use Rattle.lowering.specs.Placing.{Made, named_from}
+use Rattle.lowering.proofs.BodiesSpelled.{IsFunctionSpelled, functions_of, body_there, second_there, second_stands, statics_placing}
+use Rattle.lowering.proofs.FunctionsLowered.{IsBodySpelled, main_lowered}
+use Rattle.lowering.proofs.GraphParts.{IsGraphOf, is_graph_of, statics_made_of, placed_of, PlacesLocals, has_statics, main_is_there}
 use Rattle.flow.specs.declared.flow_graph.Variable.{Variable}
-use Rattle.lower.proofs.Placings.{IsPlacing, AreLocal}
-use Rattle.lower.proofs.StaticsMade.{AreLocal as AreLocalThere}
-use Rattle.lower.proofs.ProgramLowered.{functions_lowered, begins_lowered, program_lowered}
-use Rattle.lower.proofs.SpellingCalls.{given_of}
-use Rattle.lower.proofs.StaticsLowered.{told}
-use Rattle.lower.proofs.StepsEnough.{steps_enough}
+use Rattle.lowering.proofs.Placings.{IsPlacing, AreLocal}
+use Rattle.lowering.proofs.StaticsMade.{AreLocal as AreLocalThere}
+use Rattle.lowering.proofs.ProgramLowered.{functions_lowered, begins_lowered, program_lowered}
+use Rattle.lowering.proofs.SpellingCalls.{given_of}
+use Rattle.lowering.proofs.StaticsLowered.{told}
+use Rattle.lowering.proofs.StepsEnough.{steps_enough}
 
 -- names are told of as they are
 pub told_same : (names : List Name) → told names ≡ names

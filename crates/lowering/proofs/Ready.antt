@@ -13,13 +13,13 @@ use Rattle.simulation.specs.Edges.{One, Two, NoEdge}
 use Rattle.simulation.specs.Lowered.{Stop}
 use Rattle.simulation.specs.Running.{Setting, Running}
 use Rattle.simulation.specs.Slots.{Slot, InRegister, KnownAs, Truth, Gone, is_free, is_whole}
-use Rattle.lower.specs.Kinds.{width}
-use Rattle.lower.specs.Moves.{Move, Emits, Parts, Stops, Fails}
-use Rattle.lower.specs.Placing.{Made, Around, with_point, along_at, go}
-use Rattle.lower.proofs.Jumping.{AreJumps, own_new, jumps_more, jumps_else}
-use Rattle.lower.proofs.Placings.{IsSound, IsPlacing, then_placing, point_placing, IsSpelled, spelled_point, spelled_first, spelled_rest, emit_spelled, pair_spelled, none_spelled}
-use Rattle.lower.proofs.PlacedForms.{standing_placing}
-use Rattle.lower.proofs.Placed.{go_placing}
+use Rattle.lowering.specs.Kinds.{width}
+use Rattle.lowering.specs.Moves.{Move, Emits, Parts, Stops, Fails}
+use Rattle.lowering.specs.Placing.{Made, Around, with_point, along_at, go}
+use Rattle.lowering.proofs.Jumping.{AreJumps, own_new, jumps_more, jumps_else}
+use Rattle.lowering.proofs.Placings.{IsSound, IsPlacing, then_placing, point_placing, IsSpelled, spelled_point, spelled_first, spelled_rest, emit_spelled, pair_spelled, none_spelled}
+use Rattle.lowering.proofs.PlacedForms.{standing_placing}
+use Rattle.lowering.proofs.Placed.{go_placing}
 
 -- registers of operands lie below a number
 abbrev pub AreBelow : ℕ → List Slot → Type 0

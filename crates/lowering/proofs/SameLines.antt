@@ -8,12 +8,12 @@ use Rattle.c_machine.specs.declared.kind.Kind.{Kind}
 use Rattle.c_machine.specs.declared.kind.Kind.TheVariants.{Integer, Pointer, Array, Struct, Void}
 use Rattle.c_machine.specs.Program.{Program}
 use Rattle.c_machine.specs.Trees.{text_of}
-use Rattle.lower.specs.declared.conversion.Conversion.{Conversion}
-use Rattle.lower.specs.declared.conversion.Conversion.TheVariants.{Nothing, Resized, Tested, Dropped, Unknown}
-use Rattle.lower.specs.Kinds.{as_operand}
-use Rattle.lower.specs.Moves.{Converts}
-use Rattle.lower.specs.Table.{load_line, plus_line, unary_line, assign_line, update_line, count_line, argument_moves}
-use Rattle.lower.specs.Told.{trees}
+use Rattle.lowering.specs.declared.conversion.Conversion.{Conversion}
+use Rattle.lowering.specs.declared.conversion.Conversion.TheVariants.{Nothing, Resized, Tested, Dropped, Unknown}
+use Rattle.lowering.specs.Kinds.{as_operand}
+use Rattle.lowering.specs.Moves.{Converts}
+use Rattle.lowering.specs.Table.{load_line, plus_line, unary_line, assign_line, update_line, count_line, argument_moves}
+use Rattle.lowering.specs.Told.{trees}
 use Rattle.typing.specs.ctypes.Integers.{promoted}
 
 pub same_load : (p : Program) (expr : Expr) (spare into r : ℕ) (bytes : Option ℕ) →

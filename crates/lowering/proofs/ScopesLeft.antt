@@ -9,8 +9,8 @@ use Rattle.cbase.specs.declared.tree.stmt.Stmt.{Stmt}
 use Rattle.c_machine.specs.State.{is_named}
 use Rattle.flow.specs.declared.flow_graph.Width.{Width}
 use Rattle.simulation.specs.Names.{Name, names_of, variables_of, variable_in}
-use Rattle.lower.specs.Moves.{MoveOf}
-use Rattle.lower.specs.Placing.{leaves, registers_left}
+use Rattle.lowering.specs.Moves.{MoveOf}
+use Rattle.lowering.specs.Placing.{leaves, registers_left}
 
 pub next_scope : (front : List ℕ) (scope : List Name) (scopes : List (List Name)) →
     (front ++ variables_of scope) ++ variables_of (names_of scopes) ≡ front ++ variables_of (names_of (scope ∷ scopes))

@@ -26,8 +26,8 @@ use Rattle.c_text.specs.declared.standing.Standing.{Standing as Told}
 use Rattle.c_text.specs.declared.standing.Standing.TheVariants.{Object, Constant, BuiltIn, Body, Nothing}
 use Rattle.c_text.specs.Standing.{standing_by}
 use Rattle.c_text.specs.Stands.{StandsFor}
-use Rattle.lower.specs.Reading.{IsKind, IsValueKind, IsConstant, IsNoConstant, IsObjectToken, IsForm, IsKnown, IsMember, token_of}
-use Rattle.lower.specs.Source.{Reads}
+use Rattle.lowering.specs.Reading.{IsKind, IsValueKind, IsConstant, IsNoConstant, IsObjectToken, IsForm, IsKnown, IsMember, token_of}
+use Rattle.lowering.specs.Source.{Reads}
 
 -- what is kept of a type is that type
 bytes_of : (made : ℕ → Kind) (bytes : ℕ) (fits : Bool) (kind : Kind) → Some kind ≡ option_map made (if fits then Some bytes else None) → kind ≡ made bytes

@@ -18,16 +18,16 @@ use Rattle.simulation.specs.Names.{Name, names_of, variable_in}
 use Rattle.simulation.specs.Running.{Setting, Running}
 use Rattle.simulation.specs.Slots.{Slot, InRegister, is_free}
 use Rattle.simulation.specs.Lowered.{Stop, LetsGo, Values, Addresses, Numbers, Objects, Statics, Shifts, ShiftsNothing, Loads, LoadsNothing, IsNothing}
-use Rattle.lower.specs.Kinds.{width, is_void, is_address, fits}
-use Rattle.lower.specs.LetGo.{AsValue, AsPlace, left_of, left_by_load, left_by_value, left_by_place}
-use Rattle.lower.specs.Moves.{Move, Emits, Evaluates, Locates, Fails}
-use Rattle.lower.specs.Table.{object_moves, named_moves, shifts, shifted_in, place_line, load_line, void_line, kind_made, is_made}
-use Rattle.lower.specs.Placing.{Made, Around, with_point, with_registers, failed, stands_at, after, along, along_line, variable_of, place_value_form, go}
-use Rattle.lower.proofs.KindFacts.{IsAsPlain, loaded_as, unloaded_as, of_address, address_width, not_holds, let_go, in_let_go}
-use Rattle.lower.proofs.LeftOf.{own_value, own_place}
-use Rattle.lower.proofs.Modes.{IsAround, found_behind, found_first, Rest, Ready, IsAt}
-use Rattle.lower.proofs.Placings.{IsSpelled, spelled_registers}
-use Rattle.lower.proofs.Ready.{IsTarget, own_target, same_target, part_ready, own_free, mid, head_spelled, tail_spelled, one_at, none_at, never}
+use Rattle.lowering.specs.Kinds.{width, is_void, is_address, fits}
+use Rattle.lowering.specs.LetGo.{AsValue, AsPlace, left_of, left_by_load, left_by_value, left_by_place}
+use Rattle.lowering.specs.Moves.{Move, Emits, Evaluates, Locates, Fails}
+use Rattle.lowering.specs.Table.{object_moves, named_moves, shifts, shifted_in, place_line, load_line, void_line, kind_made, is_made}
+use Rattle.lowering.specs.Placing.{Made, Around, with_point, with_registers, failed, stands_at, after, along, along_line, variable_of, place_value_form, go}
+use Rattle.lowering.proofs.KindFacts.{IsAsPlain, loaded_as, unloaded_as, of_address, address_width, not_holds, let_go, in_let_go}
+use Rattle.lowering.proofs.LeftOf.{own_value, own_place}
+use Rattle.lowering.proofs.Modes.{IsAround, found_behind, found_first, Rest, Ready, IsAt}
+use Rattle.lowering.proofs.Placings.{IsSpelled, spelled_registers}
+use Rattle.lowering.proofs.Ready.{IsTarget, own_target, same_target, part_ready, own_free, mid, head_spelled, tail_spelled, one_at, none_at, never}
 
 module _ (t : Text) (flow : Flow) (setting : Setting) (running : Running) where
   abbrev Goes_on : Around → List (Stop t) → List (Stop t) → List (TaskIn t) → List Slot → ℕ → Type 0

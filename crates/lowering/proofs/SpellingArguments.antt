@@ -11,15 +11,15 @@ use Rattle.flow.specs.declared.flow_graph.Standing.{Standing as Stood}
 use Rattle.simulation.specs.Lowered.{Stop}
 use Rattle.simulation.specs.Running.{Setting, Running}
 use Rattle.simulation.specs.Slots.{Slot}
-use Rattle.lower.specs.LetGo.{left_as, left_by_arguments, left_of}
-use Rattle.lower.specs.Moves.{Move, Converts}
-use Rattle.lower.specs.Table.{argument_moves}
-use Rattle.lower.specs.Placing.{Made, Around, with_point, after, Begin, New, Goes as Goes_on, begins, along_from, along_at, go}
-use Rattle.lower.proofs.KindFacts.{IsAsPlain}
-use Rattle.lower.proofs.LeftOf.{own_as}
-use Rattle.lower.proofs.Modes.{IsAround, Rest, Ready, ConvertIs}
-use Rattle.lower.proofs.Placings.{IsSpelled}
-use Rattle.lower.proofs.Ready.{slot_of, IsReady, part_ready, kind_ready, own_target, own_free, mid, head_spelled, tail_spelled, fills}
+use Rattle.lowering.specs.LetGo.{left_as, left_by_arguments, left_of}
+use Rattle.lowering.specs.Moves.{Move, Converts}
+use Rattle.lowering.specs.Table.{argument_moves}
+use Rattle.lowering.specs.Placing.{Made, Around, with_point, after, Begin, New, Goes as Goes_on, begins, along_from, along_at, go}
+use Rattle.lowering.proofs.KindFacts.{IsAsPlain}
+use Rattle.lowering.proofs.LeftOf.{own_as}
+use Rattle.lowering.proofs.Modes.{IsAround, Rest, Ready, ConvertIs}
+use Rattle.lowering.proofs.Placings.{IsSpelled}
+use Rattle.lowering.proofs.Ready.{slot_of, IsReady, part_ready, kind_ready, own_target, own_free, mid, head_spelled, tail_spelled, fills}
 
 pub max_first : (one other left : ℕ) → max one other ≤ left → one ≤ left
 max_first one other left less = omega arith

@@ -18,17 +18,17 @@ use Rattle.simulation.specs.Edges.{One}
 use Rattle.simulation.specs.Running.{Setting, Running}
 use Rattle.simulation.specs.Slots.{Slot, InRegister, KnownAs, Gone, is_free}
 use Rattle.simulation.specs.Lowered.{Stop, EndsRuns, Frees, Assumes, Inputs, Expects, Puts, Forgets}
-use Rattle.lower.specs.Kinds.{width, is_void}
-use Rattle.lower.specs.LetGo.{left_as, left_by_arguments, behind_spare, left_by_built_in, left_of}
-use Rattle.lower.specs.Moves.{Move, Emits, Converts, Stops, Fails}
-use Rattle.lower.specs.Table.{argument_moves, built_in_line, beside, expect_moves}
-use Rattle.lower.specs.Placing.{Made, Around, with_point, with_registers, stands_at, after, along, along_at, along_line, go}
-use Rattle.lower.proofs.Jumping.{jumps_more, own_new}
-use Rattle.lower.proofs.KindFacts.{IsAsPlain, slot_made}
-use Rattle.lower.proofs.Modes.{IsAround, Rest, Ready, ConvertIs}
-use Rattle.lower.proofs.Placings.{IsSpelled, spelled_registers}
-use Rattle.lower.proofs.Ready.{below_more, free_below, free_beside, slot_of, IsTarget, same_target, part_ready, mid, head_spelled, tail_spelled, one_at, none_at, never, fills}
-use Rattle.lower.proofs.SpellingArguments.{own_argument, first_argument, max_first}
+use Rattle.lowering.specs.Kinds.{width, is_void}
+use Rattle.lowering.specs.LetGo.{left_as, left_by_arguments, behind_spare, left_by_built_in, left_of}
+use Rattle.lowering.specs.Moves.{Move, Emits, Converts, Stops, Fails}
+use Rattle.lowering.specs.Table.{argument_moves, built_in_line, beside, expect_moves}
+use Rattle.lowering.specs.Placing.{Made, Around, with_point, with_registers, stands_at, after, along, along_at, along_line, go}
+use Rattle.lowering.proofs.Jumping.{jumps_more, own_new}
+use Rattle.lowering.proofs.KindFacts.{IsAsPlain, slot_made}
+use Rattle.lowering.proofs.Modes.{IsAround, Rest, Ready, ConvertIs}
+use Rattle.lowering.proofs.Placings.{IsSpelled, spelled_registers}
+use Rattle.lowering.proofs.Ready.{below_more, free_below, free_beside, slot_of, IsTarget, same_target, part_ready, mid, head_spelled, tail_spelled, one_at, none_at, never, fills}
+use Rattle.lowering.proofs.SpellingArguments.{own_argument, first_argument, max_first}
 
 in_max : (one other : ℕ) → one ≤ max one other
 in_max one other = omega arith

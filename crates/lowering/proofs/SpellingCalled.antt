@@ -15,20 +15,20 @@ use Rattle.flow.specs.declared.flow_graph.Flow.{Flow}
 use Rattle.simulation.specs.Running.{Setting, Running}
 use Rattle.simulation.specs.Slots.{Slot, InRegister, KnownAs, Gone}
 use Rattle.simulation.specs.Lowered.{Stop, Values}
-use Rattle.lower.specs.Kinds.{width, is_void, is_address, fits}
-use Rattle.lower.specs.Known.{size_as, product_as}
-use Rattle.lower.specs.LetGo.{left_as, left_by_arguments, left_by_built_in, left_by_body, left_by_call, left_by_value, leaves_nothing, fills as fills_here, fills_by, left_of}
-use Rattle.lower.specs.Moves.{Fails}
-use Rattle.lower.specs.Table.{gives, have_values, built_in_line, body_line, call_line, result_of, kind_made, is_made, void_line}
-use Rattle.lower.specs.Placing.{Made, Around, with_registers, stands_at, along_line, place_value_form, go}
-use Rattle.lower.proofs.KindFacts.{IsAsPlain, of_address, address_width, fitted, not_holds, let_go}
-use Rattle.lower.proofs.Modes.{IsAround, Rest, Ready, ConvertIs}
-use Rattle.lower.proofs.Placings.{IsSpelled, spelled_registers}
-use Rattle.lower.proofs.Ready.{IsTarget, never}
-use Rattle.lower.proofs.SpellingArguments.{max_first, max_second}
-use Rattle.lower.proofs.SpellingBuiltIns.{free_form, assume_form, input_form, ends_form, expect_form}
-use Rattle.lower.proofs.SpellingMemory.{malloc_form, calloc_form, memset_form, copies_form}
-use Rattle.lower.proofs.SpellingCalls.{given_of, given_in, body_form}
+use Rattle.lowering.specs.Kinds.{width, is_void, is_address, fits}
+use Rattle.lowering.specs.Known.{size_as, product_as}
+use Rattle.lowering.specs.LetGo.{left_as, left_by_arguments, left_by_built_in, left_by_body, left_by_call, left_by_value, leaves_nothing, fills as fills_here, fills_by, left_of}
+use Rattle.lowering.specs.Moves.{Fails}
+use Rattle.lowering.specs.Table.{gives, have_values, built_in_line, body_line, call_line, result_of, kind_made, is_made, void_line}
+use Rattle.lowering.specs.Placing.{Made, Around, with_registers, stands_at, along_line, place_value_form, go}
+use Rattle.lowering.proofs.KindFacts.{IsAsPlain, of_address, address_width, fitted, not_holds, let_go}
+use Rattle.lowering.proofs.Modes.{IsAround, Rest, Ready, ConvertIs}
+use Rattle.lowering.proofs.Placings.{IsSpelled, spelled_registers}
+use Rattle.lowering.proofs.Ready.{IsTarget, never}
+use Rattle.lowering.proofs.SpellingArguments.{max_first, max_second}
+use Rattle.lowering.proofs.SpellingBuiltIns.{free_form, assume_form, input_form, ends_form, expect_form}
+use Rattle.lowering.proofs.SpellingMemory.{malloc_form, calloc_form, memset_form, copies_form}
+use Rattle.lowering.proofs.SpellingCalls.{given_of, given_in, body_form}
 
 void_address : (kind : Kind) → is_address kind ≡ true → is_void kind ≡ false
 void_address (Integer of) is = refl

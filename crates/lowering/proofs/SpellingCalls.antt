@@ -16,16 +16,16 @@ use Rattle.simulation.specs.Edges.{One}
 use Rattle.simulation.specs.Running.{Setting, Running, Result, GivesNothing, Gives, Argument, registers_of, slots_of, AreTaken, result_slot, is_free_result}
 use Rattle.simulation.specs.Slots.{Slot, InRegister, KnownAs, is_free, are_free}
 use Rattle.simulation.specs.Lowered.{Stop, Calls}
-use Rattle.lower.specs.Kinds.{width, is_void, is_address}
-use Rattle.lower.specs.Moves.{Emits, Fails}
-use Rattle.lower.specs.Table.{argument_moves, registers_from, result_into, are_sized, body_line}
-use Rattle.lower.specs.LetGo.{left_by_arguments, left_of}
-use Rattle.lower.specs.Placing.{Made, Around, with_point, with_registers, stands_at, along_at, along_line, go}
-use Rattle.lower.proofs.KindFacts.{not_holds, slot_made}
-use Rattle.lower.proofs.Modes.{IsAround, Rest, Ready, ConvertIs}
-use Rattle.lower.proofs.Placings.{IsSpelled, spelled_registers}
-use Rattle.lower.proofs.Ready.{AreBelow, below_more, free_below, head_spelled, one_at, never}
-use Rattle.lower.proofs.SpellingArguments.{first_argument}
+use Rattle.lowering.specs.Kinds.{width, is_void, is_address}
+use Rattle.lowering.specs.Moves.{Emits, Fails}
+use Rattle.lowering.specs.Table.{argument_moves, registers_from, result_into, are_sized, body_line}
+use Rattle.lowering.specs.LetGo.{left_by_arguments, left_of}
+use Rattle.lowering.specs.Placing.{Made, Around, with_point, with_registers, stands_at, along_at, along_line, go}
+use Rattle.lowering.proofs.KindFacts.{not_holds, slot_made}
+use Rattle.lowering.proofs.Modes.{IsAround, Rest, Ready, ConvertIs}
+use Rattle.lowering.proofs.Placings.{IsSpelled, spelled_registers}
+use Rattle.lowering.proofs.Ready.{AreBelow, below_more, free_below, head_spelled, one_at, never}
+use Rattle.lowering.proofs.SpellingArguments.{first_argument}
 
 -- what a function gives, by the kind of its result: a number leads to no block
 abbrev pub given_of : Kind → Result

@@ -18,21 +18,21 @@ use Rattle.simulation.specs.Edges.{One, Two}
 use Rattle.simulation.specs.Running.{Setting, Running}
 use Rattle.simulation.specs.Slots.{Slot, InRegister, KnownAs, Truth, is_free}
 use Rattle.simulation.specs.Lowered.{Stop, Puts, Makes, Answers as AnswersOf, AndsOn, AndsOff, OrsOn, OrsOff, Asks as AsksTruth, ConvertsAsking, PicksOne, PicksOther}
-use Rattle.lower.specs.Kinds.{width, is_void, fits, conversion}
-use Rattle.lower.specs.declared.conversion.Conversion.{Conversion}
-use Rattle.lower.specs.declared.conversion.Conversion.TheVariants.{Tested}
-use Rattle.lower.specs.LetGo.{AsTest, AsValue, left_of, left_as, left_converted, left_by_test, left_by_value}
-use Rattle.lower.specs.Moves.{Move, Emits, Parts, Evaluates, Asks, Answers, Converts, taking, zeros}
-use Rattle.lower.specs.Table.{is_made, kind_made}
-use Rattle.lower.specs.Placing.{Made, Around, emit, with_point, with_registers, with_spares, stands_at, after, along, along_at, along_line, zero_test, two_tests, place_test, place_answer, place_value_form, in_front, place_arms, place_choose, go}
-use Rattle.lower.proofs.KindFacts.{IsAsPlain, Means, conversion_means, slot_made, let_go}
-use Rattle.lower.proofs.LeftOf.{own_value}
-use Rattle.lower.proofs.Modes.{IsAround, is_condition, Rest, Ready, IsAt, AnswerIs, TruthIs}
-use Rattle.lower.proofs.Placings.{outs, IsPlacing, then_placing, point_placing, emit_placing, IsSpelled, spelled_point, spelled_registers, spelled_first, spelled_rest, emit_spelled}
-use Rattle.lower.proofs.PlacedForms.{along_placing}
-use Rattle.lower.proofs.Placed.{go_placing}
-use Rattle.lower.proofs.Ready.{slot_of, AreSpare, free_beside, IsTarget, own_target, same_target, part_ready, own_free, mid, head_spelled, tail_spelled, one_at, pair_at}
-use Rattle.lower.proofs.Spelling.{unfolds, made_fits, not_void, FormIs}
+use Rattle.lowering.specs.Kinds.{width, is_void, fits, conversion}
+use Rattle.lowering.specs.declared.conversion.Conversion.{Conversion}
+use Rattle.lowering.specs.declared.conversion.Conversion.TheVariants.{Tested}
+use Rattle.lowering.specs.LetGo.{AsTest, AsValue, left_of, left_as, left_converted, left_by_test, left_by_value}
+use Rattle.lowering.specs.Moves.{Move, Emits, Parts, Evaluates, Asks, Answers, Converts, taking, zeros}
+use Rattle.lowering.specs.Table.{is_made, kind_made}
+use Rattle.lowering.specs.Placing.{Made, Around, emit, with_point, with_registers, with_spares, stands_at, after, along, along_at, along_line, zero_test, two_tests, place_test, place_answer, place_value_form, in_front, place_arms, place_choose, go}
+use Rattle.lowering.proofs.KindFacts.{IsAsPlain, Means, conversion_means, slot_made, let_go}
+use Rattle.lowering.proofs.LeftOf.{own_value}
+use Rattle.lowering.proofs.Modes.{IsAround, is_condition, Rest, Ready, IsAt, AnswerIs, TruthIs}
+use Rattle.lowering.proofs.Placings.{outs, IsPlacing, then_placing, point_placing, emit_placing, IsSpelled, spelled_point, spelled_registers, spelled_first, spelled_rest, emit_spelled}
+use Rattle.lowering.proofs.PlacedForms.{along_placing}
+use Rattle.lowering.proofs.Placed.{go_placing}
+use Rattle.lowering.proofs.Ready.{slot_of, AreSpare, free_beside, IsTarget, own_target, same_target, part_ready, own_free, mid, head_spelled, tail_spelled, one_at, pair_at}
+use Rattle.lowering.proofs.Spelling.{unfolds, made_fits, not_void, FormIs}
 
 -- two points taken in front, a part from the point that was there, and a part from each of the two
 pub spelled_three : {flow : Flow} {made made3 made4 made5 : Made} {from : ℕ} (standing : Stood) → IsPlacing (with_point standing (with_point standing made)) from made3 →

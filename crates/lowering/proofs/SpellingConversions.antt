@@ -20,19 +20,19 @@ use Rattle.simulation.specs.Running.{Setting, Running}
 use Rattle.simulation.specs.Slots.{Slot, InRegister, KnownAs, IsPlainWhere}
 use Rattle.simulation.specs.Turning.{Turned}
 use Rattle.simulation.specs.Lowered.{Stop, Converts as StaysAs, ConvertsBy, ConvertsAway}
-use Rattle.lower.specs.Kinds.{width, is_void, is_address, conversion}
-use Rattle.lower.specs.declared.conversion.Conversion.{Conversion}
-use Rattle.lower.specs.declared.conversion.Conversion.TheVariants.{Nothing, Resized, Tested, Dropped, Unknown as NoConversion}
-use Rattle.lower.specs.LetGo.{AsValue, AsWork, AsTest, left_of, left_as, left_converted, left_by_value}
-use Rattle.lower.specs.Moves.{Move, Emits, Evaluates}
-use Rattle.lower.specs.Table.{converted_line, void_line}
-use Rattle.lower.specs.Placing.{Made, Around, with_point, with_registers, stands_at, after, along_line, go}
-use Rattle.lower.proofs.KindFacts.{IsAsPlain, Means, conversion_means, slot_made, decayed_slot, let_go, in_let_go}
-use Rattle.lower.proofs.LeftOf.{own_value}
-use Rattle.lower.proofs.Modes.{IsAround, Rest, Ready, IsAt, ConvertIs}
-use Rattle.lower.proofs.Placings.{IsSpelled, spelled_registers}
-use Rattle.lower.proofs.Ready.{slot_of, IsTarget, own_target, same_target, part_ready, own_free, mid, head_spelled, tail_spelled, one_at, never}
-use Rattle.lower.proofs.Spelling.{unfolds, not_void, FormIs}
+use Rattle.lowering.specs.Kinds.{width, is_void, is_address, conversion}
+use Rattle.lowering.specs.declared.conversion.Conversion.{Conversion}
+use Rattle.lowering.specs.declared.conversion.Conversion.TheVariants.{Nothing, Resized, Tested, Dropped, Unknown as NoConversion}
+use Rattle.lowering.specs.LetGo.{AsValue, AsWork, AsTest, left_of, left_as, left_converted, left_by_value}
+use Rattle.lowering.specs.Moves.{Move, Emits, Evaluates}
+use Rattle.lowering.specs.Table.{converted_line, void_line}
+use Rattle.lowering.specs.Placing.{Made, Around, with_point, with_registers, stands_at, after, along_line, go}
+use Rattle.lowering.proofs.KindFacts.{IsAsPlain, Means, conversion_means, slot_made, decayed_slot, let_go, in_let_go}
+use Rattle.lowering.proofs.LeftOf.{own_value}
+use Rattle.lowering.proofs.Modes.{IsAround, Rest, Ready, IsAt, ConvertIs}
+use Rattle.lowering.proofs.Placings.{IsSpelled, spelled_registers}
+use Rattle.lowering.proofs.Ready.{slot_of, IsTarget, own_target, same_target, part_ready, own_free, mid, head_spelled, tail_spelled, one_at, never}
+use Rattle.lowering.proofs.Spelling.{unfolds, not_void, FormIs}
 
 module _ (t : Text) (flow : Flow) (setting : Setting) (running : Running) where
   abbrev Goes_on : Around → List (Stop t) → List (Stop t) → List (TaskIn t) → List Slot → ℕ → Type 0

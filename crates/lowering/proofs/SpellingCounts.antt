@@ -28,23 +28,23 @@ use Rattle.simulation.specs.Running.{Setting, Running}
 use Rattle.simulation.specs.Slots.{Slot, InRegister, Suits, is_free}
 use Rattle.simulation.specs.Turning.{CalculatesWith, CalculatedWith}
 use Rattle.simulation.specs.Lowered.{Stop, Counts, CountsNew, CountsOld}
-use Rattle.lower.specs.Kinds.{width, fits, conversion, as_operand, Sides, sides, tested, made_by}
-use Rattle.lower.specs.declared.conversion.Conversion.{Conversion}
-use Rattle.lower.specs.declared.conversion.Conversion.TheVariants.{Nothing, Resized, Unknown as NoConversion}
-use Rattle.lower.specs.LetGo.{AsPlace, left_of}
-use Rattle.lower.specs.Moves.{Move, Emits, Locates, Fails, resizes, adapts, stands_in, combines}
-use Rattle.lower.specs.Table.{keeps, one_bytes, one_change, count_line}
-use Rattle.lower.specs.Placing.{Made, Around, with_point, with_registers, stands_at, after, along, along_line, go}
-use Rattle.lower.proofs.ComputedFits.{power_some}
-use Rattle.lower.proofs.KindFacts.{IsAsPlain, Means, conversion_means, fitted, let_go, let_go_made}
-use Rattle.lower.proofs.LeftOf.{own_place}
-use Rattle.lower.proofs.Modes.{IsAround, Rest, Ready, IsAt}
-use Rattle.lower.proofs.Operating.{turn_of, size_by, plain_by, is_turn, operand_whole, IsCombined, NoneCombined, is_computing, combining}
-use Rattle.lower.proofs.Placings.{IsSpelled, spelled_registers}
-use Rattle.lower.proofs.Ready.{AreBelow, below_more, free_beside, own_target, part_ready, own_free, mid, head_spelled, tail_spelled, fills, one_at, never}
-use Rattle.lower.proofs.Spelling.{unfolds, made_fits, not_void, lets_go, FormIs, WorkFormIs}
-use Rattle.lower.proofs.SpellingOperators.{in_place, AreNew, resizes_new, Spells, edge_then, fails_then, turns_then}
-use Rattle.lower.proofs.SpellingUpdates.{adapt_of, adapt_size, adapt_plain, adapted_size, adapted_plain, stored_value, scalar_value, scalar_width, loaded_plain, calculated_same, adapts_then, adapts_new}
+use Rattle.lowering.specs.Kinds.{width, fits, conversion, as_operand, Sides, sides, tested, made_by}
+use Rattle.lowering.specs.declared.conversion.Conversion.{Conversion}
+use Rattle.lowering.specs.declared.conversion.Conversion.TheVariants.{Nothing, Resized, Unknown as NoConversion}
+use Rattle.lowering.specs.LetGo.{AsPlace, left_of}
+use Rattle.lowering.specs.Moves.{Move, Emits, Locates, Fails, resizes, adapts, stands_in, combines}
+use Rattle.lowering.specs.Table.{keeps, one_bytes, one_change, count_line}
+use Rattle.lowering.specs.Placing.{Made, Around, with_point, with_registers, stands_at, after, along, along_line, go}
+use Rattle.lowering.proofs.ComputedFits.{power_some}
+use Rattle.lowering.proofs.KindFacts.{IsAsPlain, Means, conversion_means, fitted, let_go, let_go_made}
+use Rattle.lowering.proofs.LeftOf.{own_place}
+use Rattle.lowering.proofs.Modes.{IsAround, Rest, Ready, IsAt}
+use Rattle.lowering.proofs.Operating.{turn_of, size_by, plain_by, is_turn, operand_whole, IsCombined, NoneCombined, is_computing, combining}
+use Rattle.lowering.proofs.Placings.{IsSpelled, spelled_registers}
+use Rattle.lowering.proofs.Ready.{AreBelow, below_more, free_beside, own_target, part_ready, own_free, mid, head_spelled, tail_spelled, fills, one_at, never}
+use Rattle.lowering.proofs.Spelling.{unfolds, made_fits, not_void, lets_go, FormIs, WorkFormIs}
+use Rattle.lowering.proofs.SpellingOperators.{in_place, AreNew, resizes_new, Spells, edge_then, fails_then, turns_then}
+use Rattle.lowering.proofs.SpellingUpdates.{adapt_of, adapt_size, adapt_plain, adapted_size, adapted_plain, stored_value, scalar_value, scalar_width, loaded_plain, calculated_same, adapts_then, adapts_new}
 
 -- the type of a sum with a 1 has 4 bytes or more
 wide_by : (less less' : Bool) (left : IntegerType) (signed : Bool) → 4 ≤ left.bytes → 4 ≤ (if less then int else (if less' then left else integer left.bytes signed)).bytes

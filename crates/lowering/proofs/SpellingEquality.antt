@@ -27,19 +27,19 @@ use Rattle.flow.specs.declared.instruction.Instr.TheVariants as i
 use Rattle.simulation.specs.Running.{Setting, Running}
 use Rattle.simulation.specs.Slots.{Slot, KnownAs, Suits}
 use Rattle.simulation.specs.Lowered.{Stop, Compares}
-use Rattle.lower.specs.Kinds.{width, Sides, sides, as_operand}
-use Rattle.lower.specs.LetGo.{AsValue, left_of}
-use Rattle.lower.specs.Moves.{Move, resizes, stands_in}
-use Rattle.lower.specs.Placing.{Made, Around, equality, parts_where, go}
-use Rattle.lower.proofs.ComputedFits.{power_some}
-use Rattle.lower.proofs.KindFacts.{IsAsPlain}
-use Rattle.lower.proofs.Modes.{IsAround, Rest, Ready, IsAt}
-use Rattle.lower.proofs.Operating.{same_size, turn_of, size_by, plain_by, is_turn, operand_as, operand_whole}
-use Rattle.lower.proofs.Placings.{IsSpelled}
-use Rattle.lower.proofs.Ready.{free_beside, own_free, pair_at}
-use Rattle.lower.proofs.Spelling.{unfolds}
-use Rattle.lower.proofs.SpellingConditions.{KnownFormIs}
-use Rattle.lower.proofs.SpellingOperators.{AreNew, resizes_new, both_turn, two_values, own_registers}
+use Rattle.lowering.specs.Kinds.{width, Sides, sides, as_operand}
+use Rattle.lowering.specs.LetGo.{AsValue, left_of}
+use Rattle.lowering.specs.Moves.{Move, resizes, stands_in}
+use Rattle.lowering.specs.Placing.{Made, Around, equality, parts_where, go}
+use Rattle.lowering.proofs.ComputedFits.{power_some}
+use Rattle.lowering.proofs.KindFacts.{IsAsPlain}
+use Rattle.lowering.proofs.Modes.{IsAround, Rest, Ready, IsAt}
+use Rattle.lowering.proofs.Operating.{same_size, turn_of, size_by, plain_by, is_turn, operand_as, operand_whole}
+use Rattle.lowering.proofs.Placings.{IsSpelled}
+use Rattle.lowering.proofs.Ready.{free_beside, own_free, pair_at}
+use Rattle.lowering.proofs.Spelling.{unfolds}
+use Rattle.lowering.proofs.SpellingConditions.{KnownFormIs}
+use Rattle.lowering.proofs.SpellingOperators.{AreNew, resizes_new, both_turn, two_values, own_registers}
 
 -- numbers that fit their size are equal where their values are
 equal_same : (size : ℕ) (signed : Bool) (one other : ℕ) → one < 256 ^ size → other < 256 ^ size → is_equal size signed one other ≡ nat_eq one other

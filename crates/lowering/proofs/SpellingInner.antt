@@ -20,22 +20,22 @@ use Rattle.simulation.specs.Names.{Name, names_of, variables_of, are_new}
 use Rattle.simulation.specs.Running.{Setting, Running}
 use Rattle.simulation.specs.Slots.{Slot, InRegister, KnownAs, is_free, is_whole, are_in}
 use Rattle.simulation.proofs.Wider.{Within, wider}
-use Rattle.lower.specs.Kinds.{width, is_void, fits}
-use Rattle.lower.specs.LetGo.{AsValue, AsWork, left_by_value, left_of}
-use Rattle.lower.specs.Moves.{Move, Emits, Evaluates, Works, Does, run_of}
-use Rattle.lower.specs.Table.{ending, last_of, kind_of_last, is_made}
-use Rattle.lower.specs.Placing.{Made, Around, within, named_from, objects_in, with_objects, with_registers, with_point, stands_at, registers_of, after, enters, leaves, New, begins, along_at, along, last_moves, valued_moves, left_at_end, place_inner, place_value_form, go}
-use Rattle.lower.proofs.BlocksMade.{blocks_made}
-use Rattle.lower.proofs.Doing.{IsKept, DoesIs}
-use Rattle.lower.proofs.DoingBlocks.{scope_goes}
-use Rattle.lower.proofs.Jumping.{AreJumps, jumps_later, jumps_wider, in_block_jumps, in_rest, none_within}
-use Rattle.lower.proofs.KindFacts.{IsAsPlain, fitted, not_holds, let_go}
-use Rattle.lower.proofs.Modes.{IsAround, Ready, IsAt}
-use Rattle.lower.proofs.Placed.{go_placing, scope_placing}
-use Rattle.lower.proofs.Placings.{IsSpelled, spelled_registers}
-use Rattle.lower.proofs.Ready.{AreBelow, below_more, free_below, IsReady, IsTarget, mid, head_spelled, tail_spelled, one_at}
-use Rattle.lower.proofs.Statements.{free_run}
-use Rattle.lower.proofs.Stood.{stood_in}
+use Rattle.lowering.specs.Kinds.{width, is_void, fits}
+use Rattle.lowering.specs.LetGo.{AsValue, AsWork, left_by_value, left_of}
+use Rattle.lowering.specs.Moves.{Move, Emits, Evaluates, Works, Does, run_of}
+use Rattle.lowering.specs.Table.{ending, last_of, kind_of_last, is_made}
+use Rattle.lowering.specs.Placing.{Made, Around, within, named_from, objects_in, with_objects, with_registers, with_point, stands_at, registers_of, after, enters, leaves, New, begins, along_at, along, last_moves, valued_moves, left_at_end, place_inner, place_value_form, go}
+use Rattle.lowering.proofs.BlocksMade.{blocks_made}
+use Rattle.lowering.proofs.Doing.{IsKept, DoesIs}
+use Rattle.lowering.proofs.DoingBlocks.{scope_goes}
+use Rattle.lowering.proofs.Jumping.{AreJumps, jumps_later, jumps_wider, in_block_jumps, in_rest, none_within}
+use Rattle.lowering.proofs.KindFacts.{IsAsPlain, fitted, not_holds, let_go}
+use Rattle.lowering.proofs.Modes.{IsAround, Ready, IsAt}
+use Rattle.lowering.proofs.Placed.{go_placing, scope_placing}
+use Rattle.lowering.proofs.Placings.{IsSpelled, spelled_registers}
+use Rattle.lowering.proofs.Ready.{AreBelow, below_more, free_below, IsReady, IsTarget, mid, head_spelled, tail_spelled, one_at}
+use Rattle.lowering.proofs.Statements.{free_run}
+use Rattle.lowering.proofs.Stood.{stood_in}
 
 void_kind : (kind : Kind) → is_void kind ≡ true → kind ≡ Void
 void_kind (Integer of) is = absurd (false≢true is)

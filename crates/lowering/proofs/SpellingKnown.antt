@@ -26,8 +26,8 @@ use Rattle.simulation.specs.Lowered.{Stop, Lowered, Values, Addresses, IsKnown, 
 use Rattle.simulation.specs.Names.{Name}
 use Rattle.simulation.specs.Running.{Setting, Running}
 use Rattle.simulation.specs.Slots.{Slot, KnownAs, Truth}
-use Rattle.lower.specs.Known.{Asked, Value, Place as PlaceAsked, operated_on, applied_to, converted_to, answered, truth_of, loaded_from, named_word, name_word, both, and_then, or_else, picked, binary_word, word_as, value_word, place_word, known_word}
-use Rattle.lower.proofs.KnownWords.{converted_word, applied_word, operated_word, answered_word, truth_word, array_at, some_both, some_then, some_map}
+use Rattle.lowering.specs.Known.{Asked, Value, Place as PlaceAsked, operated_on, applied_to, converted_to, answered, truth_of, loaded_from, named_word, name_word, both, and_then, or_else, picked, binary_word, word_as, value_word, place_word, known_word}
+use Rattle.lowering.proofs.KnownWords.{converted_word, applied_word, operated_word, answered_word, truth_word, array_at, some_both, some_then, some_map}
 
 -- what becomes of a number is a number, whatever stands in the memory
 converted_number : (from to : Kind) (number : ℕ) → (other : ℕ) × ((memory : List Block) → as_kind memory from to (Plain number) ≡ Plain other)

@@ -18,19 +18,19 @@ use Rattle.simulation.specs.Edges.{One, Two}
 use Rattle.simulation.specs.Running.{Setting, Running}
 use Rattle.simulation.specs.Slots.{Slot, InRegister, KnownAs, Gone, is_free, is_whole}
 use Rattle.simulation.specs.Lowered.{Stop, Mallocs, Callocs, Fills, FillsKept, Copies, CopiesKept, copying}
-use Rattle.lower.specs.Kinds.{width, is_void}
-use Rattle.lower.specs.LetGo.{left_as, left_of}
-use Rattle.lower.specs.Known.{argument_word, size_in_word, size_as, both, product_word, product_as, known_word}
-use Rattle.lower.specs.Moves.{Move, Emits, Pairs, Converts}
-use Rattle.lower.specs.Table.{keeps, allocates, fill_moves, copy_moves}
-use Rattle.lower.specs.Placing.{Made, Around, with_point, with_registers, stands_at, after, Begin, New, Goes as Goes_on, begins, along_from, along_at, along, go}
-use Rattle.lower.proofs.Placings.{IsSpelled, spelled_registers, pair_spelled}
-use Rattle.lower.proofs.KnownWords.{some_both}
-use Rattle.lower.proofs.KindFacts.{both_free, slot_made}
-use Rattle.lower.proofs.Modes.{IsAround, Rest, Ready, ConvertIs}
-use Rattle.lower.proofs.Ready.{free_below, free_beside, slot_of, mid, head_spelled, tail_spelled, one_at, never, fills}
-use Rattle.lower.proofs.SpellingArguments.{own_argument}
-use Rattle.lower.proofs.SpellingKnown.{word_known, levels_known}
+use Rattle.lowering.specs.Kinds.{width, is_void}
+use Rattle.lowering.specs.LetGo.{left_as, left_of}
+use Rattle.lowering.specs.Known.{argument_word, size_in_word, size_as, both, product_word, product_as, known_word}
+use Rattle.lowering.specs.Moves.{Move, Emits, Pairs, Converts}
+use Rattle.lowering.specs.Table.{keeps, allocates, fill_moves, copy_moves}
+use Rattle.lowering.specs.Placing.{Made, Around, with_point, with_registers, stands_at, after, Begin, New, Goes as Goes_on, begins, along_from, along_at, along, go}
+use Rattle.lowering.proofs.Placings.{IsSpelled, spelled_registers, pair_spelled}
+use Rattle.lowering.proofs.KnownWords.{some_both}
+use Rattle.lowering.proofs.KindFacts.{both_free, slot_made}
+use Rattle.lowering.proofs.Modes.{IsAround, Rest, Ready, ConvertIs}
+use Rattle.lowering.proofs.Ready.{free_below, free_beside, slot_of, mid, head_spelled, tail_spelled, one_at, never, fills}
+use Rattle.lowering.proofs.SpellingArguments.{own_argument}
+use Rattle.lowering.proofs.SpellingKnown.{word_known, levels_known}
 
 -- a size is a number that is known
 small_size : (small : Bool) (number bytes : ℕ) → (if small then Some number else None) ≡ Some bytes → number ≡ bytes

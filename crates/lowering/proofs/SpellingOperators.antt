@@ -18,20 +18,20 @@ use Rattle.simulation.specs.Running.{Setting, Running}
 use Rattle.simulation.specs.Slots.{Slot, InRegister, is_free}
 use Rattle.simulation.specs.Turning.{Turns, Stays, Turned, Calculated}
 use Rattle.simulation.specs.Lowered.{Stop, Operates}
-use Rattle.lower.specs.Kinds.{width, is_address, fits, Sides, sides, made_by}
-use Rattle.lower.specs.declared.conversion.Conversion.{Conversion}
-use Rattle.lower.specs.declared.conversion.Conversion.TheVariants.{Nothing, Resized, Tested, Dropped, Unknown as NoConversion}
-use Rattle.lower.specs.LetGo.{AsValue, left_of, left_by_binary}
-use Rattle.lower.specs.Moves.{Move, Emits, Evaluates, Fails, Line, taking, resizes, stands_in, combines, operates}
-use Rattle.lower.specs.Table.{binary_line, kind_by_binary}
-use Rattle.lower.specs.Placing.{Made, Around, Begin, New, Goes, begins, with_point, with_registers, stands_at, after, along_from, along_at, along, along_line, go}
-use Rattle.lower.proofs.KindFacts.{IsAsPlain, fitted, address_width}
-use Rattle.lower.proofs.LeftOf.{own_value}
-use Rattle.lower.proofs.Modes.{IsAround, Rest, Ready, IsAt}
-use Rattle.lower.proofs.Operating.{turn_of, size_by, plain_by, is_turn, IsCombined, NoneCombined, is_computing, combining}
-use Rattle.lower.proofs.Placings.{IsSpelled, spelled_registers}
-use Rattle.lower.proofs.Ready.{free_beside, own_target, part_ready, slot_ready, own_free, mid, rest_made, head_spelled, tail_spelled, fills, one_at, never}
-use Rattle.lower.proofs.Spelling.{unfolds, unfolds_place, made_fits, not_void, FormIs, PlaceFormIs}
+use Rattle.lowering.specs.Kinds.{width, is_address, fits, Sides, sides, made_by}
+use Rattle.lowering.specs.declared.conversion.Conversion.{Conversion}
+use Rattle.lowering.specs.declared.conversion.Conversion.TheVariants.{Nothing, Resized, Tested, Dropped, Unknown as NoConversion}
+use Rattle.lowering.specs.LetGo.{AsValue, left_of, left_by_binary}
+use Rattle.lowering.specs.Moves.{Move, Emits, Evaluates, Fails, Line, taking, resizes, stands_in, combines, operates}
+use Rattle.lowering.specs.Table.{binary_line, kind_by_binary}
+use Rattle.lowering.specs.Placing.{Made, Around, Begin, New, Goes, begins, with_point, with_registers, stands_at, after, along_from, along_at, along, along_line, go}
+use Rattle.lowering.proofs.KindFacts.{IsAsPlain, fitted, address_width}
+use Rattle.lowering.proofs.LeftOf.{own_value}
+use Rattle.lowering.proofs.Modes.{IsAround, Rest, Ready, IsAt}
+use Rattle.lowering.proofs.Operating.{turn_of, size_by, plain_by, is_turn, IsCombined, NoneCombined, is_computing, combining}
+use Rattle.lowering.proofs.Placings.{IsSpelled, spelled_registers}
+use Rattle.lowering.proofs.Ready.{free_beside, own_target, part_ready, slot_ready, own_free, mid, rest_made, head_spelled, tail_spelled, fills, one_at, never}
+use Rattle.lowering.proofs.Spelling.{unfolds, unfolds_place, made_fits, not_void, FormIs, PlaceFormIs}
 
 pub same_map : {A : Type 0} (one : Option A) → one ≡ option_map (λ value. value) one
 same_map None = refl

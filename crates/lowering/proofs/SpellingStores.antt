@@ -14,17 +14,17 @@ use Rattle.flow.specs.declared.instruction.Instr.TheVariants as i
 use Rattle.simulation.specs.Running.{Setting, Running}
 use Rattle.simulation.specs.Slots.{Slot, InRegister, KnownAs, Gone}
 use Rattle.simulation.specs.Lowered.{Stop, Stores, StoresKept, CopiesStruct}
-use Rattle.lower.specs.Kinds.{is_void, fits}
-use Rattle.lower.specs.LetGo.{AsPlace, left_of, left_as, left_by_assign}
-use Rattle.lower.specs.Moves.{Move, Emits, Converts, Locates, Fails}
-use Rattle.lower.specs.Table.{store_line, assign_line, assigned}
-use Rattle.lower.specs.Placing.{Made, Around, Begin, New, Goes, with_point, with_registers, stands_at, after, begins, along_from, along_at, along, along_line, go}
-use Rattle.lower.proofs.KindFacts.{IsAsPlain, fitted, scalar_slot, both_free, let_go}
-use Rattle.lower.proofs.LeftOf.{own_place, own_as}
-use Rattle.lower.proofs.Modes.{IsAround, Rest, Ready, IsAt}
-use Rattle.lower.proofs.Placings.{IsSpelled, spelled_registers}
-use Rattle.lower.proofs.Ready.{free_beside, IsTarget, own_target, part_ready, slot_ready, own_free, mid, head_spelled, tail_spelled, fills, one_at, never}
-use Rattle.lower.proofs.Spelling.{Wanted, unfolds, made_fits, not_void, lets_go, FormIs, WorkFormIs}
+use Rattle.lowering.specs.Kinds.{is_void, fits}
+use Rattle.lowering.specs.LetGo.{AsPlace, left_of, left_as, left_by_assign}
+use Rattle.lowering.specs.Moves.{Move, Emits, Converts, Locates, Fails}
+use Rattle.lowering.specs.Table.{store_line, assign_line, assigned}
+use Rattle.lowering.specs.Placing.{Made, Around, Begin, New, Goes, with_point, with_registers, stands_at, after, begins, along_from, along_at, along, along_line, go}
+use Rattle.lowering.proofs.KindFacts.{IsAsPlain, fitted, scalar_slot, both_free, let_go}
+use Rattle.lowering.proofs.LeftOf.{own_place, own_as}
+use Rattle.lowering.proofs.Modes.{IsAround, Rest, Ready, IsAt}
+use Rattle.lowering.proofs.Placings.{IsSpelled, spelled_registers}
+use Rattle.lowering.proofs.Ready.{free_beside, IsTarget, own_target, part_ready, slot_ready, own_free, mid, head_spelled, tail_spelled, fills, one_at, never}
+use Rattle.lowering.proofs.Spelling.{Wanted, unfolds, made_fits, not_void, lets_go, FormIs, WorkFormIs}
 
 module _ (t : Text) (flow : Flow) (setting : Setting) (running : Running) where
   abbrev Goes_on : Around → List (Stop t) → List (Stop t) → List (TaskIn t) → List Slot → ℕ → Type 0

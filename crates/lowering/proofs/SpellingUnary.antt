@@ -31,22 +31,22 @@ use Rattle.simulation.specs.Running.{Setting, Running}
 use Rattle.simulation.specs.Slots.{Slot, InRegister, Suits, is_free}
 use Rattle.simulation.specs.Turning.{Stays, Turned, ComputedAround, CalculatedWith}
 use Rattle.simulation.specs.Lowered.{Stop, AppliesBy, Applies}
-use Rattle.lower.specs.Kinds.{width, is_void, fits, as_operand}
-use Rattle.lower.specs.declared.conversion.Conversion.{Conversion}
-use Rattle.lower.specs.declared.conversion.Conversion.TheVariants.{Nothing, Resized, Tested, Dropped, Unknown as NoConversion}
-use Rattle.lower.specs.LetGo.{AsValue, left_of, stays, in_spare_still}
-use Rattle.lower.specs.Moves.{Move, Emits, Evaluates, Fails, Line, taking, resizes, stands_in}
-use Rattle.lower.specs.Table.{plus_line, taken_from, unary_line, kind_by_unary}
-use Rattle.lower.specs.Placing.{Made, Around, with_point, with_registers, stands_at, after, along_line, go}
-use Rattle.lower.proofs.ComputedFits.{power_some}
-use Rattle.lower.proofs.KindFacts.{IsAsPlain, fitted}
-use Rattle.lower.proofs.LeftOf.{own_value}
-use Rattle.lower.proofs.Modes.{IsAround, Rest, Ready, IsAt}
-use Rattle.lower.proofs.Operating.{turn_of, size_by, plain_by, is_turn, operand_as, operand_size}
-use Rattle.lower.proofs.Placings.{IsSpelled, spelled_registers}
-use Rattle.lower.proofs.Ready.{free_beside, IsTarget, own_target, same_target, part_ready, own_free, mid, head_spelled, tail_spelled, one_at, never}
-use Rattle.lower.proofs.Spelling.{Wanted, unfolds, made_fits, not_void, FormIs}
-use Rattle.lower.proofs.SpellingOperators.{same_map, in_place, AreNew, resizes_new, begun, edge_then, turns_then}
+use Rattle.lowering.specs.Kinds.{width, is_void, fits, as_operand}
+use Rattle.lowering.specs.declared.conversion.Conversion.{Conversion}
+use Rattle.lowering.specs.declared.conversion.Conversion.TheVariants.{Nothing, Resized, Tested, Dropped, Unknown as NoConversion}
+use Rattle.lowering.specs.LetGo.{AsValue, left_of, stays, in_spare_still}
+use Rattle.lowering.specs.Moves.{Move, Emits, Evaluates, Fails, Line, taking, resizes, stands_in}
+use Rattle.lowering.specs.Table.{plus_line, taken_from, unary_line, kind_by_unary}
+use Rattle.lowering.specs.Placing.{Made, Around, with_point, with_registers, stands_at, after, along_line, go}
+use Rattle.lowering.proofs.ComputedFits.{power_some}
+use Rattle.lowering.proofs.KindFacts.{IsAsPlain, fitted}
+use Rattle.lowering.proofs.LeftOf.{own_value}
+use Rattle.lowering.proofs.Modes.{IsAround, Rest, Ready, IsAt}
+use Rattle.lowering.proofs.Operating.{turn_of, size_by, plain_by, is_turn, operand_as, operand_size}
+use Rattle.lowering.proofs.Placings.{IsSpelled, spelled_registers}
+use Rattle.lowering.proofs.Ready.{free_beside, IsTarget, own_target, same_target, part_ready, own_free, mid, head_spelled, tail_spelled, one_at, never}
+use Rattle.lowering.proofs.Spelling.{Wanted, unfolds, made_fits, not_void, FormIs}
+use Rattle.lowering.proofs.SpellingOperators.{same_map, in_place, AreNew, resizes_new, begun, edge_then, turns_then}
 
 -- `-x` is 0 - x, and `~x` is all ones less x
 negated_as : (size : ℕ) (signed : Bool) (number : ℕ) → Some (negated size signed number) ≡ computed op.Sub size signed 0 number

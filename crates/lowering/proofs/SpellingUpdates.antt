@@ -26,22 +26,22 @@ use Rattle.simulation.specs.Running.{Setting, Running}
 use Rattle.simulation.specs.Slots.{Slot, InRegister, Suits, is_free}
 use Rattle.simulation.specs.Turning.{Turns, Stays, Turned, Calculates, Calculated}
 use Rattle.simulation.specs.Lowered.{Stop, Updates, UpdatesKept}
-use Rattle.lower.specs.Kinds.{width, is_void, fits, conversion, Sides, sides, is_plain_operator, made_by}
-use Rattle.lower.specs.declared.conversion.Conversion.{Conversion}
-use Rattle.lower.specs.declared.conversion.Conversion.TheVariants.{Nothing, Resized, Tested, Dropped, Unknown as NoConversion}
-use Rattle.lower.specs.LetGo.{AsValue, AsPlace, left_of}
-use Rattle.lower.specs.Moves.{Move, Emits, Evaluates, Locates, Tells, Fails, resizes, adapts, stands_in, operates, combines}
-use Rattle.lower.specs.Table.{keeps, update_moves, update_line}
-use Rattle.lower.specs.Placing.{Made, Around, with_point, with_registers, stands_at, after, along, along_line, go}
-use Rattle.lower.proofs.KindFacts.{IsAsPlain, Means, conversion_means, fitted, let_go, let_go_made}
-use Rattle.lower.proofs.LeftOf.{own_value, own_place}
-use Rattle.lower.proofs.Modes.{IsAround, Rest, Ready, IsAt}
-use Rattle.lower.proofs.Operating.{turn_of, is_turn, IsCombined, NoneCombined, is_computing, combining}
-use Rattle.lower.proofs.Placings.{IsSpelled, spelled_registers}
-use Rattle.lower.proofs.Ready.{AreBelow, below_more, free_below, free_beside, own_target, part_ready, slot_ready, own_free, mid, head_spelled, tail_spelled, fills, one_at, never}
-use Rattle.lower.proofs.Spelling.{unfolds, made_fits, not_void, lets_go, FormIs, WorkFormIs}
-use Rattle.lower.proofs.SpellingOperators.{AreOwn, in_place, AreNew, resizes_new, Spells, begun, edge_then, fails_then, turns_then, both_turn}
-use Rattle.lower.proofs.Told.{told_turns}
+use Rattle.lowering.specs.Kinds.{width, is_void, fits, conversion, Sides, sides, is_plain_operator, made_by}
+use Rattle.lowering.specs.declared.conversion.Conversion.{Conversion}
+use Rattle.lowering.specs.declared.conversion.Conversion.TheVariants.{Nothing, Resized, Tested, Dropped, Unknown as NoConversion}
+use Rattle.lowering.specs.LetGo.{AsValue, AsPlace, left_of}
+use Rattle.lowering.specs.Moves.{Move, Emits, Evaluates, Locates, Tells, Fails, resizes, adapts, stands_in, operates, combines}
+use Rattle.lowering.specs.Table.{keeps, update_moves, update_line}
+use Rattle.lowering.specs.Placing.{Made, Around, with_point, with_registers, stands_at, after, along, along_line, go}
+use Rattle.lowering.proofs.KindFacts.{IsAsPlain, Means, conversion_means, fitted, let_go, let_go_made}
+use Rattle.lowering.proofs.LeftOf.{own_value, own_place}
+use Rattle.lowering.proofs.Modes.{IsAround, Rest, Ready, IsAt}
+use Rattle.lowering.proofs.Operating.{turn_of, is_turn, IsCombined, NoneCombined, is_computing, combining}
+use Rattle.lowering.proofs.Placings.{IsSpelled, spelled_registers}
+use Rattle.lowering.proofs.Ready.{AreBelow, below_more, free_below, free_beside, own_target, part_ready, slot_ready, own_free, mid, head_spelled, tail_spelled, fills, one_at, never}
+use Rattle.lowering.proofs.Spelling.{unfolds, made_fits, not_void, lets_go, FormIs, WorkFormIs}
+use Rattle.lowering.proofs.SpellingOperators.{AreOwn, in_place, AreNew, resizes_new, Spells, begun, edge_then, fails_then, turns_then, both_turn}
+use Rattle.lowering.proofs.Told.{told_turns}
 
 -- what a conversion that may end at a `_Bool` makes of a word
 abbrev pub adapt_of : Conversion → ℕ → List Block → Word → Word

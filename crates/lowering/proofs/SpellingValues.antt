@@ -15,17 +15,17 @@ use Rattle.flow.specs.declared.instruction.Instr.TheVariants as i
 use Rattle.simulation.specs.Running.{Setting, Running}
 use Rattle.simulation.specs.Slots.{Slot, InRegister}
 use Rattle.simulation.specs.Lowered.{Stop, Forgets, Drops, IsNothing, FailsAssertion}
-use Rattle.lower.specs.Kinds.{width, is_void, is_address}
-use Rattle.lower.specs.LetGo.{AsValue, AsPlace, AsWork, left_of, left_by_load}
-use Rattle.lower.specs.Moves.{Move, Emits, Evaluates, Works}
-use Rattle.lower.specs.Table.{name_line, dropped_line}
-use Rattle.lower.specs.Placing.{Made, Around, with_point, with_registers, stands_at, after, along, along_line, go}
-use Rattle.lower.proofs.KindFacts.{fits_pointer, of_address, address_width, fitted, let_go, in_let_go, let_go_made}
-use Rattle.lower.proofs.LeftOf.{name_load}
-use Rattle.lower.proofs.Modes.{IsAround, Rest, Ready, IsAt}
-use Rattle.lower.proofs.Placings.{IsSpelled, spelled_registers}
-use Rattle.lower.proofs.Ready.{IsTarget, same_target, part_ready, mid, head_spelled, tail_spelled, fills, one_at, none_at}
-use Rattle.lower.proofs.Spelling.{Wanted, unfolds, number_form, load_form, made_fits, not_void, lets_go, FormIs}
+use Rattle.lowering.specs.Kinds.{width, is_void, is_address}
+use Rattle.lowering.specs.LetGo.{AsValue, AsPlace, AsWork, left_of, left_by_load}
+use Rattle.lowering.specs.Moves.{Move, Emits, Evaluates, Works}
+use Rattle.lowering.specs.Table.{name_line, dropped_line}
+use Rattle.lowering.specs.Placing.{Made, Around, with_point, with_registers, stands_at, after, along, along_line, go}
+use Rattle.lowering.proofs.KindFacts.{fits_pointer, of_address, address_width, fitted, let_go, in_let_go, let_go_made}
+use Rattle.lowering.proofs.LeftOf.{name_load}
+use Rattle.lowering.proofs.Modes.{IsAround, Rest, Ready, IsAt}
+use Rattle.lowering.proofs.Placings.{IsSpelled, spelled_registers}
+use Rattle.lowering.proofs.Ready.{IsTarget, same_target, part_ready, mid, head_spelled, tail_spelled, fills, one_at, none_at}
+use Rattle.lowering.proofs.Spelling.{Wanted, unfolds, number_form, load_form, made_fits, not_void, lets_go, FormIs}
 
 module _ (t : Text) (flow : Flow) (setting : Setting) (running : Running) where
   abbrev Goes_on : Around → List (Stop t) → List (Stop t) → List (TaskIn t) → List Slot → ℕ → Type 0

@@ -16,13 +16,13 @@ use Rattle.simulation.specs.Edges.{One}
 use Rattle.simulation.specs.Lowered.{Stop, First, Lowered, Ends, Executes, Repeats, Branches}
 use Rattle.simulation.specs.Running.{Setting, Running}
 use Rattle.simulation.specs.Slots.{Slot, Truth, is_free, is_whole, are_free}
-use Rattle.lower.specs.Moves.{Move, Emits, Asks, run_of}
-use Rattle.lower.specs.Placing.{Made, Loop as LoopAround, Around, leaves_none, with_point, with_registers, stands_at, with_spares, does_nothing, Way, Idle, Leads, Goes as GoesOn, jumps, idle_where, way_by, Begin, Here, New, break_way, continue_way, along, go, place_branch}
-use Rattle.lower.proofs.Placings.{outs, IsSound, IsPlacing, point_placing, registers_placing, IsSpelled, spelled_point, spelled_registers, spelled_first}
-use Rattle.lower.proofs.PlacedForms.{along_placing}
-use Rattle.lower.proofs.Placed.{go_placing}
-use Rattle.lower.proofs.Stood.{stood_before, last_stood}
-use Rattle.lower.proofs.Ready.{AreBelow, below_more, free_below}
+use Rattle.lowering.specs.Moves.{Move, Emits, Asks, run_of}
+use Rattle.lowering.specs.Placing.{Made, Loop as LoopAround, Around, leaves_none, with_point, with_registers, stands_at, with_spares, does_nothing, Way, Idle, Leads, Goes as GoesOn, jumps, idle_where, way_by, Begin, Here, New, break_way, continue_way, along, go, place_branch}
+use Rattle.lowering.proofs.Placings.{outs, IsSound, IsPlacing, point_placing, registers_placing, IsSpelled, spelled_point, spelled_registers, spelled_first}
+use Rattle.lowering.proofs.PlacedForms.{along_placing}
+use Rattle.lowering.proofs.Placed.{go_placing}
+use Rattle.lowering.proofs.Stood.{stood_before, last_stood}
+use Rattle.lowering.proofs.Ready.{AreBelow, below_more, free_below}
 
 -- registers from one on, where operands stand below
 pub free_run : (first count : ℕ) (slots : List Slot) → AreBelow first slots → are_free (run_of first count) slots ≡ true

@@ -21,16 +21,16 @@ use Rattle.simulation.specs.Lowered.{Stop, Lowered, IsKnown, Makes, Leaves, Brea
 use Rattle.simulation.specs.Names.{Name, names_of, variables_of, are_new}
 use Rattle.simulation.specs.Running.{Setting, Running, given_slot}
 use Rattle.simulation.specs.Slots.{Slot, InRegister, KnownAs, is_whole, are_free, are_in}
-use Rattle.lower.specs.Kinds.{is_void, width}
-use Rattle.lower.specs.LetGo.{AsTest, left_of}
-use Rattle.lower.specs.Lowering.{answers, end_moves}
-use Rattle.lower.specs.Moves.{Move, Emits, Fails}
-use Rattle.lower.specs.Placing.{New, begins, Made, Loop as LoopAround, Around, registers_left, blocks_left, place_break, place_continue, passes, is_break, in_loop, place_do_body, branch, place_do, stands_at, with_point, after, along_at, go, leaves, closings, function_leaves, finishes, registers_of, place_return}
-use Rattle.lower.proofs.Placings.{then_placing, point_placing, IsSpelled, spelled_point, spelled_first, spelled_rest}
-use Rattle.lower.proofs.Placed.{go_placing, body_placing, branch_placing}
-use Rattle.lower.proofs.Jumping.{AreApart}
-use Rattle.lower.proofs.Ready.{head_spelled, tail_spelled, one_at, never}
-use Rattle.lower.proofs.Statements.{executes}
+use Rattle.lowering.specs.Kinds.{is_void, width}
+use Rattle.lowering.specs.LetGo.{AsTest, left_of}
+use Rattle.lowering.specs.Lowering.{answers, end_moves}
+use Rattle.lowering.specs.Moves.{Move, Emits, Fails}
+use Rattle.lowering.specs.Placing.{New, begins, Made, Loop as LoopAround, Around, registers_left, blocks_left, place_break, place_continue, passes, is_break, in_loop, place_do_body, branch, place_do, stands_at, with_point, after, along_at, go, leaves, closings, function_leaves, finishes, registers_of, place_return}
+use Rattle.lowering.proofs.Placings.{then_placing, point_placing, IsSpelled, spelled_point, spelled_first, spelled_rest}
+use Rattle.lowering.proofs.Placed.{go_placing, body_placing, branch_placing}
+use Rattle.lowering.proofs.Jumping.{AreApart}
+use Rattle.lowering.proofs.Ready.{head_spelled, tail_spelled, one_at, never}
+use Rattle.lowering.proofs.Statements.{executes}
 
 module _ (t : Text) (flow : Flow) (setting : Setting) (running : Running) where
   abbrev Goes : Around → List (Stop t) → List (Stop t) → List (TaskIn t) → List Slot → ℕ → Type 0

@@ -22,11 +22,11 @@ use Rattle.simulation.specs.Starting.{IsFixed, AreFixed, AreStaticsLowered}
 use Rattle.simulation.specs.Worlds.{AreNames}
 use Rattle.simulation.proofs.Scopes.{object_found}
 use Rattle.simulation.specs.Names.{Name, variable_in}
-use Rattle.lower.specs.Initials.{initials_of, latest}
-use Rattle.lower.specs.Placing.{named_from}
-use Rattle.lower.proofs.StaticsMade.{fixed_of, AreLocal, IsBlockOf, statics_made}
-use Rattle.lower.proofs.KnownWords.{AllWeigh, Weighing}
-use Rattle.lower.proofs.StaticsWritten.{IsStood, all_written}
+use Rattle.lowering.specs.Initials.{initials_of, latest}
+use Rattle.lowering.specs.Placing.{named_from}
+use Rattle.lowering.proofs.StaticsMade.{fixed_of, AreLocal, IsBlockOf, statics_made}
+use Rattle.lowering.proofs.KnownWords.{AllWeigh, Weighing}
+use Rattle.lowering.proofs.StaticsWritten.{IsStood, all_written}
 
 -- names as they are told of
 abbrev pub told : List Name → List NameThere

@@ -33,13 +33,13 @@ use Rattle.flow.specs.Holding.{Owned, block_of}
 use Rattle.flow.specs.Runs.{with_initial, with_initials}
 use Rattle.flow.specs.Runs as runs
 use Rattle.simulation.specs.Names.{Name, variable_in}
-use Rattle.lower.specs.Known.{known_word, word_as}
-use Rattle.lower.specs.Initials.{initial_word, has_offset, bytes_of, scalar_by, set_initial, joined, joined_all, initials_by, initials_within, initials_of, latest}
-use Rattle.lower.proofs.KnownStatics.{Leads, known_leads, word_led}
-use Rattle.lower.proofs.KnownWords.{AllWeigh, Weighing, first_step, known_worked, Comes, word_worked}
-use Rattle.lower.proofs.LatestInitials.{HasRoom, HaveRoom, latest_writes, length_overwritten}
-use Rattle.lower.proofs.StartSteps.{before_main, Takes, takes_none, takes_both, takes_less, lasts_on}
-use Rattle.lower.proofs.StaticsMade.{IsBlockOf, NoHeap}
+use Rattle.lowering.specs.Known.{known_word, word_as}
+use Rattle.lowering.specs.Initials.{initial_word, has_offset, bytes_of, scalar_by, set_initial, joined, joined_all, initials_by, initials_within, initials_of, latest}
+use Rattle.lowering.proofs.KnownStatics.{Leads, known_leads, word_led}
+use Rattle.lowering.proofs.KnownWords.{AllWeigh, Weighing, first_step, known_worked, Comes, word_worked}
+use Rattle.lowering.proofs.LatestInitials.{HasRoom, HaveRoom, latest_writes, length_overwritten}
+use Rattle.lowering.proofs.StartSteps.{before_main, Takes, takes_none, takes_both, takes_less, lasts_on}
+use Rattle.lowering.proofs.StaticsMade.{IsBlockOf, NoHeap}
 
 -- an address is moved from the front of an object
 moved_from_front : (block offset : ℕ) → offset < 2 ^ 63 → moved (To block (pos 0)) (pos offset) ≡ To block (pos offset)

@@ -21,8 +21,8 @@ use Rattle.c_machine.specs.Text.{Initialiser, Value, Braces, Set}
 use Rattle.c_machine.specs.Trees.{object_of, form_of, initialiser_of, nodes_in, static_rows, text_of}
 use Rattle.c_text.specs.statics.Weights.{weights}
 use Rattle.c_text.proofs.statics.Weights.{weights-append, one_more, item_weighs}
-use Rattle.lower.proofs.KnownWords.{parts_of, AllWeigh, Weighing}
-use Rattle.lower.proofs.StaticsLowered.{HasSteps}
+use Rattle.lowering.proofs.KnownWords.{parts_of, AllWeigh, Weighing}
+use Rattle.lowering.proofs.StaticsLowered.{HasSteps}
 
 -- parts of trees that are counted: some of these and, of one that is counted, some of those in it
 data Costs : List Node → ℕ → Type 0 where

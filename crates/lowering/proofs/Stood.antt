@@ -14,10 +14,10 @@ use Rattle.flow.specs.Holding.{put_width, emptied_widths}
 use Rattle.flow.specs.declared.instruction.Instr.TheVariants as i
 use Rattle.flow.specs.Standing.{any, stands_at as flow_stands_at}
 use Rattle.simulation.specs.Slots.{Slot, InRegister, KnownAs, Truth, Gone, is_free, are_in, are_free}
-use Rattle.lower.specs.Moves.{Emits, run_of}
-use Rattle.lower.specs.Placing.{Made, after, with_width, with_point, with_spares, registers_of, registers_left, behind_widths, stands_at}
-use Rattle.lower.proofs.Jumping.{AreUnder}
-use Rattle.lower.proofs.Placings.{IsSound, IsPlacing, IsSpelled}
+use Rattle.lowering.specs.Moves.{Emits, run_of}
+use Rattle.lowering.specs.Placing.{Made, after, with_width, with_point, with_spares, registers_of, registers_left, behind_widths, stands_at}
+use Rattle.lowering.proofs.Jumping.{AreUnder}
+use Rattle.lowering.proofs.Placings.{IsSound, IsPlacing, IsSpelled}
 
 -- what was there stays
 front_get : {X : Type 0} (front back : List X) (number : ℕ) → number < length front → slice_get (front ++ back) number ≡ slice_get front number

@@ -14,10 +14,10 @@ use Rattle.flow.specs.declared.instruction.Instr.TheVariants as i
 use Rattle.simulation.specs.Edges.{One, Two}
 use Rattle.simulation.specs.Slots.{Slot, is_free}
 use Rattle.simulation.specs.Turning.{Turns, Tested}
-use Rattle.lower.specs.Moves.{Tells}
-use Rattle.lower.specs.Placing.{Made, Around, with_width, stands_at, without_register, place_told, go}
-use Rattle.lower.proofs.Placings.{outs, outs-other, outs-same, edge_of, IsSpelled}
-use Rattle.lower.proofs.Ready.{AreBelow, free_below}
+use Rattle.lowering.specs.Moves.{Tells}
+use Rattle.lowering.specs.Placing.{Made, Around, with_width, stands_at, without_register, place_told, go}
+use Rattle.lowering.proofs.Placings.{outs, outs-other, outs-same, edge_of, IsSpelled}
+use Rattle.lowering.proofs.Ready.{AreBelow, free_below}
 
 -- the edges of a value that is told
 pub record IsTold (flow : Flow) (from test register size into on off to : ℕ) (place : Place) : Type 0 where

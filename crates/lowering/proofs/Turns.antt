@@ -3,10 +3,10 @@ use Rattle.std.proofs.Common.{◌≡◌, ℕ, zero, suc, min, ◌+◌, List, [],
 use Rattle.cbase.specs.declared.tree.expr.Expr.{Expr}
 use Rattle.c_machine.specs.declared.kind.Kind.{Kind}
 use Rattle.c_machine.specs.declared.kind.Kind.TheVariants.{Void}
-use Rattle.lower.specs.Moves.{Fails, run_of}
-use Rattle.lower.specs.Table.{argument_moves, registers_from}
-use Rattle.lower.specs.Told.{trees}
-use Rattle.lower.proofs.Onward.{Moves}
+use Rattle.lowering.specs.Moves.{Fails, run_of}
+use Rattle.lowering.specs.Table.{argument_moves, registers_from}
+use Rattle.lowering.specs.Told.{trees}
+use Rattle.lowering.proofs.Onward.{Moves}
 
 -- the moves of the arguments behind so many
 abbrev pub arguments_from : List Expr → List Kind → ℕ → ℕ → ℕ → Moves

@@ -8,23 +8,23 @@ use Rattle.c_machine.specs.Text.{Form, Name, Known, Unary, Binary, Assign, Count
 use Rattle.flow.specs.declared.flow_graph.Flow.{Flow}
 use Rattle.flow.specs.Valid.{IsFlow}
 use Rattle.simulation.specs.Running.{Setting, Running}
-use Rattle.lower.specs.Table.{is_made}
-use Rattle.lower.specs.Placing.{place_value_form, go}
-use Rattle.lower.proofs.Doing.{DoesIs}
-use Rattle.lower.proofs.LeftStays.{value_left}
-use Rattle.lower.proofs.Modes.{Ready, ValueIs, IsAt}
-use Rattle.lower.proofs.Ready.{IsTarget}
-use Rattle.lower.proofs.Spelling.{FormIs, made_by}
-use Rattle.lower.proofs.SpellingCalled.{AreCalled, call_form}
-use Rattle.lower.proofs.SpellingConditions.{condition_form, choose_form}
-use Rattle.lower.proofs.SpellingConversions.{cast_form}
-use Rattle.lower.proofs.SpellingCounts.{count_form}
-use Rattle.lower.proofs.SpellingInner.{inner_form}
-use Rattle.lower.proofs.SpellingOperators.{operator_form}
-use Rattle.lower.proofs.SpellingStores.{assign_form}
-use Rattle.lower.proofs.SpellingUnary.{plus_form, minus_form, flip_form}
-use Rattle.lower.proofs.SpellingUpdates.{update_form}
-use Rattle.lower.proofs.SpellingValues.{known_form, unknown_form, assert_form, named_form, follow_form, index_form, member_form, address_form, comma_form}
+use Rattle.lowering.specs.Table.{is_made}
+use Rattle.lowering.specs.Placing.{place_value_form, go}
+use Rattle.lowering.proofs.Doing.{DoesIs}
+use Rattle.lowering.proofs.LeftStays.{value_left}
+use Rattle.lowering.proofs.Modes.{Ready, ValueIs, IsAt}
+use Rattle.lowering.proofs.Ready.{IsTarget}
+use Rattle.lowering.proofs.Spelling.{FormIs, made_by}
+use Rattle.lowering.proofs.SpellingCalled.{AreCalled, call_form}
+use Rattle.lowering.proofs.SpellingConditions.{condition_form, choose_form}
+use Rattle.lowering.proofs.SpellingConversions.{cast_form}
+use Rattle.lowering.proofs.SpellingCounts.{count_form}
+use Rattle.lowering.proofs.SpellingInner.{inner_form}
+use Rattle.lowering.proofs.SpellingOperators.{operator_form}
+use Rattle.lowering.proofs.SpellingStores.{assign_form}
+use Rattle.lowering.proofs.SpellingUnary.{plus_form, minus_form, flip_form}
+use Rattle.lowering.proofs.SpellingUpdates.{update_form}
+use Rattle.lowering.proofs.SpellingValues.{known_form, unknown_form, assert_form, named_form, follow_form, index_form, member_form, address_form, comma_form}
 
 module _ (t : Text) (flow : Flow) (setting : Setting) (running : Running) (valid : IsFlow flow) (called : AreCalled t flow setting running) (levels : ℕ) (at : IsAt t flow setting running levels) (does : DoesIs t flow setting running levels) where
   unary_form : (op : UnaryOp) (arg : t.Expr) → FormIs t flow setting running levels (Unary op arg)

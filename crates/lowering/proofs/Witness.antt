@@ -29,9 +29,9 @@ use Rattle.c_machine.specs.Witness.{an_int}
 use Rattle.c_text.specs.statics.Weights.{weight}
 use Rattle.c_text.proofs.statics.Weights.{one_more, item_weighs}
 use Rattle.simulation.specs.Laws.{GraphLeads}
-use Rattle.lower.specs.Lowering.{flow_of, flow_in}
-use Rattle.lower.proofs.FlowTested.{flow_tested}
-use Rattle.lower.proofs.Law.{graphs_meet}
+use Rattle.lowering.specs.Lowering.{flow_of, flow_in}
+use Rattle.lowering.proofs.FlowTested.{flow_tested}
+use Rattle.lowering.proofs.Law.{graphs_meet}
 
 -- int f(void) { return 5; }    int main(void) { return f(); }
 abbrev five : Expr

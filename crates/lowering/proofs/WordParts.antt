@@ -6,10 +6,10 @@ use Rattle.cbase.specs.declared.tree.stmt.Stmt.{Stmt}
 use Rattle.c_machine.specs.Text.{Form}
 use Rattle.c_machine.specs.Trees.{text_of}
 use Rattle.simulation.specs.Names.{Name}
-use Rattle.lower.specs.Known.{Value, Place, known_word, place_word, value_word}
-use Rattle.lower.specs.Reading.{IsForm}
-use Rattle.lower.specs.Source.{Source}
-use Rattle.lower.specs.Words.{Whole, OfValue, OfPlace, IsWord}
+use Rattle.lowering.specs.Known.{Value, Place, known_word, place_word, value_word}
+use Rattle.lowering.specs.Reading.{IsForm}
+use Rattle.lowering.specs.Source.{Source}
+use Rattle.lowering.specs.Words.{Whole, OfValue, OfPlace, IsWord}
 
 pub whole_value : (source : Source) (statics : List Name) (fewer levels : ℕ) (expr : Expr) (form : Form Expr Stmt) (word : Option Word) → levels ≡ suc fewer →
     IsForm source.context expr form → IsWord source statics fewer (OfValue expr form) word → IsWord source statics levels (Whole Value expr) word

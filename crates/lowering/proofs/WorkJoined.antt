@@ -13,26 +13,26 @@ use Rattle.flow.specs.Valid.{IsFlow}
 use Rattle.simulation.specs.Lowered.{Stop, FailsAssertion}
 use Rattle.simulation.specs.Running.{Setting, Running}
 use Rattle.simulation.specs.Slots.{Slot}
-use Rattle.lower.specs.Kinds.{is_void}
-use Rattle.lower.specs.LetGo.{AsValue, left_by_value, left_by_work, leaves_nothing, left_of}
-use Rattle.lower.specs.Moves.{Fails}
-use Rattle.lower.specs.Table.{void_line, work_line, dropped_line, kind_made}
-use Rattle.lower.specs.Placing.{Made, Around, with_registers, failed, along_line, place_inner, place_void, go}
-use Rattle.lower.proofs.Doing.{DoesIs}
-use Rattle.lower.proofs.KindFacts.{let_go}
-use Rattle.lower.proofs.LeftStays.{work_left}
-use Rattle.lower.proofs.Modes.{IsAround, Rest, Ready, WorkIs, IsAt}
-use Rattle.lower.proofs.Placings.{IsSpelled, spelled_registers}
-use Rattle.lower.proofs.Ready.{none_at, never}
-use Rattle.lower.proofs.Spelling.{unfolds}
-use Rattle.lower.proofs.SpellingCalled.{AreCalled, call_work}
-use Rattle.lower.proofs.SpellingConditions.{choose_work}
-use Rattle.lower.proofs.SpellingConversions.{cast_work}
-use Rattle.lower.proofs.SpellingCounts.{count_work}
-use Rattle.lower.proofs.SpellingInner.{inner_work}
-use Rattle.lower.proofs.SpellingStores.{assign_work_form}
-use Rattle.lower.proofs.SpellingUpdates.{update_work}
-use Rattle.lower.proofs.SpellingValues.{dropped_form, comma_work}
+use Rattle.lowering.specs.Kinds.{is_void}
+use Rattle.lowering.specs.LetGo.{AsValue, left_by_value, left_by_work, leaves_nothing, left_of}
+use Rattle.lowering.specs.Moves.{Fails}
+use Rattle.lowering.specs.Table.{void_line, work_line, dropped_line, kind_made}
+use Rattle.lowering.specs.Placing.{Made, Around, with_registers, failed, along_line, place_inner, place_void, go}
+use Rattle.lowering.proofs.Doing.{DoesIs}
+use Rattle.lowering.proofs.KindFacts.{let_go}
+use Rattle.lowering.proofs.LeftStays.{work_left}
+use Rattle.lowering.proofs.Modes.{IsAround, Rest, Ready, WorkIs, IsAt}
+use Rattle.lowering.proofs.Placings.{IsSpelled, spelled_registers}
+use Rattle.lowering.proofs.Ready.{none_at, never}
+use Rattle.lowering.proofs.Spelling.{unfolds}
+use Rattle.lowering.proofs.SpellingCalled.{AreCalled, call_work}
+use Rattle.lowering.proofs.SpellingConditions.{choose_work}
+use Rattle.lowering.proofs.SpellingConversions.{cast_work}
+use Rattle.lowering.proofs.SpellingCounts.{count_work}
+use Rattle.lowering.proofs.SpellingInner.{inner_work}
+use Rattle.lowering.proofs.SpellingStores.{assign_work_form}
+use Rattle.lowering.proofs.SpellingUpdates.{update_work}
+use Rattle.lowering.proofs.SpellingValues.{dropped_form, comma_work}
 
 no_kind : (kind : Kind) → is_void kind ≡ true → kind ≡ Void
 no_kind (Integer of) is = absurd (false≢true is)

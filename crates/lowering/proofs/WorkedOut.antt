@@ -1,7 +1,7 @@
 -- The worked programs hold by computation.
 use Rattle.std.proofs.Common.{refl}
 use Rattle.bytes_core.specs.Loss.{reached_within}
-use Rattle.lower.specs.Rows.{AreGraphs, DoExpressionsRun, DoStatementsRun, DoCallsRun}
+use Rattle.lowering.specs.Rows.{AreGraphs, DoExpressionsRun, DoStatementsRun, DoCallsRun}
 
 pub are_graphs : AreGraphs
 are_graphs = record {

@@ -1,6 +1,6 @@
 -- The graphs that are written out hold by computation.
 use Rattle.std.proofs.Common.{refl}
-use Rattle.lower.specs.Graphs.{AreWritten}
+use Rattle.lowering.specs.Graphs.{AreWritten}
 
 pub are_written : AreWritten
 are_written = record {

@@ -18,14 +18,14 @@ use Rattle.c_text.specs.Parameters.{types_by}
 use Rattle.c_text.specs.Standing.{built_in_by}
 use Rattle.c_text.specs.Stands.{StandsFor}
 use Rattle.flow.specs.declared.instruction.Instr.TheVariants as i
-use Rattle.lower.specs.declared.called.Called.{Called}
-use Rattle.lower.specs.declared.called.Called.TheVariants.{BuiltIn as OfBuiltIn, Body, Nothing}
-use Rattle.lower.specs.Kinds.{is_void, width}
-use Rattle.lower.specs.LetGo.{fills, fills_by}
-use Rattle.lower.specs.Moves.{MoveOf, Line, Emits, Fails, taking}
-use Rattle.lower.specs.Source.{Source, IsSource, Reads}
-use Rattle.lower.specs.Table.{argument_moves, are_sized, built_in_line, gives, registers_from, result_into}
-use Rattle.lower.specs.Told.{IsLine}
+use Rattle.lowering.specs.declared.called.Called.{Called}
+use Rattle.lowering.specs.declared.called.Called.TheVariants.{BuiltIn as OfBuiltIn, Body, Nothing}
+use Rattle.lowering.specs.Kinds.{is_void, width}
+use Rattle.lowering.specs.LetGo.{fills, fills_by}
+use Rattle.lowering.specs.Moves.{MoveOf, Line, Emits, Fails, taking}
+use Rattle.lowering.specs.Source.{Source, IsSource, Reads}
+use Rattle.lowering.specs.Table.{argument_moves, are_sized, built_in_line, gives, registers_from, result_into}
+use Rattle.lowering.specs.Told.{IsLine}
 
 -- the kinds of parameters
 pub record AreParameterKinds (context : Context) (params : Parameters) (kinds : List Kind) : Type 0 where

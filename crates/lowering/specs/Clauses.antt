@@ -6,8 +6,8 @@ use Rattle.cbase.specs.declared.tree.stmt.Stmt.{Stmt}
 use Rattle.c_machine.specs.Text.{Clause}
 use Rattle.c_machine.specs.Text as text
 use Rattle.c_machine.specs.Trees.{name_of}
-use Rattle.lower.specs.declared.clause.TreeClause.{TreeClause}
-use Rattle.lower.specs.declared.clause.TreeClause.TheVariants as tree
+use Rattle.lowering.specs.declared.clause.TreeClause.{TreeClause}
+use Rattle.lowering.specs.declared.clause.TreeClause.TheVariants as tree
 
 abbrev pub clause_in : TreeClause → Clause Expr Stmt Init
 clause_in (tree.Declare names) = text.Declare (map name_of names)

@@ -10,7 +10,7 @@ use Rattle.flow.specs.Machine as graph
 use Rattle.flow.specs.Runs.{start, run, then_go}
 use Rattle.flow.specs.Standing.{stands_after, stands_at}
 use Rattle.flow.specs.Valid.{reads_what_stands, tests_one_size, has_scope, calls_rightly, has_sizes, names_what_is_there}
-use Rattle.lower.specs.Lowering.{flow_in}
+use Rattle.lowering.specs.Lowering.{flow_in}
 
 abbrev pub graph_of : Script → Option Flow
 graph_of script = flow_in Lp64 (text_in script)

@@ -8,8 +8,8 @@ use Rattle.cbase.specs.declared.tree.operators.UnaryOp.TheVariants.{Not}
 use Rattle.flow.specs.declared.instruction.Instr.{Instr}
 use Rattle.flow.specs.declared.instruction.Instr.TheVariants as i
 use Rattle.flow.specs.declared.flow_graph.Flow.{Flow}
-use Rattle.lower.specs.Lowering.{flow_in}
-use Rattle.lower.specs.Samples.{Tree, text_in, an_int, number, variable, unary, set_to, counted, choice, cast_to, malloc, call, eval, give, where_true, while_true, nothing, declare, local_at, main, function}
+use Rattle.lowering.specs.Lowering.{flow_in}
+use Rattle.lowering.specs.Samples.{Tree, text_in, an_int, number, variable, unary, set_to, counted, choice, cast_to, malloc, call, eval, give, where_true, while_true, nothing, declare, local_at, main, function}
 
 pub record Step : Type 0 where
   pub from : ℕ

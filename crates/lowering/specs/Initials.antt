@@ -12,7 +12,7 @@ use Rattle.flow.specs.declared.flow_graph.Initial.{Initial}
 use Rattle.flow.specs.declared.flow_graph.InitialWord.{InitialWord}
 use Rattle.flow.specs.declared.flow_graph.InitialWord.TheVariants as initial
 use Rattle.simulation.specs.Names.{Name, variable_in}
-use Rattle.lower.specs.Known.{known_word, word_as}
+use Rattle.lowering.specs.Known.{known_word, word_as}
 
 abbrev pub initial_word : Word → InitialWord
 initial_word (Plain number) = initial.Number number

@@ -10,12 +10,12 @@ use Rattle.c_machine.specs.declared.kind.Kind.{Kind}
 use Rattle.c_machine.specs.Program.{Program}
 use Rattle.c_machine.specs.Text.{Text}
 use Rattle.c_machine.specs.Trees.{name_of, text_of}
-use Rattle.lower.specs.Kinds.{is_void}
-use Rattle.lower.specs.LetGo.{Wanted, AsValue, AsWork}
-use Rattle.lower.specs.Moves.{MoveOf}
-use Rattle.lower.specs.Placing.{declared_moves, last_moves, left_at_end, left_by_set, valued_moves}
-use Rattle.lower.specs.Source.{Source, IsSource}
-use Rattle.lower.specs.Table.{last_of}
+use Rattle.lowering.specs.Kinds.{is_void}
+use Rattle.lowering.specs.LetGo.{Wanted, AsValue, AsWork}
+use Rattle.lowering.specs.Moves.{MoveOf}
+use Rattle.lowering.specs.Placing.{declared_moves, last_moves, left_at_end, left_by_set, valued_moves}
+use Rattle.lowering.specs.Source.{Source, IsSource}
+use Rattle.lowering.specs.Table.{last_of}
 
 -- how many statements there are up to the one whose value a block has: behind it stands none but `;` alone
 abbrev pub until_last : (t : Text) → List t.Stmt → ℕ

@@ -8,8 +8,8 @@ use Rattle.typing.specs.ctypes.Integers.{int, promoted, common}
 use Rattle.c_machine.specs.declared.kind.Kind.{Kind}
 use Rattle.c_machine.specs.declared.kind.Kind.TheVariants.{Integer, Pointer, Void}
 use Rattle.c_machine.specs.Words.{is_same, kind_after, scalar_bytes}
-use Rattle.lower.specs.declared.conversion.Conversion.{Conversion}
-use Rattle.lower.specs.declared.conversion.Conversion.TheVariants.{Nothing, Resized, Tested, Dropped, Unknown}
+use Rattle.lowering.specs.declared.conversion.Conversion.{Conversion}
+use Rattle.lowering.specs.declared.conversion.Conversion.TheVariants.{Nothing, Resized, Tested, Dropped, Unknown}
 
 -- a pointer and an address have 8 bytes
 abbrev pub width : Kind → ℕ

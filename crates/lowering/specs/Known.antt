@@ -15,8 +15,8 @@ use Rattle.c_machine.specs.Text.{Standing, ObjectStands, ConstantStands, Form, N
 use Rattle.c_machine.specs.Words.{is_true, told, as_kind, applied, operated}
 use Rattle.c_machine.specs.Expressions.{value_kind}
 use Rattle.simulation.specs.Names.{Name, variable_in}
-pub use Rattle.lower.specs.declared.asked.Asked.{Asked}
-pub use Rattle.lower.specs.declared.asked.Asked.TheVariants.{Value, Place}
+pub use Rattle.lowering.specs.declared.asked.Asked.{Asked}
+pub use Rattle.lowering.specs.declared.asked.Asked.TheVariants.{Value, Place}
 
 -- an operator on words: an address is only moved by a number
 abbrev pub operated_on : BinaryOp → Kind → Kind → Word → Word → Option Word

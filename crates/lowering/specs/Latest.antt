@@ -2,8 +2,8 @@
 use Rattle.std.specs.Prelude.{◌≡◌, Bool, ◌&&◌, List, nat_eq, reverse}
 use Rattle.std.specs.List.{list_any}
 use Rattle.flow.specs.declared.flow_graph.Initial.{Initial}
-use Rattle.lower.specs.declared.latest.ScalarKey.{ScalarKey}
-use Rattle.lower.specs.Initials.{is_same_scalar, latest}
+use Rattle.lowering.specs.declared.latest.ScalarKey.{ScalarKey}
+use Rattle.lowering.specs.Initials.{is_same_scalar, latest}
 
 abbrev pub key_of : Initial → ScalarKey
 key_of one = record { variable = one.variable; at = one.at; size = one.size }

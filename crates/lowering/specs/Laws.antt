@@ -8,7 +8,7 @@ use Rattle.c_machine.specs.Trees.{text_of}
 use Rattle.flow.specs.declared.flow_graph.Flow.{Flow}
 use Rattle.flow.specs.Valid.{IsFlow}
 use Rattle.simulation.specs.Laws.{GraphLeads}
-use Rattle.lower.specs.Lowering.{flow_of}
+use Rattle.lowering.specs.Lowering.{flow_of}
 
 -- a program and its graph meet the same faults, with the same choices
 abbrev pub DoGraphsMeet : Type 0

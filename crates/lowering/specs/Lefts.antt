@@ -10,14 +10,14 @@ use Rattle.c_machine.specs.Expressions.{value_kind}
 use Rattle.c_machine.specs.Text.{Form, Text}
 use Rattle.c_machine.specs.Trees.{text_of}
 use Rattle.c_machine.specs.Words.{scalar_bytes}
-use Rattle.lower.specs.declared.called.Called.{Called}
-use Rattle.lower.specs.declared.called.Called.TheVariants.{BuiltIn as OfFunction, Body, Nothing}
-use Rattle.lower.specs.declared.conversion.Conversion.{Conversion}
-use Rattle.lower.specs.declared.left.Pending.{Pending}
-use Rattle.lower.specs.declared.left.Search.{Search}
-use Rattle.lower.specs.Kinds.{is_void}
-use Rattle.lower.specs.LetGo.{Wanted, AsValue, AsTest, left_as, left_of, left_both, left_by_assign, leaves_nothing, left_converted, left_by_load, left_by_binary, left_by_arguments, left_by_built_in, left_by_call, left_by_value, left_by_place, left_by_work, left_by_test, left_within}
-use Rattle.lower.specs.Source.{Source, IsSource}
+use Rattle.lowering.specs.declared.called.Called.{Called}
+use Rattle.lowering.specs.declared.called.Called.TheVariants.{BuiltIn as OfFunction, Body, Nothing}
+use Rattle.lowering.specs.declared.conversion.Conversion.{Conversion}
+use Rattle.lowering.specs.declared.left.Pending.{Pending}
+use Rattle.lowering.specs.declared.left.Search.{Search}
+use Rattle.lowering.specs.Kinds.{is_void}
+use Rattle.lowering.specs.LetGo.{Wanted, AsValue, AsTest, left_as, left_of, left_both, left_by_assign, leaves_nothing, left_converted, left_by_load, left_by_binary, left_by_arguments, left_by_built_in, left_by_call, left_by_value, left_by_place, left_by_work, left_by_test, left_within}
+use Rattle.lowering.specs.Source.{Source, IsSource}
 
 -- what is looked at: an expression; one as a kind, and behind a conversion; arguments of parameters; and an expression by its form, with what is wanted of it
 pub data Part : Type 0 where

@@ -16,11 +16,11 @@ use Rattle.c_machine.specs.declared.kind.Kind.TheVariants.{Integer, Struct}
 use Rattle.c_machine.specs.Text.{Standing, BuiltInStands, BodyStands, Form, Name, Known, Unary, Binary, Assign, Count, Choose, Cast, Index, Member, Call, Inner, AssertFail, Function, Text}
 use Rattle.c_machine.specs.Expressions.{value_kind, built_in}
 use Rattle.c_machine.specs.Words.{scalar_bytes}
-use Rattle.lower.specs.Kinds.{is_void, conversion, as_operand}
-use Rattle.lower.specs.declared.conversion.Conversion.{Conversion}
-use Rattle.lower.specs.declared.conversion.Conversion.TheVariants.{Nothing, Resized, Tested, Dropped, Unknown}
-pub use Rattle.lower.specs.declared.wanted.Wanted.{Wanted}
-pub use Rattle.lower.specs.declared.wanted.Wanted.TheVariants.{AsValue, AsPlace, AsWork, AsTest}
+use Rattle.lowering.specs.Kinds.{is_void, conversion, as_operand}
+use Rattle.lowering.specs.declared.conversion.Conversion.{Conversion}
+use Rattle.lowering.specs.declared.conversion.Conversion.TheVariants.{Nothing, Resized, Tested, Dropped, Unknown}
+pub use Rattle.lowering.specs.declared.wanted.Wanted.{Wanted}
+pub use Rattle.lowering.specs.declared.wanted.Wanted.TheVariants.{AsValue, AsPlace, AsWork, AsTest}
 
 -- a value that becomes one of a kind
 abbrev pub left_converted : (t : Text) → (Wanted → t.Expr → ℕ) → t.Expr → Bool → Conversion → ℕ

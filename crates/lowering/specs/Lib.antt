@@ -12,7 +12,6 @@ pub mod Examples
 pub mod Rows
 pub mod Samples
 pub mod Programs
-pub mod Built
 pub mod ByToken
 pub mod Clauses
 pub mod Latest
@@ -25,7 +24,3 @@ pub mod Lefts
 pub mod Words
 pub mod Inner
 pub mod Returns
-pub mod Around
-pub mod Jobs
-pub mod Ways
-pub mod TwoTests

@@ -13,11 +13,11 @@ use Rattle.flow.specs.declared.flow_graph.FlowFunction.{FlowFunction}
 use Rattle.flow.specs.declared.flow_graph.Initial.{Initial}
 use Rattle.flow.specs.declared.flow_graph.Standing.{Standing}
 use Rattle.simulation.specs.Names.{Name, variables_of}
-use Rattle.lower.specs.Kinds.{width, is_void}
-use Rattle.lower.specs.Moves.{Move, MoveOf, Emits, Does}
-use Rattle.lower.specs.Table.{receives, result_into}
-use Rattle.lower.specs.Placing.{Made, Around, emit, with_point, with_registers, with_objects, named_from, objects_in, enters, function_leaves, along, go}
-use Rattle.lower.specs.Initials.{latest, initials_of}
+use Rattle.lowering.specs.Kinds.{width, is_void}
+use Rattle.lowering.specs.Moves.{Move, MoveOf, Emits, Does}
+use Rattle.lowering.specs.Table.{receives, result_into}
+use Rattle.lowering.specs.Placing.{Made, Around, emit, with_point, with_registers, with_objects, named_from, objects_in, enters, function_leaves, along, go}
+use Rattle.lowering.specs.Initials.{latest, initials_of}
 
 -- Functions. A body is one block with its parameters; at its `}` main answers 0, and another function with a result any input of it (5.1.2.2.3, 6.9.1p12).
 abbrev pub answers : {E S I : Type 0} → Bool → Kind → ℕ → Place → List (MoveOf E S I)

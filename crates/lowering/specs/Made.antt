@@ -8,10 +8,10 @@ use Rattle.c_machine.specs.declared.kind.Kind.TheVariants.{Integer, Void}
 use Rattle.c_machine.specs.Program.{Program}
 use Rattle.c_machine.specs.Text.{Form, Text}
 use Rattle.c_machine.specs.Trees.{text_of}
-use Rattle.lower.specs.declared.called.Called.{Called}
-use Rattle.lower.specs.declared.called.Called.TheVariants.{BuiltIn, Body, Nothing}
-use Rattle.lower.specs.Source.{Source, IsSource}
-use Rattle.lower.specs.Table.{assigned, is_made, kind_made, kind_of_last, last_of, result_of}
+use Rattle.lowering.specs.declared.called.Called.{Called}
+use Rattle.lowering.specs.declared.called.Called.TheVariants.{BuiltIn, Body, Nothing}
+use Rattle.lowering.specs.Source.{Source, IsSource}
+use Rattle.lowering.specs.Table.{assigned, is_made, kind_made, kind_of_last, last_of, result_of}
 use Rattle.typing.specs.ctypes.Integers.{promoted}
 
 abbrev pub promoted_kind : Kind → Kind

@@ -12,11 +12,11 @@ use Rattle.c_machine.specs.declared.kind.Kind.TheVariants.{Integer, Pointer}
 use Rattle.c_machine.specs.Text.{Text}
 use Rattle.flow.specs.declared.instruction.Instr.{Instr}
 use Rattle.flow.specs.declared.instruction.Instr.TheVariants as i
-use Rattle.lower.specs.Kinds.{Sides, sides, meeting}
-use Rattle.lower.specs.declared.conversion.Conversion.{Conversion}
-use Rattle.lower.specs.declared.conversion.Conversion.TheVariants.{Nothing, Resized, Tested}
-pub use Rattle.lower.specs.declared.moves.Move.{Move as MoveOf}
-pub use Rattle.lower.specs.declared.moves.Move.TheVariants.{Emits, Pairs, Parts, Evaluates, Converts, Answers, Tells, Locates, Works, Asks, Does, Clears, Initialises, Stops, Fails}
+use Rattle.lowering.specs.Kinds.{Sides, sides, meeting}
+use Rattle.lowering.specs.declared.conversion.Conversion.{Conversion}
+use Rattle.lowering.specs.declared.conversion.Conversion.TheVariants.{Nothing, Resized, Tested}
+pub use Rattle.lowering.specs.declared.moves.Move.{Move as MoveOf}
+pub use Rattle.lowering.specs.declared.moves.Move.TheVariants.{Emits, Pairs, Parts, Evaluates, Converts, Answers, Tells, Locates, Works, Asks, Does, Clears, Initialises, Stops, Fails}
 
 -- The moves of a text. Registers: `into` gets the value, and `spare` is the first of those of the full expression that hold what is let go of.
 abbrev pub Move : Text → Type 0

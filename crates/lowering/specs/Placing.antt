@@ -28,11 +28,11 @@ use Rattle.flow.specs.Holding.{put_width, emptied_widths}
 use Rattle.flow.specs.Standing.{stands_after}
 use Rattle.flow.specs.Valid.{is_object_size}
 use Rattle.simulation.specs.Names.{Name, names_of, variables_of, variable_in}
-use Rattle.lower.specs.Kinds.{width, is_void, conversion, Sides, sides}
-use Rattle.lower.specs.declared.conversion.Conversion.{Conversion}
-use Rattle.lower.specs.LetGo.{AsValue, AsPlace, AsWork, AsTest, left_of, left_as}
-use Rattle.lower.specs.Moves.{Move, MoveOf, Emits, Pairs, Parts, Evaluates, Converts, Answers, Tells, Locates, Works, Asks, Does, Clears, Initialises, Stops, Fails, Line, resizes, adapts, stands_in, pads, run_of}
-use Rattle.lower.specs.Table.{object_moves, shifts, shifted_in, copies, value_line, place_line, work_line, converted_line, last_of, kind_of_last, kind_made, is_made}
+use Rattle.lowering.specs.Kinds.{width, is_void, conversion, Sides, sides}
+use Rattle.lowering.specs.declared.conversion.Conversion.{Conversion}
+use Rattle.lowering.specs.LetGo.{AsValue, AsPlace, AsWork, AsTest, left_of, left_as}
+use Rattle.lowering.specs.Moves.{Move, MoveOf, Emits, Pairs, Parts, Evaluates, Converts, Answers, Tells, Locates, Works, Asks, Does, Clears, Initialises, Stops, Fails, Line, resizes, adapts, stands_in, pads, run_of}
+use Rattle.lowering.specs.Table.{object_moves, shifts, shifted_in, copies, value_line, place_line, work_line, converted_line, last_of, kind_of_last, kind_made, is_made}
 
 -- what is made so far, and whether there is a graph
 pub record Made : Type 0 where

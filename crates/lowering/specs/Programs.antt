@@ -15,9 +15,9 @@ use Rattle.flow.specs.Machine.{Faulted}
 use Rattle.flow.specs.declared.flow_graph.Flow.{Flow}
 use Rattle.flow.specs.declared.flow_graph.Initial.{Initial}
 use Rattle.flow.specs.declared.flow_graph.InitialWord.TheVariants as held
-use Rattle.lower.specs.Examples.{IsGraph, comes_to}
-use Rattle.lower.specs.Lowering.{flow_in}
-use Rattle.lower.specs.Samples.{Tree, AnExpr, AValue, SomeBraces, trees, AnAssertion, Sample, text_in, an_int, a_char, a_long, a_truth, number, variable, unary, binary, set_to, copied_to, update, counted, choice, cast_to, index, member, inner, null, at, malloc, memset, memcpy, expect, assume, abort, any_int, call, eval, give, give_nothing, leave, go_on, block, where_true, where_either, while_true, do_while, for_each, nothing, declare, declare_as, declare_braces, local_at, parameter, main, function}
+use Rattle.lowering.specs.Examples.{IsGraph, comes_to}
+use Rattle.lowering.specs.Lowering.{flow_in}
+use Rattle.lowering.specs.Samples.{Tree, AnExpr, AValue, SomeBraces, trees, AnAssertion, Sample, text_in, an_int, a_char, a_long, a_truth, number, variable, unary, binary, set_to, copied_to, update, counted, choice, cast_to, index, member, inner, null, at, malloc, memset, memcpy, expect, assume, abort, any_int, call, eval, give, give_nothing, leave, go_on, block, where_true, where_either, while_true, do_while, for_each, nothing, declare, declare_as, declare_braces, local_at, parameter, main, function}
 
 abbrev pub x : Tree
 x = variable an_int 1

@@ -14,14 +14,14 @@ use Rattle.c_machine.specs.Text.{Standing, ObjectStands, ConstantStands, Form, T
 use Rattle.c_machine.specs.Text as text
 use Rattle.c_machine.specs.Trees.{form_of, text_of}
 use Rattle.c_machine.specs.Words.{scalar_bytes}
-use Rattle.lower.specs.declared.form.TreeForm.{TreeForm}
-use Rattle.lower.specs.declared.form.TreeForm.TheVariants as told
-use Rattle.lower.specs.Kinds.{is_void}
-use Rattle.lower.specs.LetGo.{leaves_nothing}
-use Rattle.lower.specs.Moves.{MoveOf, Line}
-use Rattle.lower.specs.Source.{Source, IsSource, Reads}
-use Rattle.lower.specs.Table.{load_line, value_line, place_line, work_line, assign_line, update_line, count_line, call_line, void_line, dropped_line}
-use Rattle.lower.specs.Told.{IsLine}
+use Rattle.lowering.specs.declared.form.TreeForm.{TreeForm}
+use Rattle.lowering.specs.declared.form.TreeForm.TheVariants as told
+use Rattle.lowering.specs.Kinds.{is_void}
+use Rattle.lowering.specs.LetGo.{leaves_nothing}
+use Rattle.lowering.specs.Moves.{MoveOf, Line}
+use Rattle.lowering.specs.Source.{Source, IsSource, Reads}
+use Rattle.lowering.specs.Table.{load_line, value_line, place_line, work_line, assign_line, update_line, count_line, call_line, void_line, dropped_line}
+use Rattle.lowering.specs.Told.{IsLine}
 
 -- the kind of an expression, and of its value
 pub record IsKind (context : Context) (expr : Expr) (kind : Kind) : Type 0 where

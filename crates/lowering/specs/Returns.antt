@@ -4,9 +4,9 @@ use Rattle.cbase.specs.declared.place.Place.{Place}
 use Rattle.c_machine.specs.Text.{Text}
 use Rattle.flow.specs.declared.flow_graph.Standing.{Standing}
 use Rattle.flow.specs.declared.instruction.Instr.TheVariants as i
-use Rattle.lower.specs.declared.conversion.Conversion.{Conversion}
-use Rattle.lower.specs.Moves.{Move, Emits, Evaluates, adapts, run_of, stands_in}
-use Rattle.lower.specs.Placing.{registers_of}
+use Rattle.lowering.specs.declared.conversion.Conversion.{Conversion}
+use Rattle.lowering.specs.Moves.{Move, Emits, Evaluates, adapts, run_of, stands_in}
+use Rattle.lowering.specs.Placing.{registers_of}
 
 abbrev pub given_moves : (t : Text) → t.Expr → ℕ → ℕ → ℕ → ℕ → Conversion → ℕ → Standing → Place → List (Move t)
 given_moves t expr spare count r bytes change result standing word =

@@ -7,7 +7,7 @@ use Rattle.c_machine.specs.declared.kind.Kind.TheVariants.{Pointer, Array, Void}
 use Rattle.c_machine.specs.Examples.{met, if_equal, x, i, b, q, a, own, int_parameter}
 use Rattle.c_machine.specs.Script.{Script, an_int, a_truth, number, variable, enumerator, address, follow, binary, comma, set_to, inner, at, malloc, calloc, free, any_int, call, eval, give, leave, block, where_true, while_true, do_while, for_each, nothing, declare, declare_as, declare_braces, ends, parameter, main, function, closes, zeros}
 use Rattle.flow.specs.Machine.{Waits, Ended, Faulted}
-use Rattle.lower.specs.Examples.{GraphComesTo, HasGraph}
+use Rattle.lowering.specs.Examples.{GraphComesTo, HasGraph}
 
 -- { int x; while (x) x = 1 + 2; }
 abbrev pub loops : Script

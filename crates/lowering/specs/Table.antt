@@ -21,12 +21,12 @@ use Rattle.c_machine.specs.Expressions.{value_kind, built_in}
 use Rattle.c_machine.specs.Step.{counting}
 use Rattle.c_machine.specs.Words.{kind_after, scalar_bytes, is_pointer}
 use Rattle.flow.specs.declared.instruction.Instr.TheVariants as i
-use Rattle.lower.specs.Kinds.{width, is_void, is_address, fits, conversion, as_operand, is_plain_operator, made_by}
-use Rattle.lower.specs.declared.conversion.Conversion.{Conversion}
-use Rattle.lower.specs.declared.conversion.Conversion.TheVariants.{Nothing, Resized, Tested, Dropped, Unknown}
-use Rattle.lower.specs.Known.{size_as, product_as}
-use Rattle.lower.specs.LetGo.{leaves_nothing}
-use Rattle.lower.specs.Moves.{Move, MoveOf, Emits, Pairs, Evaluates, Converts, Answers, Locates, Works, Stops, Fails, Line, LineOf, taking, resizes, adapts, stands_in, combines, operates}
+use Rattle.lowering.specs.Kinds.{width, is_void, is_address, fits, conversion, as_operand, is_plain_operator, made_by}
+use Rattle.lowering.specs.declared.conversion.Conversion.{Conversion}
+use Rattle.lowering.specs.declared.conversion.Conversion.TheVariants.{Nothing, Resized, Tested, Dropped, Unknown}
+use Rattle.lowering.specs.Known.{size_as, product_as}
+use Rattle.lowering.specs.LetGo.{leaves_nothing}
+use Rattle.lowering.specs.Moves.{Move, MoveOf, Emits, Pairs, Evaluates, Converts, Answers, Locates, Works, Stops, Fails, Line, LineOf, taking, resizes, adapts, stands_in, combines, operates}
 
 -- The variable of an object by its name is asked of `variable`.
 

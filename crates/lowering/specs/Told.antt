@@ -7,7 +7,7 @@ use Rattle.cbase.specs.declared.tree.stmt.Stmt.{Stmt}
 use Rattle.c_machine.specs.declared.kind.Kind.{Kind}
 use Rattle.c_machine.specs.Text.{AssertFail, NothingStands, Text}
 use Rattle.c_machine.specs.Trees.{clause_of, initialiser_of}
-use Rattle.lower.specs.Moves.{MoveOf, LineOf}
+use Rattle.lowering.specs.Moves.{MoveOf, LineOf}
 
 -- the moves of a line stand in front of those that stood there before, and its registers are taken
 abbrev pub IsLine : {E S I : Type 0} → LineOf E S I → ℕ → ℕ → List (MoveOf E S I) → List (MoveOf E S I) → Type 0

@@ -11,8 +11,8 @@ use Rattle.c_machine.specs.Program.{Program}
 use Rattle.c_machine.specs.Text.{Form}
 use Rattle.c_machine.specs.Trees.{text_of}
 use Rattle.simulation.specs.Names.{Name}
-use Rattle.lower.specs.Known.{Asked, Place, Value, and_then, answered, binary_word, both, known_word, loaded_from, name_word, named_word, operated_on, or_else, place_word, product_as, size_as, truth_of, value_word, word_as}
-use Rattle.lower.specs.Source.{Source, IsSource, Reads}
+use Rattle.lowering.specs.Known.{Asked, Place, Value, and_then, answered, binary_word, both, known_word, loaded_from, name_word, named_word, operated_on, or_else, place_word, product_as, size_as, truth_of, value_word, word_as}
+use Rattle.lowering.specs.Source.{Source, IsSource, Reads}
 
 -- what is worked out: an expression; one as a kind; one by its form; what an lvalue holds; and two sides of an operator
 pub data Part : Type 0 where

@@ -1,8 +1,8 @@
 //! The arms of `?:`, which lead to one point with the same registers (C11 6.5.15).
 ghost use Rattle.std.specs.Prelude.{◌≡◌, ◌++◌, OnOk};
 ghost use Rattle.c_machine.specs.declared.kind.Kind.TheVariants.{Void};
-ghost use Rattle.lower.specs.Placing.{arm_moves, in_front};
-ghost use Rattle.lower.specs.Told.{trees};
+ghost use Rattle.lowering.specs.Placing.{arm_moves, in_front};
+ghost use Rattle.lowering.specs.Told.{trees};
 
 use crate::conditions::pads;
 use crate::kinds::is_void;
@@ -11,7 +11,7 @@ use c_machine::Kind;
 use cbase::{Expr, NoMemory, Place};
 
 /// An arm as a value of a kind: behind it, registers with 0 are filled, so that `want` of those stand that hold what was let go of, where `have` of them stand.
-pub(crate) fn arm_moves<'a>(
+pub fn arm_moves<'a>(
     line: &mut TreeLine<'a>,
     kind: Kind,
     spare: u32,

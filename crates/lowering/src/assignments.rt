@@ -2,10 +2,10 @@
 ghost use Rattle.std.specs.Prelude.{◌≡◌, ◌++◌, OnOk};
 ghost use Rattle.c_machine.specs.declared.kind.Kind.TheVariants.{Struct, Void};
 ghost use Rattle.c_machine.specs.Words.{decayed, kind_after, scalar_bytes};
-ghost use Rattle.lower.specs.Kinds.{conversion};
-ghost use Rattle.lower.specs.Moves.{taking};
-ghost use Rattle.lower.specs.Table.{assign_line, store_line, update_line, update_moves};
-ghost use Rattle.lower.specs.Told.{IsLine, trees};
+ghost use Rattle.lowering.specs.Kinds.{conversion};
+ghost use Rattle.lowering.specs.Moves.{taking};
+ghost use Rattle.lowering.specs.Table.{assign_line, store_line, update_line, update_moves};
+ghost use Rattle.lowering.specs.Told.{IsLine, trees};
 
 use crate::kinds::{conversion, fits, is_plain_operator, made_by, width};
 use crate::line::{
@@ -65,7 +65,7 @@ fn copy_line<'a>(
 }
 
 /// `=` on a left side of a type (C11 6.5.16.1).
-pub(crate) fn assign_line<'a>(
+pub fn assign_line<'a>(
     registers: &mut u32,
     line: &mut TreeLine<'a>,
     expr: &'a Expr,
@@ -147,7 +147,7 @@ fn update_moves<'a>(
 }
 
 /// `+=` and its like on a left side of one type, where the right side has the type `other` (C11 6.5.16.2).
-pub(crate) fn update_line<'a>(
+pub fn update_line<'a>(
     registers: &mut u32,
     line: &mut TreeLine<'a>,
     op: BinaryOp,

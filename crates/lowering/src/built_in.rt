@@ -6,7 +6,7 @@ ghost use Rattle.c_machine.specs.Expressions.{built_in, ends_run};
 use c_machine::BuiltIn;
 
 /// What a function that is built in does, by its name. It takes no memory.
-pub(crate) fn built_in(name: &[u8]) -> BuiltIn
+pub fn built_in(name: &[u8]) -> BuiltIn
     ensures { result ≡ built_in name.now }
 {
     if is(name, b"malloc") {

@@ -3,10 +3,10 @@ ghost use Rattle.std.specs.Prelude.{◌≡◌, ◌+◌, [], ◌∷◌, ◌++◌,
 ghost use Rattle.c_machine.specs.declared.built_in.BuiltIn.TheVariants.{Memset};
 ghost use Rattle.c_machine.specs.declared.kind.Kind.TheVariants.{Void};
 ghost use Rattle.flow.specs.declared.instruction.Instr.TheVariants.{IfDifferent, Number, Release};
-ghost use Rattle.lower.specs.Kinds.{width};
-ghost use Rattle.lower.specs.Moves.{Converts, Emits, taking};
-ghost use Rattle.lower.specs.Table.{allocates, beside, copy_moves, expect_moves, fill_moves, gives, have_values, receives, result_into};
-ghost use Rattle.lower.specs.Told.{IsLine, trees};
+ghost use Rattle.lowering.specs.Kinds.{width};
+ghost use Rattle.lowering.specs.Moves.{Converts, Emits, taking};
+ghost use Rattle.lowering.specs.Table.{allocates, beside, copy_moves, expect_moves, fill_moves, gives, have_values, receives, result_into};
+ghost use Rattle.lowering.specs.Told.{IsLine, trees};
 
 use crate::kinds::{fits, is_address, is_void, width};
 use crate::line::{TreeLine, converts, emits, fails, keeps, taken};
@@ -16,7 +16,7 @@ use cbase::{Expr, NoMemory, Place};
 use flow::Instr;
 
 /// An allocation of so many bytes, if they are known, whose address is wanted: it may fail (C11 7.22.3p1).
-pub(crate) fn allocates(
+pub fn allocates(
     line: &mut TreeLine,
     kept: Option<u32>,
     bytes: Option<u32>,
@@ -40,7 +40,7 @@ pub(crate) fn allocates(
 }
 
 /// `free` (C11 7.22.3.3).
-pub(crate) fn release_line<'a>(
+pub fn release_line<'a>(
     registers: &mut u32,
     line: &mut TreeLine<'a>,
     at: &'a Expr,
@@ -56,7 +56,7 @@ pub(crate) fn release_line<'a>(
 }
 
 /// `memset` of so many bytes, if they are known (C11 7.24.6.1).
-pub(crate) fn fill_line<'a>(
+pub fn fill_line<'a>(
     registers: &mut u32,
     line: &mut TreeLine<'a>,
     at: &'a Expr,
@@ -91,7 +91,7 @@ pub(crate) fn fill_line<'a>(
 }
 
 /// `memcpy` and `memmove` of so many bytes, if they are known (C11 7.24.2.1, 7.24.2.2).
-pub(crate) fn copy_line<'a>(
+pub fn copy_line<'a>(
     registers: &mut u32,
     line: &mut TreeLine<'a>,
     to: &'a Expr,
@@ -128,7 +128,7 @@ pub(crate) fn copy_line<'a>(
 }
 
 /// `__VERIFIER_assume`: the run goes on only where its argument is not 0.
-pub(crate) fn assume_line<'a>(
+pub fn assume_line<'a>(
     registers: &mut u32,
     line: &mut TreeLine<'a>,
     arg: &'a Expr,
@@ -174,7 +174,7 @@ fn beside(into: u32, spare: u32) -> Result<u32, NoMemory>
 }
 
 /// `__builtin_expect`.
-pub(crate) fn expect_moves<'a>(
+pub fn expect_moves<'a>(
     line: &mut TreeLine<'a>,
     arg: &'a Expr,
     kind: Kind,
@@ -201,7 +201,7 @@ pub(crate) fn expect_moves<'a>(
 }
 
 /// A value from outside, of a kind, that is wanted.
-pub(crate) fn receives(
+pub fn receives(
     line: &mut TreeLine,
     kept: Option<u32>,
     kind: Kind,

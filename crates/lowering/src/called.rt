@@ -1,8 +1,8 @@
 //! What a call calls (C11 6.5.2.2).
 ghost use Rattle.std.specs.Prelude.{◌≡◌, ◌<◌, not, ◌&&◌, nat_eq, length, IfOk};
 ghost use Rattle.c_text.specs.Parameters.{AreParameters};
-ghost use Rattle.lower.specs.Calls.{AreParameterKinds, IsBuiltInCalled, IsBodyCalled, IsNumberedCalled, IsDefinedCalled, IsCalled, are_sized_as};
-ghost use Rattle.lower.specs.Kinds.{is_void, width};
+ghost use Rattle.lowering.specs.Calls.{AreParameterKinds, IsBuiltInCalled, IsBodyCalled, IsNumberedCalled, IsDefinedCalled, IsCalled, are_sized_as};
+ghost use Rattle.lowering.specs.Kinds.{is_void, width};
 
 use crate::built_in::built_in;
 use crate::kinds::{is_void, width};
@@ -39,7 +39,7 @@ pub enum Called {
 }
 
 /// What the call of an expression calls. It takes one look-up by hash, and time and memory for the parameters.
-pub(crate) fn called_by(source: &Source, callee: &Expr) -> Result<Called, NoMemory>
+pub fn called_by(source: &Source, callee: &Expr) -> Result<Called, NoMemory>
     ensures { IfOk result (λ called. IsCalled source.now callee.now called) }
 {
     match &callee.form {

@@ -3,11 +3,11 @@ ghost use Rattle.std.specs.Prelude.{◌≡◌, ◌+◌, ◌<◌, ◌^◌, [], �
 ghost use Rattle.c_machine.specs.declared.built_in.BuiltIn.TheVariants.{Malloc, Calloc, Free, Memset, Memcpy, Memmove, Assume, Expect, GivesInput};
 ghost use Rattle.c_machine.specs.declared.kind.Kind.TheVariants.{Void};
 ghost use Rattle.flow.specs.declared.instruction.Instr.TheVariants.{Call};
-ghost use Rattle.lower.specs.Calls.{IsBuiltInLine, IsLineOfCalled};
-ghost use Rattle.lower.specs.Moves.{Emits, Fails, Stops, taking};
-ghost use Rattle.lower.specs.Reading.{IsCalledLine};
-ghost use Rattle.lower.specs.Table.{argument_moves, registers_from, result_into};
-ghost use Rattle.lower.specs.Told.{IsLine, trees};
+ghost use Rattle.lowering.specs.Calls.{IsBuiltInLine, IsLineOfCalled};
+ghost use Rattle.lowering.specs.Moves.{Emits, Fails, Stops, taking};
+ghost use Rattle.lowering.specs.Reading.{IsCalledLine};
+ghost use Rattle.lowering.specs.Table.{argument_moves, registers_from, result_into};
+ghost use Rattle.lowering.specs.Told.{IsLine, trees};
 
 use crate::built_ins::{
     allocates, assume_line, copy_line, expect_moves, fill_line, gives, receives, release_line,
@@ -26,7 +26,7 @@ use std::alloc::Global;
 /// The line of a call, where `kept` is the register of its value, if that is used.
 ///
 /// It takes one look-up by hash, and time for the arguments and for what its sizes are made of.
-pub(crate) fn called<'a>(
+pub fn called<'a>(
     source: &Source,
     registers: &mut u32,
     line: &mut TreeLine<'a>,

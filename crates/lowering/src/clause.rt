@@ -2,7 +2,7 @@
 ghost use Rattle.std.specs.Prelude.{◌≡◌};
 ghost use Rattle.c_machine.specs.Program.{Program};
 ghost use Rattle.c_machine.specs.Trees.{text_of};
-ghost use Rattle.lower.specs.Clauses.{clause_in};
+ghost use Rattle.lowering.specs.Clauses.{clause_in};
 
 use c_steps::Tree;
 use cbase::{Boxed, Declared, Expr, List, Place, Stmt, StmtForm};

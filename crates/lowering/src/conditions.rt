@@ -2,10 +2,10 @@
 ghost use Rattle.std.specs.Prelude.{◌≡◌, ◌+◌, ◌-◌, ◌≤◌, ◌<◌, ◌^◌, suc, [], ◌∷◌, ◌++◌, OnOk};
 ghost use Rattle.c_machine.specs.declared.kind.Kind.TheVariants.{Void};
 ghost use Rattle.flow.specs.declared.instruction.Instr.TheVariants.{IfDifferent, IfSame, Number};
-ghost use Rattle.lower.specs.Kinds.{sides, width};
-ghost use Rattle.lower.specs.Moves.{Emits, Evaluates, Parts, pads, zeros, taking};
-ghost use Rattle.lower.specs.Placing.{equality_moves};
-ghost use Rattle.lower.specs.Told.{IsLine, trees};
+ghost use Rattle.lowering.specs.Kinds.{sides, width};
+ghost use Rattle.lowering.specs.Moves.{Emits, Evaluates, Parts, pads, zeros, taking};
+ghost use Rattle.lowering.specs.Placing.{equality_moves};
+ghost use Rattle.lowering.specs.Told.{IsLine, trees};
 
 use crate::kinds::width;
 use crate::line::{TreeLine, emits, evaluates, resizes, stands_in, taken};
@@ -42,7 +42,7 @@ fn parts(
 }
 
 /// A value of a kind is tested against a 0 of its own size.
-pub(crate) fn zero_test_line<'a>(
+pub fn zero_test_line<'a>(
     registers: &mut u32,
     line: &mut TreeLine<'a>,
     expr: &'a Expr,
@@ -70,7 +70,7 @@ pub(crate) fn zero_test_line<'a>(
 }
 
 /// `==` or `!=` on values of two kinds: both sides, their conversions, and two edges.
-pub(crate) fn equality_line<'a>(
+pub fn equality_line<'a>(
     registers: &mut u32,
     line: &mut TreeLine<'a>,
     op: BinaryOp,
@@ -98,7 +98,7 @@ pub(crate) fn equality_line<'a>(
 }
 
 /// Registers that hold 0, from `have` of them on to `want`.
-pub(crate) fn pads(
+pub fn pads(
     line: &mut TreeLine,
     spare: u32,
     have: u32,

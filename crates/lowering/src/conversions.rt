@@ -1,8 +1,8 @@
 //! Values that become one of a kind, or that are let go of, as lines of moves (C11 6.3).
 ghost use Rattle.std.specs.Prelude.{◌≡◌, ◌++◌, OnOk};
 ghost use Rattle.c_machine.specs.declared.kind.Kind.TheVariants.{Void};
-ghost use Rattle.lower.specs.Table.{converted_line, dropped_line};
-ghost use Rattle.lower.specs.Told.{IsLine, trees};
+ghost use Rattle.lowering.specs.Table.{converted_line, dropped_line};
+ghost use Rattle.lowering.specs.Told.{IsLine, trees};
 
 use crate::conversion::Conversion;
 use crate::line::{TreeLine, answers, emits, evaluates, fails, taken, works};
@@ -10,7 +10,7 @@ use cbase::{Expr, NoMemory};
 use flow::Instr;
 
 /// A value behind a conversion: one that becomes a `_Bool` is a condition.
-pub(crate) fn converted_line<'a>(
+pub fn converted_line<'a>(
     registers: &mut u32,
     line: &mut TreeLine<'a>,
     expr: &'a Expr,
@@ -43,11 +43,7 @@ pub(crate) fn converted_line<'a>(
 }
 
 /// A value that is not used: it is put into the spare register, and 0 over it.
-pub(crate) fn dropped_line<'a>(
-    line: &mut TreeLine<'a>,
-    expr: &'a Expr,
-    spare: u32,
-) -> Result<(), NoMemory>
+pub fn dropped_line<'a>(line: &mut TreeLine<'a>, expr: &'a Expr, spare: u32) -> Result<(), NoMemory>
     ensures { OnOk result (line.new ≡ (dropped_line (trees Void) expr.now spare).moves ++ line.old) }
 {
     emits(

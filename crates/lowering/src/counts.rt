@@ -4,10 +4,10 @@ ghost use Rattle.c_machine.specs.declared.kind.Kind.TheVariants.{Integer, Void};
 ghost use Rattle.c_machine.specs.Step.{counting};
 ghost use Rattle.c_machine.specs.Words.{kind_after, scalar_bytes};
 ghost use Rattle.typing.specs.ctypes.Integers.{int};
-ghost use Rattle.lower.specs.Kinds.{conversion};
-ghost use Rattle.lower.specs.Moves.{taking};
-ghost use Rattle.lower.specs.Table.{count_line, count_moves, one_bytes, one_change, old_kept, new_kept};
-ghost use Rattle.lower.specs.Told.{IsLine, trees};
+ghost use Rattle.lowering.specs.Kinds.{conversion};
+ghost use Rattle.lowering.specs.Moves.{taking};
+ghost use Rattle.lowering.specs.Table.{count_line, count_moves, one_bytes, one_change, old_kept, new_kept};
+ghost use Rattle.lowering.specs.Told.{IsLine, trees};
 
 use crate::conversion::Conversion;
 use crate::kinds::{as_operand, conversion, width};
@@ -128,7 +128,7 @@ fn count_moves<'a>(
 }
 
 /// `++` and `--` on an operand of a type.
-pub(crate) fn count_line<'a>(
+pub fn count_line<'a>(
     registers: &mut u32,
     line: &mut TreeLine<'a>,
     up: bool,

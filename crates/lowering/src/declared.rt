@@ -1,9 +1,9 @@
 //! Declared names and their initialisers as lines of moves (C11 6.7.9).
 ghost use Rattle.std.specs.Prelude.{◌≡◌, ◌++◌, Some, IfOk, OnOk};
 ghost use Rattle.c_machine.specs.declared.kind.Kind.TheVariants.{Void};
-ghost use Rattle.lower.specs.Inner.{AreDeclared, IsDeclared, IsLeftBySet};
-ghost use Rattle.lower.specs.Placing.{declared_by};
-ghost use Rattle.lower.specs.Told.{trees};
+ghost use Rattle.lowering.specs.Inner.{AreDeclared, IsDeclared, IsLeftBySet};
+ghost use Rattle.lowering.specs.Placing.{declared_by};
+ghost use Rattle.lowering.specs.Told.{trees};
 
 use crate::left::{left_as, left_of};
 use crate::line::TreeLine;
@@ -17,7 +17,7 @@ use cbase::{Declared, Expr, Init, NoMemory, Place};
 /// The names of a declaration with their initialisers, one behind the other.
 ///
 /// It takes two look-ups by hash for each. Where the size of an object is not kept, memory is wanting.
-pub(crate) fn declared_line<'a>(
+pub fn declared_line<'a>(
     source: &Source,
     line: &mut TreeLine<'a>,
     names: &'a [Declared],
@@ -70,7 +70,7 @@ fn initialised_moves<'a>(
 }
 
 /// How many registers a value of an initialiser leaves that hold what it let go of, where it becomes one of a kind.
-pub(crate) fn left_by_set(source: &Source, value: &Expr, kind: Kind) -> Result<u32, NoMemory>
+pub fn left_by_set(source: &Source, value: &Expr, kind: Kind) -> Result<u32, NoMemory>
     ensures { IfOk result (λ count. IsLeftBySet source.now value.now kind count) }
 {
     match kind {

@@ -1,7 +1,7 @@
 //! Worked programs with their graphs. Each table is the contract of a function that does nothing.
-ghost use Rattle.lower.specs.Graphs.{AreWritten};
-ghost use Rattle.lower.specs.Programs.{DoCallsMeet, DoChoicesMeet, DoCountsMeet, DoJumpsMeet, DoLoopsMeet, DoMembersMeet, DoObjectsMeet, DoOperatorsMeet, DoReturnsMeet, DoStaticsMeet, DoTestsMeet, DoUpdatesMeet};
-ghost use Rattle.lower.specs.Rows.{AreGraphs, DoCallsRun, DoExpressionsRun, DoStatementsRun};
+ghost use Rattle.lowering.specs.Graphs.{AreWritten};
+ghost use Rattle.lowering.specs.Programs.{DoCallsMeet, DoChoicesMeet, DoCountsMeet, DoJumpsMeet, DoLoopsMeet, DoMembersMeet, DoObjectsMeet, DoOperatorsMeet, DoReturnsMeet, DoStaticsMeet, DoTestsMeet, DoUpdatesMeet};
+ghost use Rattle.lowering.specs.Rows.{AreGraphs, DoCallsRun, DoExpressionsRun, DoStatementsRun};
 
 /// In the graphs of these programs each edge leads from what stands at its one end to what stands at its other end.
 pub fn programs_have_graphs()

@@ -1,7 +1,7 @@
 //! Whether a form leaves a register where its value is not used (C11 6.8.3p2).
 ghost use Rattle.std.specs.Prelude.{◌≡◌, IfOk};
-ghost use Rattle.lower.specs.Calls.{Fills, fills_called};
-ghost use Rattle.lower.specs.Reading.{LeavesNothing, form_in};
+ghost use Rattle.lowering.specs.Calls.{Fills, fills_called};
+ghost use Rattle.lowering.specs.Reading.{LeavesNothing, form_in};
 
 use crate::called::{Called, called_by};
 use crate::form::TreeForm;
@@ -31,7 +31,7 @@ fn fills_called(called: &Called) -> bool
 }
 
 /// Whether a form leaves no register where its value is not used: a store, and what has no value.
-pub(crate) fn leaves_nothing(source: &Source, form: &TreeForm) -> Result<bool, NoMemory>
+pub fn leaves_nothing(source: &Source, form: &TreeForm) -> Result<bool, NoMemory>
     ensures { IfOk result (λ nothing. LeavesNothing source.now (form_in form.now) nothing) }
 {
     match form {

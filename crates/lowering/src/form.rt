@@ -1,5 +1,5 @@
 //! What an expression is, one layer of it, with what is known of it from typing.
-ghost use Rattle.lower.specs.Reading.{IsForm, IsKnown, IsMember, form_in};
+ghost use Rattle.lowering.specs.Reading.{IsForm, IsKnown, IsMember, form_in};
 
 use crate::source::Source;
 use c_steps::Tree;

@@ -2,10 +2,10 @@
 ghost use Rattle.std.specs.Prelude.{◌≡◌, ◌≤◌, ◌∷◌, ◌++◌, length, map, option_map, IfOk, OnOk};
 ghost use Rattle.c_machine.specs.Blocks.{is_empty};
 ghost use Rattle.c_machine.specs.declared.kind.Kind.TheVariants.{Void};
-ghost use Rattle.lower.specs.Inner.{AreLastMoves, AreValuedMoves, IsLeftAtEnd, until_last, wanted_of};
-ghost use Rattle.lower.specs.Moves.{Does};
-ghost use Rattle.lower.specs.Table.{ending, last_of};
-ghost use Rattle.lower.specs.Told.{trees};
+ghost use Rattle.lowering.specs.Inner.{AreLastMoves, AreValuedMoves, IsLeftAtEnd, until_last, wanted_of};
+ghost use Rattle.lowering.specs.Moves.{Does};
+ghost use Rattle.lowering.specs.Table.{ending, last_of};
+ghost use Rattle.lowering.specs.Told.{trees};
 
 use crate::kinds::is_void;
 use crate::left::left_of;
@@ -22,7 +22,7 @@ use flow::Instr;
 /// The expression statement at the end of a statement expression, if it has one: `;` alone may stand behind it.
 ///
 /// It takes time for the statements at the end.
-pub(crate) fn last_of(body: &[Stmt]) -> Option<&Expr>
+pub fn last_of(body: &[Stmt]) -> Option<&Expr>
     ensures { option_map (λ expr. expr.now) result ≡ last_of (trees Void) body.now }
 {
     let many = until_last(body);
@@ -68,7 +68,7 @@ fn ending(stmt: &Stmt) -> Option<&Expr>
 }
 
 /// How many registers the value of a block leaves that hold what it let go of.
-pub(crate) fn left_at_end(source: &Source, body: &[Stmt]) -> Result<u32, NoMemory>
+pub fn left_at_end(source: &Source, body: &[Stmt]) -> Result<u32, NoMemory>
     ensures { IfOk result (λ count. IsLeftAtEnd source.now body.now count) }
 {
     match last_of(body) {
@@ -92,7 +92,7 @@ fn wanted_of(kind: Kind) -> Wanted
 }
 
 /// The statements of a block, the last of which makes its value: it lets go of `count` values, from the register `spare` on.
-pub(crate) fn valued_moves<'a>(
+pub fn valued_moves<'a>(
     source: &Source,
     line: &mut TreeLine<'a>,
     spare: u32,
@@ -137,14 +137,14 @@ fn last_moves<'a>(
 }
 
 /// A statement.
-pub(crate) fn does<'a>(line: &mut TreeLine<'a>, stmt: &'a Stmt) -> Result<(), NoMemory>
+pub fn does<'a>(line: &mut TreeLine<'a>, stmt: &'a Stmt) -> Result<(), NoMemory>
     ensures { OnOk result (line.new ≡ Does stmt.now ∷ line.old) }
 {
     line.push(Move::Does(Tree::of(stmt)))
 }
 
 /// Statements, one behind the other.
-pub(crate) fn does_all<'a>(line: &mut TreeLine<'a>, body: &'a [Stmt]) -> Result<(), NoMemory>
+pub fn does_all<'a>(line: &mut TreeLine<'a>, body: &'a [Stmt]) -> Result<(), NoMemory>
     ensures { OnOk result (line.new ≡ map Does body.now ++ line.old) }
 {
     let mut left = body.len();

@@ -1,7 +1,7 @@
 //! How many bytes a register has for a value, and which conversions there are (C11 6.3).
 ghost use Rattle.std.specs.Prelude.{◌≡◌};
 ghost use Rattle.c_machine.specs.Words.{is_same};
-ghost use Rattle.lower.specs.Kinds.{width, is_void, is_address, fits, tested, between_integers, to_integer, as_operand, conversion, as_count, as_address, meeting, is_plain_operator, stored_by, made_by};
+ghost use Rattle.lowering.specs.Kinds.{width, is_void, is_address, fits, tested, between_integers, to_integer, as_operand, conversion, as_count, as_address, meeting, is_plain_operator, stored_by, made_by};
 
 use crate::conversion::Conversion;
 use c_machine::{Kind, WholeType};

@@ -2,9 +2,9 @@
 ghost use Rattle.std.specs.Prelude.{◌≡◌, [], pos, option_and_then, option_map, IfOk};
 ghost use Rattle.bytes_core.specs.declared.word.Word.TheVariants.{Plain};
 ghost use Rattle.bytes_core.specs.Value.{moved};
-ghost use Rattle.lower.specs.Known.{answered, applied_to, both, converted_to, operated_on, truth_of};
-ghost use Rattle.lower.specs.Words.{IsWord, IsObjectWord, IsNameWord, Whole, As, OfValue, OfPlace, Loaded, TwoSides, Operated, Tests, tested};
-ghost use Rattle.lower.specs.Reading.{form_in};
+ghost use Rattle.lowering.specs.Known.{answered, applied_to, both, converted_to, operated_on, truth_of};
+ghost use Rattle.lowering.specs.Words.{IsWord, IsObjectWord, IsNameWord, Whole, As, OfValue, OfPlace, Loaded, TwoSides, Operated, Tests, tested};
+ghost use Rattle.lowering.specs.Reading.{form_in};
 ghost use Rattle.c_machine.specs.Text.{Choose, Unary};
 
 use crate::asked::Asked;

@@ -2,8 +2,8 @@
 ghost use Rattle.std.specs.Prelude.{◌≡◌, ◌∷◌, ◌++◌, [], false, reverse, List as Items, IfOk, OnOk};
 ghost use Rattle.std.specs.List.{list_any};
 ghost use Rattle.flow.specs.declared.flow_graph.Initial.{Initial};
-ghost use Rattle.lower.specs.Initials.{latest};
-ghost use Rattle.lower.specs.Latest.{is_scalar, key_of, AreLatest};
+ghost use Rattle.lowering.specs.Initials.{latest};
+ghost use Rattle.lowering.specs.Latest.{is_scalar, key_of, AreLatest};
 
 use cbase::{List, NoMemory};
 use flow::Initial;
@@ -12,7 +12,7 @@ use std::alloc::Global;
 
 /// Which scalar of which variable it is.
 #[derive(Clone, Copy, PartialEq, Eq, Hash)]
-pub(crate) struct ScalarKey {
+pub struct ScalarKey {
     /// The variable.
     pub variable: u32,
     /// Where in it the scalar stands, in bytes.

@@ -1,7 +1,7 @@
 //! How many registers an expression leaves that hold values which it let go of.
 ghost use Rattle.std.specs.Prelude.{◌≡◌, ◌+◌, max, false, IfOk, OnOk};
-ghost use Rattle.lower.specs.LetGo.{AsPlace, AsValue};
-ghost use Rattle.lower.specs.Lefts.{IsAdded, IsLeft, IsLeftAs, ComesTo, As, Converted, TwoValues, Whole};
+ghost use Rattle.lowering.specs.LetGo.{AsPlace, AsValue};
+ghost use Rattle.lowering.specs.Lefts.{IsAdded, IsLeft, IsLeftAs, ComesTo, As, Converted, TwoValues, Whole};
 
 use crate::conversion::Conversion;
 use crate::form::read_form;
@@ -104,7 +104,7 @@ fn look_at<'a>(source: &Source, search: &mut Search<'a>, next: Pending<'a>) -> R
 }
 
 /// Adds what stands directly in an expression.
-pub(crate) fn add_layer<'a>(
+pub fn add_layer<'a>(
     source: &Source,
     search: &mut Search<'a>,
     levels: u64,
@@ -126,14 +126,14 @@ pub(crate) fn add_layer<'a>(
 }
 
 /// Adds nothing but the registers that stand ahead.
-pub(crate) fn add_nothing(search: &mut Search, ahead: u32)
+pub fn add_nothing(search: &mut Search, ahead: u32)
     ensures { search.new ≡ record search.old { most = max search.old.most ahead } }
 {
     search.most = search.most.max(ahead);
 }
 
 /// Adds an expression of which that is wanted.
-pub(crate) fn add_whole<'a>(
+pub fn add_whole<'a>(
     source: &Source,
     search: &mut Search<'a>,
     levels: u64,
@@ -152,7 +152,7 @@ pub(crate) fn add_whole<'a>(
 }
 
 /// Adds an expression behind a conversion.
-pub(crate) fn add_converted<'a>(
+pub fn add_converted<'a>(
     source: &Source,
     search: &mut Search<'a>,
     levels: u64,
@@ -183,7 +183,7 @@ pub(crate) fn add_converted<'a>(
 }
 
 /// Adds the value of an expression, which is not put into the spare register.
-pub(crate) fn add_value_apart<'a>(
+pub fn add_value_apart<'a>(
     source: &Source,
     search: &mut Search<'a>,
     levels: u64,
@@ -203,7 +203,7 @@ pub(crate) fn add_value_apart<'a>(
 }
 
 /// Adds the address of an expression, which is not put into the spare register.
-pub(crate) fn add_place_apart<'a>(
+pub fn add_place_apart<'a>(
     source: &Source,
     search: &mut Search<'a>,
     levels: u64,
@@ -223,7 +223,7 @@ pub(crate) fn add_place_apart<'a>(
 }
 
 /// Adds an expression whose value becomes one of a kind.
-pub(crate) fn add_as<'a>(
+pub fn add_as<'a>(
     source: &Source,
     search: &mut Search<'a>,
     levels: u64,
@@ -247,7 +247,7 @@ pub(crate) fn add_as<'a>(
 }
 
 /// Adds two values, neither of which is put into the spare register.
-pub(crate) fn add_sides<'a>(
+pub fn add_sides<'a>(
     source: &Source,
     search: &mut Search<'a>,
     levels: u64,

@@ -1,8 +1,8 @@
 //! What stands directly in a call: how many registers it leaves that hold what it let go of.
 ghost use Rattle.std.specs.Prelude.{◌≡◌, [], ◌∷◌, false, IfSome, OnOk};
 ghost use Rattle.c_machine.specs.declared.built_in.BuiltIn.TheVariants.{Expect, Memset};
-ghost use Rattle.lower.specs.LetGo.{behind_spare};
-ghost use Rattle.lower.specs.Lefts.{IsAdded, Arguments, OfBuiltIn, OfCall, OfCalled};
+ghost use Rattle.lowering.specs.LetGo.{behind_spare};
+ghost use Rattle.lowering.specs.Lefts.{IsAdded, Arguments, OfBuiltIn, OfCall, OfCalled};
 
 use crate::called::{Called, called_by};
 use crate::left::{Search, add_as, add_nothing};
@@ -11,7 +11,7 @@ use c_machine::{BuiltIn, Kind};
 use cbase::{Expr, NoMemory};
 
 /// Adds a call.
-pub(crate) fn add_call<'a>(
+pub fn add_call<'a>(
     source: &Source,
     search: &mut Search<'a>,
     levels: u64,
@@ -27,7 +27,7 @@ pub(crate) fn add_call<'a>(
 }
 
 /// Adds a call of what is called.
-pub(crate) fn add_called<'a>(
+pub fn add_called<'a>(
     source: &Source,
     search: &mut Search<'a>,
     levels: u64,
@@ -65,7 +65,7 @@ pub(crate) fn add_called<'a>(
 }
 
 /// Adds a call of a function that is built in.
-pub(crate) fn add_built_in<'a>(
+pub fn add_built_in<'a>(
     source: &Source,
     search: &mut Search<'a>,
     levels: u64,
@@ -111,7 +111,7 @@ pub(crate) fn add_built_in<'a>(
 }
 
 /// Adds the first two of the arguments of a store.
-pub(crate) fn add_two_arguments<'a>(
+pub fn add_two_arguments<'a>(
     source: &Source,
     search: &mut Search<'a>,
     levels: u64,
@@ -134,7 +134,7 @@ pub(crate) fn add_two_arguments<'a>(
 }
 
 /// Adds a call of `__builtin_expect`: its second argument is let go of, behind the spare register where the first one is there.
-pub(crate) fn add_expected<'a>(
+pub fn add_expected<'a>(
     source: &Source,
     search: &mut Search<'a>,
     levels: u64,
@@ -172,7 +172,7 @@ fn behind_spare(in_spare: bool, count: u32) -> Option<u32>
 }
 
 /// Adds arguments of parameters of these kinds.
-pub(crate) fn add_arguments<'a>(
+pub fn add_arguments<'a>(
     source: &Source,
     search: &mut Search<'a>,
     levels: u64,

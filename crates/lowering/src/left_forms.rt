@@ -1,8 +1,8 @@
 //! What stands directly in an expression whose address is wanted, that is done, or that is tested: how many registers it leaves that hold what it let go of.
 ghost use Rattle.std.specs.Prelude.{◌≡◌, ◌&&◌, nat_eq, OnOk};
 ghost use Rattle.c_machine.specs.Text.{Binary, Member};
-ghost use Rattle.lower.specs.Lefts.{IsAdded, OfOtherWork, OfPlace, OfTest, OfWork, TwoTests};
-ghost use Rattle.lower.specs.Reading.{form_in};
+ghost use Rattle.lowering.specs.Lefts.{IsAdded, OfOtherWork, OfPlace, OfTest, OfWork, TwoTests};
+ghost use Rattle.lowering.specs.Reading.{form_in};
 
 use crate::fills::leaves_nothing;
 use crate::form::TreeForm;
@@ -15,7 +15,7 @@ use crate::wanted::Wanted;
 use cbase::{BinaryOp, Expr, NoMemory, UnaryOp};
 
 /// Adds what stands directly in an expression whose address is wanted.
-pub(crate) fn add_place<'a>(
+pub fn add_place<'a>(
     source: &Source,
     search: &mut Search<'a>,
     levels: u64,
@@ -67,7 +67,7 @@ pub(crate) fn add_place<'a>(
 }
 
 /// Adds what stands directly in a member whose address is wanted.
-pub(crate) fn add_member<'a>(
+pub fn add_member<'a>(
     source: &Source,
     search: &mut Search<'a>,
     levels: u64,
@@ -109,7 +109,7 @@ fn still_in_spare(in_spare: bool, offset: u64) -> bool
 }
 
 /// Adds what stands directly in an expression whose value is not used.
-pub(crate) fn add_work<'a>(
+pub fn add_work<'a>(
     source: &Source,
     search: &mut Search<'a>,
     levels: u64,
@@ -133,7 +133,7 @@ pub(crate) fn add_work<'a>(
 }
 
 /// The same of an expression that is no comma.
-pub(crate) fn add_other_work<'a>(
+pub fn add_other_work<'a>(
     source: &Source,
     search: &mut Search<'a>,
     levels: u64,
@@ -164,7 +164,7 @@ pub(crate) fn add_other_work<'a>(
 }
 
 /// Adds what stands directly in a condition.
-pub(crate) fn add_test<'a>(
+pub fn add_test<'a>(
     source: &Source,
     search: &mut Search<'a>,
     levels: u64,
@@ -194,7 +194,7 @@ pub(crate) fn add_test<'a>(
 }
 
 /// Adds what stands directly in a condition that is a binary operator.
-pub(crate) fn add_tests<'a>(
+pub fn add_tests<'a>(
     source: &Source,
     search: &mut Search<'a>,
     levels: u64,
@@ -216,7 +216,7 @@ pub(crate) fn add_tests<'a>(
 }
 
 /// Adds two conditions.
-pub(crate) fn add_two_tests<'a>(
+pub fn add_two_tests<'a>(
     source: &Source,
     search: &mut Search<'a>,
     levels: u64,

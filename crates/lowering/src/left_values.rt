@@ -2,9 +2,9 @@
 ghost use Rattle.std.specs.Prelude.{◌≡◌, OnOk};
 ghost use Rattle.cbase.specs.declared.tree.operators.UnaryOp.TheVariants.{Plus};
 ghost use Rattle.c_machine.specs.Text.{Assign, Cast, Choose, Unary};
-ghost use Rattle.lower.specs.LetGo.{in_spare_still};
-ghost use Rattle.lower.specs.Lefts.{IsAdded, Loaded, OfValue, Stored, TwoSides};
-ghost use Rattle.lower.specs.Reading.{form_in};
+ghost use Rattle.lowering.specs.LetGo.{in_spare_still};
+ghost use Rattle.lowering.specs.Lefts.{IsAdded, Loaded, OfValue, Stored, TwoSides};
+ghost use Rattle.lowering.specs.Reading.{form_in};
 
 use crate::conversion::Conversion;
 use crate::form::TreeForm;
@@ -20,7 +20,7 @@ use c_steps::words::scalar_bytes;
 use cbase::{BinaryOp, Expr, NoMemory, UnaryOp};
 
 /// Adds what stands directly in an expression whose value is wanted.
-pub(crate) fn add_value<'a>(
+pub fn add_value<'a>(
     source: &Source,
     search: &mut Search<'a>,
     levels: u64,
@@ -108,7 +108,7 @@ pub(crate) fn add_value<'a>(
 }
 
 /// Adds an lvalue that is loaded, whose address has a register of its own, or of which only the address is wanted.
-pub(crate) fn add_loaded<'a>(
+pub fn add_loaded<'a>(
     source: &Source,
     search: &mut Search<'a>,
     levels: u64,
@@ -133,7 +133,7 @@ pub(crate) fn add_loaded<'a>(
 }
 
 /// Adds the value of a unary operator.
-pub(crate) fn add_unary<'a>(
+pub fn add_unary<'a>(
     source: &Source,
     search: &mut Search<'a>,
     levels: u64,
@@ -186,7 +186,7 @@ fn in_spare_still(kind: Kind, in_spare: bool) -> bool
 }
 
 /// Adds the value of a binary operator or the comma.
-pub(crate) fn add_binary<'a>(
+pub fn add_binary<'a>(
     source: &Source,
     search: &mut Search<'a>,
     levels: u64,
@@ -220,7 +220,7 @@ pub(crate) fn add_binary<'a>(
 }
 
 /// Adds an assignment.
-pub(crate) fn add_assigned<'a>(
+pub fn add_assigned<'a>(
     source: &Source,
     search: &mut Search<'a>,
     levels: u64,
@@ -246,7 +246,7 @@ pub(crate) fn add_assigned<'a>(
 }
 
 /// Adds what is stored in an lvalue of a kind.
-pub(crate) fn add_stored<'a>(
+pub fn add_stored<'a>(
     source: &Source,
     search: &mut Search<'a>,
     levels: u64,
@@ -265,7 +265,7 @@ pub(crate) fn add_stored<'a>(
 }
 
 /// Adds `?:`.
-pub(crate) fn add_choice<'a>(
+pub fn add_choice<'a>(
     source: &Source,
     search: &mut Search<'a>,
     levels: u64,
@@ -285,7 +285,7 @@ pub(crate) fn add_choice<'a>(
 }
 
 /// Adds a cast.
-pub(crate) fn add_cast<'a>(
+pub fn add_cast<'a>(
     source: &Source,
     search: &mut Search<'a>,
     levels: u64,

@@ -1,7 +1,7 @@
 //! Moves in front of others, and registers of a form's own.
 ghost use Rattle.std.specs.Prelude.{◌≡◌, ◌+◌, ◌<◌, ◌^◌, ◌∷◌, ◌++◌, IfOk, OnOk};
-ghost use Rattle.lower.specs.Moves.{Emits, Pairs, Parts, Evaluates, Converts, Answers, Tells, Locates, Works, Stops, Fails, resizes, adapts, stands_in, zeros, pads};
-ghost use Rattle.lower.specs.Table.{keeps, keeps_zero, shifts, shifted_in, copies, object_moves};
+ghost use Rattle.lowering.specs.Moves.{Emits, Pairs, Parts, Evaluates, Converts, Answers, Tells, Locates, Works, Stops, Fails, resizes, adapts, stands_in, zeros, pads};
+ghost use Rattle.lowering.specs.Table.{keeps, keeps_zero, shifts, shifted_in, copies, object_moves};
 
 use crate::conversion::Conversion;
 use crate::moves::Move;
@@ -17,7 +17,7 @@ pub type TreeMove<'a> = Move<Tree<'a, Expr>, Tree<'a, Stmt>, Tree<'a, Init>>;
 pub type TreeLine<'a> = Stack<TreeMove<'a>>;
 
 /// Takes so many registers more. It answers the number of the first one; where there are more than can be numbered, memory is wanting.
-pub(crate) fn taken(registers: &mut u32, count: u32) -> Result<u32, NoMemory>
+pub fn taken(registers: &mut u32, count: u32) -> Result<u32, NoMemory>
     ensures first { IfOk result (λ first. first ≡ registers.old) }
     ensures taken { OnOk result (registers.new ≡ registers.old + count) }
     ensures fits { IfOk result (λ first. first + count < 2 ^ 32) }
@@ -33,14 +33,14 @@ pub(crate) fn taken(registers: &mut u32, count: u32) -> Result<u32, NoMemory>
 }
 
 /// An edge.
-pub(crate) fn emits<'a>(line: &mut TreeLine<'a>, instr: Instr, place: Place) -> Result<(), NoMemory>
+pub fn emits<'a>(line: &mut TreeLine<'a>, instr: Instr, place: Place) -> Result<(), NoMemory>
     ensures { OnOk result (line.new ≡ Emits instr place ∷ line.old) }
 {
     line.push(Move::Emits { instr, place })
 }
 
 /// The value of an expression.
-pub(crate) fn evaluates<'a>(
+pub fn evaluates<'a>(
     line: &mut TreeLine<'a>,
     expr: &'a Expr,
     spare: u32,
@@ -56,7 +56,7 @@ pub(crate) fn evaluates<'a>(
 }
 
 /// The value of an expression as one of a kind.
-pub(crate) fn converts<'a>(
+pub fn converts<'a>(
     line: &mut TreeLine<'a>,
     expr: &'a Expr,
     kind: Kind,
@@ -74,7 +74,7 @@ pub(crate) fn converts<'a>(
 }
 
 /// Whether a condition holds.
-pub(crate) fn answers<'a>(
+pub fn answers<'a>(
     line: &mut TreeLine<'a>,
     expr: &'a Expr,
     spare: u32,
@@ -92,7 +92,7 @@ pub(crate) fn answers<'a>(
 }
 
 /// The address of an lvalue.
-pub(crate) fn locates<'a>(
+pub fn locates<'a>(
     line: &mut TreeLine<'a>,
     expr: &'a Expr,
     spare: u32,
@@ -108,7 +108,7 @@ pub(crate) fn locates<'a>(
 }
 
 /// An expression whose value is not used.
-pub(crate) fn works<'a>(line: &mut TreeLine<'a>, expr: &'a Expr, spare: u32) -> Result<(), NoMemory>
+pub fn works<'a>(line: &mut TreeLine<'a>, expr: &'a Expr, spare: u32) -> Result<(), NoMemory>
     ensures { OnOk result (line.new ≡ Works expr.now spare ∷ line.old) }
 {
     line.push(Move::Works {
@@ -118,21 +118,21 @@ pub(crate) fn works<'a>(line: &mut TreeLine<'a>, expr: &'a Expr, spare: u32) -> 
 }
 
 /// The run ends.
-pub(crate) fn stops(line: &mut TreeLine) -> Result<(), NoMemory>
+pub fn stops(line: &mut TreeLine) -> Result<(), NoMemory>
     ensures { OnOk result (line.new ≡ Stops ∷ line.old) }
 {
     line.push(Move::Stops)
 }
 
 /// There is no graph.
-pub(crate) fn fails(line: &mut TreeLine) -> Result<(), NoMemory>
+pub fn fails(line: &mut TreeLine) -> Result<(), NoMemory>
     ensures { OnOk result (line.new ≡ Fails ∷ line.old) }
 {
     line.push(Move::Fails)
 }
 
 /// A conversion of what a register holds, if it is an edge.
-pub(crate) fn resizes(
+pub fn resizes(
     line: &mut TreeLine,
     change: Conversion,
     from: u32,
@@ -158,7 +158,7 @@ pub(crate) fn resizes(
 }
 
 /// The same where the value may become a `_Bool`.
-pub(crate) fn adapts(
+pub fn adapts(
     line: &mut TreeLine,
     change: Conversion,
     from: u32,
@@ -180,7 +180,7 @@ pub(crate) fn adapts(
 }
 
 /// Where the value stands behind a conversion.
-pub(crate) fn stands_in(change: Conversion, from: u32, into: u32) -> u32
+pub fn stands_in(change: Conversion, from: u32, into: u32) -> u32
     ensures { result ≡ stands_in change from into }
 {
     match change {
@@ -190,7 +190,7 @@ pub(crate) fn stands_in(change: Conversion, from: u32, into: u32) -> u32
 }
 
 /// A value that is used, too, is moved to a register that keeps it.
-pub(crate) fn keeps(
+pub fn keeps(
     line: &mut TreeLine,
     kept: Option<u32>,
     from: u32,
@@ -205,7 +205,7 @@ pub(crate) fn keeps(
 }
 
 /// An address moved by a constant, if it is.
-pub(crate) fn shifts(
+pub fn shifts(
     line: &mut TreeLine,
     from: u32,
     into: u32,
@@ -224,14 +224,14 @@ pub(crate) fn shifts(
 }
 
 /// Where an address stands that may be moved.
-pub(crate) fn shifted_in(bytes: u64, from: u32, into: u32) -> u32
+pub fn shifted_in(bytes: u64, from: u32, into: u32) -> u32
     ensures { result ≡ shifted_in bytes from into }
 {
     if bytes == 0 { into } else { from }
 }
 
 /// The address of an object, if it has a variable.
-pub(crate) fn object_moves(
+pub fn object_moves(
     line: &mut TreeLine,
     found: Option<u32>,
     place: Place,
@@ -246,7 +246,7 @@ pub(crate) fn object_moves(
 }
 
 /// A copy of so many bytes, if they are no more than an object may have.
-pub(crate) fn copies(
+pub fn copies(
     line: &mut TreeLine,
     to: u32,
     from: u32,
@@ -272,11 +272,7 @@ pub(crate) fn copies(
 }
 
 /// The 0 that stands behind the assignment of a struct, where its value is used.
-pub(crate) fn keeps_zero(
-    line: &mut TreeLine,
-    kept: Option<u32>,
-    place: Place,
-) -> Result<(), NoMemory>
+pub fn keeps_zero(line: &mut TreeLine, kept: Option<u32>, place: Place) -> Result<(), NoMemory>
     ensures { OnOk result (line.new ≡ keeps_zero kept place ++ line.old) }
 {
     match kept {

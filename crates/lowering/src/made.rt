@@ -1,9 +1,9 @@
 //! The kind of what a form makes, where that is not said by the kind of the expression itself.
 ghost use Rattle.std.specs.Prelude.{◌≡◌, IfOk};
 ghost use Rattle.c_machine.specs.Text.{Binary, Unary};
-ghost use Rattle.lower.specs.Made.{IsAssignedKind, IsLastKind, IsMade, IsMadeKind, IsResult, kind_of_called, promoted_kind};
-ghost use Rattle.lower.specs.Reading.{form_in};
-ghost use Rattle.lower.specs.Table.{assigned};
+ghost use Rattle.lowering.specs.Made.{IsAssignedKind, IsLastKind, IsMade, IsMadeKind, IsResult, kind_of_called, promoted_kind};
+ghost use Rattle.lowering.specs.Reading.{form_in};
+ghost use Rattle.lowering.specs.Table.{assigned};
 
 use crate::called::{Called, called_by};
 use crate::form::TreeForm;
@@ -101,7 +101,7 @@ fn assigned(kind: Kind) -> Kind
 }
 
 /// The kind of the value of a statement expression.
-pub(crate) fn kind_of_last(source: &Source, body: &[Stmt]) -> Result<Kind, NoMemory>
+pub fn kind_of_last(source: &Source, body: &[Stmt]) -> Result<Kind, NoMemory>
     ensures { IfOk result (λ kind. IsLastKind source.now body.now kind) }
 {
     match last_of(body) {

@@ -2,7 +2,7 @@
 ghost use Rattle.std.specs.Prelude.{◌≡◌, ◌+◌, ◌++◌, OnOk, IfOk};
 ghost use Rattle.c_machine.specs.State.{is_named};
 ghost use Rattle.simulation.specs.Names.{variable_in, variables_of};
-ghost use Rattle.lower.specs.Placing.{named_from};
+ghost use Rattle.lowering.specs.Placing.{named_from};
 
 use c_machine::Object;
 use cbase::{List, NoMemory};

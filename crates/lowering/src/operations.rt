@@ -2,9 +2,9 @@
 ghost use Rattle.std.specs.Prelude.{◌≡◌, ◌∷◌, ◌++◌, OnOk, pos, neg_ℤ, if◌then◌else◌};
 ghost use Rattle.c_machine.specs.declared.kind.Kind.TheVariants.{Integer, Pointer};
 ghost use Rattle.flow.specs.declared.instruction.Instr.TheVariants.{ShiftBy};
-ghost use Rattle.lower.specs.Kinds.{as_address, is_equality, sides};
-ghost use Rattle.lower.specs.declared.conversion.Conversion.TheVariants.{Nothing};
-ghost use Rattle.lower.specs.Moves.{Emits, of_integers, combines, computes, operates};
+ghost use Rattle.lowering.specs.Kinds.{as_address, is_equality, sides};
+ghost use Rattle.lowering.specs.declared.conversion.Conversion.TheVariants.{Nothing};
+ghost use Rattle.lowering.specs.Moves.{Emits, of_integers, combines, computes, operates};
 
 use crate::conversion::Conversion;
 use crate::kinds::{as_address, as_count, as_operand, meeting};
@@ -155,7 +155,7 @@ fn behind_pointer(
 }
 
 /// Two values behind their conversions.
-pub(crate) fn combines(
+pub fn combines(
     line: &mut TreeLine,
     op: BinaryOp,
     left: Kind,
@@ -270,7 +270,7 @@ fn where_equal(op: BinaryOp, left: Kind, right: Kind) -> Sides
 }
 
 /// An operator on what two registers hold: the conversions of both sides, each into a register of its own, and the operation.
-pub(crate) fn operates(
+pub fn operates(
     line: &mut TreeLine,
     op: BinaryOp,
     left: &Kind,

@@ -1,7 +1,7 @@
 //! The addresses of lvalues, a line of moves each (C11 6.3.2.1).
 ghost use Rattle.std.specs.Prelude.{◌≡◌, OnOk};
 ghost use Rattle.c_machine.specs.Text.{Member};
-ghost use Rattle.lower.specs.Reading.{IsPlaceLine, form_in};
+ghost use Rattle.lowering.specs.Reading.{IsPlaceLine, form_in};
 
 use crate::form::TreeForm;
 use crate::line::{TreeLine, object_moves, stops};

@@ -1,10 +1,10 @@
 //! The addresses of lvalues, a line of moves each (C11 6.3.2.1, 6.5.2.1, 6.5.2.3, 6.5.3.2).
 ghost use Rattle.std.specs.Prelude.{◌≡◌, ◌+◌, [], ◌∷◌, ◌++◌, OnOk};
 ghost use Rattle.cbase.specs.declared.tree.operators.BinaryOp.TheVariants.{Add};
-ghost use Rattle.lower.specs.Kinds.{made_by};
-ghost use Rattle.lower.specs.Moves.{Evaluates, Locates, operates, taking};
-ghost use Rattle.lower.specs.Table.{addressed, shifted_in, shifts};
-ghost use Rattle.lower.specs.Told.{IsLine};
+ghost use Rattle.lowering.specs.Kinds.{made_by};
+ghost use Rattle.lowering.specs.Moves.{Evaluates, Locates, operates, taking};
+ghost use Rattle.lowering.specs.Table.{addressed, shifted_in, shifts};
+ghost use Rattle.lowering.specs.Told.{IsLine};
 
 use crate::kinds::{is_address, made_by};
 use crate::line::{TreeLine, evaluates, fails, locates, shifted_in, shifts, taken};
@@ -13,7 +13,7 @@ use c_machine::Kind;
 use cbase::{BinaryOp, Expr, NoMemory, Place};
 
 /// What a pointer of a kind leads to: the address is its value.
-pub(crate) fn followed_line<'a>(
+pub fn followed_line<'a>(
     registers: &mut u32,
     line: &mut TreeLine<'a>,
     arg: &'a Expr,
@@ -30,7 +30,7 @@ pub(crate) fn followed_line<'a>(
 }
 
 /// An item of an array: `a[i]` is at `a + i`.
-pub(crate) fn indexed_line<'a>(
+pub fn indexed_line<'a>(
     registers: &mut u32,
     line: &mut TreeLine<'a>,
     expr: &'a Expr,
@@ -63,7 +63,7 @@ pub(crate) fn indexed_line<'a>(
 }
 
 /// A member of a struct, behind so many bytes.
-pub(crate) fn member_line<'a>(
+pub fn member_line<'a>(
     registers: &mut u32,
     line: &mut TreeLine<'a>,
     place: Place,
@@ -81,7 +81,7 @@ pub(crate) fn member_line<'a>(
 }
 
 /// A member of the struct to which a pointer of a kind leads, behind so many bytes.
-pub(crate) fn pointed_line<'a>(
+pub fn pointed_line<'a>(
     registers: &mut u32,
     line: &mut TreeLine<'a>,
     place: Place,

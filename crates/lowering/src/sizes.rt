@@ -1,6 +1,6 @@
 //! Sizes of allocations and lengths, which are numbers that are known (C11 7.22.3, 7.24).
 ghost use Rattle.std.specs.Prelude.{◌≡◌, IfOk};
-ghost use Rattle.lower.specs.Words.{IsProduct, IsSize};
+ghost use Rattle.lowering.specs.Words.{IsProduct, IsSize};
 
 use crate::known::word_as;
 use crate::source::Source;
@@ -10,7 +10,7 @@ use c_machine::Kind;
 use cbase::{Expr, NoMemory};
 
 /// The size that an argument of a kind comes to, if it comes to one.
-pub(crate) fn size_as(source: &Source, expr: &Expr, kind: Kind) -> Result<Option<u32>, NoMemory>
+pub fn size_as(source: &Source, expr: &Expr, kind: Kind) -> Result<Option<u32>, NoMemory>
     ensures { IfOk result (λ size. IsSize source.now expr.now kind size) }
 {
     let none = Names::none(source.alloc());
@@ -20,7 +20,7 @@ pub(crate) fn size_as(source: &Source, expr: &Expr, kind: Kind) -> Result<Option
 }
 
 /// The size that the product of two arguments comes to, if it comes to one.
-pub(crate) fn product_as(
+pub fn product_as(
     source: &Source,
     one: &Expr,
     one_kind: Kind,

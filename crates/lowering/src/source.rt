@@ -1,5 +1,5 @@
 ghost use Rattle.std.specs.Prelude.{◌≡◌, IfOk, IfSome, IfNone};
-ghost use Rattle.lower.specs.Reading.{IsKind, IsValueKind, IsConstant, IsNoConstant, IsObjectToken};
+ghost use Rattle.lowering.specs.Reading.{IsKind, IsValueKind, IsConstant, IsNoConstant, IsObjectToken};
 
 use c_machine::Kind;
 use c_steps::words::decayed;
@@ -11,6 +11,7 @@ use std::marker::Model;
 /// What the lowering reads of a program: what typing hands on of it, its functions, and how many levels of moves are enough.
 ///
 /// Where the size of a type is not kept, as `c_text::type_kind` says, memory is wanting.
+#[derive(Drop)]
 pub struct Source<'t> {
     alloc: Global,
     text: &'t TypedText,
@@ -22,7 +23,7 @@ impl<'t> Model for Source<'t> {
     ghost use Rattle.cbase.specs.contracts.ctype.CType as e;
     ghost use Rattle.cbase.specs.contracts.tree.stmt.Stmt as s;
     ghost use Rattle.std.specs.Coded.{codes};
-    ghost use Rattle.lower.specs.Source.{Source};
+    ghost use Rattle.lowering.specs.Source.{Source};
 
     ghost Value = { Source };
 
@@ -97,7 +98,7 @@ pub fn value_kind(source: &Source, expr: &Expr) -> Result<Kind, NoMemory>
 }
 
 /// The bits of the constant of an enum that an expression names, if it names one.
-pub(crate) fn constant_bits(source: &Source, expr: &Expr) -> Option<u32>
+pub fn constant_bits(source: &Source, expr: &Expr) -> Option<u32>
     ensures some { IfSome result (λ bits. IsConstant source.now.context expr.now bits) }
     ensures none { IfNone result (IsNoConstant source.now.context expr.now) }
 {

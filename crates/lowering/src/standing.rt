@@ -1,7 +1,7 @@
 //! What stands behind a move: registers more, and fewer.
 ghost use Rattle.std.specs.Prelude.{◌≡◌, ◌+◌, ◌∷◌, [], IfOk, OnOk};
 ghost use Rattle.flow.specs.Holding.{emptied_widths, put_width};
-ghost use Rattle.lower.specs.Placing.{with_spares, with_value, with_width, without_register};
+ghost use Rattle.lowering.specs.Placing.{with_spares, with_value, with_width, without_register};
 
 use crate::kinds::width;
 use c_machine::Kind;
@@ -75,7 +75,7 @@ pub fn with_spares(
 }
 
 /// The register behind one. Where there is none, memory is wanting.
-pub(crate) fn next_register(register: u32) -> Result<u32, NoMemory>
+pub fn next_register(register: u32) -> Result<u32, NoMemory>
     ensures { IfOk result (λ next. next ≡ register + 1) }
 {
     match register.checked_add(1) {

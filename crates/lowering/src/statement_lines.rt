@@ -4,11 +4,11 @@ ghost use Rattle.c_machine.specs.Words.{scalar_bytes};
 ghost use Rattle.c_machine.specs.declared.kind.Kind.TheVariants.{Void};
 ghost use Rattle.flow.specs.declared.instruction.Instr.TheVariants.{Fill, Finish, Number};
 ghost use Rattle.flow.specs.Valid.{is_object_size};
-ghost use Rattle.lower.specs.Kinds.{conversion, width};
-ghost use Rattle.lower.specs.Moves.{Emits, Fails, run_of, taking};
-ghost use Rattle.lower.specs.Placing.{clear_moves, finishes, full_moves, registers_of, set_by, set_moves, writes};
-ghost use Rattle.lower.specs.Returns.{given_moves};
-ghost use Rattle.lower.specs.Told.{IsLine, trees};
+ghost use Rattle.lowering.specs.Kinds.{conversion, width};
+ghost use Rattle.lowering.specs.Moves.{Emits, Fails, run_of, taking};
+ghost use Rattle.lowering.specs.Placing.{clear_moves, finishes, full_moves, registers_of, set_by, set_moves, writes};
+ghost use Rattle.lowering.specs.Returns.{given_moves};
+ghost use Rattle.lowering.specs.Told.{IsLine, trees};
 
 use crate::kinds::{conversion, width};
 use crate::line::{
@@ -22,7 +22,7 @@ use flow::{Instr, Standing, Width};
 use std::alloc::Global;
 
 /// The registers from one on, so many of them. Where one of them has no number, memory is wanting.
-pub(crate) fn run_of(alloc: Global, first: u32, count: u32) -> Result<List<u32>, NoMemory>
+pub fn run_of(alloc: Global, first: u32, count: u32) -> Result<List<u32>, NoMemory>
     ensures { IfOk result (λ registers. registers ≡ run_of first count) }
 {
     let mut registers = List::new(alloc);
@@ -47,7 +47,7 @@ fn push_run(registers: &mut List<u32>, first: u32, count: u32) -> Result<(), NoM
 }
 
 /// So many registers more than others. Where that many have no number, memory is wanting.
-pub(crate) fn more_than(count: u32, more: u32) -> Result<u32, NoMemory>
+pub fn more_than(count: u32, more: u32) -> Result<u32, NoMemory>
     ensures { IfOk result (λ all. all ≡ count + more) }
 {
     match count.checked_add(more) {
@@ -57,7 +57,7 @@ pub(crate) fn more_than(count: u32, more: u32) -> Result<u32, NoMemory>
 }
 
 /// A full expression whose value is not used: it lets go of `count` values, from the register `spare` on, and ends at the token of that place (C11 6.8p4).
-pub(crate) fn full_moves<'a>(
+pub fn full_moves<'a>(
     alloc: Global,
     line: &mut TreeLine<'a>,
     expr: &'a Expr,
@@ -73,11 +73,7 @@ pub(crate) fn full_moves<'a>(
 }
 
 /// Registers of unfinished expressions that are left at a word, if there are any.
-pub(crate) fn finishes(
-    line: &mut TreeLine,
-    registers: List<u32>,
-    word: Place,
-) -> Result<(), NoMemory>
+pub fn finishes(line: &mut TreeLine, registers: List<u32>, word: Place) -> Result<(), NoMemory>
     ensures { OnOk result (line.new ≡ finishes registers word ++ line.old) }
 {
     if registers.len() == 0 {
@@ -87,7 +83,7 @@ pub(crate) fn finishes(
 }
 
 /// The object of a name, of so many bytes, becomes 0 (C11 6.7.9p19, p21).
-pub(crate) fn clear_line(
+pub fn clear_line(
     registers: &mut u32,
     line: &mut TreeLine,
     found: Option<u32>,
@@ -166,7 +162,7 @@ fn writes<'a>(
 
 /// A value of an initialiser is a full expression, which lets go of `count` values and ends at the token of the place `end`: it is written behind so many bytes of the
 /// object of a name, as one of a kind, at that name (C11 6.7.9p11, p13).
-pub(crate) fn set_line<'a>(
+pub fn set_line<'a>(
     alloc: Global,
     registers: &mut u32,
     line: &mut TreeLine<'a>,
@@ -198,7 +194,7 @@ pub(crate) fn set_line<'a>(
 
 /// The value of a `return`, which lets go of `count` values: it is converted and moved into the register of the result, and all registers that stand are
 /// finished (C11 6.8.6.4p3).
-pub(crate) fn return_line<'a>(
+pub fn return_line<'a>(
     alloc: Global,
     registers: &mut u32,
     line: &mut TreeLine<'a>,
@@ -250,7 +246,7 @@ fn finish_all(
 }
 
 /// Puts the registers that stand behind others.
-pub(crate) fn push_registers(registers: &mut List<u32>, widths: &[Width]) -> Result<(), NoMemory>
+pub fn push_registers(registers: &mut List<u32>, widths: &[Width]) -> Result<(), NoMemory>
     ensures { OnOk result (registers.new ≡ registers.old ++ map (λ one. one.register) widths.now) }
 {
     for one in widths {

@@ -1,8 +1,8 @@
 ghost use Rattle.std.specs.Prelude.{◌≡◌, ℕ, ◌++◌, ◌∷◌, [], Some, nat_eq, List as Items, OnOk, IfOk, if◌then◌else◌};
 ghost use Rattle.std.specs.Map.{lookup};
 ghost use Rattle.simulation.specs.Names.{Name, variable_in};
-ghost use Rattle.lower.specs.ByToken.{AreByToken};
-ghost use Rattle.lower.specs.Placing.{named_from};
+ghost use Rattle.lowering.specs.ByToken.{AreByToken};
+ghost use Rattle.lowering.specs.Placing.{named_from};
 
 use crate::names::{Named, push_named};
 use c_machine::Object;
@@ -23,7 +23,7 @@ pub struct Names {
 impl Model for Names {
     ghost use Rattle.std.specs.Prelude.{List as Items};
     ghost use Rattle.simulation.specs.Names.{Name};
-    ghost use Rattle.lower.specs.ByToken.{AreByToken};
+    ghost use Rattle.lowering.specs.ByToken.{AreByToken};
 
     ghost Value = { Items Name };
 

@@ -2,9 +2,9 @@
 ghost use Rattle.std.specs.Prelude.{◌≡◌, ◌+◌, ◌-◌, ◌^◌, ◌∷◌, OnOk};
 ghost use Rattle.c_machine.specs.declared.kind.Kind.TheVariants.{Integer, Void};
 ghost use Rattle.cbase.specs.declared.tree.operators.UnaryOp.TheVariants.{Minus, Flip};
-ghost use Rattle.lower.specs.Moves.{Evaluates, operates, taking};
-ghost use Rattle.lower.specs.Table.{plus_line, taken_from, unary_line};
-ghost use Rattle.lower.specs.Told.{IsLine, trees};
+ghost use Rattle.lowering.specs.Moves.{Evaluates, operates, taking};
+ghost use Rattle.lowering.specs.Table.{plus_line, taken_from, unary_line};
+ghost use Rattle.lowering.specs.Told.{IsLine, trees};
 
 use crate::conversion::Conversion;
 use crate::kinds::as_operand;
@@ -91,7 +91,7 @@ fn plus_line<'a>(
 }
 
 /// `+`, `-` and `~` (C11 6.5.3.3).
-pub(crate) fn unary_line<'a>(
+pub fn unary_line<'a>(
     registers: &mut u32,
     line: &mut TreeLine<'a>,
     expr: &'a Expr,
@@ -131,7 +131,7 @@ pub(crate) fn unary_line<'a>(
 }
 
 /// An operator with two sides that are both worked out first (C11 6.5.5 to 6.5.12).
-pub(crate) fn operation_line<'a>(
+pub fn operation_line<'a>(
     registers: &mut u32,
     line: &mut TreeLine<'a>,
     expr: &'a Expr,

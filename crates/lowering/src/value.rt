@@ -1,7 +1,7 @@
 //! The values of expressions, a line of moves each (C11 6.5).
 ghost use Rattle.std.specs.Prelude.{OnOk};
 ghost use Rattle.c_machine.specs.Text.{Assign, Binary, Call, Cast, Count, Index, Known, Member, Name, Unary};
-ghost use Rattle.lower.specs.Reading.{IsAssignedLine, IsCountedLine, IsLoadLine, IsValueLine, form_in};
+ghost use Rattle.lowering.specs.Reading.{IsAssignedLine, IsCountedLine, IsLoadLine, IsValueLine, form_in};
 
 use crate::assignments::{assign_line, update_line};
 use crate::calls::called;
@@ -119,7 +119,7 @@ pub fn value_line<'a>(
 }
 
 /// The value of an lvalue (C11 6.3.2.1p2).
-pub(crate) fn loaded<'a>(
+pub fn loaded<'a>(
     source: &Source,
     registers: &mut u32,
     line: &mut TreeLine<'a>,
@@ -273,7 +273,7 @@ fn cast_value<'a>(
 }
 
 /// An assignment, where `op` is the operation of `+=` and its like, and `kept` the register of its value, if that is used (C11 6.5.16).
-pub(crate) fn assigned<'a>(
+pub fn assigned<'a>(
     source: &Source,
     registers: &mut u32,
     line: &mut TreeLine<'a>,
@@ -299,7 +299,7 @@ pub(crate) fn assigned<'a>(
 }
 
 /// `++` or `--`, where `kept` is the register of its value, if that is used (C11 6.5.2.4, 6.5.3.1).
-pub(crate) fn counted<'a>(
+pub fn counted<'a>(
     source: &Source,
     registers: &mut u32,
     line: &mut TreeLine<'a>,

@@ -1,8 +1,8 @@
 //! The values of lvalues and constants, a line of moves each (C11 6.4.4, 6.3.2.1).
 ghost use Rattle.std.specs.Prelude.{◌≡◌, OnOk};
 ghost use Rattle.c_machine.specs.Words.{scalar_bytes};
-ghost use Rattle.lower.specs.Table.{load_line};
-ghost use Rattle.lower.specs.Told.{IsLine, trees};
+ghost use Rattle.lowering.specs.Table.{load_line};
+ghost use Rattle.lowering.specs.Told.{IsLine, trees};
 
 use crate::line::{TreeLine, emits, locates, taken};
 use c_machine::Kind;
@@ -11,7 +11,7 @@ use cbase::{Expr, NoMemory};
 use flow::Instr;
 
 /// The value of an lvalue of a type: one load at its place; an array and a struct have none (C11 6.3.2.1p2, p3).
-pub(crate) fn load_line<'a>(
+pub fn load_line<'a>(
     registers: &mut u32,
     line: &mut TreeLine<'a>,
     expr: &'a Expr,

@@ -1,7 +1,7 @@
 //! What operators make of words that are known without a memory (C11 6.6): of numbers, and of addresses in static objects, which are only moved.
 ghost use Rattle.std.specs.Prelude.{◌≡◌, []};
 ghost use Rattle.bytes_core.specs.declared.word.Word.TheVariants.{Plain, To};
-ghost use Rattle.lower.specs.Known.{operated_on, applied_to, converted_to, answered, truth_of, loaded_from, size_in_word, product_word};
+ghost use Rattle.lowering.specs.Known.{operated_on, applied_to, converted_to, answered, truth_of, loaded_from, size_in_word, product_word};
 
 use bytes_core::{Memory, Word};
 use c_machine::Kind;

@@ -1,7 +1,7 @@
 //! Expressions whose value is not used, a line of moves each (C11 6.3.2.2, 6.8.3p2).
 ghost use Rattle.std.specs.Prelude.{◌≡◌, OnOk};
 ghost use Rattle.c_machine.specs.Text.{Assign, Call, Count};
-ghost use Rattle.lower.specs.Reading.{IsWorkLine, IsOtherWorkLine, IsVoidLine, form_in};
+ghost use Rattle.lowering.specs.Reading.{IsWorkLine, IsOtherWorkLine, IsVoidLine, form_in};
 
 use crate::calls::called;
 use crate::conversions::dropped_line;

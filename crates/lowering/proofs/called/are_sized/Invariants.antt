@@ -1,7 +1,7 @@
 -- All before a place are.
 use Rattle.std.proofs.Common.{◌≡◌, ◌-◌, ◌≤◌, drop}
-use Rattle.lower.specs.Calls.{are_sized_as}
-use Rattle.lower.proofs.called.are_sized.Given as goal
+use Rattle.lowering.specs.Calls.{are_sized_as}
+use Rattle.lowering.proofs.called.are_sized.Given as goal
 
 abbrev pub invariant-loop-at : goal.invariant-loop-at
 invariant-loop-at l = (l.at ≤ l.count) × (are_sized_as l.kinds l.objects ≡ are_sized_as (drop l.at l.kinds) (drop l.at l.objects))

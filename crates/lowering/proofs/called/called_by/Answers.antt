@@ -4,10 +4,10 @@ use Rattle.cbase.specs.declared.tree.expr.ExprForm.TheViews.{out-ExprForm, outs-
 use Rattle.typing.specs.Forms.{name_in}
 use Rattle.c_text.specs.declared.standing.Standing.{Standing as Told}
 use Rattle.c_text.specs.Standing.{standing_by}
-use Rattle.lower.specs.Calls.{Calls}
-use Rattle.lower.proofs.CalledLines.{called_as, found_body}
-use Rattle.lower.proofs.Onward.{if_ok}
-use Rattle.lower.proofs.called.called_by.Goals as goal
+use Rattle.lowering.specs.Calls.{Calls}
+use Rattle.lowering.proofs.CalledLines.{called_as, found_body}
+use Rattle.lowering.proofs.Onward.{if_ok}
+use Rattle.lowering.proofs.called.called_by.Goals as goal
 
 pub returns-in-BuiltIn : goal.returns-in-BuiltIn
 returns-in-BuiltIn c = if_ok c.built_in_called.result

@@ -1,8 +1,8 @@
 -- What is told of its definition.
 use Rattle.std.proofs.Common.{sym, ◌∙◌}
-use Rattle.lower.specs.Calls.{are_sized_as}
-use Rattle.lower.proofs.CalledParts.{defined_is}
-use Rattle.lower.proofs.called.defined_called.Goals as goal
+use Rattle.lowering.specs.Calls.{are_sized_as}
+use Rattle.lowering.proofs.CalledParts.{defined_is}
+use Rattle.lowering.proofs.called.defined_called.Goals as goal
 
 pub returns-in-Some-2 : goal.returns-in-Some-2
 returns-in-Some-2 c = defined_is _ c.text-text.result.now _ _ _ _ c.in-Some-2.objects.items _ _ c.text-text.ensures c.in_ok-params.ensures

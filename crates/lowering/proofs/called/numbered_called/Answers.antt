@@ -2,9 +2,9 @@
 use Rattle.std.proofs.Common.{List, sym, ap, ◌∙◌}
 use Rattle.std.specs.Prelude.{slice_get}
 use Rattle.c_machine.specs.Program.{FunctionItem}
-use Rattle.lower.proofs.CalledParts.{numbered_is}
-use Rattle.lower.proofs.Onward.{if_ok}
-use Rattle.lower.proofs.called.numbered_called.Goals as goal
+use Rattle.lowering.proofs.CalledParts.{numbered_is}
+use Rattle.lowering.proofs.Onward.{if_ok}
+use Rattle.lowering.proofs.called.numbered_called.Goals as goal
 
 pub returns-in-Some : goal.returns-in-Some
 returns-in-Some c = if_ok c.defined_called.result

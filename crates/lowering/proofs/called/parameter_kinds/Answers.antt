@@ -1,7 +1,7 @@
 -- One kind more.
 use Rattle.std.proofs.Common.{sym, ◌∙◌, arith}
-use Rattle.lower.proofs.CalledParts.{one_kind_more}
-use Rattle.lower.proofs.called.parameter_kinds.Goals as goal
+use Rattle.lowering.proofs.CalledParts.{one_kind_more}
+use Rattle.lowering.proofs.called.parameter_kinds.Goals as goal
 
 pub loop-at-preserved : goal.loop-at-preserved
 loop-at-preserved c = (

@@ -1,7 +1,7 @@
 -- The kinds of the first parameters.
 use Rattle.std.proofs.Common.{◌-◌, ◌≤◌}
-use Rattle.lower.specs.Calls.{AreFirstKinds}
-use Rattle.lower.proofs.called.parameter_kinds.Given as goal
+use Rattle.lowering.specs.Calls.{AreFirstKinds}
+use Rattle.lowering.proofs.called.parameter_kinds.Given as goal
 
 abbrev pub invariant-loop-at : goal.invariant-loop-at
 invariant-loop-at l = (l.at ≤ l.count) × AreFirstKinds l.source.context l.params l.at l.kinds

@@ -1,8 +1,8 @@
 -- Where there are as many arguments as parameters nothing is left behind the last one, and else there is no graph.
 use Rattle.std.proofs.Common.{◌++◌, ap, ◌∙◌, arith}
-use Rattle.lower.proofs.Onward.{Moves}
-use Rattle.lower.proofs.Turns.{first_turn, from_start}
-use Rattle.lower.proofs.calls.argument_moves.Goals as goal
+use Rattle.lowering.proofs.Onward.{Moves}
+use Rattle.lowering.proofs.Turns.{first_turn, from_start}
+use Rattle.lowering.proofs.calls.argument_moves.Goals as goal
 
 pub loop-left-init : goal.loop-left-init
 loop-left-init c = record {

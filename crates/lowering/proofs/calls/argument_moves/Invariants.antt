@@ -1,7 +1,7 @@
 -- The arguments from a place on stand in front.
 use Rattle.std.proofs.Common.{◌≡◌, ◌≤◌, ◌++◌, length}
-use Rattle.lower.proofs.Turns.{arguments_from}
-use Rattle.lower.proofs.calls.argument_moves.Given as goal
+use Rattle.lowering.proofs.Turns.{arguments_from}
+use Rattle.lowering.proofs.calls.argument_moves.Given as goal
 
 abbrev pub invariant-loop-left : goal.invariant-loop-left
 invariant-loop-left l = record {

@@ -1,8 +1,8 @@
 -- The arguments stand in the registers of the call.
 use Rattle.std.proofs.Common.{refl}
-use Rattle.lower.proofs.BuiltInLines.{body_is}
-use Rattle.lower.proofs.Onward.{on_ok}
-use Rattle.lower.proofs.calls.body_line.Goals as goal
+use Rattle.lowering.proofs.BuiltInLines.{body_is}
+use Rattle.lowering.proofs.Onward.{on_ok}
+use Rattle.lowering.proofs.calls.body_line.Goals as goal
 
 pub returns : goal.returns
 returns c = on_ok c.argument_moves.result

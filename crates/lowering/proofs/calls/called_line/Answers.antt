@@ -1,10 +1,10 @@
 -- A function that the program defines, where its arguments have sizes.
 use Rattle.std.proofs.Common.{sym, subst}
-use Rattle.lower.specs.declared.called.Called.{Called}
-use Rattle.lower.specs.Calls.{IsLineOfCalled}
-use Rattle.lower.proofs.BuiltInLines.{calls_body}
-use Rattle.lower.proofs.Onward.{on_ok}
-use Rattle.lower.proofs.calls.called_line.Goals as goal
+use Rattle.lowering.specs.declared.called.Called.{Called}
+use Rattle.lowering.specs.Calls.{IsLineOfCalled}
+use Rattle.lowering.proofs.BuiltInLines.{calls_body}
+use Rattle.lowering.proofs.Onward.{on_ok}
+use Rattle.lowering.proofs.calls.called_line.Goals as goal
 
 pub returns-else-not-sized : goal.returns-else-not-sized
 returns-else-not-sized c = on_ok c.body_line.result

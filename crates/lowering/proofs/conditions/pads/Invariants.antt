@@ -1,7 +1,7 @@
 -- The registers from one on stand in front.
 use Rattle.std.proofs.Common.{◌≡◌, ◌+◌, ◌-◌, ◌≤◌, ◌++◌}
-use Rattle.lower.specs.Moves.{zeros}
-use Rattle.lower.proofs.conditions.pads.Given as goal
+use Rattle.lowering.specs.Moves.{zeros}
+use Rattle.lowering.proofs.conditions.pads.Given as goal
 
 abbrev pub invariant-loop-left : goal.invariant-loop-left
 invariant-loop-left l = record {

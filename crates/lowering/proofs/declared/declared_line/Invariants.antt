@@ -1,7 +1,7 @@
 -- The names from a place on stand in front.
 use Rattle.std.proofs.Common.{◌≤◌, drop, length}
-use Rattle.lower.specs.Inner.{AreDeclared}
-use Rattle.lower.proofs.declared.declared_line.Given as goal
+use Rattle.lowering.specs.Inner.{AreDeclared}
+use Rattle.lowering.proofs.declared.declared_line.Given as goal
 
 abbrev pub invariant-loop-left : goal.invariant-loop-left
 invariant-loop-left l = (l.left ≤ length l.names) × AreDeclared l.source (drop l.left l.names) l.initial.line l.line

@@ -1,8 +1,8 @@
 -- What is told of the object.
 use Rattle.std.proofs.Common.{Some, sym, ap, ◌∙◌}
-use Rattle.lower.proofs.InsideLines.{declared_nothing, declared_object}
-use Rattle.lower.proofs.Onward.{on_ok}
-use Rattle.lower.proofs.declared.declared_moves.Goals as goal
+use Rattle.lowering.proofs.InsideLines.{declared_nothing, declared_object}
+use Rattle.lowering.proofs.Onward.{on_ok}
+use Rattle.lowering.proofs.declared.declared_moves.Goals as goal
 
 pub returns-in-Some-None : goal.returns-in-Some-None
 returns-in-Some-None c = declared_nothing _ c.text.result.now c.args.name.now _ c.text.ensures

@@ -1,5 +1,5 @@
-use Rattle.lower.proofs.examples.members_meet.Goals as goal
-use Rattle.lower.proofs.Meeting.{do_members_meet}
+use Rattle.lowering.proofs.examples.members_meet.Goals as goal
+use Rattle.lowering.proofs.Meeting.{do_members_meet}
 
 pub returns : goal.returns
 returns c = do_members_meet

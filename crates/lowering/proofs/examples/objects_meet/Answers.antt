@@ -1,5 +1,5 @@
-use Rattle.lower.proofs.examples.objects_meet.Goals as goal
-use Rattle.lower.proofs.Meeting.{do_objects_meet}
+use Rattle.lowering.proofs.examples.objects_meet.Goals as goal
+use Rattle.lowering.proofs.Meeting.{do_objects_meet}
 
 pub returns : goal.returns
 returns c = do_objects_meet

@@ -2,9 +2,9 @@
 use Rattle.std.proofs.Common.{Bool, true, false, sym, subst}
 use Rattle.cbase.specs.declared.tree.expr.Expr.{Expr}
 use Rattle.c_machine.specs.Text.{Member}
-use Rattle.lower.specs.Reading.{IsMember}
-use Rattle.lower.proofs.Sources.{member_form, pointed_form}
-use Rattle.lower.proofs.form.member.Goals as goal
+use Rattle.lowering.specs.Reading.{IsMember}
+use Rattle.lowering.proofs.Sources.{member_form, pointed_form}
+use Rattle.lowering.proofs.form.member.Goals as goal
 
 pub returns-then-through : goal.returns-then-through
 returns-then-through c =

@@ -1,7 +1,7 @@
 -- The statements behind stand in front.
 use Rattle.std.proofs.Common.{◌≡◌, ◌≤◌, ◌++◌, drop, length, map}
-use Rattle.lower.specs.Moves.{Does}
-use Rattle.lower.proofs.inner.does_all.Given as goal
+use Rattle.lowering.specs.Moves.{Does}
+use Rattle.lowering.proofs.inner.does_all.Given as goal
 
 abbrev pub invariant-loop-left : goal.invariant-loop-left
 invariant-loop-left l = (l.left ≤ length l.body) × (l.line ≡ map Does (drop l.left l.body) ++ l.initial.line)

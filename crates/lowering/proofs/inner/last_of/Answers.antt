@@ -1,9 +1,9 @@
 -- The statement up to which none but `;` alone stands behind it.
 use Rattle.std.proofs.Common.{◌-◌, sym, ◌∙◌, arith}
 use Rattle.c_machine.specs.declared.kind.Kind.TheVariants.{Void}
-use Rattle.lower.specs.Told.{trees}
-use Rattle.lower.proofs.Inside.{last_here, last_none}
-use Rattle.lower.proofs.inner.last_of.Goals as goal
+use Rattle.lowering.specs.Told.{trees}
+use Rattle.lowering.proofs.Inside.{last_here, last_none}
+use Rattle.lowering.proofs.inner.last_of.Goals as goal
 
 pub returns-then-many-eq0 : goal.returns-then-many-eq0
 returns-then-many-eq0 c = sym (last_none (trees Void) c.args.body.now (sym c.until_last-many.ensures.is ∙ c.if-many-eq0.true))

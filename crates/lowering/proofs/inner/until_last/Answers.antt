@@ -1,7 +1,7 @@
 -- A statement that is not `;` alone is the last one.
 use Rattle.std.proofs.Common.{◌-◌, sym, ◌∙◌, arith}
-use Rattle.lower.proofs.Inside.{until_here}
-use Rattle.lower.proofs.inner.until_last.Goals as goal
+use Rattle.lowering.proofs.Inside.{until_here}
+use Rattle.lowering.proofs.inner.until_last.Goals as goal
 
 pub returns-then-not-is_empty : goal.returns-then-not-is_empty
 returns-then-not-is_empty c = record {

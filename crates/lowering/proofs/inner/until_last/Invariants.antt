@@ -2,8 +2,8 @@
 use Rattle.std.proofs.Common.{◌≡◌, ◌<◌, ◌≤◌, true, drop, length}
 use Rattle.c_machine.specs.Blocks.{are_empty}
 use Rattle.c_machine.specs.declared.kind.Kind.TheVariants.{Void}
-use Rattle.lower.specs.Told.{trees}
-use Rattle.lower.proofs.inner.until_last.Given as goal
+use Rattle.lowering.specs.Told.{trees}
+use Rattle.lowering.proofs.inner.until_last.Given as goal
 
 abbrev pub invariant-loop-many : goal.invariant-loop-many
 invariant-loop-many l = record {

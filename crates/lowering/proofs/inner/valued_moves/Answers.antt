@@ -1,9 +1,9 @@
 -- The statements in front of the last one, and that one.
 use Rattle.std.proofs.Common.{◌-◌, sym, ◌∙◌, arith}
-use Rattle.lower.proofs.Inside.{at_place, taken_length}
-use Rattle.lower.proofs.InsideLines.{valued_last, valued_nothing}
-use Rattle.lower.proofs.Onward.{on_ok}
-use Rattle.lower.proofs.inner.valued_moves.Goals as goal
+use Rattle.lowering.proofs.Inside.{at_place, taken_length}
+use Rattle.lowering.proofs.InsideLines.{valued_last, valued_nothing}
+use Rattle.lowering.proofs.Onward.{on_ok}
+use Rattle.lowering.proofs.inner.valued_moves.Goals as goal
 
 pub returns-then-many-eq0 : goal.returns-then-many-eq0
 returns-then-many-eq0 c = valued_nothing _ _ _ _ _ _ (sym c.until_last-many.ensures.is ∙ c.if-many-eq0.true)

@@ -1,10 +1,10 @@
 -- What is asked of a form comes to what its parts come to, one level deeper.
 use Rattle.std.proofs.Common.{◌-◌, sym, subst, arith}
-use Rattle.lower.specs.Known.{Asked}
-use Rattle.lower.specs.Words.{IsWord, Whole}
-use Rattle.lower.proofs.Onward.{if_ok}
-use Rattle.lower.proofs.WordParts.{whole_place, whole_value}
-use Rattle.lower.proofs.known.+known.Goals as goal
+use Rattle.lowering.specs.Known.{Asked}
+use Rattle.lowering.specs.Words.{IsWord, Whole}
+use Rattle.lowering.proofs.Onward.{if_ok}
+use Rattle.lowering.proofs.WordParts.{whole_place, whole_value}
+use Rattle.lowering.proofs.known.+known.Goals as goal
 
 pub known-returns-in-Value : goal.known-returns-in-Value
 known-returns-in-Value t c = if_ok c.value_word.result

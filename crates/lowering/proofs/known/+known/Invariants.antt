@@ -1,6 +1,6 @@
 -- Each level has at most four calls one behind the other.
 use Rattle.std.proofs.Common.{◌+◌, ◌*◌}
-use Rattle.lower.proofs.known.+known.Given as goal
+use Rattle.lowering.proofs.known.+known.Given as goal
 
 abbrev pub decreases-known : goal.decreases-known
 decreases-known l = 4 * l.levels

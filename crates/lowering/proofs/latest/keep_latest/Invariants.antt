@@ -1,7 +1,7 @@
 -- The scalars behind a place.
 use Rattle.std.proofs.Common.{drop, length, ◌≤◌}
-use Rattle.lower.specs.Latest.{AreLatest}
-use Rattle.lower.proofs.latest.keep_latest.Given as goal
+use Rattle.lowering.specs.Latest.{AreLatest}
+use Rattle.lowering.proofs.latest.keep_latest.Given as goal
 
 abbrev pub invariant-loop-left : goal.invariant-loop-left
 invariant-loop-left l = (l.left ≤ length l.initials) × AreLatest (drop l.left l.initials) l.kept.items l.found.keys

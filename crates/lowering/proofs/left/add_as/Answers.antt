@@ -2,10 +2,10 @@
 use Rattle.std.proofs.Common.{ap, ◌∙◌}
 use Rattle.c_machine.specs.Trees.{text_of}
 use Rattle.c_machine.specs.declared.kind.Kind.{Kind}
-use Rattle.lower.specs.Kinds.{conversion}
-use Rattle.lower.specs.LetGo.{left_converted, left_within}
-use Rattle.lower.proofs.Lefts.{one_part}
-use Rattle.lower.proofs.left.add_as.Goals as goal
+use Rattle.lowering.specs.Kinds.{conversion}
+use Rattle.lowering.specs.LetGo.{left_converted, left_within}
+use Rattle.lowering.proofs.Lefts.{one_part}
+use Rattle.lowering.proofs.left.add_as.Goals as goal
 
 pub returns : goal.returns
 returns c = one_part _ _ _ _ _ _ _ c.add_converted.result c.add_converted.ensures

@@ -1,7 +1,7 @@
 -- Each conversion.
 use Rattle.std.proofs.Common.{refl}
-use Rattle.lower.proofs.Lefts.{no_part, one_part}
-use Rattle.lower.proofs.left.add_converted.Goals as goal
+use Rattle.lowering.proofs.Lefts.{no_part, one_part}
+use Rattle.lowering.proofs.left.add_converted.Goals as goal
 
 pub returns-in-Nothing : goal.returns-in-Nothing
 returns-in-Nothing c = one_part _ _ _ _ _ _ _ c.add_whole.result c.add_whole.ensures (λ p is. rw c.in-Nothing.is refl)

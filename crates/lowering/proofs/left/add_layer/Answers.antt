@@ -1,9 +1,9 @@
 -- What is wanted says what is added.
 use Rattle.std.proofs.Common.{ap}
 use Rattle.c_machine.specs.Trees.{text_of}
-use Rattle.lower.specs.LetGo.{left_by_place, left_by_test, left_by_value, left_by_work, left_within}
-use Rattle.lower.proofs.Lefts.{layer_part}
-use Rattle.lower.proofs.left.add_layer.Goals as goal
+use Rattle.lowering.specs.LetGo.{left_by_place, left_by_test, left_by_value, left_by_work, left_within}
+use Rattle.lowering.proofs.Lefts.{layer_part}
+use Rattle.lowering.proofs.left.add_layer.Goals as goal
 
 pub returns-in-AsValue : goal.returns-in-AsValue
 returns-in-AsValue c = layer_part _ _ _ _ _ _ _ _ c.add_value.result c.add_value.ensures

@@ -1,8 +1,8 @@
 -- It is looked at later.
 use Rattle.std.proofs.Common.{◌∷◌, ◌∙◌}
-use Rattle.lower.proofs.Lefts.{whole_is}
-use Rattle.lower.proofs.Onward.{on_ok}
-use Rattle.lower.proofs.left.add_whole.Goals as goal
+use Rattle.lowering.proofs.Lefts.{whole_is}
+use Rattle.lowering.proofs.Onward.{on_ok}
+use Rattle.lowering.proofs.left.add_whole.Goals as goal
 
 pub returns : goal.returns
 returns c = on_ok c.push.result

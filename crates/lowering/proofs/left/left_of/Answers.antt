@@ -1,7 +1,7 @@
 -- A search from nothing.
-use Rattle.lower.proofs.Lefts.{left_is}
-use Rattle.lower.proofs.Onward.{if_ok}
-use Rattle.lower.proofs.left.left_of.Goals as goal
+use Rattle.lowering.proofs.Lefts.{left_is}
+use Rattle.lowering.proofs.Onward.{if_ok}
+use Rattle.lowering.proofs.left.left_of.Goals as goal
 
 pub returns : goal.returns
 returns c = if_ok c.look_at_all.result

@@ -1,6 +1,6 @@
 -- What the search comes to stays.
-use Rattle.lower.specs.Lefts.{StaysWorth}
-use Rattle.lower.proofs.left.look_at_all.Given as goal
+use Rattle.lowering.specs.Lefts.{StaysWorth}
+use Rattle.lowering.proofs.left.look_at_all.Given as goal
 
 abbrev pub invariant-loop-turns : goal.invariant-loop-turns
 invariant-loop-turns l = StaysWorth l.source l.initial.search l.search

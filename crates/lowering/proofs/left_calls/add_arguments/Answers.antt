@@ -1,8 +1,8 @@
 -- Behind the last argument of a parameter there is nothing.
 use Rattle.std.proofs.Common.{arith}
-use Rattle.lower.proofs.LeftParts.{arguments_end}
-use Rattle.lower.proofs.Lefts.{no_part}
-use Rattle.lower.proofs.left_calls.add_arguments.Goals as goal
+use Rattle.lowering.proofs.LeftParts.{arguments_end}
+use Rattle.lowering.proofs.Lefts.{no_part}
+use Rattle.lowering.proofs.left_calls.add_arguments.Goals as goal
 
 pub loop-left-init : goal.loop-left-init
 loop-left-init c = record {

@@ -1,7 +1,7 @@
 -- The arguments from a place on are added.
 use Rattle.std.proofs.Common.{◌≤◌, drop, length}
-use Rattle.lower.specs.Lefts.{Arguments, IsAdded}
-use Rattle.lower.proofs.left_calls.add_arguments.Given as goal
+use Rattle.lowering.specs.Lefts.{Arguments, IsAdded}
+use Rattle.lowering.proofs.left_calls.add_arguments.Given as goal
 
 abbrev pub invariant-loop-left : goal.invariant-loop-left
 invariant-loop-left l = record {

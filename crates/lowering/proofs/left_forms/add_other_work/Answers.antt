@@ -1,10 +1,10 @@
 -- By the kind of the value, and by whether the form leaves one.
 use Rattle.std.proofs.Common.{sym, ap, ◌∙◌}
-use Rattle.lower.specs.Kinds.{is_void}
-use Rattle.lower.proofs.LeftParts.{work_dropped, work_nothing, work_void}
-use Rattle.lower.proofs.Lefts.{least_part, one_part}
-use Rattle.lower.specs.Reading.{form_in}
-use Rattle.lower.proofs.left_forms.add_other_work.Goals as goal
+use Rattle.lowering.specs.Kinds.{is_void}
+use Rattle.lowering.proofs.LeftParts.{work_dropped, work_nothing, work_void}
+use Rattle.lowering.proofs.Lefts.{least_part, one_part}
+use Rattle.lowering.specs.Reading.{form_in}
+use Rattle.lowering.proofs.left_forms.add_other_work.Goals as goal
 
 pub returns-then-is_void : goal.returns-then-is_void
 returns-then-is_void c = one_part _ _ _ _ _ _ _ c.add_value.result c.add_value.ensures

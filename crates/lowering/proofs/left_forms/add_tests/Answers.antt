@@ -1,8 +1,8 @@
 -- Each operator.
 use Rattle.std.proofs.Common.{refl}
-use Rattle.lower.proofs.LeftParts.{test_apart}
-use Rattle.lower.proofs.Lefts.{one_part}
-use Rattle.lower.proofs.left_forms.add_tests.Goals as goal
+use Rattle.lowering.proofs.LeftParts.{test_apart}
+use Rattle.lowering.proofs.Lefts.{one_part}
+use Rattle.lowering.proofs.left_forms.add_tests.Goals as goal
 
 pub returns-in-Both : goal.returns-in-Both
 returns-in-Both c = one_part _ _ _ _ _ _ _ c.add_two_tests.result c.add_two_tests.ensures (λ p is. rw c.in-Both.is refl)

@@ -1,9 +1,9 @@
 -- `=`, and `+=` and its like.
 use Rattle.std.proofs.Common.{refl, ap}
 use Rattle.c_machine.specs.Trees.{text_of}
-use Rattle.lower.specs.LetGo.{left_by_assign, left_within}
-use Rattle.lower.proofs.Lefts.{one_part, two_parts}
-use Rattle.lower.proofs.left_values.add_assigned.Goals as goal
+use Rattle.lowering.specs.LetGo.{left_by_assign, left_within}
+use Rattle.lowering.proofs.Lefts.{one_part, two_parts}
+use Rattle.lowering.proofs.left_values.add_assigned.Goals as goal
 
 pub returns-in_ok-own-in-None : goal.returns-in_ok-own-in-None
 returns-in_ok-own-in-None c = one_part _ _ _ _ _ _ _ c.add_stored.result c.add_stored.ensures

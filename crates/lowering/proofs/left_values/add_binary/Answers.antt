@@ -1,8 +1,8 @@
 -- Each operator.
 use Rattle.std.proofs.Common.{refl}
-use Rattle.lower.proofs.LeftParts.{sides_both}
-use Rattle.lower.proofs.Lefts.{one_part, two_parts}
-use Rattle.lower.proofs.left_values.add_binary.Goals as goal
+use Rattle.lowering.proofs.LeftParts.{sides_both}
+use Rattle.lowering.proofs.Lefts.{one_part, two_parts}
+use Rattle.lowering.proofs.left_values.add_binary.Goals as goal
 
 pub returns-in-Both : goal.returns-in-Both
 returns-in-Both c = one_part _ _ _ _ _ _ _ c.add_whole.result c.add_whole.ensures (λ p is. rw c.in-Both.is refl)

@@ -1,9 +1,9 @@
 -- The value as one of the kind of the cast.
 use Rattle.std.proofs.Common.{ap}
 use Rattle.c_machine.specs.Trees.{text_of}
-use Rattle.lower.specs.LetGo.{left_as, left_within}
-use Rattle.lower.proofs.Lefts.{one_part}
-use Rattle.lower.proofs.left_values.add_cast.Goals as goal
+use Rattle.lowering.specs.LetGo.{left_as, left_within}
+use Rattle.lowering.proofs.Lefts.{one_part}
+use Rattle.lowering.proofs.left_values.add_cast.Goals as goal
 
 pub returns : goal.returns
 returns c = one_part _ _ _ _ _ _ _ c.add_as.result c.add_as.ensures

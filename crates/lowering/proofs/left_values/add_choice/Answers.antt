@@ -3,9 +3,9 @@ use Rattle.std.proofs.Common.{ap}
 use Rattle.std.specs.Prelude.{max}
 use Rattle.c_machine.specs.declared.kind.Kind.{Kind}
 use Rattle.c_machine.specs.Trees.{text_of}
-use Rattle.lower.specs.LetGo.{AsTest, left_as, left_within}
-use Rattle.lower.proofs.Lefts.{three_parts}
-use Rattle.lower.proofs.left_values.add_choice.Goals as goal
+use Rattle.lowering.specs.LetGo.{AsTest, left_as, left_within}
+use Rattle.lowering.proofs.Lefts.{three_parts}
+use Rattle.lowering.proofs.left_values.add_choice.Goals as goal
 
 pub returns : goal.returns
 returns c = three_parts _ _ _ _ _ _ _ _ _ _ _ c.add_as-2.result c.in_ok-add_whole.ensures c.in_ok-add_as.ensures c.add_as-2.ensures

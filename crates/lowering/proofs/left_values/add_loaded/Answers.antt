@@ -2,9 +2,9 @@
 use Rattle.std.proofs.Common.{ap, sym, ◌∙◌}
 use Rattle.c_machine.specs.Trees.{text_of}
 use Rattle.c_machine.specs.Words.{scalar_bytes}
-use Rattle.lower.specs.LetGo.{left_by_load, left_within}
-use Rattle.lower.proofs.Lefts.{one_part}
-use Rattle.lower.proofs.left_values.add_loaded.Goals as goal
+use Rattle.lowering.specs.LetGo.{left_by_load, left_within}
+use Rattle.lowering.proofs.Lefts.{one_part}
+use Rattle.lowering.proofs.left_values.add_loaded.Goals as goal
 
 pub returns-in-None : goal.returns-in-None
 returns-in-None c = one_part _ _ _ _ _ _ _ c.add_whole.result c.add_whole.ensures

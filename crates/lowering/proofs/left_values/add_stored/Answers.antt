@@ -1,8 +1,8 @@
 -- A struct by its address, and a scalar as one of its kind.
 use Rattle.std.proofs.Common.{refl}
-use Rattle.lower.proofs.LeftParts.{stored_scalar}
-use Rattle.lower.proofs.Lefts.{two_parts}
-use Rattle.lower.proofs.left_values.add_stored.Goals as goal
+use Rattle.lowering.proofs.LeftParts.{stored_scalar}
+use Rattle.lowering.proofs.Lefts.{two_parts}
+use Rattle.lowering.proofs.left_values.add_stored.Goals as goal
 
 pub returns-in-Struct : goal.returns-in-Struct
 returns-in-Struct c = two_parts _ _ _ _ _ _ _ _ _ c.add_place_apart-in-Struct.result c.in_ok-add_place_apart.ensures c.add_place_apart-in-Struct.ensures (λ p is. rw c.in-Struct.is refl)

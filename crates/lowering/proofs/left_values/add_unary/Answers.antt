@@ -1,8 +1,8 @@
 -- Each operator.
 use Rattle.std.proofs.Common.{refl}
-use Rattle.lower.proofs.Lefts.{one_part}
-use Rattle.lower.proofs.LeftParts.{unary_apart}
-use Rattle.lower.proofs.left_values.add_unary.Goals as goal
+use Rattle.lowering.proofs.Lefts.{one_part}
+use Rattle.lowering.proofs.LeftParts.{unary_apart}
+use Rattle.lowering.proofs.left_values.add_unary.Goals as goal
 
 pub returns-in-Address : goal.returns-in-Address
 returns-in-Address c = one_part _ _ _ _ _ _ _ c.add_whole.result c.add_whole.ensures (λ p is. rw c.in-Address.is refl)

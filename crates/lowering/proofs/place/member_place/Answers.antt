@@ -1,10 +1,10 @@
 -- By `.`, and by `->`.
 use Rattle.std.proofs.Common.{Bool, sym, subst}
 use Rattle.c_machine.specs.Text.{Member}
-use Rattle.lower.specs.Reading.{IsPlaceLine}
-use Rattle.lower.proofs.Onward.{on_ok}
-use Rattle.lower.proofs.PlaceLines.{place_member, place_pointed}
-use Rattle.lower.proofs.place.member_place.Goals as goal
+use Rattle.lowering.specs.Reading.{IsPlaceLine}
+use Rattle.lowering.proofs.Onward.{on_ok}
+use Rattle.lowering.proofs.PlaceLines.{place_member, place_pointed}
+use Rattle.lowering.proofs.place.member_place.Goals as goal
 
 pub returns-then-not-through : goal.returns-then-not-through
 returns-then-not-through c = on_ok c.member_line.result

@@ -3,10 +3,10 @@ use Rattle.std.proofs.Common.{ap, sym, subst}
 use Rattle.cbase.specs.declared.tree.stmt.Stmt.{Stmt}
 use Rattle.cbase.specs.declared.tree.expr.Expr.{Expr}
 use Rattle.c_machine.specs.Text.{Form}
-use Rattle.lower.specs.Reading.{IsPlaceLine, form_in}
-use Rattle.lower.proofs.Onward.{on_ok}
-use Rattle.lower.proofs.PlaceLines.{place_named}
-use Rattle.lower.proofs.place.place_line.Goals as goal
+use Rattle.lowering.specs.Reading.{IsPlaceLine, form_in}
+use Rattle.lowering.proofs.Onward.{on_ok}
+use Rattle.lowering.proofs.PlaceLines.{place_named}
+use Rattle.lowering.proofs.place.place_line.Goals as goal
 
 pub returns-in-Name : goal.returns-in-Name
 returns-in-Name c = on_ok c.object_moves.result

@@ -1,7 +1,7 @@
 -- What is put there already and what is left make up the whole.
 use Rattle.std.proofs.Common.{◌≡◌, ◌++◌, take, length}
 use Rattle.flow.specs.Holding.{put_width}
-use Rattle.lower.proofs.standing.put_width.Given as goal
+use Rattle.lowering.proofs.standing.put_width.Given as goal
 
 abbrev pub invariant-loop-first : goal.invariant-loop-first
 invariant-loop-first l = l.all.items ++ put_width l.new l.widths ≡ put_width l.new l.fn.widths

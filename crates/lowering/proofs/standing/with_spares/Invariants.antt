@@ -1,7 +1,7 @@
 -- What is still to stand.
 use Rattle.std.proofs.Common.{◌≡◌}
-use Rattle.lower.specs.Placing.{with_spares}
-use Rattle.lower.proofs.standing.with_spares.Given as goal
+use Rattle.lowering.specs.Placing.{with_spares}
+use Rattle.lowering.proofs.standing.with_spares.Given as goal
 
 abbrev pub invariant-loop-left : goal.invariant-loop-left
 invariant-loop-left l = with_spares l.spare l.left l.standing ≡ with_spares l.fn.first l.fn.count l.fn.standing

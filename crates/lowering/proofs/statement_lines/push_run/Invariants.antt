@@ -1,7 +1,7 @@
 -- The registers so far and those that are left.
 use Rattle.std.proofs.Common.{◌≡◌, ◌++◌}
-use Rattle.lower.specs.Moves.{run_of}
-use Rattle.lower.proofs.statement_lines.push_run.Given as goal
+use Rattle.lowering.specs.Moves.{run_of}
+use Rattle.lowering.proofs.statement_lines.push_run.Given as goal
 
 abbrev pub invariant-loop-left : goal.invariant-loop-left
 invariant-loop-left l = l.registers ++ run_of l.register l.left ≡ l.fn.registers ++ run_of l.fn.first l.fn.count

@@ -1,10 +1,10 @@
 -- The kinds of both sides say which line.
 use Rattle.std.proofs.Common.{Option, sym, subst}
 use Rattle.cbase.specs.declared.tree.operators.BinaryOp.{BinaryOp}
-use Rattle.lower.specs.Reading.{IsAssignedLine}
-use Rattle.lower.proofs.Lines.{assign_is, update_is}
-use Rattle.lower.proofs.Onward.{on_ok}
-use Rattle.lower.proofs.value.assigned.Goals as goal
+use Rattle.lowering.specs.Reading.{IsAssignedLine}
+use Rattle.lowering.proofs.Lines.{assign_is, update_is}
+use Rattle.lowering.proofs.Onward.{on_ok}
+use Rattle.lowering.proofs.value.assigned.Goals as goal
 
 pub returns-in-None : goal.returns-in-None
 returns-in-None c = on_ok c.assign_line.result

@@ -2,11 +2,11 @@
 use Rattle.std.proofs.Common.{[], ◌∷◌, refl, sym, subst}
 use Rattle.cbase.specs.declared.tree.operators.BinaryOp.{BinaryOp}
 use Rattle.c_machine.specs.Text.{Binary}
-use Rattle.lower.specs.Moves.{Answers}
-use Rattle.lower.specs.Reading.{IsValueLine}
-use Rattle.lower.proofs.Lines.{value_alone}
-use Rattle.lower.proofs.Onward.{on_ok}
-use Rattle.lower.proofs.value.binary_value.Goals as goal
+use Rattle.lowering.specs.Moves.{Answers}
+use Rattle.lowering.specs.Reading.{IsValueLine}
+use Rattle.lowering.proofs.Lines.{value_alone}
+use Rattle.lowering.proofs.Onward.{on_ok}
+use Rattle.lowering.proofs.value.binary_value.Goals as goal
 
 pub returns-in-Both : goal.returns-in-Both
 returns-in-Both c = on_ok c.answers.result

@@ -1,7 +1,7 @@
 -- The value is converted.
-use Rattle.lower.proofs.Lines.{cast_is}
-use Rattle.lower.proofs.Onward.{on_ok}
-use Rattle.lower.proofs.value.cast_value.Goals as goal
+use Rattle.lowering.proofs.Lines.{cast_is}
+use Rattle.lowering.proofs.Onward.{on_ok}
+use Rattle.lowering.proofs.value.cast_value.Goals as goal
 
 pub returns : goal.returns
 returns c = on_ok c.converts.result (cast_is _ _ _ _ _ _ _ _ _ c.in_ok-kind.ensures) c.converts.ensures

@@ -1,11 +1,11 @@
 -- Where no value is known the run ends.
 use Rattle.std.proofs.Common.{ℕ, [], ◌∷◌, Option, refl, sym, subst}
 use Rattle.c_machine.specs.Text.{Known}
-use Rattle.lower.specs.Moves.{Stops}
-use Rattle.lower.specs.Reading.{IsValueLine}
-use Rattle.lower.proofs.Lines.{value_alone}
-use Rattle.lower.proofs.Onward.{on_ok}
-use Rattle.lower.proofs.value.known_value.Goals as goal
+use Rattle.lowering.specs.Moves.{Stops}
+use Rattle.lowering.specs.Reading.{IsValueLine}
+use Rattle.lowering.proofs.Lines.{value_alone}
+use Rattle.lowering.proofs.Onward.{on_ok}
+use Rattle.lowering.proofs.value.known_value.Goals as goal
 
 pub returns-in-None : goal.returns-in-None
 returns-in-None c = on_ok c.stops.result

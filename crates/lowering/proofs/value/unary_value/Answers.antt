@@ -2,11 +2,11 @@
 use Rattle.std.proofs.Common.{[], ◌∷◌, refl, sym, subst}
 use Rattle.cbase.specs.declared.tree.operators.UnaryOp.{UnaryOp}
 use Rattle.c_machine.specs.Text.{Unary}
-use Rattle.lower.specs.Moves.{Answers, Locates}
-use Rattle.lower.specs.Reading.{IsValueLine}
-use Rattle.lower.proofs.Lines.{load_follow, value_alone}
-use Rattle.lower.proofs.Onward.{on_ok}
-use Rattle.lower.proofs.value.unary_value.Goals as goal
+use Rattle.lowering.specs.Moves.{Answers, Locates}
+use Rattle.lowering.specs.Reading.{IsValueLine}
+use Rattle.lowering.proofs.Lines.{load_follow, value_alone}
+use Rattle.lowering.proofs.Onward.{on_ok}
+use Rattle.lowering.proofs.value.unary_value.Goals as goal
 
 pub returns-in-Address : goal.returns-in-Address
 returns-in-Address c = on_ok c.locates.result
