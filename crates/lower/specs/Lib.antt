@@ -1,0 +1,10 @@
+pub mod Built
+pub mod Around
+pub mod Jobs
+pub mod Ways
+pub mod TwoTests
+pub mod Bodies
+pub mod Sets
+pub mod Variables
+pub mod ForPoints
+pub mod Pieces
