@@ -4,11 +4,11 @@ import secrets
 import sys
 import tempfile
 
-from . import choices, explain, preprocess, run, unproved
+from . import choices, explain, graph, preprocess, run, unproved
 from .words import names_files, taken_apart
 
 # The commands of the front script itself; the program has `replay`.
-COMMANDS = {b"choices": choices.command}
+COMMANDS = {b"choices": choices.command, b"graph": graph.command}
 UNREAD = 5  # the status where a file cannot be read
 INTERRUPTED = 130
 

@@ -71,7 +71,7 @@ def reader_of(pipe):
     raise NotBuilt("the program that `rt try` runs was not found among the processes")
 
 
-def copied(pipe, run, to):
+def copied(pipe, run, to, given=TEXT):
     """Copies the program that begins to read the pipe, and gives it a text. Where `rt try` ends before it comes to that, nothing is copied."""
     while run.poll() is None:
         try:
@@ -85,7 +85,7 @@ def copied(pipe, run, to):
             continue
         try:
             shutil.copyfile(reader_of(pipe), to)
-            os.write(into, TEXT)
+            os.write(into, given)
         finally:
             os.close(into)
         return

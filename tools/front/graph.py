@@ -1,0 +1,163 @@
+"""`predator graph`: the flow graph of a text, as lines or as a picture (docs/flow.md).
+
+The graph is made by `lower`, and written by the program of tools/graph over the sources of crates/, which is not proved itself. It takes texts as rows. It is built once, by the
+kit's `rt try` in a folder that holds these sources, and kept where other programs are kept (unproved.py), by the checksum of all of them.
+"""
+import fcntl
+import hashlib
+import os
+import shutil
+import subprocess
+import sys
+import tempfile
+from pathlib import Path
+
+from . import drawing, preprocess, run, sources, unproved
+from .words import names_files
+
+USAGE = "usage: predator graph [--svg] [--strict] [-I DIR ..] FILE"
+NAME = "graph_text"
+HERE = sources.HOME / "tools" / "graph"
+USES = (
+    "cbase smallvec ctrees arithmetic indexmap typing expressions items bytes_core choices flow c_machine c_steps c_text simulation lowering lower ctokens definitions "
+    "cgrammar cevents cparser cread_expr cbuild cconstructs cread ccheck")
+ROW = b"int main(void) { return 0; }\n"
+REFUSED = {
+    b"too long": "a text has at most 4,194,304 bytes",
+    b"no tokens": "these bytes are no row of tokens",
+    b"too deep": "the file is no row of items",
+    b"no main": "nothing in it is called main",
+    b"refused": "it is not read",
+    b"no text": "the size of a type is not kept",
+    b"no graph": "it has no flow graph",
+}
+
+
+def crates():
+    """The crates below the program, with what each of them uses."""
+    known = sources.below()
+    return {name: known[name] for name in USES.split() if name in known}
+
+
+def name_of_program():
+    """A name that the program has for these sources and this kit alone."""
+    whole = hashlib.sha256(sources.kit().encode())
+    folders = [(sources.HOME / "crates" / name / folder) for name in crates() for folder in sources.FOLDERS]
+    for file in [file for folder in [*folders, HERE / "src"] for file in sources.files_in(folder)]:
+        text = Path(file).read_bytes()
+        whole.update(f"{os.path.relpath(file, sources.HOME)} {len(text)}\n".encode() + text)
+    return f"graph-{whole.hexdigest()[:40]}.program"
+
+
+def lay_out(room):
+    """Makes a folder of crates in which the program stands over those of this repository, and gives the program's own."""
+    inside = Path(room, "crates")
+    inside.mkdir()
+    for name in crates():
+        for folder in sources.FOLDERS:
+            if (sources.HOME / "crates" / name / folder).is_dir():
+                shutil.copytree(sources.HOME / "crates" / name / folder, inside / name / folder)
+    shutil.copytree(HERE / "src", inside / NAME / "src")
+    shutil.copy(sources.HOME / "HANDLES", room)
+    lines = [f"{name}: {' '.join(uses)}" for name, uses in crates().items()]
+    order = [line for name in sources.below() for line in lines if line.startswith(f"{name}: ")]
+    Path(room, "crates.txt").write_text("\n".join([*order, f"{NAME}: {USES}"]) + "\n")
+    return inside / NAME
+
+
+def built(to):
+    """Builds the program into a file."""
+    print("predator: building the program that writes graphs, once, which takes some minutes", file=sys.stderr, flush=True)
+    with tempfile.TemporaryDirectory(prefix="predator-") as room:
+        at = lay_out(room)
+        pipe = os.path.join(os.path.realpath(room), "text")
+        os.mkfifo(pipe)
+        with open(os.path.join(room, "said"), "wb") as said:
+            made = subprocess.Popen(["rt", "try", "--", pipe], cwd=at, stdin=subprocess.DEVNULL, stdout=said, stderr=said)
+        try:
+            unproved.copied(pipe, made, to, ROW)
+        finally:
+            made.wait()
+        if not os.path.getsize(to):
+            raise unproved.NotBuilt(f"`rt try` says:\n{Path(room, 'said').read_text(errors='replace').rstrip()}")
+    os.chmod(to, 0o755)
+
+
+def kept(room):
+    """The program that is kept in a folder, which is built where there is none."""
+    file = room / name_of_program()
+    room.mkdir(parents=True, exist_ok=True)
+    with open(room / "lock", "wb") as lock:
+        fcntl.flock(lock, fcntl.LOCK_EX)
+        if not file.is_file():
+            number, new = tempfile.mkstemp(dir=room)
+            os.close(number)
+            try:
+                built(new)
+                os.replace(new, file)
+            finally:
+                Path(new).unlink(missing_ok=True)
+    return file
+
+
+def program():
+    """The program that writes graphs."""
+    said = "no folder to keep it in"
+    for room in unproved.folders():
+        try:
+            return kept(room)
+        except OSError as error:
+            said = f"{room}: {error.strerror}"
+    raise unproved.NotBuilt(said)
+
+
+def row_of(text, is_strict):
+    """A text as a row."""
+    body = text.replace(b"\\", b"\\\\").replace(b"\r\n", b"\n").replace(b"\n", b"\\n")
+    return (b"strict " if is_strict else b"") + body + b"\n"
+
+
+def lines_of(text, is_strict):
+    """The lines of the graph of a text."""
+    with tempfile.TemporaryDirectory(prefix="predator-") as folder:
+        name = os.path.join(folder, "rows")
+        with open(name, "wb") as rows:
+            rows.write(row_of(text, is_strict))
+        done = subprocess.run([program(), name], stdout=subprocess.PIPE, preexec_fn=unproved.with_stack)
+    if done.returncode != 0:
+        raise run.NoAnswer(f"the program that writes graphs ended with status {done.returncode}")
+    return [line for line in done.stdout.split(b"\n")[1:] if line]
+
+
+def text_of(found):
+    """The text, or None and why there is none."""
+    file = found.program[found.files[0]]
+    if found.is_preprocessed:
+        return preprocess.preprocessed(file, found.preprocessor)
+    try:
+        with open(file, "rb") as opened:
+            return opened.read(), ""
+    except OSError as error:
+        return None, f"{os.fsdecode(file)}: {error.strerror}"
+
+
+def command(found):
+    """Writes the graph of a file to standard output."""
+    options = {word for at, word in enumerate(found.program) if at > 0 and at not in found.files and word != b"--"}
+    if not names_files(found, 1) or options - {b"--svg", b"--strict"}:
+        print(USAGE, file=sys.stderr)
+        return 4
+    text, why = text_of(found)
+    if text is None:
+        print(f"predator: {why}", file=sys.stderr)
+        return 5
+    lines = lines_of(text, b"--strict" in options)
+    if len(lines) == 1 and lines[0] in REFUSED:
+        print(f"predator: {os.fsdecode(found.program[found.files[0]])}: {REFUSED[lines[0]]}", file=sys.stderr)
+        return 3
+    shown = drawing.picture([line.decode() for line in lines]).encode() if b"--svg" in options else b"\n".join(lines) + b"\n"
+    why = run.write(shown)
+    if why:
+        print(f"predator: the graph could not be written: {why}", file=sys.stderr)
+        return 6
+    return 0
