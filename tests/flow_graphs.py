@@ -2,7 +2,7 @@
 """Compares the flow graphs of texts with those that were read against the table of docs/flow.md.
 
 Usage, at the project's root: python3 tests/flow_graphs.py
-tests/flow_graphs.rows has each text in one line, `strict ` in front where it is read so, and behind it the lines of its graph (tools/graph/src/shown.rt says how); lines
+tests/flow_graphs.rows has each text in one line, `strict ` in front where it is read so, and behind it the lines of its graph (tools/graph/shown.rt.in says how); lines
 that begin with `# ` are headings. The program of tools/graph is asked for each. It prints each text that has another graph; the status is 1 where there is one.
 """
 import subprocess

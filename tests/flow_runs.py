@@ -2,7 +2,7 @@
 """Runs programs along their flow graphs, and compares what the runs come to with what `predator replay` says.
 
 Usage, at the project's root: python3 tests/flow_runs.py [COUNT [SEED]]
-The program of tools/graph writes the flow graph of each program (its src/shown.rt says how). What an edge does is written here, by what docs/flow.md and
+The program of tools/graph writes the flow graph of each program (its shown.rt.in says how). What an edge does is written here, by what docs/flow.md and
 docs/machine.md say and not by the definitions of crates/flow. First each row of tests/replay/replay.rows is run whose program is read by the usual layout: what is wanted
 of it stands there. Then COUNT random programs (500, of the seeds from SEED on, 1) are, three times each, with choices that chance gives; the environment variable PREDATOR may name the program whose `replay` says what the source machine does with them.
 It prints each that comes to something else; the status is 1 where there is one.

@@ -1,7 +1,7 @@
 """`predator graph`: the flow graph of a text, as lines or as a picture (docs/flow.md).
 
-The graph is made by `lower`, and written by the program of tools/graph over the sources of crates/, which is not proved itself. It takes texts as rows. It is built once, by the
-kit's `rt try` in a folder that holds these sources, and kept where other programs are kept (unproved.py), by the checksum of all of them.
+The graph is made by `lower`, and written by the program of tools/graph over the sources of crates/, which is not proved itself, and so is none of the gate's. It takes texts as rows. It
+is built once, by the kit's `rt try` in a folder that holds these sources, and kept where other programs are kept (unproved.py), by the checksum of all of them.
 """
 import fcntl
 import hashlib
@@ -43,7 +43,7 @@ def name_of_program():
     """A name that the program has for these sources and this kit alone."""
     whole = hashlib.sha256(sources.kit().encode())
     folders = [(sources.HOME / "crates" / name / folder) for name in crates() for folder in sources.FOLDERS]
-    for file in [file for folder in [*folders, HERE / "src"] for file in sources.files_in(folder)]:
+    for file in [*(file for folder in folders for file in sources.files_in(folder)), *sorted(HERE.glob("*.rt.in"))]:
         text = Path(file).read_bytes()
         whole.update(f"{os.path.relpath(file, sources.HOME)} {len(text)}\n".encode() + text)
     return f"graph-{whole.hexdigest()[:40]}.program"
@@ -57,7 +57,9 @@ def lay_out(room):
         for folder in sources.FOLDERS:
             if (sources.HOME / "crates" / name / folder).is_dir():
                 shutil.copytree(sources.HOME / "crates" / name / folder, inside / name / folder)
-    shutil.copytree(HERE / "src", inside / NAME / "src")
+    (inside / NAME / "src").mkdir(parents=True)
+    for file in HERE.glob("*.rt.in"):
+        shutil.copy(file, inside / NAME / "src" / file.name.removesuffix(".in"))
     shutil.copy(sources.HOME / "HANDLES", room)
     lines = [f"{name}: {' '.join(uses)}" for name, uses in crates().items()]
     order = [line for name in sources.below() for line in lines if line.startswith(f"{name}: ")]
