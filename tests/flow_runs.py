@@ -25,7 +25,7 @@ ROWS = HOME / "tests" / "replay" / "replay.rows"
 TEXTS = {1: "null pointer dereference", 2: "access outside object", 3: "access to dead object", 4: "access through invalid address", 5: "double free",
          6: "invalid free", 7: "memory lost", 8: "overlapping copy", 9: "block never freed"}
 STEPS = 200_000  # of an edge each
-W64 = 2 ** 64
+ALL_WORDS = 2 ** 64
 
 
 # ---- a flow graph, as its lines say
@@ -83,7 +83,7 @@ def value(number, size, is_signed):
 
 
 def moved(word, by):
-    return (word + by) % W64 if isinstance(word, int) else (word[0], signed(word[1] + by, 8))
+    return (word + by) % ALL_WORDS if isinstance(word, int) else (word[0], signed(word[1] + by, 8))
 
 
 class Run:
@@ -113,7 +113,7 @@ class Run:
         return len(self.memory) - 1
 
     def address(self, word):
-        return word if isinstance(word, int) else (self.memory[word[0]].base + word[1]) % W64
+        return word if isinstance(word, int) else (self.memory[word[0]].base + word[1]) % ALL_WORDS
 
     def number(self, content):
         return sum((b if isinstance(b, int) else self.address(b[:2]) >> 8 * b[2] & 255) << 8 * i for i, b in enumerate(content))
