@@ -1,5 +1,5 @@
 -- A graph behind a step fits where what stands there is what stood before, but for what the step empties, fills, lets begin or ends.
-use Rattle.std.proofs.Common.{◌≡◌, ◌≢◌, ℕ, zero, suc, Bool, true, false, not, ◌&&◌, ◌||◌, List, [], ◌∷◌, map, length, nat_eq, Option, None, Some, ◌⊎◌, inl, inr, refl, sym, ◌∙◌, ap, subst, eqb-true, eq-eqb}
+use Rattle.std.proofs.Common.{◌≡◌, ◌≢◌, ℕ, zero, suc, Bool, true, false, not, ◌&&◌, ◌||◌, List, [], ◌∷◌, map, length, nat_eq, Option, None, Some, ◌⊎◌, inl, inr, refl, sym, ◌∙◌, ap, eqb-true, eq-eqb}
 use Rattle.std.specs.Prelude.{IsSome, is_some, option_map, slice_get, Contains, if◌then◌else◌}
 use Rattle.std.specs.List.{list_all, list_any}
 use Rattle.std.specs.Option.{option_map_or}
@@ -12,7 +12,6 @@ use Rattle.graph.specs.declared.value.Value.TheVariants.{Const}
 use Rattle.graph.specs.Maps.{value_at, storage_of, held_by}
 use Rattle.graph.specs.Sizes.{value_size}
 use Rattle.graph.specs.Whole.{IsGraph}
-use Rattle.graph.proofs.Found.{IsSome-holds}
 use Rattle.graph.proofs.Tests.{and_left, and_right}
 use Rattle.changes.specs.Following.{WriteTail}
 use Rattle.changes.specs.Parts.{emptied, put, is_among, with_value, with_register, without_registers}
@@ -24,22 +23,20 @@ use Rattle.changes.proofs.ValueForm.{value_new, value_next}
 use Rattle.flow.specs.declared.flow_graph.Flow.{Flow}
 use Rattle.flow.specs.declared.flow_graph.Standing.{Standing}
 use Rattle.flow.specs.declared.flow_graph.Variable.{Variable}
-use Rattle.flow.specs.declared.flow_graph.Width.{Width}
 use Rattle.flow.specs.Holding.{put_width, emptied_widths, left_variables}
 use Rattle.flow.specs.Machine.{size_in}
 use Rattle.flow.specs.Standing.{with_variables}
 use Rattle.flow.specs.Valid.{is_fixed, is_local}
-use Rattle.flow.proofs.Frames.{emptied_none}
 use Rattle.heap_steps.specs.Leaving.{LeaveTail}
 use Rattle.heap_steps.specs.Looking.{loses_some, looked_by, looked}
 use Rattle.heap_steps.specs.Unreached.{may_lead_anywhere}
 use Rattle.reinterpret.specs.Means.{ReadTail}
 use Rattle.reinterpret.specs.Sameness.{EqualTail}
 use Rattle.block_steps.specs.Allocating.{AllocateTail}
-use Rattle.block_steps.specs.Entering.{HasStorage, EnterTail}
+use Rattle.block_steps.specs.Entering.{EnterTail}
 use Rattle.block_steps.specs.Releasing.{IsNullNow, ReleaseTail}
 use Rattle.register_steps.specs.Gaining.{GainTail}
-use Rattle.transfer.specs.Fitting.{held_size, FitsWith}
+use Rattle.transfer.specs.Fitting.{FitsWith}
 use Rattle.transfer.proofs.HeldSizes.{size_at, mapped_fit, emptied_fit, filled_fit}
 use Rattle.transfer.proofs.KeptObjects.{KeepsObjects}
 use Rattle.transfer.proofs.Widths.{among_any, any_with, any_left}

@@ -1,5 +1,5 @@
 -- In each graph of the post of an edge all objects of the graph before stay, and what comes to them are regions.
-use Rattle.std.proofs.Common.{◌≡◌, ℕ, zero, suc, ◌+◌, Bool, true, false, ◌&&◌, List, [], ◌∷◌, length, replicate, Option, None, Some, refl, ap, subst, arith}
+use Rattle.std.proofs.Common.{◌≡◌, ℕ, zero, suc, Bool, true, false, ◌&&◌, List, [], ◌∷◌, length, replicate, Option, None, Some, refl, ap, subst, arith}
 use Rattle.std.specs.Prelude.{ℤ, pos, nat_eq, Contains, if◌then◌else◌}
 use Rattle.std.specs.Ordering.{int_eq}
 use Rattle.bytes_core.specs.declared.block.BlockKind.TheVariants.{Heap, Local}
@@ -13,12 +13,12 @@ use Rattle.graph.specs.WellFormed.{is_unequal_pair}
 use Rattle.graph.specs.Maps.{object_at, value_at, storage_of, held_by}
 use Rattle.changes.specs.Dying.{died}
 use Rattle.changes.specs.Merging.{merged, with_unequal}
-use Rattle.changes.specs.Parts.{with_object, with_object_more, with_value, with_register, without_registers}
+use Rattle.changes.specs.Parts.{with_object, with_object_more, with_value, without_registers}
 use Rattle.changes.specs.Posted.{Posted, fault_only, on_held, on_object, on_reach}
 use Rattle.changes.specs.Ranges.{with_range, written_object, meets_none}
 use Rattle.changes.specs.Reaching.{reach_of, is_excluded}
 use Rattle.changes.specs.declared.reach.Reach.{Reach}
-use Rattle.changes.proofs.Reached.{only_one, none_in, reach_graph}
+use Rattle.changes.proofs.Reached.{none_in, reach_graph}
 use Rattle.flow.specs.declared.flow_graph.Flow.{Flow}
 use Rattle.flow.specs.declared.instruction.Instr.{Instr}
 use Rattle.flow.specs.declared.instruction.Instr.TheVariants as instr
@@ -31,13 +31,13 @@ use Rattle.range_steps.specs.Copying.{object_written, object_copied, copied_obje
 use Rattle.range_steps.specs.Filling.{fills_zeros, class_filled, bytes_filled, filled_by, fill_post}
 use Rattle.reinterpret.specs.Comparing.{compared}
 use Rattle.reinterpret.specs.Reading.{one_graph, value_of, readable, are_class, read_by, value_read, read_post}
-use Rattle.reinterpret.specs.Testing.{told_apart, tested, equal_post}
+use Rattle.reinterpret.specs.Testing.{tested, equal_post}
 use Rattle.reinterpret.specs.Writing.{value_written, write_post}
 use Rattle.reinterpret.specs.declared.comparison.Comparison.{Comparison}
 use Rattle.reinterpret.specs.declared.comparison.Comparison.TheVariants as known
 use Rattle.block_steps.specs.Blocks.{new_object}
 use Rattle.block_steps.specs.Entering.{with_entered_one, with_entered}
-use Rattle.block_steps.specs.Releasing.{only_graph, with_null, object_released, number_released, value_released, release_post}
+use Rattle.block_steps.specs.Releasing.{only_graph, with_null, object_released, value_released, release_post}
 use Rattle.register_steps.specs.Gaining.{gained_graphs}
 use Rattle.register_steps.specs.Lines.{number_line, input_line}
 use Rattle.register_steps.specs.Steps.{line_of_address, line_of_move, line_of_shift, line_of_shift_by, line_of_compute, line_of_convert}

@@ -1,6 +1,6 @@
 -- The graphs of a post fit the end of the edge: what each step leaves of a graph is what stands behind its instruction.
 use Rattle.std.proofs.Common.{◌≡◌, ℕ, ◌<◌, get_or, length, Bool, true, false, ◌&&◌, List, [], ◌∷◌, map, nat_eq, Option, None, Some, refl, sym, ◌∙◌, ap, subst}
-use Rattle.std.specs.Prelude.{Result, Ok, Err, IfOk, IfErr, IfSome, IsTrue, All, Contains, slice_get, option_map, if◌then◌else◌}
+use Rattle.std.specs.Prelude.{Result, Ok, Err, IfOk, IfErr, IfSome, IsTrue, Contains, slice_get, option_map, if◌then◌else◌}
 use Rattle.std.specs.List.{list_all, list_any}
 use Rattle.std.specs.Option.{option_map_or}
 use Rattle.std.proofs.lemmas.Bool.{false≢true}
@@ -24,7 +24,6 @@ use Rattle.changes.proofs.Reached.{only_one}
 use Rattle.flow.specs.declared.flow_graph.Flow.{Flow}
 use Rattle.flow.specs.declared.flow_graph.FlowEdge.{FlowEdge}
 use Rattle.flow.specs.declared.flow_graph.Standing.{Standing}
-use Rattle.flow.specs.declared.flow_graph.Width.{Width}
 use Rattle.flow.specs.declared.instruction.Instr.{Instr}
 use Rattle.flow.specs.declared.instruction.Instr.TheVariants.{Move, Compute, AllocateNone, Allocate, Enter, Leave, Finish, Close}
 use Rattle.flow.specs.Holding.{size_of, put_width, emptied_widths}
@@ -43,7 +42,7 @@ use Rattle.block_steps.specs.Releasing.{ReleaseTail}
 use Rattle.register_steps.specs.Gaining.{GainTail, size_held}
 use Rattle.register_steps.specs.Lines.{size_given}
 use Rattle.edge_steps.specs.Laws.{sizes_at}
-use Rattle.transfer.specs.Fitting.{FitsAt, FitAt, FitsWith, FitWith, MayFollow}
+use Rattle.transfer.specs.Fitting.{FitAt, FitsWith, FitWith, MayFollow}
 use Rattle.transfer.specs.Along.{is_full}
 use Rattle.transfer.specs.Means.{stopped}
 use Rattle.transfer.specs.Posts.{edge_post}

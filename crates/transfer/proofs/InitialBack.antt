@@ -1,6 +1,6 @@
 -- A scalar that a static variable holds at the start: the graph before stands for the state before.
-use Rattle.std.proofs.Common.{◌≡◌, ◌≢◌, ℕ, zero, suc, ◌+◌, ◌<◌, ◌≤◌, Bool, true, false, not, ◌&&◌, ◌||◌, List, [], ◌∷◌, ◌++◌, map, length, take, drop, set, get_or, nat_eq, nat_le, pos, replicate, Option, Some, None, ◌⊎◌, inl, inr, refl, sym, ◌∙◌, ap, subst, eqb-true, eq-eqb, le-leb, arith}
-use Rattle.std.specs.Prelude.{IsSome, IsTrue, option_map, slice_get, filter, All, AllPairs, Contains, if◌then◌else◌}
+use Rattle.std.proofs.Common.{◌≡◌, ℕ, zero, suc, ◌+◌, ◌<◌, ◌≤◌, Bool, true, false, not, ◌||◌, List, [], ◌∷◌, ◌++◌, map, length, take, drop, set, get_or, nat_eq, nat_le, pos, replicate, Option, Some, ◌⊎◌, inl, inr, refl, sym, ◌∙◌, ap, subst, eqb-true, eq-eqb, le-leb, arith}
+use Rattle.std.specs.Prelude.{slice_get, filter, AllPairs, Contains, if◌then◌else◌}
 use Rattle.std.specs.List.{list_all}
 use Rattle.std.specs.Option.{option_map_or}
 use Rattle.std.proofs.lemmas.Bool.{false≢true}
@@ -9,27 +9,24 @@ use Rattle.std.proofs.lemmas.Option.{same_Some, none-some, slice_get_within, get
 use Rattle.bytes_core.specs.declared.block.Block.{Block}
 use Rattle.bytes_core.specs.declared.byte.Byte.{Byte}
 use Rattle.bytes_core.specs.declared.word.Word.{Word}
-use Rattle.bytes_core.specs.declared.word.Word.TheVariants.{Plain, To}
+use Rattle.bytes_core.specs.declared.word.Word.TheVariants.{To}
 use Rattle.bytes_core.specs.Access as access
 use Rattle.bytes_core.specs.Value.{word_bytes}
 use Rattle.graph.specs.declared.edges.HasValue.{HasValue}
 use Rattle.graph.specs.declared.object.Object.{Object}
-use Rattle.graph.specs.declared.object.Shape.TheVariants.{Region as RegionShape}
 use Rattle.graph.specs.declared.parts.KeyedObject.{KeyedObject}
 use Rattle.graph.specs.declared.parts.Named.{Named}
 use Rattle.graph.specs.declared.parts.Parts.{Parts}
 use Rattle.graph.specs.declared.value.Value.{Value}
 use Rattle.graph.specs.DeadBlocks.{with_memory}
-use Rattle.graph.specs.Maps.{object_at, value_at, storage_of}
-use Rattle.graph.specs.Meaning.{Assignment, Meets, HasWord, Ends, ends_of, maps_of}
+use Rattle.graph.specs.Maps.{object_at, storage_of}
+use Rattle.graph.specs.Meaning.{Assignment, Meets, ends_of, maps_of}
 use Rattle.graph.specs.Nodes.{is_region}
 use Rattle.graph.specs.State.{State, IsState}
 use Rattle.graph.specs.Sizes.{is_zero}
 use Rattle.graph.specs.WellFormed.{IsWellFormed, are_distinct}
-use Rattle.graph.specs.Whole.{IsGraph}
 use Rattle.graph.proofs.Found.{Holds, IsSome-holds, Holds-some, found-all}
 use Rattle.graph.proofs.Tests.{and_left, and_right, and_both}
-use Rattle.changes.specs.Parts.{with_object, with_value, replaced}
 use Rattle.changes.specs.Ranges.{ends_before, begins_behind, is_beside, is_inside, cuts_none, edges_around, edge_for, class_for, spliced, with_range, written_object}
 use Rattle.changes.proofs.Below.{AreThere}
 use Rattle.changes.proofs.KeptForm.{all_replaced}
@@ -44,14 +41,12 @@ use Rattle.heap_steps.proofs.Listed.{Contains-first, Contains-later, Contains-ca
 use Rattle.reinterpret.proofs.WriteSound.{stored_is}
 use Rattle.flow.specs.declared.flow_graph.Flow.{Flow}
 use Rattle.flow.specs.declared.flow_graph.Initial.{Initial}
-use Rattle.flow.specs.declared.flow_graph.InitialWord.{InitialWord}
-use Rattle.flow.specs.declared.flow_graph.InitialWord.TheVariants as initial
 use Rattle.flow.specs.Holding.{Owned, block_of}
 use Rattle.flow.specs.Runs.{initial_word}
 use Rattle.flow.specs.Runs as runs
-use Rattle.flow.specs.Valid.{is_scalar_size, is_initial, is_initial_word, AreApart}
+use Rattle.flow.specs.Valid.{is_initial, AreApart}
 use Rattle.transfer.specs.Start.{AreNamed, with_initial}
-use Rattle.transfer.proofs.InitialWritten.{region_is, same_word, named_after, IsStored, IsInitialValue, initial_value_is, stored_at, s, v, edge, more, after, after_is, more_graph, room, small, scalar_is, word_right, block_is, has_word}
+use Rattle.transfer.proofs.InitialWritten.{region_is, same_word, named_after, IsStored, IsInitialValue, s, v, edge, more, after, after_is, more_graph, room, small, scalar_is, word_right, block_is, has_word}
 
 -- Two variables have two objects.
 

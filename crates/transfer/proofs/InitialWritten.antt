@@ -1,11 +1,11 @@
 -- A scalar that a static variable holds at the start: the graph behind, and the state.
-use Rattle.std.proofs.Common.{◌≡◌, ℕ, ◌+◌, ◌^◌, ◌<◌, ◌≤◌, Bool, true, false, not, ◌&&◌, List, [], ◌∷◌, ◌++◌, length, take, drop, set, get_or, nat_eq, nat_le, nat_lt, pos, replicate, Option, Some, None, refl, sym, ◌∙◌, ap, subst, eqb-true, ltb-true, leb-true, arith}
-use Rattle.std.specs.Prelude.{ℤ, is_some, option_map, slice_get}
-use Rattle.std.specs.List.{All, list_all}
+use Rattle.std.proofs.Common.{◌≡◌, ℕ, ◌+◌, ◌^◌, ◌<◌, ◌≤◌, true, false, not, ◌&&◌, List, [], ◌∷◌, ◌++◌, length, take, drop, set, get_or, nat_eq, nat_le, nat_lt, pos, replicate, Option, Some, None, refl, sym, ◌∙◌, ap, subst, eqb-true, ltb-true, leb-true, arith}
+use Rattle.std.specs.Prelude.{is_some, option_map, slice_get}
+use Rattle.std.specs.List.{All}
 use Rattle.std.specs.Option.{option_map_or}
 use Rattle.std.proofs.lemmas.Bool.{false≢true}
 use Rattle.std.proofs.lemmas.List.{length-set}
-use Rattle.std.proofs.lemmas.List.Elements.{All-append, All-take, All-drop, All-set, All-weaker}
+use Rattle.std.proofs.lemmas.List.Elements.{All-append, All-take, All-drop, All-set}
 use Rattle.std.proofs.lemmas.Option.{same_Some, none-some, slice_get_within, get_or_from_slice_get}
 use Rattle.bytes_core.specs.declared.block.Block.{Block}
 use Rattle.bytes_core.specs.declared.byte.Byte.{Byte}
@@ -25,7 +25,7 @@ use Rattle.graph.specs.declared.value.Target.TheVariants.{Region}
 use Rattle.graph.specs.declared.value.Value.{Value}
 use Rattle.graph.specs.declared.value.Value.TheVariants.{Const, Address}
 use Rattle.graph.specs.DeadBlocks.{with_memory}
-use Rattle.graph.specs.Maps.{object_at, value_at, storage_of}
+use Rattle.graph.specs.Maps.{object_at, storage_of}
 use Rattle.graph.specs.Meaning.{Assignment, Meets, StandsFor, HasWord, Ends, ends_of, first_of, block_word, maps_of}
 use Rattle.graph.specs.Nodes.{is_region}
 use Rattle.graph.specs.Sizes.{value_size}
@@ -59,7 +59,7 @@ use Rattle.flow.specs.Valid.{is_fixed, is_scalar_size, is_initial, is_initial_wo
 use Rattle.flow.proofs.Ascending.{All-at}
 use Rattle.flow.proofs.MemoryLaws.{scalar_small}
 use Rattle.transfer.specs.Start.{AreNamed, MayStand, address_of, initial_value, object_found, with_scalar, with_initial}
-use Rattle.transfer.proofs.KeptObjects.{are_regions, KeepsObjects, keeps_same, keeps_then, keeps_object}
+use Rattle.transfer.proofs.KeptObjects.{KeepsObjects, keeps_same, keeps_then, keeps_object}
 use Rattle.transfer.proofs.Storages.{storage_there, storages_kept}
 
 -- the storage of a static variable

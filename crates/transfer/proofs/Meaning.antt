@@ -11,7 +11,7 @@ use Rattle.graph.specs.State.{State, IsState}
 use Rattle.graph.specs.WellFormed.{are_ascending}
 use Rattle.changes.specs.Following.{Follows, StepMeans, SomeFaults}
 use Rattle.changes.specs.Parts.{without_registers}
-use Rattle.changes.specs.FollowingAlike.{StepMeansAlike}
+use Rattle.changes.specs.FollowingAlike.{FollowsAlike, StepMeansAlike}
 use Rattle.changes.specs.Posted.{IsPost, SomeStandsFor}
 use Rattle.changes.proofs.MeansAlike.{follows_alike, means_alike}
 use Rattle.changes.proofs.Reached.{none_in}
@@ -23,6 +23,7 @@ use Rattle.reinterpret.specs.Sameness.{StepSound}
 use Rattle.heap_steps.specs.Leaving.{HasRoomFor, LeavesScope, FaultsLeaving, LeaveTail, leave_post}
 use Rattle.heap_steps.specs.Looking.{loses_some, looked_by, looked}
 use Rattle.heap_steps.specs.Posts.{finish_post}
+use Rattle.heap_steps.specs.Regions.{IsExactOfRegions}
 use Rattle.heap_steps.specs.Steps.{Refuses, Finishes, FaultsFinishing}
 use Rattle.heap_steps.specs.Unreached.{may_lead_anywhere}
 use Rattle.block_steps.specs.Blocks.{AnyMemory}
@@ -38,11 +39,23 @@ use Rattle.transfer.proofs.Four.{compares, accesses, never_four, four_kinds}
 use Rattle.transfer.proofs.Listed.{MeetsAll}
 
 module _ (parts : Parts) (Steps : State → State → Type 0) (Faults : ℕ → State → Type 0) where
+  -- what is exact in any memory is so of a graph of regions
+  in_any_memory : (post : Post) → ((after : Parts) (next : State) → post.loss ≡ None → Contains post.graphs after → IsState next → StandsFor after next → FollowsAlike parts Steps next) → IsExactOfRegions parts Steps post
+  in_any_memory post exact = record { exact = λ none regions after next among is stands. exact after next none among is stands }
+
+  pub alike_regions : {E : Type 0} (Tail : Parts → Type 0) (result : Result Post E) → IfOk result (λ post. StepMeansAlike parts Steps Faults Tail AnyMemory post) → IfOk result (λ post. IsExactOfRegions parts Steps post)
+  alike_regions Tail (Ok post) means = in_any_memory post (λ after next none among is stands. means.exact after next none among is stands (record {}))
+  alike_regions Tail (Err error) means = tt
+
+  plain_regions : (Tail : Parts → Type 0) (post : Post) → StepMeans parts Steps Faults Tail post → IsExactOfRegions parts Steps post
+  plain_regions Tail post means = in_any_memory post (λ after next none among is stands. follows_alike parts Steps next is (means.exact after next none among is stands))
+
   alike_all : (Tail : Parts → Type 0) (Room : List Block → Type 0) (post : Post) → ((post.loss ≡ Some 4 → post.kinds ≡ []) → post.loss ≢ Some 4) → MeetsAll parts Faults post → StepMeansAlike parts Steps Faults Tail Room post →
-      StandsForAll parts Steps Faults Room post
-  alike_all Tail Room post other all means = record {
+      IsExactOfRegions parts Steps post → StandsForAll parts Steps Faults Room post
+  alike_all Tail Room post other all means regions = record {
     sound = λ state next is stands steps excuse. means.sound state next is stands steps (other excuse);
     exact = means.exact;
+    exact_of_regions = regions;
     kinds = means.kinds;
     met = means.met;
     through_any = all.met;
@@ -66,14 +79,15 @@ module _ (flow : Flow) (point : ℕ) (instr kind : Instr) (parts : Parts) (is : 
 
   -- one that may lead through any word
   pub alike_access : (Tail : Parts → Type 0) (result : Result Post Stop) → compares kind ≡ false → IfOk result (λ post. IsPost (edge_post flow kind parts) post) →
-      IfOk result (λ post. StepMeansAlike parts Steps Faults Tail (HasRoomBack kind) post) → IfOk result (λ post. MeetsAll parts Faults post) → IfOk result (λ post. EdgeMeans flow point instr parts post)
-  alike_access Tail (Ok post) plain posted means all = back post (alike_all parts Steps Faults Tail (HasRoomBack kind) post (not_four post plain posted) all means)
-  alike_access Tail (Err error) plain posted means all = tt
+      IfOk result (λ post. StepMeansAlike parts Steps Faults Tail (HasRoomBack kind) post) → IfOk result (λ post. IsExactOfRegions parts Steps post) → IfOk result (λ post. MeetsAll parts Faults post) →
+      IfOk result (λ post. EdgeMeans flow point instr parts post)
+  alike_access Tail (Ok post) plain posted means regions all = back post (alike_all parts Steps Faults Tail (HasRoomBack kind) post (not_four post plain posted) all means regions)
+  alike_access Tail (Err error) plain posted means regions all = tt
 
   pub plain_access : (Tail : Parts → Type 0) (result : Result Post Stop) → compares kind ≡ false → IfOk result (λ post. IsPost (edge_post flow kind parts) post) →
       IfOk result (λ post. StepMeans parts Steps Faults Tail post) → IfOk result (λ post. MeetsAll parts Faults post) → IfOk result (λ post. EdgeMeans flow point instr parts post)
   plain_access Tail (Ok post) plain posted means all =
-      back post (alike_all parts Steps Faults Tail (HasRoomBack kind) post (not_four post plain posted) all (means_alike parts Steps Faults Tail (HasRoomBack kind) post means))
+      back post (alike_all parts Steps Faults Tail (HasRoomBack kind) post (not_four post plain posted) all (means_alike parts Steps Faults Tail (HasRoomBack kind) post means) (plain_regions parts Steps Faults Tail post means))
   plain_access Tail (Err error) plain posted means all = tt
 
   pub stopped_access : (Tail : Parts → Type 0) (answer : Result Post NoMemory) (result : Result Post Stop) → compares kind ≡ false → result ≡ stopped answer → IfOk answer (λ post. IsPost (edge_post flow kind parts) post) →
@@ -105,8 +119,8 @@ module _ (flow : Flow) (point : ℕ) (instr kind : Instr) (parts : Parts) (is : 
   plain_met Tail (Err error) means = tt
 
   pub alike_step : (Tail : Parts → Type 0) (result : Result Post Stop) → compares kind ≡ false → accesses kind ≡ false → IfOk result (λ post. IsPost (edge_post flow kind parts) post) →
-      IfOk result (λ post. StepMeansAlike parts Steps Faults Tail (HasRoomBack kind) post) → IfOk result (λ post. EdgeMeans flow point instr parts post)
-  alike_step Tail result plain alone posted means = alike_access Tail result plain posted means (all_met result plain alone posted (alike_met Tail result means))
+      IfOk result (λ post. StepMeansAlike parts Steps Faults Tail (HasRoomBack kind) post) → IfOk result (λ post. IsExactOfRegions parts Steps post) → IfOk result (λ post. EdgeMeans flow point instr parts post)
+  alike_step Tail result plain alone posted means regions = alike_access Tail result plain posted means regions (all_met result plain alone posted (alike_met Tail result means))
 
   pub plain_step : (Tail : Parts → Type 0) (result : Result Post Stop) → compares kind ≡ false → accesses kind ≡ false → IfOk result (λ post. IsPost (edge_post flow kind parts) post) →
       IfOk result (λ post. StepMeans parts Steps Faults Tail post) → IfOk result (λ post. EdgeMeans flow point instr parts post)
@@ -122,6 +136,7 @@ module _ (flow : Flow) (point : ℕ) (instr kind : Instr) (parts : Parts) (is : 
   test_step Tail (Ok post) none posted means sounds = back post (record {
     sound = λ state next state_is stands steps excuse. sounds.sound state next state_is stands steps;
     exact = λ after next none among next_is stands room. follows_alike parts Steps next next_is (means.exact after next none among next_is stands);
+    exact_of_regions = plain_regions parts Steps Faults Tail post means;
     kinds = λ state fault state_is stands faults. means.kinds state fault stands faults;
     met = means.met;
     through_any = λ room fault listed. none_in fault (subst (λ (kinds : List ℕ). Contains kinds fault) (posted.kinds ∙ none) listed);
@@ -137,6 +152,7 @@ pub refuse_step : (flow : Flow) (point : ℕ) (instr : Instr) (parts : Parts) (i
 refuse_step flow point instr parts into (Ok post) is sound exact faultless = back flow point instr (AllocateNone into) parts is post (record {
   sound = λ state next state_is stands steps excuse. sound state next stands steps;
   exact = λ after next none among next_is stands room. follows_alike parts (Refuses into) next next_is (exact next next_is (record { graph = after; among = among; stands = stands }));
+  exact_of_regions = in_any_memory parts (Refuses into) (EdgeFaults (AllocateNone into)) post (λ after next none among next_is stands. follows_alike parts (Refuses into) next next_is (exact next next_is (record { graph = after; among = among; stands = stands })));
   kinds = λ state kind state_is stands faults. absurd faults;
   met = λ kind precise listed. none_in kind (subst (λ (kinds : List ℕ). Contains kinds kind) faultless listed);
   through_any = λ room kind listed. none_in kind (subst (λ (kinds : List ℕ). Contains kinds kind) faultless listed);
@@ -160,6 +176,7 @@ pub finish_step : (flow : Flow) (point : ℕ) (instr : Instr) (parts : Parts) (r
 finish_step flow point instr parts registers (Ok post) is posted sound exact lists = back flow point instr (Finish registers) parts is post (record {
   sound = λ state next state_is stands steps excuse. sound state next state_is stands steps;
   exact = λ after next none among next_is stands room. follows_alike parts (Finishes registers) next next_is (exact none next next_is (record { graph = after; among = among; stands = stands }));
+  exact_of_regions = in_any_memory parts (Finishes registers) (FaultsFinishing registers) post (λ after next none among next_is stands. follows_alike parts (Finishes registers) next next_is (exact none next next_is (record { graph = after; among = among; stands = stands })));
   kinds = λ state kind state_is stands faults. (lists kind).1 (record { state = state; is = state_is; stands = stands; faults = faults });
   met = λ kind precise listed. (lists kind).0 listed;
   through_any = λ room kind listed. (lists kind).0 listed;
@@ -195,11 +212,13 @@ convert_step flow point instr parts into from size signed Tail answer result is 
 -- A scope that is left or entered, by the variables as the code has them.
 pub leave_step : (flow : Flow) (point : ℕ) (instr : Instr) (parts : Parts) (variables given : List ℕ) (result : Result Post Stop) →
     instr ≡ Leave variables → given ≡ variables → IfOk result (λ post. IsPost (leave_post parts given) post) →
-    IfOk result (λ post. StepMeansAlike parts (LeavesScope given) (FaultsLeaving given) (LeaveTail parts given) (HasRoomFor (length given)) post) → IfOk result (λ post. EdgeMeans flow point instr parts post)
-leave_step flow point instr parts variables given result is same posted means =
+    IfOk result (λ post. StepMeansAlike parts (LeavesScope given) (FaultsLeaving given) (LeaveTail parts given) (HasRoomFor (length given)) post) →
+    IfOk result (λ post. IsExactOfRegions parts (LeavesScope given) post) → IfOk result (λ post. EdgeMeans flow point instr parts post)
+leave_step flow point instr parts variables given result is same posted means regions =
     alike_step flow point instr (Leave variables) parts is (LeaveTail parts variables) result refl refl
     (subst (λ (vs : List ℕ). IfOk result (λ post. IsPost (leave_post parts vs) post)) same posted)
     (subst (λ (vs : List ℕ). IfOk result (λ post. StepMeansAlike parts (LeavesScope vs) (FaultsLeaving vs) (LeaveTail parts vs) (HasRoomFor (length vs)) post)) same means)
+    (subst (λ (vs : List ℕ). IfOk result (λ post. IsExactOfRegions parts (LeavesScope vs) post)) same regions)
 
 pub enter_step : (flow : Flow) (point : ℕ) (instr : Instr) (parts : Parts) (variables given : List ℕ) (result : Result Post Stop) →
     instr ≡ Enter variables → given ≡ variables → IfOk result (λ post. IsPost (enter_post parts given (map (size_in flow) given)) post) →
@@ -207,4 +226,8 @@ pub enter_step : (flow : Flow) (point : ℕ) (instr : Instr) (parts : Parts) (va
 enter_step flow point instr parts variables given result is same posted means =
     alike_step flow point instr (Enter variables) parts is (EnterTail parts variables (map (size_in flow) variables)) result refl refl
     (subst (λ (vs : List ℕ). IfOk result (λ post. IsPost (enter_post parts vs (map (size_in flow) vs)) post)) same posted)
-    (subst (λ (vs : List ℕ). IfOk result (λ post. StepMeansAlike parts (Enters vs (map (size_in flow) vs)) NoFault (EnterTail parts vs (map (size_in flow) vs)) AnyMemory post)) same means)
+    of_these
+    (alike_regions parts (Enters variables (map (size_in flow) variables)) NoFault (EnterTail parts variables (map (size_in flow) variables)) result of_these)
+  where
+    of_these : IfOk result (λ post. StepMeansAlike parts (Enters variables (map (size_in flow) variables)) NoFault (EnterTail parts variables (map (size_in flow) variables)) AnyMemory post)
+    of_these = subst (λ (vs : List ℕ). IfOk result (λ post. StepMeansAlike parts (Enters vs (map (size_in flow) vs)) NoFault (EnterTail parts vs (map (size_in flow) vs)) AnyMemory post)) same means

@@ -1,12 +1,10 @@
 -- What the start graph and posts say of runs without calls.
-use Rattle.std.proofs.Common.{◌≡◌, ℕ, Bool, true, false, List, [], Some, None, refl, sym, ◌∙◌, ap, subst, nat_eq, eqb-true}
-use Rattle.std.specs.Prelude.{Contains, slice_get, if◌then◌else◌}
+use Rattle.std.proofs.Common.{◌≡◌, ℕ, Bool, true, false, List, [], Some, refl, sym, ◌∙◌, ap, subst, nat_eq, eqb-true}
+use Rattle.std.specs.Prelude.{slice_get, if◌then◌else◌}
 use Rattle.std.proofs.lemmas.Bool.{false≢true}
 use Rattle.std.proofs.lemmas.Option.{same_Some}
 use Rattle.choices.specs.declared.choice.Choice.{Choice}
-use Rattle.cbase.specs.declared.place.Place.{Place}
 use Rattle.graph.specs.declared.parts.Parts.{Parts}
-use Rattle.graph.specs.declared.post.Post.{Post}
 use Rattle.graph.specs.Meaning.{StandsFor}
 use Rattle.graph.specs.Whole.{IsGraph}
 use Rattle.flow.specs.declared.flow_graph.Flow.{Flow}
@@ -18,11 +16,9 @@ use Rattle.flow.specs.Valid.{IsFlow}
 use Rattle.flow.proofs.Outcomes.{left_state}
 use Rattle.heap_steps.proofs.Listed.{Contains-get, get_contained}
 use Rattle.edge_steps.specs.EdgeSteps.{is_ordinary}
-use Rattle.edge_steps.specs.Laws.{IsAtEdge}
 use Rattle.edge_steps.specs.Seen.{seen}
 use Rattle.changes.specs.Posted.{SomeStandsFor}
-use Rattle.transfer.specs.Along.{IsPostAlong}
-use Rattle.transfer.specs.Laws.{IsOf, StandsAmong, DoesStartStand, DoPostsStand, DoPostsHave, AreKindsSame}
+use Rattle.transfer.specs.Laws.{IsOf, DoesStartStand, DoPostsStand, DoPostsHave, AreKindsSame}
 use Rattle.transfer.specs.Machine.{IsStoodFor}
 use Rattle.transfer.specs.Start.{start_graph}
 use Rattle.transfer.proofs.Sound.{posts_sound}
@@ -59,14 +55,14 @@ module _ (flow : Flow) (number : ℕ) (edge : FlowEdge) (parts : Parts) (state :
   }
 
 pub post_stands : DoPostsStand
-post_stands flow number edge parts post state next valid stands ordinary along none here stood steps = record { place = at.0; graph = found.graph; there = at.1; stands = found.stands }
+post_stands flow number edge parts post state next valid stands ordinary along tame here stood steps = record { place = at.0; graph = found.graph; there = at.1; stands = found.stands }
   where
     goes : step_along flow edge state steps.choices ≡ Went next steps.rest
     goes = subst (λ (e : FlowEdge). step_along flow e state steps.choices ≡ Went next steps.rest) (same_Some _ _ (sym steps.stands ∙ stands)) steps.goes
 
     found : SomeStandsFor post.graphs (seen [] next)
     found = posts_sound.steps flow edge parts post state next steps.choices steps.rest along.means
-        (stood_for flow number edge parts state valid stands ordinary here stood (not_barred flow edge state steps.choices (Went next steps.rest) goes refl)) goes (λ loss. none)
+        (stood_for flow number edge parts state valid stands ordinary here stood (not_barred flow edge state steps.choices (Went next steps.rest) goes refl)) goes tame
 
     at : (place : ℕ) × (slice_get post.graphs place ≡ Some found.graph)
     at = get_contained post.graphs found.graph found.among

@@ -1,18 +1,16 @@
 -- Each state for which the start graph stands is alike one in which a run begins.
-use Rattle.std.proofs.Common.{◌≡◌, ◌≢◌, ℕ, zero, suc, ◌+◌, ◌^◌, ◌<◌, ◌≤◌, Bool, true, false, not, ◌&&◌, ◌||◌, List, [], ◌∷◌, ◌++◌, map, length, nat_eq, pos, ℤ, Option, Some, None, refl, sym, ◌∙◌, ap, subst, eqb-true, eq-eqb, arith}
-use Rattle.std.specs.Prelude.{IsSome, IsTrue, option_map, slice_get, All, AllPairs, Contains, if◌then◌else◌}
-use Rattle.std.specs.List.{list_all, list_any}
+use Rattle.std.proofs.Common.{◌≡◌, ℕ, zero, suc, ◌+◌, ◌^◌, ◌<◌, Bool, true, false, not, ◌&&◌, ◌||◌, List, [], ◌∷◌, ◌++◌, map, length, nat_eq, pos, Option, Some, None, refl, sym, ◌∙◌, ap, subst, arith}
+use Rattle.std.specs.Prelude.{IsTrue, option_map, slice_get, All, AllPairs, Contains, if◌then◌else◌}
+use Rattle.std.specs.List.{list_all}
 use Rattle.std.specs.Option.{option_map_or}
 use Rattle.std.proofs.lemmas.Bool.{false≢true}
 use Rattle.std.proofs.lemmas.List.Elements.{All-nil, All-head, All-tail}
 use Rattle.std.proofs.lemmas.Option.{same_Some, none-some}
 use Rattle.cbase.specs.declared.place.Place.{Place}
 use Rattle.bytes_core.specs.declared.block.Block.{Block}
-use Rattle.bytes_core.specs.declared.byte.Byte.{Byte}
 use Rattle.bytes_core.specs.declared.word.Word.{Word}
 use Rattle.bytes_core.specs.declared.word.Word.TheVariants.{Plain, To}
 use Rattle.bytes_core.specs.Access.{stored}
-use Rattle.choices.specs.declared.choice.Choice.{Choice}
 use Rattle.graph.specs.State as graphs
 use Rattle.graph.specs.declared.edges.HasValue.{HasValue}
 use Rattle.graph.specs.declared.object.Object.{Object}
@@ -22,10 +20,10 @@ use Rattle.graph.specs.declared.parts.KeyedValue.{KeyedValue}
 use Rattle.graph.specs.declared.parts.Named.{Named}
 use Rattle.graph.specs.declared.parts.Parts.{Parts}
 use Rattle.graph.specs.Alike.{renumbered_word}
-use Rattle.graph.specs.AlikeMemories.{IsDeadOrNone, NamesAmong, WordNamesAmong, AreAlike}
+use Rattle.graph.specs.AlikeMemories.{IsDeadOrNone, WordNamesAmong, AreAlike}
 use Rattle.graph.specs.AlikeStates.{AreAlikeStates}
 use Rattle.graph.specs.DeadBlocks as dead
-use Rattle.graph.specs.Maps.{object_at, storage_of}
+use Rattle.graph.specs.Maps.{storage_of}
 use Rattle.graph.specs.Meaning.{Assignment, Meets, StandsFor, maps_of}
 use Rattle.graph.specs.Nodes.{node_of, node_in, own_node}
 use Rattle.graph.specs.Whole.{IsGraph, no_parts}
@@ -44,7 +42,7 @@ use Rattle.flow.specs.declared.flow_graph.InitialWord.TheVariants as initial
 use Rattle.flow.specs.declared.flow_graph.Variable.{Variable}
 use Rattle.flow.specs.Holding.{Owned, block_of}
 use Rattle.flow.specs.InRange.{entry_of}
-use Rattle.flow.specs.Machine.{State, Outcome, Went, with_memory, entered, size_in}
+use Rattle.flow.specs.Machine.{State, Outcome, with_memory, entered, size_in}
 use Rattle.flow.specs.Runs.{blank, initial_word, parameters_of, then_go}
 use Rattle.flow.specs.Runs as runs
 use Rattle.flow.specs.Valid.{IsFlow, is_initial, AreApart}
@@ -60,15 +58,15 @@ use Rattle.flow.specs.declared.instruction.Instr.TheVariants.{Enter}
 use Rattle.edge_steps.proofs.Back.{Comes}
 use Rattle.edge_steps.proofs.Entered.{AreNew, back_enter}
 use Rattle.transfer.specs.Laws.{IsBegunAlike, IsStartExact}
-use Rattle.transfer.specs.Start.{AreNamed, with_static, with_statics, initial_value, with_initial, with_initials, static_graph, start_graph}
+use Rattle.transfer.specs.Start.{AreNamed, with_static, with_statics, with_initial, with_initials, static_graph, start_graph}
 use Rattle.transfer.proofs.InitialBack.{IsOfScalar, AreOfScalars, cuts, scalars_next, initial_back}
-use Rattle.transfer.proofs.InitialWritten.{IsStored, IsInitialValue, initial_not_any, s, v, edge, more, after, after_is, more_graph, room, scalar_is, word_right, named_after}
+use Rattle.transfer.proofs.InitialWritten.{IsStored, IsInitialValue, initial_not_any, s, v, edge, after_is, room, scalar_is, word_right, named_after}
 use Rattle.transfer.proofs.StartSound.{nothing_named, initials_named, statics_are_named, parameters_may_enter, parameters_of_main, are_new, rest_of}
 use Rattle.transfer.proofs.StartSound as starting
 use Rattle.transfer.proofs.StartReady.{statics_values}
-use Rattle.transfer.proofs.StaticLoop.{AreStatics, shown}
+use Rattle.transfer.proofs.StaticLoop.{shown}
 use Rattle.transfer.proofs.StaticsFollow.{MakesAll, HasAlike, all_made_alike, statics_follow, static_bound, IsMadeBy, statics_back}
-use Rattle.transfer.proofs.Tight.{is_tight, NoAny, leads_nowhere, tight_written, tight_replaced, tight_found}
+use Rattle.transfer.proofs.Tight.{NoAny, leads_nowhere, tight_written, tight_replaced, tight_found}
 
 -- What holds while scalars are written.
 

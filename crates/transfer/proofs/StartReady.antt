@@ -1,5 +1,5 @@
 -- What the calls of the start ask for is there.
-use Rattle.std.proofs.Common.{◌≡◌, ℕ, zero, suc, ◌+◌, ◌-◌, ◌<◌, ◌≤◌, Bool, true, false, List, [], ◌∷◌, map, length, take, drop, Option, Some, None, refl, sym, ◌∙◌, ap, subst, length-append, arith}
+use Rattle.std.proofs.Common.{◌≡◌, ℕ, suc, ◌+◌, ◌-◌, ◌<◌, ◌≤◌, Bool, true, false, List, [], ◌∷◌, map, length, take, drop, Option, Some, None, refl, sym, ◌∙◌, ap, subst, length-append, arith}
 use Rattle.std.specs.Prelude.{Result, Ok, Err, IfOk, IsTrue, All, slice_index_or, if◌then◌else◌}
 use Rattle.std.specs.List.{list_all}
 use Rattle.std.proofs.lemmas.List.Elements.{All-head, All-tail}
@@ -19,7 +19,7 @@ use Rattle.flow.specs.Runs.{parameters_of}
 use Rattle.flow.specs.Valid.{IsFlow, is_initial, is_object_size}
 use Rattle.block_steps.specs.Entering.{MayEnter}
 use Rattle.transfer.specs.Fitting.{FitsAt}
-use Rattle.transfer.specs.Start.{AreNamed, MayStand, with_static, with_statics, initial_value, object_found, with_scalar, with_initial, with_initials, static_graph, start_graph, IsStartGraph}
+use Rattle.transfer.specs.Start.{AreNamed, MayStand, with_static, with_statics, initial_value, object_found, with_scalar, with_initial, with_initials, static_graph, IsStartGraph}
 use Rattle.transfer.proofs.InitialWritten.{named_after, may_stand}
 use Rattle.transfer.proofs.StartSound.{statics_are_named, few_variables, static_graph_named, parameters_may_enter, start_fits}
 

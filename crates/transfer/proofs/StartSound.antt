@@ -1,16 +1,15 @@
 -- The start graph is a graph that fits main's entry, and stands for each state in which a run begins.
-use Rattle.std.proofs.Common.{◌≡◌, ◌≢◌, ℕ, zero, suc, ◌+◌, ◌^◌, ◌<◌, ◌≤◌, Bool, true, false, not, ◌&&◌, ◌||◌, List, [], ◌∷◌, ◌++◌, map, length, nat_eq, nat_le, nat_lt, Option, Some, None, ◌⊎◌, inl, inr, refl, sym, ◌∙◌, ap, subst, eq-eqb, eqb-true, ltb-true, lt-ltb, leb-true, le-leb, length-append, arith}
-use Rattle.std.specs.Prelude.{IsSome, IsTrue, is_some, is_none, option_map, slice_get, sum_by, All, Contains, if◌then◌else◌}
+use Rattle.std.proofs.Common.{◌≡◌, ℕ, zero, suc, ◌+◌, ◌^◌, ◌<◌, ◌≤◌, Bool, true, false, not, ◌&&◌, ◌||◌, List, [], ◌∷◌, map, length, nat_eq, nat_le, nat_lt, Option, Some, None, ◌⊎◌, inl, inr, refl, sym, ◌∙◌, ap, subst, eq-eqb, eqb-true, ltb-true, lt-ltb, le-leb, length-append, arith}
+use Rattle.std.specs.Prelude.{IsTrue, is_some, is_none, option_map, slice_get, All, Contains, if◌then◌else◌}
 use Rattle.std.specs.List.{list_all, list_any, fold}
 use Rattle.std.specs.Option.{option_map_or, option_and_then}
 use Rattle.std.proofs.lemmas.Bool.{false≢true}
 use Rattle.std.proofs.lemmas.List.{length-map}
 use Rattle.std.proofs.lemmas.List.Elements.{All-nil, All-head, All-tail}
-use Rattle.std.proofs.lemmas.Option.{same_Some, none-some, slice_get_within}
+use Rattle.std.proofs.lemmas.Option.{none-some, slice_get_within}
 use Rattle.cbase.specs.declared.place.Place.{Place}
-use Rattle.bytes_core.specs.declared.block.Block.{Block}
 use Rattle.bytes_core.specs.Placement.{is_placed}
-use Rattle.bytes_core.specs.Valid.{NamesBelow, IsMemory}
+use Rattle.bytes_core.specs.Valid.{NamesBelow}
 use Rattle.bytes_core.specs.declared.word.Word.TheVariants.{Plain}
 use Rattle.bytes_core.specs.declared.block.BlockKind.TheVariants.{Static, Local}
 use Rattle.choices.specs.declared.choice.Choice.{Choice}
@@ -19,8 +18,6 @@ use Rattle.graph.specs.declared.object.Object.{Object}
 use Rattle.graph.specs.declared.object.Shape.{Shape}
 use Rattle.graph.specs.declared.object.Shape.TheVariants.{Region as RegionShape, Segment}
 use Rattle.graph.specs.declared.parts.KeyedObject.{KeyedObject}
-use Rattle.graph.specs.declared.parts.KeyedValue.{KeyedValue}
-use Rattle.graph.specs.declared.parts.Named.{Named}
 use Rattle.graph.specs.declared.parts.Parts.{Parts}
 use Rattle.graph.specs.DeadBlocks as dead
 use Rattle.graph.specs.declared.parts.Held.{Held}
@@ -37,9 +34,7 @@ use Rattle.reinterpret.specs.Writing.{edge_at}
 use Rattle.flow.specs.declared.flow_graph.Flow.{Flow}
 use Rattle.flow.specs.declared.flow_graph.FlowFunction.{FlowFunction}
 use Rattle.flow.specs.declared.flow_graph.Initial.{Initial}
-use Rattle.flow.specs.declared.flow_graph.Standing.{Standing}
 use Rattle.flow.specs.declared.flow_graph.Variable.{Variable}
-use Rattle.flow.specs.declared.instruction.Instr.TheVariants.{Enter}
 use Rattle.flow.specs.Holding.{Owned, block_of, size_of, emptied_widths}
 use Rattle.flow.specs.declared.flow_graph.Width.{Width}
 use Rattle.flow.specs.InRange.{entry_of}
@@ -54,16 +49,15 @@ use Rattle.flow.proofs.Outcomes.{Leaves, Leaves-weaker, Leaves-then}
 use Rattle.heap_steps.proofs.Listed.{Contains-first, Contains-later, Contains-cases, Contains-none}
 use Rattle.block_steps.specs.Blocks.{new_object}
 use Rattle.block_steps.specs.Entering.{MayEnter, Enters, EnterTail, with_entered_one, with_entered}
-use Rattle.block_steps.proofs.Entered.{all_graph, all_sound, all_tail}
+use Rattle.block_steps.proofs.Entered.{all_sound, all_tail}
 use Rattle.edge_steps.specs.Seen.{seen}
 use Rattle.edge_steps.proofs.Entered.{AreNew, there_enter}
 use Rattle.edge_steps.proofs.Outcomes.{IsRight}
-use Rattle.transfer.specs.Fitting.{FitsAt, FitsWith, HasStorages}
+use Rattle.transfer.specs.Fitting.{FitsAt, FitsWith}
 use Rattle.transfer.specs.Start.{AreNamed, with_static, with_statics, initial_value, with_scalar, object_found, with_initial, with_initials, static_graph, start_graph}
 use Rattle.transfer.proofs.Behind.{enter_fits}
 use Rattle.transfer.proofs.EdgeObjects.{keeps_entered}
 use Rattle.transfer.proofs.InitialWritten.{named_after, initial_stands, initial_state}
-use Rattle.transfer.proofs.KeptObjects.{are_regions, KeepsObjects}
 use Rattle.transfer.proofs.StaticLoop.{AreStatics, IsMade, nodes_regions, statics_graph, statics_sound, shown}
 use Rattle.transfer.proofs.Widths.{any_with}
 

@@ -1,10 +1,9 @@
 -- A static variable more: each state of the graph behind is alike one that follows; and what is made in a state is made in one alike it.
-use Rattle.std.proofs.Common.{◌≡◌, ℕ, suc, ◌+◌, ◌^◌, ◌<◌, ◌≤◌, Bool, true, false, not, ◌&&◌, ◌||◌, List, [], ◌∷◌, ◌++◌, map, length, nat_eq, nat_lt, Option, Some, None, refl, sym, ◌∙◌, ap, subst, eq-eqb, eqb-true}
+use Rattle.std.proofs.Common.{◌≡◌, ℕ, ◌+◌, ◌^◌, ◌<◌, ◌≤◌, Bool, true, false, ◌||◌, List, [], ◌∷◌, ◌++◌, map, length, nat_eq, nat_lt, Option, Some, None, refl, sym, ◌∙◌, ap, subst, eq-eqb, eqb-true}
 use Rattle.std.specs.Prelude.{option_map, slice_get, IsTrue, if◌then◌else◌}
 use Rattle.std.specs.List.{All, list_all}
-use Rattle.std.specs.Option.{option_map_or}
-use Rattle.std.proofs.lemmas.Bool.{false≢true, or_left, or_right}
-use Rattle.std.proofs.lemmas.List.Elements.{All-nil, All-cons, All-head, All-tail, All-append, All-weaker}
+use Rattle.std.proofs.lemmas.Bool.{or_left, or_right}
+use Rattle.std.proofs.lemmas.List.Elements.{All-head, All-tail, All-weaker}
 use Rattle.std.proofs.lemmas.Option.{same_Some, none-some}
 use Rattle.bytes_core.specs.declared.block.Block.{Block}
 use Rattle.bytes_core.specs.declared.block.BlockKind.{BlockKind}
@@ -12,7 +11,6 @@ use Rattle.bytes_core.specs.declared.block.BlockKind.TheVariants.{Static}
 use Rattle.bytes_core.specs.declared.word.Word.{Word}
 use Rattle.bytes_core.specs.declared.word.Word.TheVariants.{Plain, To}
 use Rattle.bytes_core.specs.Placement.{new_block, is_new_block, placed}
-use Rattle.graph.specs.declared.object.Object.{Object}
 use Rattle.graph.specs.declared.parts.Named.{Named}
 use Rattle.graph.specs.declared.parts.Parts.{Parts}
 use Rattle.graph.specs.Alike.{renumbered_word}
@@ -20,22 +18,21 @@ use Rattle.graph.specs.AlikeMemories.{WordNamesAmong, AreAlike}
 use Rattle.graph.specs.AlikeStates.{AreAlikeStates}
 use Rattle.graph.specs.AlikeSteps.{ArePlacedAlike}
 use Rattle.graph.specs.DeadBlocks.{dead_block, with_memory}
-use Rattle.graph.specs.Maps.{object_at, storage_of}
+use Rattle.graph.specs.Maps.{storage_of}
 use Rattle.graph.specs.Meaning.{Assignment, Meets, StandsFor, maps_of}
 use Rattle.graph.specs.State.{State, IsState}
-use Rattle.graph.specs.WellFormed.{is_storage, nodes}
+use Rattle.graph.specs.WellFormed.{nodes}
 use Rattle.graph.specs.Whole.{IsGraph}
 use Rattle.graph.proofs.AlikeBlocks.{word_agrees}
 use Rattle.graph.proofs.AlikeSteps.{alike_respected}
 use Rattle.graph.proofs.AllThere.{all_blocks_may_be_there}
-use Rattle.graph.proofs.Tests.{list_all-implies}
 use Rattle.changes.specs.FollowingAlike.{FollowsAlike}
 use Rattle.changes.specs.Parts.{put}
 use Rattle.heap_steps.specs.Unreached.{may_lead_anywhere}
 use Rattle.heap_steps.proofs.VariablesChanged.{AgreeButVariables, variables_changed}
 use Rattle.block_steps.specs.Entering.{with_storage}
 use Rattle.block_steps.proofs.Back.{now, before, before_meets, before_state, makes, turn, number_keeps, word_keeps, long_before, alike_behind}
-use Rattle.block_steps.proofs.ObjectForm.{grown, object_new, object_next, graph_more}
+use Rattle.block_steps.proofs.ObjectForm.{grown}
 use Rattle.block_steps.proofs.Owned.{variable_owned, register_owned}
 use Rattle.block_steps.proofs.Swapped.{swap_one}
 use Rattle.transfer.specs.Start.{with_static}

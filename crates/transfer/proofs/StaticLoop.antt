@@ -1,11 +1,10 @@
 -- The static variables of a flow graph, made one after the other: the graph, and the states for which it stands.
-use Rattle.std.proofs.Common.{◌≡◌, ◌≢◌, ℕ, zero, suc, ◌+◌, ◌^◌, ◌<◌, ◌≤◌, Bool, true, false, not, ◌&&◌, ◌||◌, List, [], ◌∷◌, ◌++◌, map, length, nat_eq, nat_le, nat_lt, Option, Some, None, refl, sym, ◌∙◌, ap, subst, eq-eqb, eqb-true, ltb-true, ltb-false, lt-ltb, leb-true, length-append, arith}
-use Rattle.std.specs.Prelude.{IsSome, IsTrue, is_some, option_map, slice_get, sum_by, All, if◌then◌else◌}
+use Rattle.std.proofs.Common.{◌≡◌, ℕ, zero, suc, ◌+◌, ◌^◌, ◌<◌, ◌≤◌, Bool, true, false, not, ◌&&◌, ◌||◌, List, [], ◌∷◌, length, nat_eq, nat_lt, Option, Some, None, refl, sym, ◌∙◌, ap, subst, eq-eqb, eqb-true, ltb-true, ltb-false, lt-ltb, leb-true, length-append, arith}
+use Rattle.std.specs.Prelude.{IsTrue, is_some, option_map, slice_get, if◌then◌else◌}
 use Rattle.std.specs.List.{list_all, fold}
 use Rattle.std.specs.Option.{option_map_or}
 use Rattle.std.proofs.lemmas.Bool.{false≢true}
 use Rattle.std.proofs.lemmas.Option.{same_Some, none-some}
-use Rattle.bytes_core.specs.declared.block.Block.{Block}
 use Rattle.bytes_core.specs.declared.block.BlockKind.TheVariants as storage
 use Rattle.bytes_core.specs.Placement.{new_block, is_new_block, placed}
 use Rattle.choices.specs.declared.choice.Choice.{Choice}
@@ -30,7 +29,7 @@ use Rattle.changes.proofs.RangeForm.{all_append}
 use Rattle.flow.specs.declared.flow_graph.Flow.{Flow}
 use Rattle.flow.specs.declared.flow_graph.Variable.{Variable}
 use Rattle.flow.specs.Holding.{Owned, block_of, put_owned}
-use Rattle.flow.specs.Machine.{Frame, State, Outcome, Went, Ended, size_in, or_else, block_here, with_memory, with_new_block}
+use Rattle.flow.specs.Machine.{State, Outcome, Ended, size_in, or_else, block_here, with_memory, with_new_block}
 use Rattle.flow.specs.Runs.{with_statics}
 use Rattle.flow.specs.Valid.{IsFlow, is_fixed, is_object_size}
 use Rattle.flow.proofs.Ascending.{All-at}

@@ -1,5 +1,5 @@
 -- A static variable more: the graph behind, and the state.
-use Rattle.std.proofs.Common.{◌≡◌, ℕ, suc, ◌+◌, ◌^◌, ◌<◌, ◌≤◌, Bool, true, false, not, ◌&&◌, List, [], ◌∷◌, ◌++◌, map, length, nat_eq, nat_lt, Option, Some, None, refl, sym, ◌∙◌, ap, subst, eq-eqb, eqb-true, ltb-true, lt-ltb, length-append, arith}
+use Rattle.std.proofs.Common.{◌≡◌, ℕ, suc, ◌+◌, ◌^◌, ◌<◌, ◌≤◌, Bool, true, false, not, ◌&&◌, List, [], ◌∷◌, ◌++◌, map, length, nat_eq, nat_lt, Option, Some, None, refl, sym, ◌∙◌, ap, subst, eq-eqb, eqb-true, ltb-true, length-append, arith}
 use Rattle.std.specs.Prelude.{option_map, filter, if◌then◌else◌}
 use Rattle.std.specs.List.{All, list_all}
 use Rattle.std.specs.Option.{option_map_or}
@@ -23,7 +23,7 @@ use Rattle.graph.specs.State.{State, IsState, IsByte, IsWordBelow, IsLedTo}
 use Rattle.graph.specs.WellFormed.{is_storage, nodes}
 use Rattle.graph.specs.Whole.{IsGraph}
 use Rattle.graph.proofs.DeadMore.{word_above}
-use Rattle.graph.proofs.Tests.{and_left, and_right, and_both, list_all-implies}
+use Rattle.graph.proofs.Tests.{and_left, and_right, list_all-implies}
 use Rattle.changes.specs.Parts.{put}
 use Rattle.heap_steps.proofs.VariablesChanged.{AgreeButVariables, variables_changed}
 use Rattle.block_steps.specs.Blocks.{Makes}

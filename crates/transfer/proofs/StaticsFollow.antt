@@ -1,5 +1,5 @@
 -- Static variables made one after the other: each state of the graph behind is alike one that is made so, and the flow machine makes it.
-use Rattle.std.proofs.Common.{◌≡◌, ℕ, zero, suc, ◌+◌, ◌^◌, ◌<◌, ◌≤◌, Bool, true, false, not, ◌&&◌, ◌||◌, List, [], ◌∷◌, ◌++◌, map, length, nat_eq, nat_lt, replicate, Option, Some, None, refl, sym, ◌∙◌, ap, subst, length-append, arith}
+use Rattle.std.proofs.Common.{◌≡◌, ℕ, zero, suc, ◌+◌, ◌^◌, ◌<◌, ◌≤◌, Bool, true, false, not, ◌&&◌, ◌||◌, List, [], ◌∷◌, ◌++◌, length, nat_eq, replicate, Option, Some, None, refl, sym, ◌∙◌, ap, length-append, arith}
 use Rattle.std.specs.Prelude.{slice_get, if◌then◌else◌}
 use Rattle.std.specs.List.{list_all, list_any}
 use Rattle.std.proofs.lemmas.Bool.{false≢true}
@@ -11,7 +11,6 @@ use Rattle.choices.specs.declared.choice.Choice.TheVariants.{Block as NewBlock}
 use Rattle.graph.specs.State as graphs
 use Rattle.graph.specs.declared.parts.Held.{Held}
 use Rattle.graph.specs.declared.parts.KeyedObject.{KeyedObject}
-use Rattle.graph.specs.declared.parts.Named.{Named}
 use Rattle.graph.specs.declared.parts.Parts.{Parts}
 use Rattle.graph.specs.AlikeStates.{AreAlikeStates}
 use Rattle.graph.specs.Meaning.{StandsFor}
@@ -26,7 +25,7 @@ use Rattle.changes.specs.Parts.{put, with_object_more}
 use Rattle.heap_steps.specs.Unreached.{has_loose_byte, is_any, edges_hold_any, may_lead_anywhere}
 use Rattle.flow.specs.declared.flow_graph.Flow.{Flow}
 use Rattle.flow.specs.declared.flow_graph.Variable.{Variable}
-use Rattle.flow.specs.Holding.{Owned, block_of, put_owned}
+use Rattle.flow.specs.Holding.{block_of, put_owned}
 use Rattle.flow.specs.Machine.{State, Outcome, Went, Ended, with_memory, with_new_block}
 use Rattle.flow.specs.Runs.{with_statics}
 use Rattle.flow.specs.Valid.{IsFlow}

@@ -1,5 +1,5 @@
 -- The storage of each variable that a graph names is a live object; it keeps its size where objects do.
-use Rattle.std.proofs.Common.{◌≡◌, ℕ, true, false, ◌&&◌, not, Option, None, Some, sym, ◌∙◌, ap, subst}
+use Rattle.std.proofs.Common.{◌≡◌, ℕ, true, false, not, Option, Some, sym, ◌∙◌, ap, subst}
 use Rattle.std.specs.Option.{option_map_or}
 use Rattle.std.proofs.lemmas.Option.{same_Some}
 use Rattle.bytes_core.specs.Release.{is_heap}
@@ -13,7 +13,6 @@ use Rattle.graph.proofs.Found.{Holds-some, found-all}
 use Rattle.graph.proofs.Sent.{passes-some}
 use Rattle.graph.proofs.Tests.{and_left}
 use Rattle.flow.specs.declared.flow_graph.Flow.{Flow}
-use Rattle.flow.specs.Machine.{size_in}
 use Rattle.transfer.specs.Fitting.{HasStorages}
 use Rattle.transfer.proofs.KeptObjects.{KeepsObjects}
 

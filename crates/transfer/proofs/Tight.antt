@@ -1,5 +1,5 @@
 -- Nothing leads anywhere in the graph of static variables: each byte that may be part of a pointer lies in an edge, and no value is any word.
-use Rattle.std.proofs.Common.{◌≡◌, ◌≢◌, ℕ, zero, suc, ◌+◌, ◌-◌, ◌<◌, ◌≤◌, Bool, true, false, not, ◌&&◌, ◌||◌, List, [], ◌∷◌, ◌++◌, map, length, take, drop, nat_eq, nat_le, nat_lt, replicate, Option, Some, None, ◌⊎◌, inl, inr, refl, sym, ◌∙◌, ap, subst, eqb-true, eq-eqb, leb-true, ltb-true, le-leb, lt-ltb, arith}
+use Rattle.std.proofs.Common.{◌≡◌, ℕ, zero, suc, ◌+◌, ◌-◌, ◌<◌, ◌≤◌, Bool, true, false, not, ◌&&◌, ◌||◌, List, [], ◌∷◌, ◌++◌, map, length, take, drop, nat_eq, nat_le, nat_lt, replicate, Option, Some, None, ◌⊎◌, inl, inr, refl, sym, ◌∙◌, ap, subst, leb-true, ltb-true, le-leb, lt-ltb, arith}
 use Rattle.std.specs.Prelude.{slice_get, filter, Contains, if◌then◌else◌}
 use Rattle.std.specs.List.{list_all, list_any}
 use Rattle.std.specs.Option.{option_map_or}
@@ -8,17 +8,14 @@ use Rattle.std.proofs.lemmas.List.{length-replicate}
 use Rattle.std.proofs.lemmas.Option.{same_Some, none-some}
 use Rattle.graph.specs.declared.edges.HasValue.{HasValue}
 use Rattle.graph.specs.declared.object.Object.{Object}
-use Rattle.graph.specs.declared.object.Shape.{Shape}
-use Rattle.graph.specs.declared.object.Shape.TheVariants.{Region as RegionShape}
 use Rattle.graph.specs.declared.parts.Held.{Held}
 use Rattle.graph.specs.declared.parts.KeyedObject.{KeyedObject}
 use Rattle.graph.specs.declared.parts.KeyedValue.{KeyedValue}
 use Rattle.graph.specs.declared.parts.Parts.{Parts}
 use Rattle.graph.specs.declared.value.Value.{Value}
-use Rattle.graph.specs.declared.value.Value.TheVariants.{Const, Number, Any, Address}
 use Rattle.graph.specs.Choices.{is_free}
 use Rattle.graph.specs.Maps.{object_at, value_at}
-use Rattle.graph.specs.Nodes.{node_of, node_in, own_node}
+use Rattle.graph.specs.Nodes.{node_of}
 use Rattle.graph.specs.Sizes.{is_zero, value_class}
 use Rattle.graph.specs.WellFormed.{passes_at}
 use Rattle.graph.proofs.Found.{found-all}

@@ -1,5 +1,5 @@
 -- What is known of the post of a graph along an edge.
-use Rattle.std.specs.Prelude.{ℕ, Bool, true, false, not, nat_le, length}
+use Rattle.std.specs.Prelude.{Bool, false, not, nat_le, length}
 use Rattle.graph.specs.declared.parts.Parts.{Parts}
 use Rattle.graph.specs.declared.post.Post.{Post}
 use Rattle.changes.specs.Posted.{IsPost}

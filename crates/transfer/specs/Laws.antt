@@ -48,10 +48,10 @@ pub record IsBegunAlike (flow : Flow) (next : graphs.State) : Type 0 where
 abbrev pub IsStartExact : Type 0
 IsStartExact = (flow : Flow) (parts : Parts) (next : graphs.State) → IsFlow flow → IsStartGraph flow parts → graphs.IsState next → StandsFor parts next → IsBegunAlike flow next
 
--- where a post has no kinds its graphs stand for each state that follows
+-- where a post does not name loss 4 beside a kind its graphs stand for each state that follows
 abbrev pub DoPostsStand : Type 0
 DoPostsStand = (flow : Flow) (number : ℕ) (edge : FlowEdge) (parts : Parts) (post : Post) (state next : State) → IsFlow flow → slice_get flow.edges number ≡ Some edge → is_ordinary edge.instr ≡ true →
-    IsPostAlong flow edge parts post → post.kinds ≡ [] → IsOf flow state → StandsFor parts (seen [] state) → StepsTo flow number state next → StandsAmong post.graphs next
+    IsPostAlong flow edge parts post → (post.loss ≡ Some 4 → post.kinds ≡ []) → IsOf flow state → StandsFor parts (seen [] state) → StepsTo flow number state next → StandsAmong post.graphs next
 
 -- a post has each kind that is met
 abbrev pub DoPostsHave : Type 0

@@ -19,6 +19,7 @@ use Rattle.flow.specs.declared.instruction.Instr.TheVariants.{Release, Leave}
 use Rattle.edge_steps.specs.EdgeSteps.{EdgeSteps, EdgeFaults}
 use Rattle.edge_steps.specs.Laws.{sizes_at}
 use Rattle.heap_steps.specs.Leaving.{HasRoomFor}
+use Rattle.heap_steps.specs.Regions.{IsExactOfRegions}
 
 -- the answer of a step that is never too large
 abbrev pub stopped : Result Post NoMemory → Result Post Stop
@@ -36,6 +37,8 @@ pub record StandsForAll (parts : Parts) (Steps : State → State → Type 0) (Fa
   pub sound : (state next : State) → IsState state → StandsFor parts state → Steps state next → (post.loss ≡ Some 4 → post.kinds ≡ []) → SomeStandsFor post.graphs next
   -- where nothing is lost they stand for these alone, up to alike states
   pub exact : (after : Parts) (next : State) → post.loss ≡ None → Contains post.graphs after → IsState next → StandsFor after next → Room next.memory → FollowsAlike parts Steps next
+  -- and of a graph of regions in any memory
+  pub exact_of_regions : IsExactOfRegions parts Steps post
   -- each fault that a state meets is listed, and each that is listed is met by some state: through any word where the graph may have one object more
   pub kinds : (state : State) (kind : ℕ) → IsState state → StandsFor parts state → Faults kind state → Contains post.kinds kind
   pub met : (kind : ℕ) → post.loss ≢ Some 4 → Contains post.kinds kind → SomeFaults parts (Faults kind)

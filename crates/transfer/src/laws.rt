@@ -19,7 +19,7 @@ pub fn the_start_is_exact()
     ensures { IsStartExact }
 {}
 
-/// Where a post has no kinds its graphs stand for each state that follows.
+/// Where a post does not name loss 4 beside a kind its graphs stand for each state that follows.
 pub fn what_follows_is_stood_for()
     ensures { DoPostsStand }
 {}

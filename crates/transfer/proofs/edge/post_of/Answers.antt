@@ -1,7 +1,8 @@
 use Rattle.std.proofs.Common.{rules, ◌≡◌, true, false, [], refl, sym, ◌∙◌, ap, ◌∷◌, to_z, of_z, w64}
 use Rattle.std.specs.Prelude.{ℤ}
 use Rattle.std.proofs.lemmas.Int.{to_z-of_z}
-use Rattle.block_steps.specs.Allocating.{AllocateTail}
+use Rattle.block_steps.specs.Allocating.{AllocateTail, Allocates}
+use Rattle.block_steps.specs.Blocks.{NoFault}
 use Rattle.block_steps.specs.Releasing.{ReleaseTail}
 use Rattle.changes.specs.Following.{WriteTail}
 use Rattle.flow.specs.declared.instruction.Instr.TheVariants.{Number, Address, Move, Read, Write, Shift, ShiftBy, Compute, Convert, IfSame, IfDifferent, Allocate, Release, Fill, Copy, Input, Close}
@@ -14,7 +15,7 @@ use Rattle.reinterpret.specs.States.{FaultsReading, FaultsWriting}
 use Rattle.transfer.proofs.Asked.{read_ready, write_ready, same_ready, different_ready, fill_ready, release_ready, target_ready, source_ready, entered_ready, left_ready}
 use Rattle.transfer.proofs.Listed.{of_listed, of_copied, of_released, equal_none}
 use Rattle.transfer.proofs.Ready.{close_ready, size_stands}
-use Rattle.transfer.proofs.Meaning.{plain_access, plain_step, stopped_access, stopped_step, alike_access, alike_step, refuse_step, finish_step, shift_step, shift_by_step, convert_step, leave_step, test_step, enter_step}
+use Rattle.transfer.proofs.Meaning.{plain_access, plain_step, stopped_access, stopped_step, alike_access, alike_regions, alike_step, refuse_step, finish_step, shift_step, shift_by_step, convert_step, leave_step, test_step, enter_step}
 use Rattle.transfer.proofs.Fits.{gain_fit, read_fit, write_fit, stopped_write_fit, equal_fit, release_fit, allocate_fit, refuse_fit, enter_fit, leave_fit, finish_fit, close_fit, move_stands, compute_stands}
 use Rattle.transfer.proofs.edge.post_of.Goals as goal
 
@@ -110,6 +111,7 @@ pub returns-in-Allocate-clause-means : goal.returns-in-Allocate-clause-means
 returns-in-Allocate-clause-means c =
     alike_step c.args.flow.now c.args.point c.args.instr.now (Allocate c.in-Allocate.into c.in-Allocate.bytes c.in-Allocate.zeroed) c.args.graph.now c.in-Allocate.is (AllocateTail c.args.graph.now c.in-Allocate.bytes c.in-Allocate.zeroed c.in-Allocate.into) c.allocate.result refl refl
     c.allocate.ensures.post c.allocate.ensures.means
+    (alike_regions c.args.graph.now (Allocates c.in-Allocate.bytes c.in-Allocate.zeroed c.in-Allocate.into) NoFault (AllocateTail c.args.graph.now c.in-Allocate.bytes c.in-Allocate.zeroed c.in-Allocate.into) c.allocate.result c.allocate.ensures.means)
 
 pub returns-in-AllocateNone-clause-means : goal.returns-in-AllocateNone-clause-means
 returns-in-AllocateNone-clause-means c = refuse_step c.args.flow.now c.args.point c.args.instr.now c.args.graph.now c.in-AllocateNone.into c.refuse.result c.in-AllocateNone.is c.refuse.ensures.sound c.refuse.ensures.exact c.refuse.ensures.faultless
@@ -126,7 +128,7 @@ returns-in-Copy-clause-means c =
 
 pub returns-in-Leave-clause-means : goal.returns-in-Leave-clause-means
 returns-in-Leave-clause-means c =
-    leave_step c.args.flow.now c.args.point c.args.instr.now c.args.graph.now c.in-Leave.variables c.as_slice-in-Leave.result.now c.leave.result c.in-Leave.is c.as_slice-in-Leave.ensures c.leave.ensures.post c.leave.ensures.means
+    leave_step c.args.flow.now c.args.point c.args.instr.now c.args.graph.now c.in-Leave.variables c.as_slice-in-Leave.result.now c.leave.result c.in-Leave.is c.as_slice-in-Leave.ensures c.leave.ensures.post c.leave.ensures.means c.leave.ensures.regions
 
 pub returns-in-Finish-clause-means : goal.returns-in-Finish-clause-means
 returns-in-Finish-clause-means c = finish_step c.args.flow.now c.args.point c.args.instr.now c.args.graph.now c.in-Finish.registers c.finish.result c.in-Finish.is c.finish.ensures.post c.finish.ensures.sound c.finish.ensures.exact c.finish.ensures.kinds
@@ -139,7 +141,7 @@ release-requires c = record { address = release_ready c.args.flow.now c.args.poi
 
 pub returns-in-Release-clause-means : goal.returns-in-Release-clause-means
 returns-in-Release-clause-means c =
-    alike_access c.args.flow.now c.args.point c.args.instr.now (Release c.in-Release.at) c.args.graph.now c.in-Release.is (ReleaseTail c.args.graph.now (c.in-Release.at ∷ [])) c.release.result refl c.release.ensures.post c.release.ensures.means
+    alike_access c.args.flow.now c.args.point c.args.instr.now (Release c.in-Release.at) c.args.graph.now c.in-Release.is (ReleaseTail c.args.graph.now (c.in-Release.at ∷ [])) c.release.result refl c.release.ensures.post c.release.ensures.means c.release.ensures.regions
     (of_released c.args.graph.now c.in-Release.at c.release.result c.release.ensures.listed)
 
 pub returns-in-IfSame-clause-means : goal.returns-in-IfSame-clause-means
