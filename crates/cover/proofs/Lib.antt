@@ -20,3 +20,5 @@ pub mod ExampleCovers
 pub mod Living
 pub mod Standing
 pub mod Settling
+pub mod Sight
+pub mod Counting

@@ -2,3 +2,4 @@ pub mod Covers
 pub mod Found
 pub mod Checked
 pub mod Example
+pub mod Quick

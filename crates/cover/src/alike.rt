@@ -35,7 +35,7 @@ fn is_address(content: Content) -> bool
 
 /// Whether each byte has at most the class of the other one.
 #[tactic(auto, using(crate::proofs::Classes::most_as_long, crate::proofs::Classes::most_of_all, crate::proofs::Classes::all_of_most))]
-fn is_at_most(low: &Plane, high: &Plane) -> bool
+pub(crate) fn is_at_most(low: &Plane, high: &Plane) -> bool
     ensures { (result ≡ true) ↔ (are_at_most low.now high.now ≡ true) }
 {
     if low.len() != high.len() {

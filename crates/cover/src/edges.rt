@@ -64,7 +64,7 @@ fn are_zeros(plane: &Plane, at: u32, size: u8) -> bool
 }
 
 /// What the range of an object holds: the value of its edge, or zeros.
-fn held_in(graph: &Graph, object: &Object, at: u32, size: u8) -> Option<Content>
+pub(crate) fn held_in(graph: &Graph, object: &Object, at: u32, size: u8) -> Option<Content>
     ensures { result ≡ held_in (maps_of graph.now) object.now at size }
 {
     match value_in(object.edges.as_slice(), at, size) {

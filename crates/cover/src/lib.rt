@@ -11,9 +11,11 @@ mod found;
 mod kept;
 pub mod laws;
 mod live;
+mod quick;
 mod roots;
 mod tables;
 mod worklist;
 
 pub use content::Content;
 pub use covering::covers;
+pub use quick::{live_count, may_cover};
