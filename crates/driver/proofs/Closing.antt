@@ -14,31 +14,34 @@ use Rattle.flow.specs.InRange.{entry_of}
 use Rattle.flow.specs.Valid.{IsFlow}
 use Rattle.transfer.specs.Fitting.{FitsAt}
 use Rattle.transfer.specs.Start.{IsStartGraph}
+use Rattle.cover.specs.Quick.{live_count}
 use Rattle.trail.specs.declared.trail.Cause.TheVariants.{Start, Step}
 use Rattle.trail.specs.declared.trail.Cause.{Cause}
 use Rattle.trail.specs.declared.trail.Entry.{Entry}
 use Rattle.trail.specs.Seen.{HasNoCalls}
 use Rattle.trail.specs.Theorems.{HaveOffsets}
-use Rattle.trail.specs.Trail.{At, Made, IsHonest, AreHonest, IsClosed, IsClean, IsReal}
+use Rattle.trail.specs.Trail.{At, Made, IsHonest, AreHonest, IsClosed, IsClean, AreTame, IsFaultTold, IsReal}
 use Rattle.trail.proofs.Real.{error_met}
 use Rattle.flow.specs.Exclusive.{IsExclusive}
 use Rattle.flow.specs.Runs.{RunFaults}
 use Rattle.trail.specs.Work.{IsWorked, IsBefore, AreBefore}
-use Rattle.trail.proofs.Sound.{same_some, at_number, safe_shown, stay_shown}
+use Rattle.trail.proofs.Sound.{same_some, at_number, clean_tame, all_told, safe_shown, stay_shown}
 use Rattle.trail.proofs.Grow.{first_pushed, closes}
 use Rattle.driver.specs.declared.verdict.Warning.{Warning}
 use Rattle.driver.specs.declared.work.Work.{Work}
 use Rattle.driver.specs.Driven.{driven, is_small}
 use Rattle.driver.specs.Peers.{SaysLast, ArePeers}
 use Rattle.driver.specs.Growing.{kept_count, candidate}
-use Rattle.driver.specs.Telling.{IsAmong, IsTold, IsToldBy, IsWarning, AreWarnings, AreTold}
+use Rattle.driver.specs.Telling.{IsAmong, IsTold, IsToldBy, IsWarning, AreWarnings, AreTold, AreAllTold, TellsFaults}
 use Rattle.driver.specs.Chains.{IsFromEarlier, AreFromEarlier}
 use Rattle.driver.specs.Errors.{IsErrorTold, alike_runs, AreErrorsMet}
 use Rattle.driver.specs.Ordering.{marked, AreInOrder}
 use Rattle.driver.specs.Looping.{Worked, IsWhy, IsResting, IsEnded}
 use Rattle.driver.specs.Verdicts.{IsSafe, EndsSo, IsWarned, IsSpent, IsLarge}
+use Rattle.driver.proofs.Counted.{counted_first}
 use Rattle.driver.proofs.Walked.{peers_kept}
 use Rattle.driver.proofs.Leading.{nothing_at}
+use Rattle.driver.proofs.Exacting.{exact}
 use Rattle.driver.proofs.Sounding.{sound}
 use Rattle.driver.proofs.InOrder.{marked_there, marked_of}
 
@@ -82,15 +85,16 @@ no_peers count = record {
   long = refl;
 }
 
-pub worked_first : (flow : Flow) (budget : ℕ) (work : Work) (point : ℕ) (graph : Parts) → IsFlow flow → 1 ≤ budget → IsStartGraph flow graph → IsGraph graph → is_small graph ≡ true →
+pub worked_first : (flow : Flow) (budget : ℕ) (work : Work) (point count : ℕ) (graph : Parts) → IsFlow flow → 1 ≤ budget → IsStartGraph flow graph → IsGraph graph → is_small graph ≡ true →
     FitsAt flow (entry_of flow flow.main) graph → point ≡ entry_of flow flow.main → work.trail ≡ candidate point Start graph true ∷ [] →
     work.newest.items ≡ set (replicate flow.points 0) point 1 →
-    work.before.items ≡ 0 ∷ [] → work.kept ≡ 1 → work.warnings ≡ [] → work.next ≡ None → Worked flow budget work 0
-worked_first flow budget work point graph valid some start graph_is small fits main trail_is newest_is before_is kept_is warnings_is next_is = record {
+    work.before.items ≡ 0 ∷ [] → work.counts.items ≡ count ∷ [] → count ≡ live_count graph → work.kept ≡ 1 → work.warnings ≡ [] → work.next ≡ None → Worked flow budget work 0
+worked_first flow budget work point count graph valid some start graph_is small fits main trail_is newest_is before_is counts_are count_is kept_is warnings_is next_is = record {
   known = record {
     worked = subst (λ (trail : List Entry). IsWorked driven flow trail 0) (sym trail_is) (first_pushed driven flow first honest refl refl);
     booked = record {
       peers = peers_there work.trail work.newest.items work.before.items trail_is newest_is before_is;
+      counts = counted_first work.trail work.counts.items first count trail_is counts_are graph_is count_is;
       kept = kept_is ∙ ap kept_count (sym trail_is);
       within = omega (arith, kept_is);
     };
@@ -159,7 +163,7 @@ safe_there flow budget work at valid calls offsets so all none =
       honest = so.known.worked.honest;
       closed = closed;
       clean = clean;
-      stays = stay_shown driven flow work.trail valid offsets calls (sound flow valid) so.known.worked.honest closed clean;
+      stays = stay_shown driven flow work.trail valid offsets calls (sound flow valid) so.known.worked.honest closed (clean_tame driven flow work.trail clean);
       safe = λ kind place faults. safe_shown driven flow work.trail valid offsets calls (sound flow valid) so.known.worked.honest closed clean kind place faults;
     }
 
@@ -178,6 +182,19 @@ from_earlier flow trail honest = record { each = λ number entry there. by_cause
     by_cause number entry there (Step from edge result loss) is =
         let made : Made driven flow (take number trail) entry (Step from edge result loss) = subst (Made driven flow (take number trail) entry) is (honest number entry there).made in
         within trail number from made.earlier made.there
+
+-- all was followed
+closed_there : (flow : Flow) (budget : ℕ) (trail : List Entry) (complete : Bool) (next : Option Entry) → EndsSo flow budget trail complete next → complete ≡ true → IsClosed driven flow trail
+closed_there flow budget trail true None ends whole = ends
+closed_there flow budget trail true (Some next) ends whole = absurd ends
+closed_there flow budget trail false next ends whole = absurd cc
+
+-- each fault of a run is a kind of a kept entry, and so told
+faults_told : (flow : Flow) (trail : List Entry) (warnings : List Warning) → IsFlow flow → HaveOffsets flow → HasNoCalls flow → AreHonest driven flow trail → IsClosed driven flow trail →
+    AreTame driven flow trail → AreAllTold flow trail warnings → TellsFaults flow warnings
+faults_told flow trail warnings valid offsets calls honest closed tame all kind place faults =
+    let one : IsFaultTold driven flow trail kind place = all_told driven flow trail valid offsets calls (sound flow valid) honest closed tame kind place faults in
+    subst (λ (p : Place). IsTold warnings p.at kind) (sym one.place_is) (all.told one.number one.entry one.edge kind one.there one.kept one.has)
 
 -- in order
 module _ (flow : Flow) (trail : List Entry) (raw ordered : List Warning) (so : AreInOrder trail raw ordered) where
@@ -224,34 +241,38 @@ module _ (flow : Flow) (trail : List Entry) (raw ordered : List Warning) (so : A
       let within : of_one.one.entry < length trail = slice_get_within trail of_one.one.entry named.entry named.there in
       subst (λ (w : Warning). (w.error ≡ true) ↔ IsReal trail w.entry) (sym of_one.is) (so.chained.is of_one.one.entry within)
 
-  ordered_met : IsExclusive flow → AreHonest driven flow trail → AreWarnings flow trail raw → AreErrorsMet flow ordered
-  ordered_met exclusive honest each exact warning among error =
+  ordered_met : IsFlow flow → HaveOffsets flow → HasNoCalls flow → IsExclusive flow → AreHonest driven flow trail → AreWarnings flow trail raw → AreErrorsMet flow ordered
+  ordered_met valid offsets calls exclusive honest each warning among error =
       let named : IsWarning flow trail warning = warning_marked each warning among in
       subst (λ (p : Place). RunFaults flow warning.kind p) (sym named.place_is)
-      (error_met driven (alike_runs flow) flow trail exclusive exact.exact exact.alike honest warning.entry named.entry warning.edge warning.kind named.has.edge
+      (error_met driven alike_runs flow trail valid offsets calls exclusive (exact flow valid) honest warning.entry named.entry warning.edge warning.kind named.has.edge
       ((error_is each warning among).0 error) named.there named.has.stands named.has)
 
-  pub warned : (budget at : ℕ) (complete : Bool) (next : Option Entry) → IsExclusive flow → HasNoCalls flow → AreHonest driven flow trail → (raw ≡ [] → ⊥) → AreWarnings flow trail raw →
-      AreTold flow trail raw at → length trail ≤ at → EndsSo flow budget trail complete next → IsWarned flow budget ordered trail complete next
-  warned budget at complete next exclusive calls honest some each told all ends = record {
+  ordered_all : (at : ℕ) → AreTold flow trail raw at → length trail ≤ at → AreAllTold flow trail ordered
+  ordered_all at told all = record {
+    told = λ place entry number kind there kept has.
+        let within : place < length trail = slice_get_within trail place entry there in
+        ordered_keeps place has.edge.place.at kind (told.told place entry number kind (omega arith) there kept has);
+  }
+
+  pub warned : (budget at : ℕ) (complete : Bool) (next : Option Entry) → IsFlow flow → HaveOffsets flow → IsExclusive flow → HasNoCalls flow → AreHonest driven flow trail → (raw ≡ [] → ⊥) →
+      AreWarnings flow trail raw → AreTold flow trail raw at → length trail ≤ at → EndsSo flow budget trail complete next → IsWarned flow budget ordered trail complete next
+  warned budget at complete next valid offsets exclusive calls honest some each told all ends = record {
     calls = calls;
     honest = honest;
     some = ordered_some some;
     each = ordered_each each;
     sorted = so.put.sorted;
-    all = record {
-      told = λ place entry number kind there kept has.
-          let within : place < length trail = slice_get_within trail place entry there in
-          ordered_keeps place has.edge.place.at kind (told.told place entry number kind (omega arith) there kept has);
-    };
+    all = ordered_all at told all;
     errors = record {
       each = λ warning among. error_is each warning among;
       named = λ place entry number kind there kept real has.
           let within : place < length trail = slice_get_within trail place entry there in
           ordered_errors place has.edge.place.at kind within real (told.told place entry number kind (omega arith) there kept has);
     };
-    met = ordered_met exclusive honest each;
+    met = ordered_met valid offsets calls exclusive honest each;
     ends = ends;
+    tells = λ whole tame. faults_told flow trail ordered valid offsets calls honest (closed_there flow budget trail complete next ends whole) tame (ordered_all at told all);
   }
 
 in_there : (trail : List Entry) (warnings ordered : List Warning) (trail' : List Entry) (raw : List Warning) → trail' ≡ trail → raw ≡ warnings → AreInOrder trail' raw ordered →
@@ -259,18 +280,19 @@ in_there : (trail : List Entry) (warnings ordered : List Warning) (trail' : List
 in_there trail warnings ordered trail' raw same same' put = subst (λ (ws : List Warning). AreInOrder trail ws ordered) same' (subst (λ (t : List Entry). AreInOrder t raw ordered) same put)
 
 -- all of it, or up to where it ended
-pub warned_there : (flow : Flow) (budget : ℕ) (work : Work) (at : ℕ) (trail : List Entry) (raw ordered : List Warning) → IsExclusive flow → HasNoCalls flow → Worked flow budget work at →
-    length work.trail ≤ at → (work.warnings ≡ [] → ⊥) → trail ≡ work.trail → raw ≡ work.warnings → AreInOrder trail raw ordered → IsWarned flow budget ordered work.trail true None
-warned_there flow budget work at trail raw ordered exclusive calls so all some same same' put =
-    warned flow work.trail work.warnings ordered (in_there work.trail work.warnings ordered trail raw same same' put) budget at true None exclusive calls so.known.worked.honest some so.known.warnings
-    so.known.told all (closes driven flow work.trail at so.known.worked all)
+pub warned_there : (flow : Flow) (budget : ℕ) (work : Work) (at : ℕ) (trail : List Entry) (raw ordered : List Warning) → IsFlow flow → HaveOffsets flow → IsExclusive flow → HasNoCalls flow →
+    Worked flow budget work at → length work.trail ≤ at → (work.warnings ≡ [] → ⊥) → trail ≡ work.trail → raw ≡ work.warnings → AreInOrder trail raw ordered →
+    IsWarned flow budget ordered work.trail true None
+warned_there flow budget work at trail raw ordered valid offsets exclusive calls so all some same same' put =
+    warned flow work.trail work.warnings ordered (in_there work.trail work.warnings ordered trail raw same same' put) budget at true None valid offsets exclusive calls
+    so.known.worked.honest some so.known.warnings so.known.told all (closes driven flow work.trail at so.known.worked all)
 
 -- it ended before
-pub warned_halted : (flow : Flow) (budget : ℕ) (work : Work) (at : ℕ) (next : Entry) (trail : List Entry) (raw ordered : List Warning) → IsExclusive flow → HasNoCalls flow →
-    IsResting flow budget work at (length work.trail) → work.next ≡ Some next → (work.warnings ≡ [] → ⊥) → trail ≡ work.trail → raw ≡ work.warnings → AreInOrder trail raw ordered →
+pub warned_halted : (flow : Flow) (budget : ℕ) (work : Work) (at : ℕ) (next : Entry) (trail : List Entry) (raw ordered : List Warning) → IsFlow flow → HaveOffsets flow → IsExclusive flow →
+    HasNoCalls flow → IsResting flow budget work at (length work.trail) → work.next ≡ Some next → (work.warnings ≡ [] → ⊥) → trail ≡ work.trail → raw ≡ work.warnings → AreInOrder trail raw ordered →
     IsWarned flow budget ordered work.trail false (Some next)
-warned_halted flow budget work at next trail raw ordered exclusive calls so is some same same' put =
-    warned flow work.trail work.warnings ordered (in_there work.trail work.warnings ordered trail raw same same' put) budget (length work.trail) false (Some next) exclusive calls
+warned_halted flow budget work at next trail raw ordered valid offsets exclusive calls so is some same same' put =
+    warned flow work.trail work.warnings ordered (in_there work.trail work.warnings ordered trail raw same same' put) budget (length work.trail) false (Some next) valid offsets exclusive calls
     so.halted.known.worked.honest some so.halted.known.warnings so.told (omega arith) (subst (λ (n : Option Entry). IsWhy flow budget work.trail at n) is so.halted.why)
 
 pub spent_halted : (flow : Flow) (budget : ℕ) (work : Work) (at : ℕ) (next : Entry) → HasNoCalls flow → IsResting flow budget work at (length work.trail) → work.next ≡ Some next →

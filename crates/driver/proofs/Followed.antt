@@ -219,7 +219,7 @@ on_edge_first flow budget before after at point number edge post warnings here n
       on = record {
         known = record {
           worked = on.known.worked;
-          booked = record { peers = on.known.booked.peers; kept = on.known.booked.kept; within = on.known.booked.within };
+          booked = record { peers = on.known.booked.peers; counts = on.known.booked.counts; kept = on.known.booked.kept; within = on.known.booked.within };
           points = on.known.points;
           warnings = record {
             each = λ warning among. elim (noted.each warning among) [

@@ -1,11 +1,13 @@
 pub mod Left
 pub mod Walked
 pub mod Booked
+pub mod Counted
 pub mod Told
 pub mod Leading
 pub mod Followed
 pub mod Rested
 pub mod Sounding
+pub mod Exacting
 pub mod InOrder
 pub mod Closing
 pub mod Chained

@@ -83,7 +83,7 @@ on_rest_noted flow budget before after at which point number edge post kinds ws 
         halted = record {
           known = record {
             worked = known.worked;
-            booked = record { peers = known.booked.peers; kept = known.booked.kept; within = known.booked.within };
+            booked = record { peers = known.booked.peers; counts = known.booked.counts; kept = known.booked.kept; within = known.booked.within };
             points = known.points;
             warnings = warnings_noted flow before.trail before.warnings ws which on.is.entry point number edge post on.is.there on.is.kept on.is.point_is stands leads post_is noted known.warnings;
             told = record { told = λ place entry number kind below there kept has. noted.keeps place has.edge.place.at kind (known.told.told place entry number kind below there kept has) };

@@ -23,11 +23,11 @@ use Rattle.driver.specs.Leaving.{IsPostOf}
 use Rattle.driver.proofs.Left.{left_there}
 use Rattle.driver.specs.Driven.{driven, IsPostThere}
 
-along : (flow : Flow) (number : ℕ) (edge : FlowEdge) (graph : Parts) (post : Post) → slice_get flow.edges number ≡ Some edge → IsPostThere flow number graph post → IsPostOf flow edge graph post
+pub along : (flow : Flow) (number : ℕ) (edge : FlowEdge) (graph : Parts) (post : Post) → slice_get flow.edges number ≡ Some edge → IsPostThere flow number graph post → IsPostOf flow edge graph post
 along flow number edge graph post stands is = subst (λ (e : FlowEdge). IsPostOf flow e graph post) (same_some is.edge edge (sym is.stands ∙ stands)) is.is
 
 -- the words of the posts
-ordinary_there : (instr : Instr) → is_ordinary instr ≡ true → edges.is_ordinary instr ≡ true
+pub ordinary_there : (instr : Instr) → is_ordinary instr ≡ true → edges.is_ordinary instr ≡ true
 ordinary_there (Number into number size) is = is
 ordinary_there (Address into variable) is = is
 ordinary_there (Move into from) is = is
@@ -58,10 +58,11 @@ of_there flow state is = record { run = is.run; callers = is.callers; outer = is
 pub sound : (flow : Flow) → IsFlow flow → IsSound driven flow
 sound flow valid = record {
   start = λ graph state choices rest is goes. start_stands flow graph state choices rest valid is goes;
-  steps = λ number edge graph post state next stands ordinary fits is none of here steps.
+  steps = λ number edge graph post state next stands ordinary fits is tame of here steps.
       let post_is : IsPostOf flow edge graph post = along flow number edge graph post stands is in
       let among : laws.StandsAmong post_is.whole.graphs next =
-      post_stands flow number edge graph post_is.whole state next valid stands (ordinary_there edge.instr ordinary) post_is.is (sym post_is.left.kinds ∙ none) (of_there flow state of) here steps in
+      post_stands flow number edge graph post_is.whole state next valid stands (ordinary_there edge.instr ordinary) post_is.is
+      (λ loss. sym post_is.left.kinds ∙ tame (post_is.left.loss ∙ loss)) (of_there flow state of) here steps in
       record {
         number = among.place;
         graph = tidied among.graph;

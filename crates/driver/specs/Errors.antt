@@ -1,12 +1,13 @@
 -- Which warnings are errors: those behind a chain of steps without loss, which runs meet.
 use Rattle.std.specs.Prelude.{◌≡◌, ℕ, ◌↔◌, Bool, true, List}
 use Rattle.graph.specs.AlikeStates.{AreAlikeStates}
+use Rattle.graph.specs.State as graphs
 use Rattle.flow.specs.declared.flow_graph.Flow.{Flow}
 use Rattle.flow.specs.Machine.{State}
 use Rattle.flow.specs.Runs.{RunFaults}
 use Rattle.trail.specs.declared.trail.Entry.{Entry}
-use Rattle.trail.specs.Seen.{seen, IsOf}
-use Rattle.trail.specs.Analysis.{Alike, IsExact, GoAlike}
+use Rattle.trail.specs.Seen.{seen}
+use Rattle.trail.specs.Analysis.{Nearness}
 use Rattle.trail.specs.Trail.{At, IsReal, HasKind}
 use Rattle.driver.specs.declared.verdict.Warning.{Warning}
 use Rattle.driver.specs.Driven.{driven}
@@ -26,24 +27,16 @@ pub record AreErrors (flow : Flow) (trail : List Entry) (warnings : List Warning
   pub named : (place : ℕ) (entry : Entry) (number kind : ℕ) → At trail place entry → entry.kept ≡ true → IsReal trail place → (has : HasKind driven flow entry number kind) →
       IsErrorTold warnings has.edge.place.at kind
 
--- states of runs at one point that are alike
-pub record AreAlikeRuns (flow : Flow) (one other : State) : Type 0 where
-  pub one_is : IsOf flow one
-  pub other_is : IsOf flow other
-  pub point : other.point ≡ one.point
+-- a state of a run that is alike this one, as a graph sees it
+pub record IsAlikeRun (wanted : graphs.State) (state : State) : Type 0 where
   pub there : ℕ → ℕ
   pub back : ℕ → ℕ
   pub paired : ℕ → Bool
-  pub alike : AreAlikeStates there back paired (seen one) (seen other)
+  pub alike : AreAlikeStates there back paired wanted (seen state)
 
-abbrev pub alike_runs : Flow → Alike
-alike_runs flow = record { are = λ one other. AreAlikeRuns flow one other }
+abbrev pub alike_runs : Nearness
+alike_runs = record { is = λ wanted state. IsAlikeRun wanted state }
 
--- posts without loss add nothing, up to alike states, which go alike
-pub record ArePostsExact (flow : Flow) : Type 0 where
-  pub exact : IsExact driven (alike_runs flow) flow
-  pub alike : GoAlike driven (alike_runs flow) flow
-
--- then some run meets each error
+-- some run meets each error
 abbrev pub AreErrorsMet : Flow → List Warning → Type 0
-AreErrorsMet flow warnings = ArePostsExact flow → (warning : Warning) → IsAmong warnings warning → warning.error ≡ true → RunFaults flow warning.kind warning.place
+AreErrorsMet flow warnings = (warning : Warning) → IsAmong warnings warning → warning.error ≡ true → RunFaults flow warning.kind warning.place

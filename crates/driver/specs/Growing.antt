@@ -7,15 +7,16 @@ use Rattle.trail.specs.declared.trail.Entry.{Entry}
 use Rattle.trail.specs.Trail.{IsCovered}
 use Rattle.driver.specs.declared.work.Work.{Work}
 use Rattle.driver.specs.Driven.{driven}
-use Rattle.driver.specs.Peers.{ArePeers, IsUncovered}
+use Rattle.driver.specs.Peers.{ArePeers, AreCounted, IsUncovered}
 
 -- how many entries are kept
 abbrev pub kept_count : List Entry → ℕ
 kept_count trail = length (filter (λ entry. entry.kept) trail)
 
--- the table of peers and the count of kept entries are those of the trail
+-- the table of peers, the counts of live objects and that of kept entries are those of the trail
 pub record IsBooked (budget : ℕ) (work : Work) : Type 0 where
   pub peers : ArePeers work.trail work.newest.items work.before.items
+  pub counts : AreCounted work.trail work.counts.items
   pub kept : work.kept ≡ kept_count work.trail
   pub within : work.kept ≤ budget
 

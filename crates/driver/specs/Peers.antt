@@ -1,7 +1,9 @@
 -- The kept entries at each point, listed from the last one back.
 use Rattle.std.specs.Prelude.{◌≡◌, ℕ, suc, ◌<◌, ◌≤◌, ◌↔◌, List, Bool, true, false, length, slice_index_or}
 use Rattle.graph.specs.declared.parts.Parts.{Parts}
+use Rattle.graph.specs.Whole.{IsGraph}
 use Rattle.cover.specs.Covers.{Covers}
+use Rattle.cover.specs.Quick.{live_count}
 use Rattle.trail.specs.declared.trail.Entry.{Entry}
 use Rattle.trail.specs.Trail.{At}
 
@@ -23,6 +25,16 @@ pub record ArePeers (trail : List Entry) (newest before : List ℕ) : Type 0 whe
   pub points : (point : ℕ) → SaysLast trail point (length trail) (slice_index_or newest point 0)
   pub entries : (point number : ℕ) → IsKeptAt trail point number → SaysLast trail point number (slice_index_or before number 0)
   pub long : length before ≡ length trail
+
+-- so many objects live in a graph
+pub record IsCountOf (graph : Parts) (count : ℕ) : Type 0 where
+  pub graph_is : IsGraph graph
+  pub count_is : count ≡ live_count graph
+
+-- each entry has the number of objects that live in its graph
+pub record AreCounted (trail : List Entry) (counts : List ℕ) : Type 0 where
+  pub each : (number : ℕ) (entry : Entry) → At trail number entry → IsCountOf entry.graph (slice_index_or counts number 0)
+  pub long : length counts ≡ length trail
 
 -- an entry covers a graph
 abbrev pub TellsCover : List Entry → ℕ → Parts → Bool → Type 0

@@ -2,6 +2,7 @@
 use Rattle.std.specs.Prelude.{◌≡◌, ℕ, ◌<◌, List, false, true, Some, slice_get, Contains, ◌⊎◌}
 use Rattle.cbase.specs.declared.place.Place.{Place}
 use Rattle.flow.specs.declared.flow_graph.Flow.{Flow}
+use Rattle.flow.specs.Runs.{RunFaults}
 use Rattle.trail.specs.declared.trail.Entry.{Entry}
 use Rattle.trail.specs.Trail.{At, HasKind}
 use Rattle.driver.specs.declared.verdict.Warning.{Warning}
@@ -51,6 +52,10 @@ pub record AreTold (flow : Flow) (trail : List Entry) (warnings : List Warning) 
 pub record AreAllTold (flow : Flow) (trail : List Entry) (warnings : List Warning) : Type 0 where
   pub told : (place : ℕ) (entry : Entry) (number kind : ℕ) → At trail place entry → entry.kept ≡ true → (has : HasKind driven flow entry number kind) →
       IsTold warnings has.edge.place.at kind
+
+-- some warning tells of each fault of a run
+abbrev pub TellsFaults : Flow → List Warning → Type 0
+TellsFaults flow warnings = (kind : ℕ) (place : Place) → RunFaults flow kind place → IsTold warnings place.at kind
 
 abbrev pub warning_of : Place → ℕ → ℕ → ℕ → Warning
 warning_of place kind entry edge = record { place = place; kind = kind; entry = entry; edge = edge; error = false }

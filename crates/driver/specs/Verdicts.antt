@@ -5,13 +5,13 @@ use Rattle.flow.specs.declared.flow_graph.Flow.{Flow}
 use Rattle.flow.specs.Runs.{RunFaults}
 use Rattle.trail.specs.declared.trail.Entry.{Entry}
 use Rattle.trail.specs.Seen.{HasNoCalls}
-use Rattle.trail.specs.Trail.{AreHonest, IsClosed, IsClean, DoRunsStay}
+use Rattle.trail.specs.Trail.{AreHonest, IsClosed, IsClean, AreTame, DoRunsStay}
 use Rattle.driver.specs.declared.verdict.Limits.{Limits}
 use Rattle.driver.specs.declared.verdict.Warning.{Warning}
 use Rattle.driver.specs.declared.verdict.Verdict.{Verdict}
 use Rattle.driver.specs.declared.verdict.Verdict.TheVariants.{Safe, Warned, Spent, Large, NotYet}
 use Rattle.driver.specs.Driven.{driven}
-use Rattle.driver.specs.Telling.{AreWarnings, AreAllTold}
+use Rattle.driver.specs.Telling.{AreWarnings, AreAllTold, TellsFaults}
 use Rattle.driver.specs.Errors.{AreErrors, AreErrorsMet}
 use Rattle.driver.specs.Ordering.{AreOrdered}
 use Rattle.driver.specs.Looping.{IsLargeAt, IsNext}
@@ -33,7 +33,7 @@ EndsSo flow budget trail true (Some next) = ⊥
 EndsSo flow budget trail false None = ⊥
 EndsSo flow budget trail false (Some next) = IsNext flow budget trail next
 
--- one warning for each token and kind, in order; each kind of a post of a kept entry has one
+-- one warning for each token and kind, in order; each kind of a post of a kept entry has one, and, where all was followed and no such post names loss 4 beside a kind, so has each fault of a run
 pub record IsWarned (flow : Flow) (budget : ℕ) (warnings : List Warning) (trail : List Entry) (complete : Bool) (next : Option Entry) : Type 0 where
   pub calls : HasNoCalls flow
   pub honest : AreHonest driven flow trail
@@ -44,6 +44,7 @@ pub record IsWarned (flow : Flow) (budget : ℕ) (warnings : List Warning) (trai
   pub errors : AreErrors flow trail warnings
   pub met : AreErrorsMet flow warnings
   pub ends : EndsSo flow budget trail complete next
+  pub tells : complete ≡ true → AreTame driven flow trail → TellsFaults flow warnings
 
 pub record IsSpent (flow : Flow) (budget : ℕ) (trail : List Entry) (next : Entry) : Type 0 where
   pub calls : HasNoCalls flow

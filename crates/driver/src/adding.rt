@@ -6,6 +6,7 @@ ghost use Rattle.driver.specs.Growing.{IsBooked, Adds, Grown};
 use crate::looking::{is_covered, mark_in};
 use crate::work::Work;
 use cbase::NoMemory;
+use cover::live_count;
 use graph::Graph;
 use std::alloc::Global;
 use trail::{Cause, Entry};
@@ -24,6 +25,7 @@ fn add_covered(
     ensures { OnOk result (Grown budget work.old work.new point cause graph) }
 {
     work.before.push(0)?;
+    work.counts.push(live_count(&graph))?;
     work.trail.push(Entry {
         point,
         cause,
@@ -54,6 +56,7 @@ fn add_kept(
     }
     let mark = mark_in(work.newest.as_slice(), point as usize);
     work.before.push(mark)?;
+    work.counts.push(live_count(&graph))?;
     work.newest[point as usize] = number + 1;
     work.trail.push(Entry {
         point,

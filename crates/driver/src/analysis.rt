@@ -23,6 +23,7 @@ use crate::resting::tell_rest;
 use crate::verdict::{Limits, Verdict, Warning};
 use crate::work::Work;
 use cbase::{List, NoMemory, Stop};
+use cover::live_count;
 use flow::{Flow, Out, edges_by_point};
 use graph::Graph;
 use std::alloc::Global;
@@ -56,6 +57,8 @@ fn begun(alloc: Global, flow: &Flow, budget: u32, graph: Graph) -> Result<Work, 
     newest[point as usize] = 1;
     let mut before: Vec<usize> = Vec::new(alloc);
     before.push(0)?;
+    let mut counts: Vec<u32> = Vec::new(alloc);
+    counts.push(live_count(&graph))?;
     let mut trail = List::new(alloc);
     trail.push(Entry {
         point,
@@ -67,6 +70,7 @@ fn begun(alloc: Global, flow: &Flow, budget: u32, graph: Graph) -> Result<Work, 
         trail,
         newest,
         before,
+        counts,
         kept: 1,
         warnings: List::new(alloc),
         next: None,
@@ -117,12 +121,14 @@ fn followed(
         trail,
         newest,
         before,
+        counts,
         warnings,
         next,
         ..
     } = work;
     drop(newest);
     drop(before);
+    drop(counts);
     drop(next);
     if warnings.is_empty() {
         drop(warnings);
@@ -147,8 +153,10 @@ fn halted(
     work: Work,
     at: u32,
 ) -> Result<Verdict, NoMemory>
+    requires flow { IsFlow flow.now }
     requires exclusive { IsExclusive flow.now }
     requires calls { HasNoCalls flow.now }
+    requires offsets { HaveOffsets flow.now }
     requires so_far { IsResting flow.now limits.now.budget work at (length work.trail) }
     ensures { IfOk result (λ verdict. IsVerdict flow.now limits.now verdict) }
 {
@@ -156,12 +164,14 @@ fn halted(
         trail,
         newest,
         before,
+        counts,
         warnings,
         next,
         ..
     } = work;
     drop(newest);
     drop(before);
+    drop(counts);
     match next {
         None => {
             drop(warnings);
@@ -213,6 +223,7 @@ fn rest(
     requires flow { IsFlow flow.now }
     requires exclusive { IsExclusive flow.now }
     requires calls { HasNoCalls flow.now }
+    requires offsets { HaveOffsets flow.now }
     requires outs { AreOuts flow.now.edges outs.now }
     requires so_far { IsHalted flow.now limits.now.budget work at }
     ensures { IfOk result (λ verdict. IsVerdict flow.now limits.now verdict) }

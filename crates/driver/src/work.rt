@@ -11,6 +11,8 @@ pub(crate) struct Work {
     pub(crate) newest: Vec<usize>,
     /// For each kept entry the number of the kept one before it at its point, one more; 0 where there is none.
     pub(crate) before: Vec<usize>,
+    /// For each entry how many objects of its graph live.
+    pub(crate) counts: Vec<u32>,
     /// How many entries are kept.
     pub(crate) kept: u32,
     /// The faults that were met.

@@ -60,8 +60,12 @@ kept_read found text context is kept (n, agrees) =
 -- what a verdict says of the graph it says of the program
 verdict_says : (p : Program) (limits : Limits) (flow : Flow) (verdict : Verdict) → flow_of p ≡ Some flow → IsFlow flow → IsVerdict flow limits verdict → Says p flow verdict
 verdict_says p limits flow (Safe trail) is valid found = safety p flow is valid found.safe
-verdict_says p limits flow (Warned warnings trail complete next) is valid found = λ exact warning among error.
-    faults p flow warning.kind warning.place is valid (found.met exact warning among error)
+verdict_says p limits flow (Warned warnings trail complete next) is valid found = record {
+  met = λ warning among error. faults p flow warning.kind warning.place is valid (found.met warning among error);
+  tells = λ whole tame choices kind place leads.
+      let (steps, run) = (graphs_meet p flow is valid choices kind place).0 leads in
+      found.tells whole tame kind place (record { choices = choices; steps = steps; faults = run });
+}
 verdict_says p limits flow (Spent trail next) is valid found = tt
 verdict_says p limits flow (Large trail entry) is valid found = tt
 verdict_says p limits flow (NotYet place) is valid found = tt

@@ -3,4 +3,6 @@ pub mod Sound
 pub mod Real
 pub mod Grow
 pub mod Witness
+pub mod NullFlow
 pub mod NullWitness
+pub mod NullTold

@@ -1,24 +1,28 @@
--- An entry behind a chain of steps without loss is reached.
-use Rattle.std.proofs.Common.{◌≡◌, ℕ, zero, suc, List, [], ◌∷◌, ◌++◌, refl, sym, ap, subst, ◌∙◌, None, Some, take, drop}
+-- Near each state of an entry behind a chain of steps without loss comes a run.
+use Rattle.std.proofs.Common.{◌≡◌, ℕ, zero, suc, List, [], ◌∷◌, ◌++◌, false, refl, sym, ap, subst, ◌∙◌, None, Some, take, drop}
 use Rattle.std.specs.Prelude.{slice_get}
 use Rattle.graph.specs.Meaning.{StandsFor}
+use Rattle.graph.specs.State as graphs
 use Rattle.flow.specs.declared.flow_graph.Flow.{Flow}
 use Rattle.flow.specs.declared.flow_graph.FlowEdge.{FlowEdge}
 use Rattle.choices.specs.declared.choice.Choice.{Choice}
-use Rattle.flow.specs.Machine.{State, Outcome, Went, Barred, Waits, Ended, Faulted, step_along, step}
-use Rattle.flow.specs.Runs.{then_go, RunFaults, StepsTo, FaultsAlong}
+use Rattle.flow.specs.InRange.{entry_of}
+use Rattle.flow.specs.Machine.{State, Outcome, Went, Barred, Waits, Ended, Faulted, execute, step_along, step}
+use Rattle.flow.specs.Runs.{start, then_go, RunFaults, StepsTo, FaultsAlong}
+use Rattle.flow.specs.Valid.{IsFlow}
 use Rattle.flow.specs.Exclusive.{IsExclusive}
 use Rattle.flow.specs.Choosing.{choices_asked, with_more, IsByFirst}
 use Rattle.flow.proofs.ExclusiveLaws.{edges_step}
 use Rattle.flow.proofs.ChoosingLaws.{steps_by_first, runs_keep_more}
+use Rattle.flow.proofs.RunStateLaws.{are_run_states}
 use Rattle.trail.specs.declared.trail.Cause.TheVariants.{Start}
 use Rattle.trail.specs.declared.trail.Entry.{Entry}
-use Rattle.trail.specs.Seen.{seen, IsOf}
-use Rattle.trail.specs.Analysis.{Analysis, Alike, IsExact, GoAlike, Are, Fits}
+use Rattle.trail.specs.Seen.{IsOf, is_call, HasNoCalls}
+use Rattle.trail.specs.Analysis.{Analysis, Nearness, IsExact, IsNear, IsBegun, GoesNear, IsLedTo, IsFaulting, Fits}
 use Rattle.trail.specs.Trail.{At, Made, IsResult, AreHonest, IsReal, RealStart, RealStep}
-use Rattle.trail.specs.Theorems.{MeetsErrors}
-use Rattle.trail.proofs.Steps.{whole, whole_none, whole_last}
-use Rattle.trail.proofs.Sound.{same_some, contained}
+use Rattle.trail.specs.Theorems.{HaveOffsets, MeetsErrors}
+use Rattle.trail.proofs.Steps.{IsAt, Nowhere, told_state, begins, executes, GoesFrom, goes_from, whole, whole_none, whole_last}
+use Rattle.trail.proofs.Sound.{same_some, contained, at_number}
 
 at_front : {A : Type 0} (items : List A) (count number : ℕ) (item : A) → slice_get (take count items) number ≡ Some item → slice_get items number ≡ Some item
 at_front [] zero number item e = absurd cc
@@ -92,40 +96,84 @@ faults_there flow exclusive number kind state reached faults =
     edges_step.faults flow faults.edge state faults.choices kind faults.edge.place exclusive (contained flow.edges number faults.edge faults.stands) faults.faults in
     record { choices = reached.choices ++ faults.choices; steps = suc reached.steps; faults = one_more flow state reached faults.choices ∙ step_is }
 
--- a reached state that is alike
-record IsNear (alike : Alike) (flow : Flow) (state : State) : Type 0 where
-  near : State
-  reached : IsReached flow near
-  are : Are alike near state
+-- where a step leads: to its edge's end, with the same callers and blocks outside
+arrives : (flow : Flow) → HasNoCalls flow → (number : ℕ) (state next : State) → IsOf flow state → (steps : StepsTo flow number state next) → IsAt steps.edge.to state.callers state.outer next
+arrives flow calls number state next of steps =
+    let inside : is_call steps.edge.instr ≡ false = at_number (λ edge. is_call edge.instr ≡ false) flow.edges number steps.edge calls steps.stands in
+    let from : GoesFrom flow steps.edge state steps.choices (Went next steps.rest) = goes_from flow steps.edge state steps.choices (Went next steps.rest) (λ e. absurd cc) steps.goes in
+    told_state (execute flow steps.edge.instr steps.edge.to steps.edge.place state steps.choices) (IsAt steps.edge.to state.callers state.outer) (λ p. p ≡ steps.edge.place) next steps.rest
+    (executes flow steps.edge.instr steps.edge.to steps.edge.place state steps.choices inside of.callers) from.comes
 
--- each state of an entry behind such a chain is reached
-real : (analysis : Analysis) (alike : Alike) (flow : Flow) (trail : List Entry) → IsExclusive flow → IsExact analysis alike flow → GoAlike analysis alike flow → AreHonest analysis flow trail →
-    (number : ℕ) → IsReal trail number → (entry : Entry) → At trail number entry → (state : State) → IsOf flow state → StandsFor entry.graph (seen state) → state.point ≡ entry.point →
-    IsNear alike flow state
-real analysis alike flow trail exclusive exact go honest number (RealStart _ first at is) entry there state of stands point =
+-- a reached state at this point that is near
+record ComesNear (nearness : Nearness) (flow : Flow) (point : ℕ) (wanted : graphs.State) : Type 0 where
+  state : State
+  reached : IsReached flow state
+  of : IsOf flow state
+  point_is : state.point ≡ point
+  near : IsNear nearness wanted state
+
+-- a reached state at a point without callers and blocks outside is one of a run
+comes : (nearness : Nearness) (flow : Flow) (point : ℕ) (wanted : graphs.State) (state : State) → IsFlow flow → HaveOffsets flow → IsReached flow state → IsAt point [] [] state →
+    IsNear nearness wanted state → ComesNear nearness flow point wanted
+comes nearness flow point wanted state valid offsets reached at near = record {
+  state = state;
+  reached = reached;
+  of = record {
+    run = are_run_states.runs flow state reached.choices [] reached.steps valid offsets reached.goes;
+    callers = at.callers_are;
+    outer = at.outer_is;
+  };
+  point_is = at.point_is;
+  near = near;
+}
+
+-- near each state that main's start stands for a run begins
+begins_near : (nearness : Nearness) (flow : Flow) (wanted : graphs.State) → IsFlow flow → HaveOffsets flow → IsBegun nearness flow wanted → ComesNear nearness flow (entry_of flow flow.main) wanted
+begins_near nearness flow wanted valid offsets one =
+    comes nearness flow (entry_of flow flow.main) wanted one.begun valid offsets
+    (record { steps = zero; choices = one.choices; goes = whole_none flow one.choices ∙ one.goes })
+    (told_state (start flow one.choices) (IsAt (entry_of flow flow.main) [] []) Nowhere one.begun [] (begins flow one.choices) one.goes)
+    one.near
+
+-- and one step more leads near the next one
+goes_near : (nearness : Nearness) (flow : Flow) (number : ℕ) (edge : FlowEdge) (before next : graphs.State) → IsFlow flow → HaveOffsets flow → HasNoCalls flow → IsExclusive flow →
+    slice_get flow.edges number ≡ Some edge → (come : ComesNear nearness flow edge.from before) → GoesNear nearness flow number next come.state → ComesNear nearness flow edge.to next
+goes_near nearness flow number edge before next valid offsets calls exclusive stands come goes =
+    let one : goes.steps.edge ≡ edge = same_some goes.steps.edge edge (sym goes.steps.stands ∙ stands) in
+    let at : IsAt goes.steps.edge.to come.state.callers come.state.outer goes.gone = arrives flow calls number come.state goes.gone come.of goes.steps in
+    comes nearness flow edge.to next goes.gone valid offsets (reaches flow exclusive number come.state goes.gone come.reached goes.steps)
+    (record { point_is = at.point_is ∙ ap (λ (e : FlowEdge). e.to) one; callers_are = at.callers_are ∙ come.of.callers; outer_is = at.outer_is ∙ come.of.outer })
+    goes.near
+
+-- near each state of an entry behind such a chain comes a run
+real : (analysis : Analysis) (nearness : Nearness) (flow : Flow) (trail : List Entry) → IsFlow flow → HaveOffsets flow → HasNoCalls flow → IsExclusive flow → IsExact analysis nearness flow →
+    AreHonest analysis flow trail → (number : ℕ) → IsReal trail number → (entry : Entry) → At trail number entry → (wanted : graphs.State) → graphs.IsState wanted → StandsFor entry.graph wanted →
+    ComesNear nearness flow entry.point wanted
+real analysis nearness flow trail valid offsets calls exclusive exact honest number (RealStart _ first at is) entry there wanted fine stands =
     let one : first ≡ entry = same_some first entry (sym at ∙ there) in
     let made : Made analysis flow (take number trail) entry Start =
     subst (Made analysis flow (take number trail) entry) (ap (λ (x : Entry). x.cause) (sym one) ∙ is) (honest number entry there).made in
-    let (begun, choices, goes, are) = exact.start entry.graph state made.1 of stands (point ∙ made.0) in
-    record { near = begun; reached = record { steps = zero; choices = choices; goes = whole_none flow choices ∙ goes }; are = are }
-real analysis alike flow trail exclusive exact go honest number (RealStep _ from edge result last at is before) entry there state of stands point =
+    subst (λ (p : ℕ). ComesNear nearness flow p wanted) (sym made.0) (begins_near nearness flow wanted valid offsets (exact.start entry.graph wanted made.1 fine stands))
+real analysis nearness flow trail valid offsets calls exclusive exact honest number (RealStep _ from edge result last at is chain) entry there wanted fine stands =
     let one : last ≡ entry = same_some last entry (sym at ∙ there) in
     let made : IsResult analysis flow (take number trail) entry from edge result None =
     subst (Made analysis flow (take number trail) entry) (ap (λ (x : Entry). x.cause) (sym one) ∙ is) (honest number entry there).made in
-    let fits : Fits analysis flow made.edge.from made.earlier.graph =
-    subst (λ (p : ℕ). Fits analysis flow p made.earlier.graph) (sym made.leaves) (honest from made.earlier (at_front trail number from made.earlier made.there)).fits in
-    let (old, gone, point_is, of', stands', steps, are) =
-    exact.steps edge made.edge made.earlier.graph made.post result entry.graph state made.stands fits made.is made.loss_is made.graph of stands (point ∙ made.arrives) in
-    let near : IsNear alike flow old =
-    real analysis alike flow trail exclusive exact go honest from before made.earlier (at_front trail number from made.earlier made.there) old of' stands' (point_is ∙ made.leaves) in
-    let (new, steps', are') = go.steps edge made.edge made.earlier.graph made.post near.near old gone made.stands fits made.is made.loss_is of' stands' near.are steps in
-    record { near = new; reached = reaches flow exclusive edge near.near new near.reached steps'; are = go.behind new gone state are' are }
+    let earlier : At trail from made.earlier = at_front trail number from made.earlier made.there in
+    let fits : Fits analysis flow made.edge.from made.earlier.graph = subst (λ (p : ℕ). Fits analysis flow p made.earlier.graph) (sym made.leaves) (honest from made.earlier earlier).fits in
+    let led : IsLedTo nearness flow edge made.edge made.earlier.graph wanted =
+    exact.steps edge made.edge made.earlier.graph made.post result entry.graph wanted made.stands fits made.is made.loss_is made.graph fine stands in
+    let come : ComesNear nearness flow made.earlier.point led.before =
+    real analysis nearness flow trail valid offsets calls exclusive exact honest from chain made.earlier earlier led.before led.is led.stands in
+    let come' : ComesNear nearness flow made.edge.from led.before = subst (λ (p : ℕ). ComesNear nearness flow p led.before) (sym made.leaves) come in
+    subst (λ (p : ℕ). ComesNear nearness flow p wanted) (sym made.arrives)
+    (goes_near nearness flow edge made.edge led.before wanted valid offsets calls exclusive made.stands come' (led.goes come'.state come'.of come'.point_is come'.near))
 
-pub error_met : (analysis : Analysis) (alike : Alike) → MeetsErrors analysis alike
-error_met analysis alike flow trail exclusive exact go honest at entry number kind edge chain there stands has =
+pub error_met : (analysis : Analysis) (nearness : Nearness) → MeetsErrors analysis nearness
+error_met analysis nearness flow trail valid offsets calls exclusive exact honest at entry number kind edge chain there stands has =
     let fits : Fits analysis flow has.edge.from entry.graph = subst (λ (p : ℕ). Fits analysis flow p entry.graph) (sym has.leaves) (honest at entry there).fits in
-    let (state, point, of, stands', faults) = exact.faults number has.edge entry.graph has.post kind has.stands fits has.is has.has in
-    let near : IsNear alike flow state = real analysis alike flow trail exclusive exact go honest at chain entry there state of stands' (point ∙ has.leaves) in
-    let faults' : FaultsAlong flow number near.near kind = go.faults number has.edge entry.graph has.post kind near.near state has.stands fits has.is of stands' near.are faults in
-    let one : faults'.edge ≡ edge = same_some faults'.edge edge (sym faults'.stands ∙ stands) in
-    subst (λ (e : FlowEdge). RunFaults flow kind e.place) one (faults_there flow exclusive number kind near.near near.reached faults')
+    let faulting : IsFaulting nearness flow number has.edge entry.graph kind = exact.faults number has.edge entry.graph has.post kind has.stands fits has.is has.has in
+    let come : ComesNear nearness flow entry.point faulting.before =
+    real analysis nearness flow trail valid offsets calls exclusive exact honest at chain entry there faulting.before faulting.is faulting.stands in
+    let faults : FaultsAlong flow number come.state kind = faulting.faults come.state come.of (come.point_is ∙ sym has.leaves) come.near in
+    let one : faults.edge ≡ edge = same_some faults.edge edge (sym faults.stands ∙ stands) in
+    subst (λ (e : FlowEdge). RunFaults flow kind e.place) one (faults_there flow exclusive number kind come.state come.reached faults)

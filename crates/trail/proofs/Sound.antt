@@ -19,8 +19,8 @@ use Rattle.trail.specs.declared.trail.Cause.TheVariants.{Start, Step}
 use Rattle.trail.specs.declared.trail.Entry.{Entry}
 use Rattle.trail.specs.Seen.{seen, IsOf, is_call, is_ordinary, HasNoCalls}
 use Rattle.trail.specs.Analysis.{Analysis, Fits, IsSound, StandsAmong}
-use Rattle.trail.specs.Trail.{At, Made, AreHonest, IsCovered, StandsAsStep, IsDone, IsClosed, IsClean, HasKind, IsHeld}
-use Rattle.trail.specs.Theorems.{HaveOffsets, ShowsSafe, ShowsStay}
+use Rattle.trail.specs.Trail.{At, Made, AreHonest, IsCovered, StandsAsStep, IsDone, IsClosed, IsClean, AreTame, IsFaultTold, IsHeld}
+use Rattle.trail.specs.Theorems.{HaveOffsets, ShowsSafe, ShowsStay, TellsAll}
 use Rattle.trail.proofs.Steps.{IsAt, Nowhere, told_state, told_place, begins, executes, returns_end, GoesFrom, goes_from, ComesAlong, comes_along, whole, whole_none, ComesLast, comes_last}
 
 pub same_some : {A : Type 0} (x y : A) → Some x ≡ Some y → x ≡ y
@@ -96,15 +96,20 @@ record IsMet (trail : List Entry) (state : State) : Type 0 where
   alone : state.callers ≡ []
   inside : state.outer ≡ []
 
--- one step more
 -- a post without kinds
 no_kinds : (kinds : List ℕ) → ((kind : ℕ) → Contains kinds kind → ⊥) → kinds ≡ []
 no_kinds [] none = refl
 no_kinds (kind ∷ rest) none = absurd (none kind (contained (kind ∷ rest) zero kind refl))
 
-held_next : (analysis : Analysis) (flow : Flow) (trail : List Entry) → HasNoCalls flow → IsSound analysis flow → AreHonest analysis flow trail → IsClosed analysis flow trail → IsClean analysis flow trail →
+-- a trail in which no post has a kind is tame
+pub clean_tame : (analysis : Analysis) (flow : Flow) (trail : List Entry) → IsClean analysis flow trail → AreTame analysis flow trail
+clean_tame analysis flow trail clean at entry number edge post there kept stands leaves is loss =
+    no_kinds post.kinds (λ kind has. clean at entry number kind there kept (record { edge = edge; stands = stands; leaves = leaves; post = post; is = is; has = has }))
+
+-- one step more
+held_next : (analysis : Analysis) (flow : Flow) (trail : List Entry) → HasNoCalls flow → IsSound analysis flow → AreHonest analysis flow trail → IsClosed analysis flow trail → AreTame analysis flow trail →
     (state next : State) (choices rest : List Choice) → IsOf flow state → IsHeld trail state → step flow state choices ≡ Went next rest → IsMet trail next
-held_next analysis flow trail calls sound honest closed clean state next choices rest is held goes =
+held_next analysis flow trail calls sound honest closed tame state next choices rest is held goes =
     let along : ComesAlong flow flow.edges state choices (Went next rest) = comes_along flow flow.edges state choices (Went next rest) (λ e. absurd cc) goes in
     let from : GoesFrom flow along.edge state choices (Went next rest) = goes_from flow along.edge state choices (Went next rest) (λ e. absurd cc) along.goes in
     let inside : is_call along.edge.instr ≡ false = at_number (λ edge. is_call edge.instr ≡ false) flow.edges along.number along.edge calls along.stands in
@@ -116,11 +121,10 @@ held_next analysis flow trail calls sound honest closed clean state next choices
     closed.expanded held.number held.entry held.there held.kept along.number along.edge along.stands is_ordinary' (from.from ∙ sym held.point) in
     let fits : Fits analysis flow along.edge.from held.entry.graph =
     subst (λ (point : ℕ). Fits analysis flow point held.entry.graph) (held.point ∙ sym from.from) (honest held.number held.entry held.there).fits in
-    let none : done.post.kinds ≡ [] = no_kinds done.post.kinds (λ kind has. clean held.number held.entry along.number kind held.there held.kept
-    (record { edge = along.edge; stands = along.stands; leaves = from.from ∙ sym held.point; post = done.post; is = done.is; has = has })) in
     let steps : StepsTo flow along.number state next = record { edge = along.edge; stands = along.stands; choices = choices; rest = rest; goes = along.goes } in
     let among : StandsAmong done.post.graphs next =
-    sound.steps along.number along.edge held.entry.graph done.post state next along.stands is_ordinary' fits done.is none is held.stands steps in
+    sound.steps along.number along.edge held.entry.graph done.post state next along.stands is_ordinary' fits done.is
+    (tame held.number held.entry along.number along.edge done.post held.there held.kept along.stands (from.from ∙ sym held.point) done.is) is held.stands steps in
     let there : StandsAsStep trail (Step held.number along.number among.number done.post.loss) along.edge.to among.graph = done.all among.number among.graph among.there in
     record {
       held = settles analysis flow trail sound honest closed there.number there.entry next there.there (there.point_is ∙ sym at.point_is)
@@ -130,14 +134,14 @@ held_next analysis flow trail calls sound honest closed clean state next choices
     }
 
 -- every state of a run is met
-met : (analysis : Analysis) (flow : Flow) (trail : List Entry) → IsFlow flow → HaveOffsets flow → HasNoCalls flow → IsSound analysis flow → AreHonest analysis flow trail → IsClosed analysis flow trail → IsClean analysis flow trail →
+met : (analysis : Analysis) (flow : Flow) (trail : List Entry) → IsFlow flow → HaveOffsets flow → HasNoCalls flow → IsSound analysis flow → AreHonest analysis flow trail → IsClosed analysis flow trail → AreTame analysis flow trail →
     (steps : ℕ) (choices rest : List Choice) (state : State) → whole flow steps choices ≡ Went state rest → IsMet trail state
-met analysis flow trail valid offsets calls sound honest closed clean zero choices rest state goes =
+met analysis flow trail valid offsets calls sound honest closed tame zero choices rest state goes =
     let begun : start flow choices ≡ Went state rest = sym (whole_none flow choices) ∙ goes in
     let at : IsAt (entry_of flow flow.main) [] [] state = told_state (start flow choices) (IsAt (entry_of flow flow.main) [] []) Nowhere state rest (begins flow choices) begun in
     record { held = held_first analysis flow trail sound honest closed state choices rest begun; alone = at.callers_are; inside = at.outer_is }
-met analysis flow trail valid offsets calls sound honest closed clean (suc steps) choices rest state goes =
-    by_case (comes_last flow steps choices (Went state rest) goes) (met analysis flow trail valid offsets calls sound honest closed clean steps choices)
+met analysis flow trail valid offsets calls sound honest closed tame (suc steps) choices rest state goes =
+    by_case (comes_last flow steps choices (Went state rest) goes) (met analysis flow trail valid offsets calls sound honest closed tame steps choices)
   where
     by_case : ComesLast flow steps choices (Went state rest) ⊎ (whole flow steps choices ≡ Went state rest) →
         ((rest : List Choice) (state : State) → whole flow steps choices ≡ Went state rest → IsMet trail state) → IsMet trail state
@@ -148,23 +152,14 @@ met analysis flow trail valid offsets calls sound honest closed clean (suc steps
           callers = so.alone;
           outer = so.inside;
         } in
-        held_next analysis flow trail calls sound honest closed clean last.state state last.rest rest is so.held last.last
+        held_next analysis flow trail calls sound honest closed tame last.state state last.rest rest is so.held last.last
     by_case (inr same) before = before rest state same
 
--- a fault of a run is a kind of a kept entry, at the place of its edge
-pub record IsShown (analysis : Analysis) (flow : Flow) (trail : List Entry) (kind : ℕ) (place : Place) : Type 0 where
-  pub number : ℕ
-  pub entry : Entry
-  pub there : At trail number entry
-  pub kept : entry.kept ≡ true
-  pub edge : ℕ
-  pub has : HasKind analysis flow entry edge kind
-  pub place_is : place ≡ has.edge.place
-
-shown_last : (analysis : Analysis) (flow : Flow) (trail : List Entry) → HasNoCalls flow → IsSound analysis flow → AreHonest analysis flow trail → IsClosed analysis flow trail →
+-- a fault is a kind of a kept entry, at the place of its edge
+told_last : (analysis : Analysis) (flow : Flow) (trail : List Entry) → HasNoCalls flow → IsSound analysis flow → AreHonest analysis flow trail → IsClosed analysis flow trail →
     (state : State) (choices : List Choice) (kind : ℕ) (place : Place) → IsOf flow state → IsHeld trail state → step flow state choices ≡ Faulted kind place →
-    IsShown analysis flow trail kind place
-shown_last analysis flow trail calls sound honest closed state choices kind place is held goes =
+    IsFaultTold analysis flow trail kind place
+told_last analysis flow trail calls sound honest closed state choices kind place is held goes =
     let along : ComesAlong flow flow.edges state choices (Faulted kind place) = comes_along flow flow.edges state choices (Faulted kind place) (λ e. absurd cc) goes in
     let from : GoesFrom flow along.edge state choices (Faulted kind place) = goes_from flow along.edge state choices (Faulted kind place) (λ e. absurd cc) along.goes in
     let inside : is_call along.edge.instr ≡ false = at_number (λ edge. is_call edge.instr ≡ false) flow.edges along.number along.edge calls along.stands in
@@ -198,31 +193,35 @@ shown_last analysis flow trail calls sound honest closed state choices kind plac
       place_is = place_is;
     }
 
-pub shown : (analysis : Analysis) (flow : Flow) (trail : List Entry) → IsFlow flow → HaveOffsets flow → HasNoCalls flow → IsSound analysis flow → AreHonest analysis flow trail → IsClosed analysis flow trail → IsClean analysis flow trail →
-    (kind : ℕ) (place : Place) (choices : List Choice) (steps : ℕ) → whole flow steps choices ≡ Faulted kind place → IsShown analysis flow trail kind place
-shown analysis flow trail valid offsets calls sound honest closed clean kind place choices zero faults =
+told : (analysis : Analysis) (flow : Flow) (trail : List Entry) → IsFlow flow → HaveOffsets flow → HasNoCalls flow → IsSound analysis flow → AreHonest analysis flow trail → IsClosed analysis flow trail → AreTame analysis flow trail →
+    (kind : ℕ) (place : Place) (choices : List Choice) (steps : ℕ) → whole flow steps choices ≡ Faulted kind place → IsFaultTold analysis flow trail kind place
+told analysis flow trail valid offsets calls sound honest closed tame kind place choices zero faults =
     let begun : start flow choices ≡ Faulted kind place = sym (whole_none flow choices) ∙ faults in
     absurd (told_place (start flow choices) (IsAt (entry_of flow flow.main) [] []) Nowhere kind place (begins flow choices) begun)
-shown analysis flow trail valid offsets calls sound honest closed clean kind place choices (suc steps) faults =
-    by_case (comes_last flow steps choices (Faulted kind place) faults) (shown analysis flow trail valid offsets calls sound honest closed clean kind place choices steps)
+told analysis flow trail valid offsets calls sound honest closed tame kind place choices (suc steps) faults =
+    by_case (comes_last flow steps choices (Faulted kind place) faults) (told analysis flow trail valid offsets calls sound honest closed tame kind place choices steps)
   where
     by_case : ComesLast flow steps choices (Faulted kind place) ⊎ (whole flow steps choices ≡ Faulted kind place) →
-        (whole flow steps choices ≡ Faulted kind place → IsShown analysis flow trail kind place) → IsShown analysis flow trail kind place
+        (whole flow steps choices ≡ Faulted kind place → IsFaultTold analysis flow trail kind place) → IsFaultTold analysis flow trail kind place
     by_case (inl last) before =
-        let so : IsMet trail last.state = met analysis flow trail valid offsets calls sound honest closed clean steps choices last.rest last.state last.before in
+        let so : IsMet trail last.state = met analysis flow trail valid offsets calls sound honest closed tame steps choices last.rest last.state last.before in
         let is : IsOf flow last.state = record {
           run = are_run_states.runs flow last.state choices last.rest steps valid offsets last.before;
           callers = so.alone;
           outer = so.inside;
         } in
-        shown_last analysis flow trail calls sound honest closed last.state last.rest kind place is so.held last.last
+        told_last analysis flow trail calls sound honest closed last.state last.rest kind place is so.held last.last
     by_case (inr same) before = before same
+
+pub all_told : (analysis : Analysis) → TellsAll analysis
+all_told analysis flow trail valid offsets calls sound honest closed tame kind place faults =
+    told analysis flow trail valid offsets calls sound honest closed tame kind place faults.choices faults.steps faults.faults
 
 pub safe_shown : (analysis : Analysis) → ShowsSafe analysis
 safe_shown analysis flow trail valid offsets calls sound honest closed clean kind place faults =
-    let so : IsShown analysis flow trail kind place = shown analysis flow trail valid offsets calls sound honest closed clean kind place faults.choices faults.steps faults.faults in
+    let so : IsFaultTold analysis flow trail kind place = all_told analysis flow trail valid offsets calls sound honest closed (clean_tame analysis flow trail clean) kind place faults in
     clean so.number so.entry so.edge kind so.there so.kept so.has
 
 pub stay_shown : (analysis : Analysis) → ShowsStay analysis
-stay_shown analysis flow trail valid offsets calls sound honest closed clean steps choices rest state goes =
-    (met analysis flow trail valid offsets calls sound honest closed clean steps choices rest state goes).held
+stay_shown analysis flow trail valid offsets calls sound honest closed tame steps choices rest state goes =
+    (met analysis flow trail valid offsets calls sound honest closed tame steps choices rest state goes).held

@@ -39,13 +39,13 @@ by_two P one two p q zero item there = subst (P 0) (same_some one item there) p
 by_two P one two p q (suc zero) item there = subst (P 1) (same_some two item there) q
 by_two P one two p q (suc (suc number)) item there = absurd cc
 
-both : {A : Type 0} (P : A → Type 0) (one two : A) → P one → P two → All P (one ∷ two ∷ [])
+pub both : {A : Type 0} (P : A → Type 0) (one two : A) → P one → P two → All P (one ∷ two ∷ [])
 both P one two p q = All-cons P one (two ∷ []) p (All-cons P two [] q (All-nil P))
 
-only : {A : Type 0} (P : A → Type 0) (one : A) → P one → All P (one ∷ [])
+pub only : {A : Type 0} (P : A → Type 0) (one : A) → P one → All P (one ∷ [])
 only P one p = All-cons P one [] p (All-nil P)
 
-three : {A : Type 0} (P : A → Type 0) (one two last : A) → P one → P two → P last → All P (one ∷ two ∷ last ∷ [])
+pub three : {A : Type 0} (P : A → Type 0) (one two last : A) → P one → P two → P last → All P (one ∷ two ∷ last ∷ [])
 three P one two last p q r = All-cons P one (two ∷ last ∷ []) p (both P two last q r)
 
 one_function : (number : ℕ) (function : FlowFunction) → slice_get (main ∷ []) number ≡ Some function → number ≡ 0

@@ -3,9 +3,9 @@ use Rattle.std.specs.Prelude.{◌≡◌, ℕ, Bool, true, List, [], None, Some, 
 use Rattle.graph.specs.declared.parts.Parts.{Parts}
 use Rattle.graph.specs.declared.post.Post.{Post}
 use Rattle.graph.specs.Meaning.{StandsFor}
+use Rattle.graph.specs.State as graphs
 use Rattle.flow.specs.declared.flow_graph.Flow.{Flow}
 use Rattle.flow.specs.declared.flow_graph.FlowEdge.{FlowEdge}
-use Rattle.flow.specs.InRange.{entry_of}
 use Rattle.choices.specs.declared.choice.Choice.{Choice}
 use Rattle.flow.specs.Machine.{State, Went}
 use Rattle.flow.specs.Runs.{start, StepsTo, FaultsAlong}
@@ -36,7 +36,7 @@ pub record Tests : Type 0 where
   pub start : Flow → Parts → Bool
   pub post : Flow → ℕ → Parts → Post → Bool
   pub covers : Parts → Parts → Bool
-  pub alike : State → State → Bool
+  pub near : graphs.State → State → Bool
 
 abbrev pub tested : Tests → Analysis
 tested tests = record {
@@ -53,47 +53,65 @@ pub record StandsAmong (graphs : List Parts) (state : State) : Type 0 where
   pub there : slice_get graphs number ≡ Some graph
   pub stands : StandsFor graph (seen state)
 
--- nothing is left out of graphs that fit where they stand: a post along an edge has each kind that is met, and where it has none it stands for all that follows
+-- no loss 4 beside a kind: that is an access through any word, which has no graph for what goes on
+abbrev pub IsTame : Post → Type 0
+IsTame post = post.loss ≡ Some 4 → post.kinds ≡ []
+
+-- nothing is left out of graphs that fit where they stand: a post along an edge has each kind that is met, and a tame one stands for all that follows
 pub record IsSound (analysis : Analysis) (flow : Flow) : Type 0 where
   pub start : (graph : Parts) (state : State) (choices rest : List Choice) →
       IsStart analysis flow graph → start flow choices ≡ Went state rest → StandsFor graph (seen state)
   pub steps : (number : ℕ) (edge : FlowEdge) (graph : Parts) (post : Post) (state next : State) →
       slice_get flow.edges number ≡ Some edge → is_ordinary edge.instr ≡ true → Fits analysis flow edge.from graph → IsPost analysis flow number graph post →
-      post.kinds ≡ [] → IsOf flow state → StandsFor graph (seen state) → StepsTo flow number state next → StandsAmong post.graphs next
+      IsTame post → IsOf flow state → StandsFor graph (seen state) → StepsTo flow number state next → StandsAmong post.graphs next
   pub faults : (number : ℕ) (edge : FlowEdge) (graph : Parts) (post : Post) (state : State) (kind : ℕ) →
       slice_get flow.edges number ≡ Some edge → is_ordinary edge.instr ≡ true → Fits analysis flow edge.from graph → IsPost analysis flow number graph post →
       IsOf flow state → StandsFor graph (seen state) → FaultsAlong flow number state kind → Contains post.kinds kind
   pub covers : (point : ℕ) (wide narrow : Parts) (state : State) → Fits analysis flow point wide → Covers analysis wide narrow → StandsFor narrow (seen state) → StandsFor wide (seen state)
 
--- states that no step without loss tells apart
-pub record Alike : Type 1 where
-  pub are : State → State → Type 0
+-- which states of a run are near a state as a graph sees it: those that no step without loss tells from it
+pub record Nearness : Type 1 where
+  pub is : graphs.State → State → Type 0
 
-abbrev pub Are : Alike → State → State → Type 0
-Are alike one other = alike.are one other
+abbrev pub IsNear : Nearness → graphs.State → State → Type 0
+IsNear nearness wanted state = nearness.is wanted state
 
-abbrev pub alike_by : Tests → Alike
-alike_by tests = record { are = λ one other. tests.alike one other ≡ true }
+abbrev pub near_by : Tests → Nearness
+near_by tests = record { is = λ wanted state. tests.near wanted state ≡ true }
 
--- and nothing is added, up to alike states, where no loss is named and the graph fits
-pub record IsExact (analysis : Analysis) (alike : Alike) (flow : Flow) : Type 0 where
-  pub start : (graph : Parts) (state : State) → IsStart analysis flow graph → IsOf flow state → StandsFor graph (seen state) →
-      state.point ≡ entry_of flow flow.main → (begun : State) × (choices : List Choice) × (start flow choices ≡ Went begun []) × Are alike begun state
-  pub steps : (number : ℕ) (edge : FlowEdge) (graph : Parts) (post : Post) (result : ℕ) (after : Parts) (next : State) →
+-- some run begins near this state
+pub record IsBegun (nearness : Nearness) (flow : Flow) (next : graphs.State) : Type 0 where
+  pub begun : State
+  pub choices : List Choice
+  pub goes : start flow choices ≡ Went begun []
+  pub near : IsNear nearness next begun
+
+-- a step of this state along an edge leads near the next one
+pub record GoesNear (nearness : Nearness) (flow : Flow) (number : ℕ) (next : graphs.State) (state : State) : Type 0 where
+  pub gone : State
+  pub steps : StepsTo flow number state gone
+  pub near : IsNear nearness next gone
+
+-- the graph stands for a state before, and each state of a run near that one goes along the edge, near the next one
+pub record IsLedTo (nearness : Nearness) (flow : Flow) (number : ℕ) (edge : FlowEdge) (graph : Parts) (next : graphs.State) : Type 0 where
+  pub before : graphs.State
+  pub is : graphs.IsState before
+  pub stands : StandsFor graph before
+  pub goes : (state : State) → IsOf flow state → state.point ≡ edge.from → IsNear nearness before state → GoesNear nearness flow number next state
+
+-- the graph stands for a state, and each state of a run near that one meets the fault along the edge
+pub record IsFaulting (nearness : Nearness) (flow : Flow) (number : ℕ) (edge : FlowEdge) (graph : Parts) (kind : ℕ) : Type 0 where
+  pub before : graphs.State
+  pub is : graphs.IsState before
+  pub stands : StandsFor graph before
+  pub faults : (state : State) → IsOf flow state → state.point ≡ edge.from → IsNear nearness before state → FaultsAlong flow number state kind
+
+-- and nothing is added where no loss is named and the graph fits: near each state that the start and such posts stand for comes a run, and each kind of a post is met near some state
+pub record IsExact (analysis : Analysis) (nearness : Nearness) (flow : Flow) : Type 0 where
+  pub start : (graph : Parts) (next : graphs.State) → IsStart analysis flow graph → graphs.IsState next → StandsFor graph next → IsBegun nearness flow next
+  pub steps : (number : ℕ) (edge : FlowEdge) (graph : Parts) (post : Post) (result : ℕ) (after : Parts) (next : graphs.State) →
       slice_get flow.edges number ≡ Some edge → Fits analysis flow edge.from graph → IsPost analysis flow number graph post → post.loss ≡ None →
-      slice_get post.graphs result ≡ Some after → IsOf flow next → StandsFor after (seen next) → next.point ≡ edge.to →
-      (state : State) × (gone : State) × (state.point ≡ edge.from) × IsOf flow state × StandsFor graph (seen state) × StepsTo flow number state gone × Are alike gone next
+      slice_get post.graphs result ≡ Some after → graphs.IsState next → StandsFor after next → IsLedTo nearness flow number edge graph next
   pub faults : (number : ℕ) (edge : FlowEdge) (graph : Parts) (post : Post) (kind : ℕ) →
       slice_get flow.edges number ≡ Some edge → Fits analysis flow edge.from graph → IsPost analysis flow number graph post → Contains post.kinds kind →
-      (state : State) × (state.point ≡ edge.from) × IsOf flow state × StandsFor graph (seen state) × FaultsAlong flow number state kind
-
--- alike states go alike, where no loss is named, and fault alike
-pub record GoAlike (analysis : Analysis) (alike : Alike) (flow : Flow) : Type 0 where
-  pub behind : (one other third : State) → Are alike one other → Are alike other third → Are alike one third
-  pub steps : (number : ℕ) (edge : FlowEdge) (graph : Parts) (post : Post) (one other next : State) → slice_get flow.edges number ≡ Some edge → Fits analysis flow edge.from graph →
-      IsPost analysis flow number graph post → post.loss ≡ None →
-      IsOf flow other → StandsFor graph (seen other) → Are alike one other → StepsTo flow number other next →
-      (gone : State) × StepsTo flow number one gone × Are alike gone next
-  pub faults : (number : ℕ) (edge : FlowEdge) (graph : Parts) (post : Post) (kind : ℕ) (one other : State) → slice_get flow.edges number ≡ Some edge → Fits analysis flow edge.from graph →
-      IsPost analysis flow number graph post →
-      IsOf flow other → StandsFor graph (seen other) → Are alike one other → FaultsAlong flow number other kind → FaultsAlong flow number one kind
+      IsFaulting nearness flow number edge graph kind

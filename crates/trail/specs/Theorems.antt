@@ -9,8 +9,8 @@ use Rattle.flow.specs.Runs.{RunFaults}
 use Rattle.flow.specs.Valid.{IsFlow}
 use Rattle.trail.specs.declared.trail.Entry.{Entry}
 use Rattle.trail.specs.Seen.{HasNoCalls}
-use Rattle.trail.specs.Analysis.{Analysis, Tests, tested, alike_by, IsSound, Alike, IsExact, GoAlike}
-use Rattle.trail.specs.Trail.{At, AreHonest, IsClosed, IsClean, IsReal, HasKind, DoRunsStay}
+use Rattle.trail.specs.Analysis.{Analysis, Tests, tested, near_by, IsSound, Nearness, IsExact}
+use Rattle.trail.specs.Trail.{At, AreHonest, IsClosed, IsClean, AreTame, IsFaultTold, IsReal, HasKind, DoRunsStay}
 
 -- the offsets of what static variables hold at the start are of 64 bits
 abbrev pub HaveOffsets : Flow → Type 0
@@ -25,10 +25,16 @@ ShowsSafe analysis = (flow : Flow) (trail : List Entry) → IsFlow flow → Have
 -- each state of a run stays within the trail
 abbrev pub ShowsStay : Analysis → Type 0
 ShowsStay analysis = (flow : Flow) (trail : List Entry) → IsFlow flow → HaveOffsets flow → HasNoCalls flow → IsSound analysis flow →
-    AreHonest analysis flow trail → IsClosed analysis flow trail → IsClean analysis flow trail → DoRunsStay flow trail
+    AreHonest analysis flow trail → IsClosed analysis flow trail → AreTame analysis flow trail → DoRunsStay flow trail
 
-abbrev pub MeetsErrors : Analysis → Alike → Type 0
-MeetsErrors analysis alike = (flow : Flow) (trail : List Entry) → IsExclusive flow → IsExact analysis alike flow → GoAlike analysis alike flow →
+-- each fault of a run is a kind of a kept entry
+abbrev pub TellsAll : Analysis → Type 0
+TellsAll analysis = (flow : Flow) (trail : List Entry) → IsFlow flow → HaveOffsets flow → HasNoCalls flow → IsSound analysis flow →
+    AreHonest analysis flow trail → IsClosed analysis flow trail → AreTame analysis flow trail →
+    (kind : ℕ) (place : Place) → RunFaults flow kind place → IsFaultTold analysis flow trail kind place
+
+abbrev pub MeetsErrors : Analysis → Nearness → Type 0
+MeetsErrors analysis nearness = (flow : Flow) (trail : List Entry) → IsFlow flow → HaveOffsets flow → HasNoCalls flow → IsExclusive flow → IsExact analysis nearness flow →
     AreHonest analysis flow trail → (at : ℕ) (entry : Entry) (number kind : ℕ) (edge : FlowEdge) → IsReal trail at → At trail at entry →
     slice_get flow.edges number ≡ Some edge → HasKind analysis flow entry number kind → RunFaults flow kind edge.place
 
@@ -38,5 +44,8 @@ IsSafeShown = (tests : Tests) → ShowsSafe (tested tests)
 abbrev pub IsStayShown : Type 0
 IsStayShown = (tests : Tests) → ShowsStay (tested tests)
 
+abbrev pub IsAllTold : Type 0
+IsAllTold = (tests : Tests) → TellsAll (tested tests)
+
 abbrev pub IsErrorMet : Type 0
-IsErrorMet = (tests : Tests) → MeetsErrors (tested tests) (alike_by tests)
+IsErrorMet = (tests : Tests) → MeetsErrors (tested tests) (near_by tests)

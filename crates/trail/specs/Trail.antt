@@ -3,6 +3,7 @@ use Rattle.std.specs.Prelude.{◌≡◌, ℕ, List, true, Option, None, Some, sl
 use Rattle.graph.specs.declared.parts.Parts.{Parts}
 use Rattle.graph.specs.declared.post.Post.{Post}
 use Rattle.graph.specs.Meaning.{StandsFor}
+use Rattle.cbase.specs.declared.place.Place.{Place}
 use Rattle.choices.specs.declared.choice.Choice.{Choice}
 use Rattle.flow.specs.declared.flow_graph.Flow.{Flow}
 use Rattle.flow.specs.declared.flow_graph.FlowEdge.{FlowEdge}
@@ -13,7 +14,7 @@ use Rattle.trail.specs.declared.trail.Cause.{Cause}
 use Rattle.trail.specs.declared.trail.Cause.TheVariants.{Start, Step}
 use Rattle.trail.specs.declared.trail.Entry.{Entry}
 use Rattle.trail.specs.Seen.{is_ordinary, seen}
-use Rattle.trail.specs.Analysis.{Analysis, Fits, IsStart, IsPost, Covers}
+use Rattle.trail.specs.Analysis.{Analysis, Fits, IsStart, IsPost, Covers, IsTame}
 
 -- the entry of that number
 abbrev pub At : List Entry → ℕ → Entry → Type 0
@@ -99,6 +100,21 @@ pub record HasKind (analysis : Analysis) (flow : Flow) (entry : Entry) (number k
 -- no post of a kept entry has a kind
 abbrev pub IsClean : Analysis → Flow → List Entry → Type 0
 IsClean analysis flow trail = (at : ℕ) (entry : Entry) (number kind : ℕ) → At trail at entry → entry.kept ≡ true → HasKind analysis flow entry number kind → ⊥
+
+-- each post of a kept entry is tame
+abbrev pub AreTame : Analysis → Flow → List Entry → Type 0
+AreTame analysis flow trail = (at : ℕ) (entry : Entry) (number : ℕ) (edge : FlowEdge) (post : Post) → At trail at entry → entry.kept ≡ true →
+    slice_get flow.edges number ≡ Some edge → edge.from ≡ entry.point → IsPost analysis flow number entry.graph post → IsTame post
+
+-- a post of a kept entry has the kind, along an edge of that place
+pub record IsFaultTold (analysis : Analysis) (flow : Flow) (trail : List Entry) (kind : ℕ) (place : Place) : Type 0 where
+  pub number : ℕ
+  pub entry : Entry
+  pub there : At trail number entry
+  pub kept : entry.kept ≡ true
+  pub edge : ℕ
+  pub has : HasKind analysis flow entry edge kind
+  pub place_is : place ≡ has.edge.place
 
 -- a kept entry at a state's point stands for it
 pub record IsHeld (trail : List Entry) (state : State) : Type 0 where

@@ -18,10 +18,10 @@ use Rattle.flow.specs.Runs.{RunFaults}
 use Rattle.flow.specs.Valid.{IsFlow}
 use Rattle.trail.specs.declared.trail.Cause.TheVariants.{Start, Step}
 use Rattle.trail.specs.declared.trail.Entry.{Entry}
-use Rattle.trail.specs.Seen.{HasNoCalls}
-use Rattle.trail.specs.Analysis.{Analysis, IsSound, Alike, IsExact, GoAlike}
+use Rattle.trail.specs.Seen.{HasNoCalls, seen}
+use Rattle.trail.specs.Analysis.{Analysis, IsSound, Nearness, IsExact}
 use Rattle.trail.specs.Theorems.{HaveOffsets}
-use Rattle.trail.specs.Trail.{AreHonest, IsClosed, IsClean, IsReal, HasKind}
+use Rattle.trail.specs.Trail.{AreHonest, IsClosed, IsClean, AreTame, IsFaultTold, IsReal, HasKind}
 
 abbrev pub here : ℕ → Place
 here number = record { file = 0; line = 1; column = number; at = number }
@@ -91,23 +91,26 @@ pub record IsSevenSafe : Type 0 where
   pub clean : IsClean for_seven seven (trail_of (holds 7 4))
   pub safe : (kind : ℕ) (place : Place) → RunFaults seven kind place → ⊥
 
--- int main(void) { return *(int *)0; }, as far as the fault
+-- int main(void) { return *(int *)0; }
 abbrev pub null_edge : FlowEdge
 null_edge = record { from = 0; to = 1; instr = Number 0 0 8; place = here 1 }
 
 abbrev pub read_edge : FlowEdge
 read_edge = record { from = 1; to = 2; instr = Read 1 0 4 false; place = here 2 }
 
+abbrev pub back_edge : FlowEdge
+back_edge = record { from = 2; to = 3; instr = Return (Some 1); place = here 3 }
+
 abbrev pub null : Flow
 null = record {
-  points = 3;
-  edges = null_edge ∷ read_edge ∷ [];
+  points = 4;
+  edges = null_edge ∷ read_edge ∷ back_edge ∷ [];
   functions = record { entry = 0; exit = 2; parameters = [] } ∷ [];
   variables = [];
   initial = [];
   heads = [];
   main = 0;
-  stands = stands [] ∷ stands (record { register = 0; size = 8 } ∷ []) ∷ stands (record { register = 1; size = 4 } ∷ []) ∷ [];
+  stands = stands [] ∷ stands (record { register = 0; size = 8 } ∷ []) ∷ stands (record { register = 1; size = 4 } ∷ []) ∷ stands [] ∷ [];
   abi = Lp64;
   strict = false;
 }
@@ -124,15 +127,28 @@ for_null = record {
   covers = λ wide narrow. wide ≡ narrow;
 }
 
--- alike where they are at one point and registers hold the same
-abbrev pub same_registers : Alike
-same_registers = record { are = λ one other. (one.point ≡ other.point) × (one.frame.registers ≡ other.frame.registers) }
+-- near where registers hold the same
+abbrev pub same_registers : Nearness
+same_registers = record { is = λ wanted state. (register : ℕ) → (seen state).registers register ≡ wanted.registers register }
 
 pub record IsNullMet : Type 0 where
+  pub flow : IsFlow null
+  pub offsets : HaveOffsets null
+  pub calls : HasNoCalls null
   pub exclusive : IsExclusive null
   pub exact : IsExact for_null same_registers null
-  pub alike : GoAlike for_null same_registers null
   pub honest : AreHonest for_null null (trail_of (holds 0 8))
   pub real : IsReal (trail_of (holds 0 8)) 1
   pub has : HasKind for_null null (second_entry (holds 0 8)) 1 null_pointer_dereference
   pub met : RunFaults null null_pointer_dereference (here 2)
+
+-- all that is asked for so that each fault is told, and what that gives
+pub record IsNullTold : Type 0 where
+  pub flow : IsFlow null
+  pub offsets : HaveOffsets null
+  pub calls : HasNoCalls null
+  pub sound : IsSound for_null null
+  pub honest : AreHonest for_null null (trail_of (holds 0 8))
+  pub closed : IsClosed for_null null (trail_of (holds 0 8))
+  pub tame : AreTame for_null null (trail_of (holds 0 8))
+  pub told : (kind : ℕ) (place : Place) → RunFaults null kind place → IsFaultTold for_null null (trail_of (holds 0 8)) kind place

@@ -12,5 +12,6 @@ pub told-requires : goal.told-requires
 told-requires c = record { honest = subst (λ (trail : List Entry). AreHonest driven c.args.flow.now trail) (sym c.as_slice.ensures) c.requires.so_far.known.worked.honest }
 
 pub returns : goal.returns
-returns c = warned_there c.args.flow.now c.args.limits.now.budget c.args.work c.args.at c.as_slice.result.now c.as_slice-2.result.now c.in_ok-ordered.ordered c.requires.exclusive c.requires.calls
+returns c = warned_there c.args.flow.now c.args.limits.now.budget c.args.work c.args.at c.as_slice.result.now c.as_slice-2.result.now c.in_ok-ordered.ordered c.requires.flow c.requires.offsets
+    c.requires.exclusive c.requires.calls
     c.requires.so_far c.requires.all (search rules) c.as_slice.ensures c.as_slice-2.ensures c.in_ok-ordered.ensures

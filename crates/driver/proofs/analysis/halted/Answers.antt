@@ -13,4 +13,4 @@ told-requires c = record { honest = subst (λ (trail : List Entry). AreHonest dr
 
 pub returns-in_ok-ordered-in-Some : goal.returns-in_ok-ordered-in-Some
 returns-in_ok-ordered-in-Some c = warned_halted c.args.flow.now c.args.limits.now.budget c.args.work c.args.at c.in-Some.next c.as_slice.result.now c.as_slice-in-Some.result.now
-    c.in_ok-ordered-in-Some.ordered c.requires.exclusive c.requires.calls c.requires.so_far (search rules) (search rules) c.as_slice.ensures c.as_slice-in-Some.ensures c.in_ok-ordered-in-Some.ensures
+    c.in_ok-ordered-in-Some.ordered c.requires.flow c.requires.offsets c.requires.exclusive c.requires.calls c.requires.so_far (search rules) (search rules) c.as_slice.ensures c.as_slice-in-Some.ensures c.in_ok-ordered-in-Some.ensures

@@ -1,0 +1,13 @@
+pub mod Leaving
+pub mod Losses
+pub mod Blocks
+pub mod Scopes
+pub mod Loading
+pub mod ReadAlike
+pub mod WriteAlike
+pub mod RangesAlike
+pub mod Operands
+pub mod Registers
+pub mod Tests
+pub mod FaultsAlike
+pub mod Alike
