@@ -8,7 +8,8 @@ and docs/machine.md say, and not by the definitions of crates/. It compares
 - each fault that some state meets with the kinds of the post, and each kind of the post with the faults that are met;
 - each state that follows with the graphs of the post: one of them has to stand for it, but through any word (loss 4);
 - where no loss is named each state of the world that a graph of the post stands for with those that follow: it has to be one of them, but for
-  the numbers of blocks and for dead blocks that nothing names.
+  the numbers of blocks and for dead blocks that nothing names;
+- the objects that are called unreached with those of which some state loses a block.
 
 The world. A memory has a block for each object of the graph, and those that the step makes. Each 4 bytes of a live block are 0, 1, 2^31 or a half of a pointer to
 the first byte of a block; a number of 1, 2 or 4 bytes is 0, 1 or the greatest power of 2 that fits, and one of 8 bytes two such of 4. The block with number n lies at
@@ -22,7 +23,7 @@ import tempfile
 from pathlib import Path
 
 HOME = Path(__file__).resolve().parent.parent
-NULL, OUTSIDE, DEAD, INVALID, DOUBLE, BAD_FREE, LOST, OVERLAP = range(1, 9)
+NULL, OUTSIDE, DEAD, INVALID, DOUBLE, BAD_FREE, LOST, OVERLAP, NEVER_FREED = range(1, 10)
 ANY_WORD = 4
 
 
@@ -304,7 +305,7 @@ def states_of(g, most=4000):
 # ---- what steps do with states: each gives a list of ("to", state) and ("fault", kind)
 
 def lost(state):
-    """Whether a live block from malloc is led to by no chain of whole stored pointers."""
+    """The live blocks from malloc to which no chain of whole stored pointers leads."""
     waiting = set(state.variables.values()) | set(state.roots) | {w[1] for w in state.registers.values() if not isinstance(w, int)}
     seen = set()
     while waiting:
@@ -318,7 +319,7 @@ def lost(state):
                 word = loaded(content[at:at + 8], True)
                 if not isinstance(word, int):
                     waiting.add(word[1])
-    return any(live and kind == "heap" and n not in seen for n, (live, kind, _) in enumerate(state.memory))
+    return [n for n, (live, kind, _) in enumerate(state.memory) if live and kind == "heap" and n not in seen]
 
 
 def unless_lost(state):
@@ -384,13 +385,36 @@ def release(state, at):
     return [("to", after)]
 
 
+def contents_of(size):
+    """What a block of so many bytes may hold that are numbers."""
+    pieces = itertools.product(*([bytes_of(n, 4) for n in numbers(4)] for _ in range(size // 4)))
+    return [tuple(b for piece in content for b in piece) for content in pieces]
+
+
 def allocate(state, size, zeroed, into):
-    contents = [(0,) * size] if zeroed else itertools.product(*([bytes_of(n, 4) for n in numbers(4)] for _ in range(size // 4)))
     found = []
-    for content in contents:
-        content = tuple(b for piece in content for b in piece) if not zeroed else content
+    for content in [(0,) * size] if zeroed else contents_of(size):
         found.append(("to", state.copy(memory=state.memory + ((True, "heap", content),), registers={**state.registers, into: ("to", len(state.memory), 0)})))
     return found
+
+
+def enter(state, *fields):
+    found = [state]
+    for variable, size in zip(fields[::2], fields[1::2]):
+        found = [was.copy(memory=was.memory + ((True, "local", content),), variables={**was.variables, variable: len(was.memory)}) for was in found for content in contents_of(size)]
+    return [("to", came) for came in found]
+
+
+def leave(state, *which):
+    memory, variables = list(state.memory), dict(state.variables)
+    for variable in which:
+        block = variables.pop(variable)
+        memory[block] = (False, memory[block][1], ())
+    return unless_lost(state.copy(memory=tuple(memory), variables=variables))
+
+
+def close(state):
+    return [("fault", NEVER_FREED)] if any(live and kind == "heap" for live, kind, _ in state.memory) else [("to", state)]
 
 
 def same(state, one, other, wanted):
@@ -538,6 +562,12 @@ def random_step(rng, g, steps):
         return kind, [one]
     if kind == "allocate":
         return kind, [rng.choice((4, 8)), rng.choice((0, 1)), 2]
+    if kind == "enter":
+        return kind, rng.choice(([], [2, 4], [2, 8], [3, 4, 2, 4], [0, 4]))
+    if kind == "leave":
+        return kind, rng.choice(([], [0], [0], [1], [0, 1], [1, 0]))
+    if kind in ("close", "unreached"):
+        return kind, []
     if kind == "number":
         return kind, [2, rng.choice((0, 1, 5, 4096)), 8]
     if kind == "address":
@@ -559,7 +589,8 @@ def random_step(rng, g, steps):
 
 STEPS = {op: operate(op) for op in OPERATORS} | {
     "number": number, "address": variable_address, "move": move, "shift": shift, "shiftby": shift_by, "convert": convert, "input": received,
-    "read": read, "write": write, "refuse": refuse, "finish": finish, "fill": fill, "copy": copy, "release": release, "allocate": allocate, "same": same}
+    "read": read, "write": write, "refuse": refuse, "finish": finish, "fill": fill, "copy": copy, "release": release, "allocate": allocate, "enter": enter, "leave": leave, "close": close, "same": same}
+UNREACHED = "unreached"
 
 
 # ---- comparing
@@ -613,6 +644,23 @@ def differences(g, kind, fields, answer, counts):
     return found
 
 
+def unlike(g, answer, counts):
+    """What is said of the objects of which some state loses a block otherwise than the search says."""
+    states = states_of(g)
+    if states is None:
+        counts["too many"] += 1
+        return []
+    counts["exact"] += 1
+    keys = list(g["objects"])
+    wanted = sorted({keys[n] for state in states for n in lost(state)})
+    told = [] if answer == "all reached" else [int(key) for key in answer.split()[1].split(":")]
+    return [] if told == wanted else [f"the objects of which some state loses a block are {wanted}"]
+
+
+def row(g, kind, fields):
+    return f"{kind} {spelled(g)}" if kind == UNREACHED else f"{kind} {':'.join(map(str, fields))} / {spelled(g)}"
+
+
 def answers(lines):
     """What the program graph_rows prints of each line."""
     with tempfile.TemporaryDirectory() as folder:
@@ -625,21 +673,21 @@ def answers(lines):
 def main():
     count = int(sys.argv[1]) if len(sys.argv) > 1 else 3000
     rng = random.Random(int(sys.argv[2]) if len(sys.argv) > 2 else 1)
-    steps = sys.argv[3].split(",") if len(sys.argv) > 3 else list(STEPS)
+    steps = sys.argv[3].split(",") if len(sys.argv) > 3 else [*STEPS, UNREACHED]
     cases = []
     for _ in range(count):
         g = random_graph(rng)
         cases.append((g, *random_step(rng, g, steps)))
-    lines = [f"{kind} {':'.join(map(str, fields))} / {spelled(g)}" for g, kind, fields in cases]
+    lines = [row(*case) for case in cases]
     got = answers(lines)
     if len(got) != len(lines):
         sys.exit(f"{len(lines)} rows, and {len(got)} answers: {got[:3]}")
     counts, wrong = {"exact": 0, "loss": 0, "too many": 0, "no row": 0}, 0
     for (g, kind, fields), line, answer in zip(cases, lines, got):
-        if not answer.startswith("post"):
+        if not answer.startswith(("post", "unreached", "all reached")):
             counts["no row"] += 1
             continue
-        for difference in differences(g, kind, fields, answer, counts):
+        for difference in unlike(g, answer, counts) if kind == UNREACHED else differences(g, kind, fields, answer, counts):
             wrong += 1
             print(f"{line}\n  {answer}\n  {difference}")
     print(f"{count} cases, {wrong} differences; " + ", ".join(f"{n} {word}" for word, n in counts.items()))

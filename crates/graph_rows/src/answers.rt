@@ -6,7 +6,9 @@ use crate::steps::answer_of_step;
 use cbase::{NoMemory, Stop};
 use cover::covers;
 use graph::{Graph, Parts, graph_of};
+use heap_steps::unreached;
 use std::alloc::Global;
+use tidying::{into_tidied, tidied};
 
 /// What is printed for a line.
 pub fn answer_of_line(alloc: Global, line: &str) -> Result<String, NoMemory> {
@@ -16,7 +18,16 @@ pub fn answer_of_line(alloc: Global, line: &str) -> Result<String, NoMemory> {
     let (kind, text) = line.split_once(' ').unwrap_or((line, ""));
     match kind {
         "covers" => return answer_of_two(alloc, text),
-        "built" | "kept" | "large" | "moved" | "taken" | "copied" | "counted" => (),
+        "built"
+        | "kept"
+        | "large"
+        | "unreached"
+        | "moved"
+        | "taken"
+        | "copied"
+        | "counted"
+        | "tidied"
+        | "given" => (),
         _ => return answer_of_step(alloc, kind, text),
     }
     match parts_of_text(alloc, text) {
@@ -102,13 +113,16 @@ fn answer_of_parts(alloc: Global, kind: &str, parts: Parts) -> Result<String, No
     }
 }
 
-/// What a kind answers of a graph: `built` its parts, `kept` at how many of the keys 0 to 3 an object and a value stand, and `large`
-/// whether it is large from 2 on. All others ask for a copy.
+/// What a kind answers of a graph: `built` its parts, `kept` at how many of the keys 0 to 3 an object and a value stand, `large` whether
+/// it is large from 2 on, `unreached` the keys of the objects of which some memory loses a block, and `tidied` the parts that are left
+/// where what nothing holds is taken out. All others ask for a copy.
 fn answer_of_graph(alloc: Global, kind: &str, graph: &Graph) -> Result<String, NoMemory> {
     match kind {
         "built" => built(alloc, graph),
         "kept" => kept(alloc, graph),
         "large" => large(alloc, graph),
+        "unreached" => lost(alloc, graph),
+        "tidied" => left(alloc, tidied(alloc, graph)),
         _ => match graph.copied(alloc) {
             Ok(copy) => answer_of_copy(alloc, kind, copy),
             Err(_) => Err(NoMemory),
@@ -116,12 +130,13 @@ fn answer_of_graph(alloc: Global, kind: &str, graph: &Graph) -> Result<String, N
     }
 }
 
-/// What a kind answers of a copy: `moved` the parts that it is taken apart into, `taken` how many objects and values these have. All
-/// others lend it.
+/// What a kind answers of a copy: `moved` the parts that it is taken apart into, `taken` how many objects and values these have, and `given`
+/// what is left of it where it is given up. All others lend it.
 fn answer_of_copy(alloc: Global, kind: &str, copy: Graph) -> Result<String, NoMemory> {
     match kind {
         "moved" => spelled(alloc, copy.into_parts(alloc)?),
         "taken" => counts(alloc, copy.into_parts(alloc)?),
+        "given" => left(alloc, into_tidied(alloc, copy)),
         _ => {
             let answer = answer_of_lent(alloc, kind, &copy);
             drop(copy);
@@ -141,6 +156,18 @@ fn answer_of_lent(alloc: Global, kind: &str, copy: &Graph) -> Result<String, NoM
 
 fn built(alloc: Global, graph: &Graph) -> Result<String, NoMemory> {
     spelled(alloc, graph.parts(alloc)?)
+}
+
+/// The parts of what is left of a graph, as words.
+fn left(alloc: Global, answer: Result<Graph, NoMemory>) -> Result<String, NoMemory> {
+    match answer {
+        Ok(graph) => {
+            let text = built(alloc, &graph);
+            drop(graph);
+            text
+        }
+        Err(error) => Err(error),
+    }
 }
 
 /// Parts as words.
@@ -164,6 +191,31 @@ fn large(alloc: Global, graph: &Graph) -> Result<String, NoMemory> {
     } else {
         said(alloc, "not large from 2 on")
     }
+}
+
+/// `unreached KEY:..`, or `all reached`.
+fn lost(alloc: Global, graph: &Graph) -> Result<String, NoMemory> {
+    let keys = unreached(alloc, graph)?;
+    if keys.is_empty() {
+        return said(alloc, "all reached");
+    }
+    let mut text = String::from_str(alloc, "unreached")?;
+    match show_keys(&mut text, keys.as_slice()) {
+        Ok(()) => Ok(text),
+        Err(error) => {
+            drop(text);
+            Err(error)
+        }
+    }
+}
+
+fn show_keys(text: &mut String, keys: &[u32]) -> Result<(), NoMemory> {
+    let mut before = " ";
+    for key in keys {
+        write!(text, "{before}{key}")?;
+        before = ":";
+    }
+    Ok(())
 }
 
 fn kept(alloc: Global, graph: &Graph) -> Result<String, NoMemory> {

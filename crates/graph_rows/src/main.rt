@@ -7,6 +7,7 @@
 mod answers;
 mod fault;
 mod gains;
+mod scopes;
 mod shown;
 mod spelled;
 mod steps;

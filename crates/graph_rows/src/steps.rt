@@ -1,6 +1,6 @@
 //! What steps make of a graph.
 //!
-//! A row is `STEP FIELDS / WORD ..`: the fields of the step with `:` between them, and the words of the graph that it is made from.
+//! A row is `STEP FIELDS / WORD ..`: the fields of the step with `:` between them, and the words of the graph that it is made from. A step without fields is `STEP / WORD ..`.
 ghost use Rattle.std.specs.Prelude.{◌≡◌, true, IsSome};
 ghost use Rattle.changes.specs.Following.{holds_size};
 ghost use Rattle.changes.specs.Reaching.{is_address_held, names_no_segment};
@@ -10,6 +10,7 @@ ghost use Rattle.graph.specs.Sizes.{is_scalar_size, value_size};
 
 use crate::answers::{graph_of_text, said};
 use crate::gains::gaining;
+use crate::scopes::scoped;
 use crate::shown::shown;
 use block_steps::{allocate, release};
 use cbase::{List, NoMemory, Stop};
@@ -22,9 +23,12 @@ use std::alloc::Global;
 
 /// What is answered of the row of a step.
 pub fn answer_of_step(alloc: Global, kind: &str, text: &str) -> Result<String, NoMemory> {
-    let (fields, words) = match text.split_once(" / ") {
-        Some(both) => both,
-        None => return said(alloc, "no row"),
+    let (fields, words) = match text.strip_prefix("/ ") {
+        Some(words) => ("", words),
+        None => match text.split_once(" / ") {
+            Some(both) => both,
+            None => return said(alloc, "no row"),
+        },
     };
     match numbers_of(alloc, fields)? {
         Some(numbers) => answer_of_fields(alloc, kind, &numbers, words),
@@ -159,8 +163,11 @@ fn number_of(field: &str) -> Option<u32> {
 }
 
 /// The numbers that fields spell, with `:` between them.
-fn numbers_of(alloc: Global, fields: &str) -> Result<Option<List<u32>>, NoMemory> {
+pub fn numbers_of(alloc: Global, fields: &str) -> Result<Option<List<u32>>, NoMemory> {
     let mut numbers = List::new(alloc);
+    if fields.is_empty() {
+        return Ok(Some(numbers));
+    }
     for field in fields.split(':') {
         match number_of(field) {
             Some(number) => numbers.push(number)?,
@@ -273,7 +280,7 @@ fn refusing(alloc: Global, graph: &Graph, fields: &[u32]) -> Result<Came, NoMemo
 }
 
 /// A post that may be refused for the size of the graph as well.
-fn come(post: Result<Post, Stop>) -> Result<Came, NoMemory> {
+pub fn come(post: Result<Post, Stop>) -> Result<Came, NoMemory> {
     match post {
         Ok(post) => Ok(Came::Post(post)),
         Err(Stop::Large) => Ok(Came::NoRow),
@@ -282,7 +289,12 @@ fn come(post: Result<Post, Stop>) -> Result<Came, NoMemory> {
 }
 
 /// The post of a step with these fields.
-fn step(alloc: Global, kind: &str, graph: &Graph, fields: &List<u32>) -> Result<Came, NoMemory> {
+pub fn step(
+    alloc: Global,
+    kind: &str,
+    graph: &Graph,
+    fields: &List<u32>,
+) -> Result<Came, NoMemory> {
     match kind {
         "read" => reading(alloc, graph, fields.as_slice()),
         "write" => writing(alloc, graph, fields.as_slice()),
@@ -293,12 +305,13 @@ fn step(alloc: Global, kind: &str, graph: &Graph, fields: &List<u32>) -> Result<
         "same" => comparing(alloc, graph, fields.as_slice()),
         "release" => releasing(alloc, graph, fields.as_slice()),
         "allocate" => allocating(alloc, graph, fields.as_slice()),
+        "enter" | "leave" | "close" => scoped(alloc, kind, graph, fields.as_slice()),
         _ => gaining(alloc, kind, graph, fields.as_slice()),
     }
 }
 
 /// A post as text: `post kinds=K:.. loss=L` and, each behind ` / `, its graphs. What there is none of is left out.
-fn shown_post(alloc: Global, post: &Post) -> Result<String, NoMemory> {
+pub fn shown_post(alloc: Global, post: &Post) -> Result<String, NoMemory> {
     let mut text = String::from_str(alloc, "post")?;
     match show_post(alloc, &mut text, post) {
         Ok(()) => Ok(text),
