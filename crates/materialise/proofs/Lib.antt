@@ -1,0 +1,10 @@
+pub mod Emptiable
+pub mod Planes
+pub mod Emptied
+pub mod Words
+pub mod Means
+pub mod Case
+pub mod Without
+pub mod Form
+pub mod Formed
+pub mod Held
