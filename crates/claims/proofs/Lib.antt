@@ -1,3 +1,4 @@
+pub mod Warnings
 pub mod Meanings
 pub mod Playing
 pub mod OfItems

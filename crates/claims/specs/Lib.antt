@@ -1,9 +1,11 @@
 pub mod OfFile
+pub mod Analysed
 pub mod Safe
 pub mod Warned
 pub mod GaveUp
 pub mod NotRead
 pub mod NotYet
+pub mod Limited
 pub mod TooLong
 pub mod Words
 pub mod ReadFault

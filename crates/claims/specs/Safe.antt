@@ -1,13 +1,12 @@
 -- What `safe` means.
-use Rattle.std.specs.Prelude.{ℕ, List}
-use Rattle.ctokens.specs.declared.item_span.ItemSpan.{ItemSpan}
+use Rattle.std.specs.Prelude.{ℕ, false, List}
+use Rattle.cbase.specs.declared.abi.Abi.TheVariants.{Lp64}
 use Rattle.ctokens.specs.declared.token.Tokens.{Tokens}
-use Rattle.first_form.specs.declared.line.Program.{Program}
-use Rattle.first_form.specs.declared.token.PlacedToken.{PlacedToken}
-use Rattle.verdicts.specs.Verdict.{IsFirstForm, IsRead, IsSound}
+use Rattle.c_machine.specs.Program.{Program}
+use Rattle.c_machine.specs.Run.{IsSound}
+use Rattle.c_machine.specs.Trees.{text_of}
+use Rattle.verdicts.specs.Program.{HoldsProgram}
 
--- main needs one item of the text, which is of the first form, and no run of its program meets a fault
+-- the bytes hold a program, and no choices lead a run of it to a fault, however long it is
 abbrev pub MeansSafe : List ℕ → List ℕ → Type 0
-MeansSafe file bytes =
-    (t : Tokens) × (items : List ItemSpan) × (numbers : List ℕ) × (row : List PlacedToken) × (program : Program)
-    × IsRead file bytes t items numbers × IsFirstForm t items numbers row program × IsSound program
+MeansSafe file bytes = (t : Tokens) × (p : Program) × HoldsProgram file bytes Lp64 false t p × IsSound (text_of p)

@@ -7,8 +7,9 @@ mod offering;
 mod replaying;
 
 pub use judging::{
-    gave_up_means, no_main_means, no_token_means, not_yet_means, read_fault_means, rule_means,
-    safe_means, syntax_means, too_deep_means, too_long_means, usage_means, warned_means,
+    complete_warnings_mean, gave_up_means, large_means, no_main_means, no_token_means,
+    not_yet_means, read_fault_means, rule_means, safe_means, spent_means, syntax_means,
+    too_deep_means, too_long_means, usage_means, warned_means, warnings_mean,
 };
 pub use offering::definitions_are_offered;
 pub use replaying::{

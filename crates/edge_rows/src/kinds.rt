@@ -25,6 +25,12 @@ pub enum Kind {
     Warned,
     /// That of one with an error.
     Error,
+    /// That of one with a warning, where the budget is spent.
+    WarnedSpent,
+    /// That of one where the budget is spent.
+    Spent,
+    /// That of one with a state that is too large.
+    Large,
     /// That of one with no token at a place.
     Lexical,
     /// That of one in which brackets open too deep.
@@ -37,7 +43,7 @@ pub enum Kind {
     Rule,
     /// That of one with a construct that is given up.
     Construct,
-    /// That of one that is not judged yet.
+    /// That of one that calls a function of its own.
     NotYet,
     /// That of one that is too long.
     TooLong,
@@ -74,7 +80,7 @@ pub enum Kind {
 }
 
 /// The words of the kinds.
-const KINDS: [(&str, Kind); 34] = [
+const KINDS: [(&str, Kind); 37] = [
     ("repeat", Kind::Repeat),
     ("run", Kind::Run),
     ("files", Kind::Files),
@@ -86,6 +92,9 @@ const KINDS: [(&str, Kind); 34] = [
     ("safe", Kind::Safe),
     ("warned", Kind::Warned),
     ("error", Kind::Error),
+    ("warned_spent", Kind::WarnedSpent),
+    ("spent", Kind::Spent),
+    ("large", Kind::Large),
     ("lexical", Kind::Lexical),
     ("deep", Kind::Deep),
     ("no_main", Kind::NoMain),

@@ -68,6 +68,9 @@ fn answer(alloc: Global, row: &Row<'_>, text: &[u8], shown: &mut String) -> Resu
         Kind::Safe
         | Kind::Warned
         | Kind::Error
+        | Kind::WarnedSpent
+        | Kind::Spent
+        | Kind::Large
         | Kind::Lexical
         | Kind::Deep
         | Kind::NoMain

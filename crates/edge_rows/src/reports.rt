@@ -1,6 +1,5 @@
 //! Reports of answers about `t.c`, where the files of the text have the names `t.c` and `a.h`.
-ghost use Rattle.std.specs.Prelude.{◌≡◌, ◌<◌, ℕ, [], IfOk, IfSome, List, OnOk, length};
-ghost use Rattle.report.specs.Kind.{IsKind};
+ghost use Rattle.std.specs.Prelude.{◌≡◌, ◌<◌, ℕ, [], Bool, IfOk, IfSome, List, OnOk, length};
 ghost use Rattle.report.specs.Report.{HasPrintable};
 ghost use Rattle.report.specs.declared.answer.Answer.{Answer};
 
@@ -32,7 +31,7 @@ fn answer_of(
     ensures { IfOk result (λ found. IfSome found (λ answer. (names : List (List ℕ)) → length names ≡ 2 → HasPrintable names answer)) }
 {
     match kind {
-        Kind::Warned | Kind::Error if number >= 1 && number <= 9 => {
+        Kind::Warned | Kind::Error | Kind::WarnedSpent if number >= 1 && number <= 9 => {
             let warning = Warning {
                 place,
                 kind: number as u8,
@@ -40,7 +39,10 @@ fn answer_of(
             };
             let mut warnings = List::new(alloc);
             warn(&mut warnings, warning)?;
-            Ok(Some(Answer::Warned { warnings }))
+            Ok(Some(Answer::Warned {
+                warnings,
+                complete: !matches!(kind, Kind::WarnedSpent),
+            }))
         }
         _ => Ok(plain_answer(kind, number, place)),
     }
@@ -53,6 +55,8 @@ fn plain_answer(kind: Kind, number: u32, place: Place) -> Option<Answer>
 {
     match kind {
         Kind::Safe => Some(Answer::Safe),
+        Kind::Spent => Some(Answer::Spent),
+        Kind::Large => Some(Answer::Large),
         Kind::Lexical => Some(Answer::NotRead {
             why: Why::Lexical { place },
         }),
@@ -73,7 +77,7 @@ fn plain_answer(kind: Kind, number: u32, place: Place) -> Option<Answer>
             number: number as u8,
             place,
         }),
-        Kind::NotYet => Some(Answer::NotYet),
+        Kind::NotYet => Some(Answer::NotYet { place }),
         Kind::TooLong => Some(Answer::TooLong { taken: number }),
         Kind::Usage => Some(Answer::Usage),
         Kind::ReadFault => Some(Answer::ReadFault),
@@ -103,8 +107,7 @@ pub fn show_text(text: &[u8], shown: &mut String) -> Result<(), NoMemory> {
 fn warn(warnings: &mut List<Warning>, warning: Warning) -> Result<(), NoMemory>
     requires empty { warnings.old ≡ [] }
     requires named { warning.place.file < 2 }
-    requires kind { IsKind warning.kind }
-    ensures { OnOk result ((names : List (List ℕ)) → length names ≡ 2 → HasPrintable names (Answer.Warned warnings.new)) }
+    ensures { OnOk result ((names : List (List ℕ)) (complete : Bool) → length names ≡ 2 → HasPrintable names (Answer.Warned warnings.new complete)) }
 {
     warnings.push(warning)
 }

@@ -35,20 +35,12 @@ pub enum Kind {
     Construct,
     /// Its first change of layout.
     Layout,
-    /// The faults of its first item.
-    Faults,
-    /// Whether its tokens are a program of the first form.
-    Form,
-    /// The lines of that.
-    Lines,
-    /// The faults of that.
-    Found,
     /// What stands at a token.
     Terminal,
 }
 
 /// The words of the kinds.
-const KINDS: [(&str, Kind); 21] = [
+const KINDS: [(&str, Kind); 17] = [
     ("repeat", Kind::Repeat),
     ("tokens", Kind::Tokens),
     ("scope", Kind::Scope),
@@ -65,10 +57,6 @@ const KINDS: [(&str, Kind); 21] = [
     ("statements", Kind::Statements),
     ("construct", Kind::Construct),
     ("layout", Kind::Layout),
-    ("faults", Kind::Faults),
-    ("form", Kind::Form),
-    ("lines", Kind::Lines),
-    ("found", Kind::Found),
     ("terminal", Kind::Terminal),
 ];
 

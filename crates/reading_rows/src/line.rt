@@ -6,7 +6,6 @@ use crate::answers::{Asked, last, typedef};
 use crate::at_tokens::{block, expression};
 use crate::constructs::{construct, layout};
 use crate::cut::cut;
-use crate::faults::{faults, program};
 use crate::kinds::Kind;
 use crate::lexical::tokens;
 use crate::needs::{items, needed, passed};
@@ -108,8 +107,6 @@ fn answer_of_tokens(
         Kind::Statements => block(alloc, t, number, true, shown),
         Kind::Construct => construct(alloc, t, shown),
         Kind::Layout => layout(alloc, t, shown),
-        Kind::Faults => faults(alloc, t, shown),
-        Kind::Form | Kind::Lines | Kind::Found => program(alloc, kind, t, shown),
         _ => terminal(alloc, number as usize, t, shown),
     }
 }

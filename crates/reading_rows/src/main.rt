@@ -10,7 +10,6 @@ mod answers;
 mod at_tokens;
 mod constructs;
 mod cut;
-mod faults;
 mod kinds;
 mod lexical;
 mod line;

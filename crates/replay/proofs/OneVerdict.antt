@@ -1,13 +1,9 @@
 -- Of two files at most one verdict is true.
-use Rattle.std.proofs.Common.{◌≡◌, ℕ, ◌≤◌, ◌⊎◌, Bool, true, false, IsTrue, inl, inr, Option, None, Some, Result, List, length, refl, ap, sym, ◌∙◌, subst, arith}
+use Rattle.std.proofs.Common.{◌≡◌, ℕ, ◌≤◌, ◌⊎◌, Bool, true, false, IsTrue, inl, inr, Option, Some, Result, List, length, refl, ap, sym, ◌∙◌, subst, arith}
 use Rattle.cbase.specs.declared.abi.Abi.{Abi}
-use Rattle.cbase.specs.declared.place.Place.{Place}
-use Rattle.cbase.specs.declared.structs.StructDef.{StructDef}
-use Rattle.cbase.specs.declared.tree.item.Item.{Item}
 use Rattle.choices.specs.declared.choice.Choice.{Choice}
 use Rattle.choices.specs.Format.{SpellsChoices}
 use Rattle.command_line.specs.declared.replay.ReplayCommand.{ReplayCommand}
-use Rattle.cread.specs.InOrder.{at_file}
 use Rattle.ctokens.specs.InText.{most_bytes}
 use Rattle.ctokens.specs.Items.{IsItems}
 use Rattle.ctokens.specs.TokenList.{AreTokens, IsLexical}
@@ -15,13 +11,10 @@ use Rattle.ctokens.specs.declared.item_span.Deep.{Deep}
 use Rattle.ctokens.specs.declared.item_span.ItemSpan.{ItemSpan}
 use Rattle.ctokens.specs.declared.token.Lexical.{Lexical}
 use Rattle.ctokens.specs.declared.token.Tokens.{Tokens}
-use Rattle.items.specs.languages.CLanguage.{Declarations, c_language, c_file}
-use Rattle.typing.specs.Outcomes.{Handed}
+use Rattle.items.specs.languages.CLanguage.{c_language, c_file}
 use Rattle.ccheck.specs.declared.refusal.Refusal.{Refusal}
 use Rattle.ccheck.specs.declared.refusal.Refusal.TheVariants as refusal
-use Rattle.ccheck.specs.Checked.{IsRefused, at_beginning}
-use Rattle.ccheck.specs.Needed.{spans_of}
-use Rattle.ccheck.specs.Refusals.{place_at}
+use Rattle.ccheck.specs.Checked.{IsRefused}
 use Rattle.ccheck.specs.Walk.{HaveOneAnswer}
 use Rattle.c_machine.specs.Program.{Program}
 use Rattle.c_machine.specs.Run.{run_of}
@@ -29,12 +22,14 @@ use Rattle.c_machine.specs.Trees.{text_of}
 use Rattle.report.specs.declared.answer.Why.TheVariants as why
 use Rattle.report.specs.declared.replay_answer.ReplayAnswer.{ReplayAnswer}
 use Rattle.report.specs.declared.replay_answer.ReplayAnswer.TheVariants.{Played, BadChoices, NotRead, Construct, TooLong, Usage, ReadFault, OutOfMemory}
+use Rattle.verdicts.proofs.OneProgram.{one_program, one_refusal, pass_or_refused}
 use Rattle.verdicts.proofs.OneVerdict.{Stage, AtLexical, AtDeep, AtNoMain, AtRead, AtLong, IsStage, one_stage}
 use Rattle.replay.specs.Answered.{IsAnswered}
 use Rattle.replay.proofs.Files.{judged_of, same_bytes}
 use Rattle.replay.specs.Judged.{HasProgram, IsExact, IsVerdict, Judges}
 use Rattle.replay.specs.Opened.{IsOfFileAlone, IsOpenedLast}
-use Rattle.replay.specs.Program.{IsProgram, what_of}
+use Rattle.replay.specs.Program.{what_of}
+use Rattle.verdicts.specs.Program.{IsProgram}
 use Rattle.replay.specs.Told.{answer_of}
 
 -- what is found of CHOICES
@@ -120,17 +115,6 @@ run_alone t p steps (Spelled choices) alone = alone
 run_alone t p steps NotSpelled alone = alone
 run_alone t p steps TooMany alone = alone
 
-abbrev program_with : List Item → List Handed → List StructDef → Abi → Bool → Program
-program_with items handed structs abi strict = record { items = items; handed = handed; structs = structs; abi = abi; strict = strict }
-
-same_fields : (p q : Program) → p.items ≡ q.items → p.handed ≡ q.handed → p.structs ≡ q.structs → p.abi ≡ q.abi → p.strict ≡ q.strict → p ≡ q
-same_fields p q items handed structs abi strict =
-    ap (λ (x : List Item). program_with x p.handed p.structs p.abi p.strict) items
-    ∙ (ap (λ (x : List Handed). program_with q.items x p.structs p.abi p.strict) handed
-    ∙ (ap (λ (x : List StructDef). program_with q.items q.handed x p.abi p.strict) structs
-    ∙ (ap (λ (x : Abi). program_with q.items q.handed q.structs x p.strict) abi
-    ∙ ap (λ (x : Bool). program_with q.items q.handed q.structs q.abi x) strict)))
-
 module _ (one_list : (file text : List ℕ) (tokens others : Tokens) → AreTokens file text tokens → AreTokens file text others → tokens ≡ others)
     (one_place : (file text : List ℕ) (lexical other : Lexical) → IsLexical file text lexical → IsLexical file text other → lexical ≡ other)
     (never_both : (file text : List ℕ) (tokens : Tokens) (lexical : Lexical) → AreTokens file text tokens → IsLexical file text lexical → ⊥)
@@ -138,28 +122,7 @@ module _ (one_list : (file text : List ℕ) (tokens others : Tokens) → AreToke
     (one_answer : (abi : Abi) → HaveOneAnswer (c_language abi) (c_file abi))
     (one_choices : (text : List ℕ) (a b : List Choice) → SpellsChoices text a → SpellsChoices text b → a ≡ b)
     (command : ReplayCommand) (bytes second : List ℕ) where
-  -- of the items that main needs one answer is true, with one program
-  pass_or_refused : (t : Tokens) (items : List ItemSpan) (numbers : List ℕ) (reason : Refusal) (p : Program)
-      → IsProgram t items numbers command.model command.strict p → IsRefused t items numbers command.model command.strict reason → ⊥
-  pass_or_refused t items numbers reason p is (behind, first) =
-      (one_answer command.model).never_both t (spans_of items numbers) at_file is.after (at_beginning t items command.model command.strict) is.behind behind
-      p.items p.handed reason is.passing first
-
-  one_refusal : (t : Tokens) (items : List ItemSpan) (numbers : List ℕ) (reason other : Refusal)
-      → IsRefused t items numbers command.model command.strict reason → IsRefused t items numbers command.model command.strict other → reason ≡ other
-  one_refusal t items numbers reason other (behind, is) (outside, also) =
-      (one_answer command.model).one_refusal t (spans_of items numbers) at_file (at_beginning t items command.model command.strict) behind outside reason other
-      is also
-
-  one_program : (t : Tokens) (items : List ItemSpan) (numbers : List ℕ) (p q : Program) → IsProgram t items numbers command.model command.strict p
-      → IsProgram t items numbers command.model command.strict q → p ≡ q
-  one_program t items numbers p q is also =
-      let (trees, rows, places) = (one_answer command.model).one_program t (spans_of items numbers) at_file is.after also.after
-      (at_beginning t items command.model command.strict) is.behind also.behind p.items q.items p.handed q.handed is.passing also.passing in
-      same_fields p q trees rows (is.structs_are ∙ (ap (λ (x : Declarations). x.structs) places ∙ sym also.structs_are))
-      (is.abi_is ∙ sym also.abi_is) (is.strict_is ∙ sym also.strict_is)
-
-  -- and of CHOICES
+  -- of CHOICES one thing is found
   one_heard : (heard other : Heard) → IsHeard second heard → IsHeard second other → heard ≡ other
   one_heard (Spelled choices) (Spelled others) (short, is) (low, also) = ap Spelled (one_choices second choices others is also)
   one_heard (Spelled choices) NotSpelled (short, is) (low, none) = absurd (none choices is)
@@ -182,12 +145,12 @@ module _ (one_list : (file text : List ℕ) (tokens others : Tokens) → AreToke
   one_fit AtNoMain answer other is also = is ∙ sym also
   one_fit AtLong answer other is also = is ∙ sym also
   one_fit (AtRead t items numbers) answer other (inl (reason, by, is)) (inl (reason2, also, is2)) =
-      is ∙ (ap answer_of (one_refusal t items numbers reason reason2 by also) ∙ sym is2)
-  one_fit (AtRead t items numbers) answer other (inl (reason, by, is)) (inr (p, passes, ways)) = absurd (pass_or_refused t items numbers reason p passes by)
-  one_fit (AtRead t items numbers) answer other (inr (p, passes, ways)) (inl (reason, by, is2)) = absurd (pass_or_refused t items numbers reason p passes by)
+      is ∙ (ap answer_of (one_refusal one_answer t items numbers command.model command.strict reason reason2 by also) ∙ sym is2)
+  one_fit (AtRead t items numbers) answer other (inl (reason, by, is)) (inr (p, passes, ways)) = absurd (pass_or_refused one_answer t items numbers command.model command.strict reason p passes by)
+  one_fit (AtRead t items numbers) answer other (inr (p, passes, ways)) (inl (reason, by, is2)) = absurd (pass_or_refused one_answer t items numbers command.model command.strict reason p passes by)
   one_fit (AtRead t items numbers) answer other (inr (p, passes, ways)) (inr (q, passes2, ways2)) =
       one_way t q answer other
-      (subst (λ (x : Program). RunsSo command second t x answer) (one_program t items numbers p q passes passes2) ways) ways2
+      (subst (λ (x : Program). RunsSo command second t x answer) (one_program one_answer t items numbers command.model command.strict p q passes passes2) ways) ways2
 
   one_verdict : (answer other : ReplayAnswer) → IsVerdict answer → IsVerdict other → Judges command bytes second answer → Judges command bytes second other
       → answer ≡ other
@@ -203,7 +166,7 @@ module _ (one_list : (file text : List ℕ) (tokens others : Tokens) → AreToke
 
   fit_alone : (t : Tokens) (items : List ItemSpan) (numbers : List ℕ) (p : Program) (answer : ReplayAnswer)
       → IsProgram t items numbers command.model command.strict p → Fits command second (AtRead t items numbers) answer → IsOfFileAlone answer → ⊥
-  fit_alone t items numbers p answer passes (inl (reason, by, is)) alone = pass_or_refused t items numbers reason p passes by
+  fit_alone t items numbers p answer passes (inl (reason, by, is)) alone = pass_or_refused one_answer t items numbers command.model command.strict reason p passes by
   fit_alone t items numbers p answer passes (inr (q, passes2, ways)) alone = way_alone t q answer ways alone
 
   never_alone : (answer : ReplayAnswer) → HasProgram command bytes → IsOfFileAlone answer → Judges command bytes second answer → ⊥

@@ -1,9 +1,7 @@
 -- What is found of FILE's tokens is true of its bytes, whatever is in CHOICES.
-use Rattle.std.proofs.Common.{◌≡◌, ℕ, ◌<◌, ◌≤◌, ◌∙◌, Bool, IfOk, Result, inl, inr, None, Some, Ok, Err, Option, List, length, map, slice_get, option_map, unwrap_or, refl, sym, subst}
-use Rattle.std.proofs.lemmas.Option.{slice_get_cases, get_or_from_slice_get}
+use Rattle.std.proofs.Common.{◌≡◌, ℕ, ◌<◌, ◌≤◌, ◌∙◌, Bool, IfOk, Result, None, Some, Ok, Err, List, length, map, refl, sym, subst}
 use Rattle.cbase.specs.declared.place.Place.{Place}
 use Rattle.cbase.specs.declared.tree.item.Item.{Item}
-use Rattle.cgrammar.specs.Terminals.{no_place}
 use Rattle.choices.specs.declared.choice.Choice.{Choice}
 use Rattle.choices.specs.Answers.{IsAnswer as IsReadAs}
 use Rattle.choices.specs.Format.{SpellsChoices}
@@ -19,7 +17,6 @@ use Rattle.ctokens.specs.TokenList.{AreTokens, HasNamedFiles, IsLexical}
 use Rattle.ctokens.specs.declared.item_span.Deep.{Deep}
 use Rattle.ctokens.specs.declared.item_span.ItemSpan.{ItemSpan}
 use Rattle.ctokens.specs.declared.token.Lexical.{Lexical}
-use Rattle.ctokens.specs.declared.token.Token.{Token as Lexeme}
 use Rattle.ctokens.specs.declared.token.Tokens.{Tokens}
 use Rattle.expressions.specs.Context.{Agrees, Context, declared}
 use Rattle.expressions.specs.Numbers.{Numbering, handed_at}
@@ -27,7 +24,6 @@ use Rattle.items.specs.languages.AtTypes.{declarations_at}
 use Rattle.items.specs.languages.LeadsBack.{LeadsBack}
 use Rattle.ccheck.specs.Checked.{IsAnswer, IsRefused, IsTyped}
 use Rattle.ccheck.specs.Named.{AnswerIsNamed, IsNamed}
-use Rattle.ccheck.specs.Refusals.{place_at}
 use Rattle.ccheck.specs.declared.checking.Checked.{Checked}
 use Rattle.ccheck.specs.declared.checking.Checked.TheVariants.{Typed as TypedAnswer, Refused as RefusedAnswer}
 use Rattle.ccheck.specs.declared.program.TypedProgram.{TypedProgram}
@@ -42,6 +38,7 @@ use Rattle.report.specs.declared.answer.Why.{Why}
 use Rattle.report.specs.declared.answer.Why.TheVariants as why
 use Rattle.report.specs.declared.replay_answer.Replayed.{Replayed}
 use Rattle.report.specs.declared.replay_answer.ReplayAnswer.TheVariants.{Played, BadChoices, NotRead}
+use Rattle.verdicts.proofs.PlacesNamed.{token_named}
 use Rattle.replay.specs.declared.judging.JudgedFile.{JudgedFile}
 use Rattle.replay.specs.declared.judging.JudgedFile.TheVariants.{Refused}
 use Rattle.replay.specs.declared.judging.Needed.{Needed}
@@ -50,28 +47,8 @@ use Rattle.replay.specs.Judged.{HasProgram, HoldsProgram}
 use Rattle.replay.specs.Program.{what_of}
 use Rattle.replay.specs.Told.{AreNeeded, HoldsProgramOf, HoldsTyped, IsJudged, IsTold, answer_of}
 
--- a token of a text has a name for its file, and so has the place of none
-token_named : (t : Tokens) (found : Option Lexeme) (number : ℕ) → HasNamedFiles t → slice_get t.list number ≡ found
-    → (unwrap_or (option_map (λ (token : Lexeme). token.place) found) no_place).file < length t.names
-token_named t None number (some, all) is = some
-token_named t (Some token) number (some, all) is =
-    elim (slice_get_cases t.list number).1 [
-      | inl (other, below, same, there) ↦
-          subst (λ (tok : Lexeme). tok.place.file < length t.names) (get_or_from_slice_get t.list number token token is) (all number token below)
-      | inr (past, none) ↦ absurd cc
-    ]
-
-pub place_named : (t : Tokens) (number : ℕ) → HasNamedFiles t → (place_at t number).file < length t.names
-place_named t number named = token_named t (slice_get t.list number) number named refl
-
 deep_named : (t : Tokens) (deep : Deep) → HasNamedFiles t → IsFirstDeep t deep → deep.place.file < length t.names
-deep_named t deep (some, all) is =
-    elim (slice_get_cases t.list is.at).1 [
-      | inl (other, below, same, there) ↦
-          subst (λ (p : Place). p.file < length t.names) (sym is.place)
-          (subst (λ (tok : Lexeme). tok.place.file < length t.names) (get_or_from_slice_get t.list is.at is.token is.token is.is_token) (all is.at is.token below))
-      | inr (past, none) ↦ absurd cc
-    ]
+deep_named t deep named is = subst (λ (p : Place). p.file < length t.names) (sym is.place) (token_named t is.at is.token named is.is_token)
 
 -- a text is that of its tokens
 pub own_text : (file text : List ℕ) (t : Tokens) → AreTokens file text t → AreTokens file t.text t

@@ -16,16 +16,13 @@ use Rattle.report.specs.declared.answer.Why.TheVariants as why
 use Rattle.report.specs.declared.replay_answer.Replayed.{Replayed}
 use Rattle.report.specs.declared.replay_answer.ReplayAnswer.{ReplayAnswer}
 use Rattle.report.specs.declared.replay_answer.ReplayAnswer.TheVariants.{Played, BadChoices, NotRead, Construct, TooLong, Usage, ReadFault, OutOfMemory}
-use Rattle.verdicts.specs.Verdict.{HasNoMain, HasNoToken, IsRead, IsTooDeep}
-use Rattle.replay.specs.Program.{IsProgram, what_of}
+use Rattle.verdicts.specs.Program.{HoldsProgram as Holds, IsRead}
+use Rattle.verdicts.specs.Verdict.{HasNoMain, HasNoToken, IsTooDeep}
+use Rattle.replay.specs.Program.{what_of}
 
 -- the bytes of FILE have these tokens, and the items that main needs are this program
-pub record HoldsProgram (command : ReplayCommand) (bytes : List ℕ) (t : Tokens) (p : Program) : Type 0 where
-  pub items : List ItemSpan
-  pub numbers : List ℕ
-  pub is_short : length bytes ≤ most_bytes
-  pub is_read : IsRead command.file bytes t items numbers
-  pub is_program : IsProgram t items numbers command.model command.strict p
+abbrev pub HoldsProgram : ReplayCommand → List ℕ → Tokens → Program → Type 0
+HoldsProgram command bytes t p = Holds command.file bytes command.model command.strict t p
 
 -- the first of the items that main needs that is refused is so for this reason
 abbrev pub HasRefused : ReplayCommand → List ℕ → Refusal → Type 0

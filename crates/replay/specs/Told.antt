@@ -1,5 +1,5 @@
 -- What is known of FILE before CHOICES is read: its program with its types, or an answer that is true whatever is in CHOICES.
-use Rattle.std.specs.Prelude.{◌≡◌, ℕ, ◌≤◌, Bool, Ok, None, Some, List, length}
+use Rattle.std.specs.Prelude.{◌≡◌, ℕ, ◌≤◌, Bool, Ok, Some, List, length}
 use Rattle.std.specs.List.{All}
 use Rattle.cbase.specs.declared.tree.item.Item.{Item}
 use Rattle.command_line.specs.declared.replay.ReplayCommand.{ReplayCommand}
@@ -21,7 +21,7 @@ use Rattle.report.specs.ReplayReport.{HasPrintableReplay}
 use Rattle.report.specs.declared.answer.Why.TheVariants as why
 use Rattle.report.specs.declared.replay_answer.ReplayAnswer.{ReplayAnswer}
 use Rattle.report.specs.declared.replay_answer.ReplayAnswer.TheVariants.{Played, BadChoices, NotRead, Construct, TooLong, Usage, ReadFault, OutOfMemory}
-use Rattle.verdicts.specs.Verdict.{IsRead}
+use Rattle.verdicts.specs.Program.{IsRead}
 use Rattle.replay.specs.declared.judging.Answered.{Answered}
 use Rattle.replay.specs.declared.judging.JudgedFile.{JudgedFile}
 use Rattle.replay.specs.declared.judging.JudgedFile.TheVariants.{Holds, Refused}

@@ -6,7 +6,6 @@
 
 mod answering;
 mod judging;
-mod places;
 mod playing;
 mod top;
 

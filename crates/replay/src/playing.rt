@@ -11,7 +11,6 @@ ghost use Rattle.c_steps.specs.ComesTo.{comes_to};
 ghost use Rattle.report.specs.ReplayReport.{HasPrintableRun};
 ghost use Rattle.replay.specs.Program.{what_of};
 
-use crate::places::place_at;
 use c_run::run_program;
 use c_steps::Outcome;
 use c_text::TypedText;
@@ -20,6 +19,7 @@ use choices::Choice;
 use ctokens::Tokens;
 use report::Replayed;
 use std::alloc::Global;
+use verdicts::place_at;
 
 /// What a run of a program does with these choices within so many steps.
 ///

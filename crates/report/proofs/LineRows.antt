@@ -9,9 +9,5 @@ lines_text-append (line ∷ rest) more =
     ∙ sym (append_assoc line (codes "\n" ++ lines_text rest) (lines_text more))
 
 -- the line that ends the warnings
-pub lines_text_last : (lines : List (List ℕ)) (file : List ℕ) →
-    lines_text (lines ++ (file ++ codes ": warned") ∷ []) ≡ (lines_text lines ++ file) ++ codes ": warned\n"
-lines_text_last lines file =
-    lines_text-append lines ((file ++ codes ": warned") ∷ [])
-    ∙ (ap (λ (text : List ℕ). lines_text lines ++ text) (append_assoc file (codes ": warned") (codes "\n"))
-    ∙ sym (append_assoc (lines_text lines) file (codes ": warned\n")))
+pub lines_text_last : (lines : List (List ℕ)) (last : List ℕ) → lines_text (lines ++ last ∷ []) ≡ (lines_text lines ++ last) ++ codes "\n"
+lines_text_last lines last = lines_text-append lines (last ∷ []) ∙ sym (append_assoc (lines_text lines) last (codes "\n"))

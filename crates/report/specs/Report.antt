@@ -7,11 +7,11 @@ use Rattle.report.specs.declared.warning.Warning.{Warning}
 use Rattle.report.specs.declared.answer.Answer.{Answer}
 use Rattle.report.specs.declared.answer.Why.{Why}
 use Rattle.report.specs.declared.answer.Why.TheVariants.{Lexical, Deep, NoMain, Syntax, Rule}
-use Rattle.report.specs.declared.answer.Answer.TheVariants.{Safe, Warned, NotRead, Construct, NotYet, TooLong, Usage, ReadFault, OutOfMemory}
+use Rattle.report.specs.declared.answer.Answer.TheVariants.{Safe, Warned, Spent, Large, NotRead, Construct, NotYet, TooLong, Usage, ReadFault, OutOfMemory}
 use Rattle.report.specs.declared.answer.Shown.{Shown}
 use Rattle.cbase.specs.Refused.{IsConstruct}
 use Rattle.report.specs.Construct.{construct_name}
-use Rattle.report.specs.Kind.{IsKind, kind_text}
+use Rattle.report.specs.Kind.{kind_text}
 
 -- `file:line:column`, with the name of the place's file
 abbrev pub place_text : List (List ℕ) → Place → List ℕ
@@ -51,17 +51,38 @@ construct_line file names number place = file ++ (codes ": gave up: " ++ (constr
 abbrev pub usage_line : List ℕ
 usage_line = codes "usage: predator [--budget N] [--int-limit K] FILE"
 
--- the lines of an answer about a file
-abbrev pub answer_lines : List ℕ → List (List ℕ) → Answer → List (List ℕ)
-answer_lines file names Safe = (file ++ codes ": safe") ∷ []
-answer_lines file names (Warned warnings) = map (warning_line names) warnings ++ (file ++ codes ": warned") ∷ []
-answer_lines file names (NotRead why) = why_line file names why ∷ []
-answer_lines file names (Construct number place) = construct_line file names number place ∷ []
-answer_lines file names NotYet = (file ++ codes ": not read: not yet") ∷ []
-answer_lines file names (TooLong taken) = (file ++ codes ": not read: over 4194304 bytes") ∷ []
-answer_lines file names Usage = usage_line ∷ []
-answer_lines file names ReadFault = []
-answer_lines file names OutOfMemory = []
+-- `budget of N states spent`
+abbrev pub budget_phrase : ℕ → List ℕ
+budget_phrase budget = codes "budget of " ++ (decimal budget ++ codes " states spent")
+
+-- the line behind the warnings: `FILE: warned`, or `FILE: warned, budget of N states spent`
+abbrev pub warned_phrase : ℕ → Bool → List ℕ
+warned_phrase budget complete = if complete then codes ": warned" else codes ": warned, " ++ budget_phrase budget
+
+abbrev pub warned_line : List ℕ → ℕ → Bool → List ℕ
+warned_line file budget complete = file ++ warned_phrase budget complete
+
+-- `FILE: gave up: budget of N states spent`
+abbrev pub spent_line : List ℕ → ℕ → List ℕ
+spent_line file budget = file ++ (codes ": gave up: " ++ budget_phrase budget)
+
+-- `FILE: not read: not yet at file:line:column`
+abbrev pub not_yet_line : List ℕ → List (List ℕ) → Place → List ℕ
+not_yet_line file names place = file ++ (codes ": not read: not yet at " ++ place_text names place)
+
+-- the lines of an answer about a file, found within a budget
+abbrev pub answer_lines : List ℕ → List (List ℕ) → ℕ → Answer → List (List ℕ)
+answer_lines file names budget Safe = (file ++ codes ": safe") ∷ []
+answer_lines file names budget (Warned warnings complete) = map (warning_line names) warnings ++ warned_line file budget complete ∷ []
+answer_lines file names budget Spent = spent_line file budget ∷ []
+answer_lines file names budget Large = (file ++ codes ": gave up: state too large") ∷ []
+answer_lines file names budget (NotRead why) = why_line file names why ∷ []
+answer_lines file names budget (Construct number place) = construct_line file names number place ∷ []
+answer_lines file names budget (NotYet place) = not_yet_line file names place ∷ []
+answer_lines file names budget (TooLong taken) = (file ++ codes ": not read: over 4194304 bytes") ∷ []
+answer_lines file names budget Usage = usage_line ∷ []
+answer_lines file names budget ReadFault = []
+answer_lines file names budget OutOfMemory = []
 
 -- the lines in a row, each with a newline at its end
 abbrev pub lines_text : List (List ℕ) → List ℕ
@@ -70,12 +91,11 @@ lines_text (line ∷ rest) = line ++ (codes "\n" ++ lines_text rest)
 
 -- the report of an answer
 abbrev pub report_bytes : Shown → List ℕ
-report_bytes shown = lines_text (answer_lines shown.file shown.names shown.answer)
+report_bytes shown = lines_text (answer_lines shown.file shown.names shown.limits.budget shown.answer)
 
--- what a warning must be for its line to be printed: its file has a name, and its kind is one
+-- what a warning must be for its line to be printed: its file has a name
 pub record IsPrintable (names : List (List ℕ)) (warning : Warning) : Type 0 where
   pub named : warning.place.file < length names
-  pub is_kind : IsKind warning.kind
 
 -- the file of the place that is told has a name
 abbrev pub HasPlace : List (List ℕ) → Why → Type 0
@@ -85,13 +105,15 @@ HasPlace names NoMain = Unit {0}
 HasPlace names (Syntax place) = place.file < length names
 HasPlace names (Rule number place) = place.file < length names
 
--- each place that is printed has a name for its file, each kind is one, and so is each construct
+-- each place that is printed has a name for its file, and each construct is one
 abbrev pub HasPrintable : List (List ℕ) → Answer → Type 0
 HasPrintable names Safe = Unit {0}
-HasPrintable names (Warned warnings) = All (IsPrintable names) warnings
+HasPrintable names (Warned warnings complete) = All (IsPrintable names) warnings
+HasPrintable names Spent = Unit {0}
+HasPrintable names Large = Unit {0}
 HasPrintable names (NotRead why) = HasPlace names why
 HasPrintable names (Construct number place) = IsConstruct number × (place.file < length names)
-HasPrintable names NotYet = Unit {0}
+HasPrintable names (NotYet place) = place.file < length names
 HasPrintable names (TooLong taken) = Unit {0}
 HasPrintable names Usage = Unit {0}
 HasPrintable names ReadFault = Unit {0}
@@ -100,10 +122,12 @@ HasPrintable names OutOfMemory = Unit {0}
 -- the exit status of an answer that was written whole
 abbrev pub status_of : Answer → ℕ
 status_of Safe = 0
-status_of (Warned warnings) = 1
+status_of (Warned warnings complete) = 1
+status_of Spent = 2
+status_of Large = 2
 status_of (NotRead why) = 3
 status_of (Construct number place) = 2
-status_of NotYet = 3
+status_of (NotYet place) = 3
 status_of (TooLong taken) = 3
 status_of Usage = 4
 status_of ReadFault = 5

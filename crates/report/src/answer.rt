@@ -37,13 +37,19 @@ pub enum Why {
 /// What the program answers.
 #[derive(Drop)]
 pub enum Answer {
-    /// No run meets a fault.
+    /// No run of the program meets a fault.
     Safe,
-    /// Some run meets each of these faults, and none meets another.
+    /// The analysis tells of faults that runs meet or may meet.
     Warned {
         /// One for each token and kind, ordered by token number, then kind.
         warnings: List<Warning>,
+        /// Whether all was followed; else the budget of states was spent before.
+        complete: bool,
     },
+    /// The analysis kept as many states as the budget allows, and there are more. It told of no fault.
+    Spent,
+    /// A state of the analysis is too large.
+    Large,
     /// The file holds no program that can be read.
     NotRead {
         /// What is wrong with it.
@@ -57,8 +63,11 @@ pub enum Answer {
         /// That of the token that shows the construct.
         place: Place,
     },
-    /// The one item that main needs is not of the form that is judged today, or main needs more than one.
-    NotYet,
+    /// The program calls a function that it defines.
+    NotYet {
+        /// That of the token at which the first such call stands.
+        place: Place,
+    },
     /// The file has more bytes than are read.
     TooLong {
         /// How many bytes of it were taken.

@@ -12,8 +12,8 @@ pub fn status(answer: &Answer) -> u8
     match answer {
         Answer::Safe => 0,
         Answer::Warned { .. } => 1,
-        Answer::Construct { .. } => 2,
-        Answer::NotRead { .. } | Answer::NotYet | Answer::TooLong { .. } => 3,
+        Answer::Construct { .. } | Answer::Spent | Answer::Large => 2,
+        Answer::NotRead { .. } | Answer::NotYet { .. } | Answer::TooLong { .. } => 3,
         Answer::Usage => 4,
         Answer::ReadFault => 5,
         Answer::OutOfMemory => 7,

@@ -1,4 +1,4 @@
-/// The limits of an analysis. They are kept with an answer, and nothing of them is printed.
+/// The limits of an analysis. They are kept with an answer; where the budget is spent it is printed.
 #[derive(Clone, Copy, Debug, PartialEq, Eq)]
 pub struct Limits {
     /// How many states are kept at most, from 1 to 200,000.

@@ -1,7 +1,7 @@
 ghost use Rattle.std.specs.Prelude.{◌≡◌, ◌∷◌, [], ◌++◌, ◌<◌, IfOk, OnOk, length, map, codes};
 ghost use Rattle.std.specs.List.{All};
 ghost use Rattle.cbase.specs.Refused.{IsConstruct};
-ghost use Rattle.report.specs.Report.{HasPlace, HasPrintable, IsPrintable, construct_line, lines_text, place_text, report_bytes, rule_line, usage_line, warning_line, why_line};
+ghost use Rattle.report.specs.Report.{HasPlace, HasPrintable, IsPrintable, budget_phrase, construct_line, lines_text, place_text, report_bytes, rule_line, spent_line, usage_line, warned_line, warned_phrase, warning_line, why_line};
 
 use crate::answer::{Answer, Shown, Why};
 use crate::construct::name_of_construct;
@@ -12,8 +12,8 @@ use std::alloc::Global;
 
 /// The report of an answer: its lines, each with a newline at its end. With `ReadFault` and `OutOfMemory` it has none.
 ///
-/// The file of each place that is printed must have a name among those shown, a warning's kind must be one of the
-/// nine, and a construct's number one of the twenty-one.
+/// The file of each place that is printed must have a name among those shown, and a construct's number be one of the
+/// twenty-one.
 #[tactic(auto, using(std::proofs::Common::append_assoc))]
 pub fn report_text(alloc: Global, shown: &Shown) -> Result<Text, NoMemory>
     requires { HasPrintable shown.now.names shown.now.answer }
@@ -21,12 +21,16 @@ pub fn report_text(alloc: Global, shown: &Shown) -> Result<Text, NoMemory>
 {
     match &shown.answer {
         Answer::Safe => file_line(alloc, &shown.file, b": safe\n"),
-        Answer::Warned { warnings } => warned_text(
+        Answer::Warned { warnings, complete } => warned_text(
             alloc,
             &shown.file,
             shown.names.as_slice(),
+            shown.limits.budget,
             warnings.as_slice(),
+            *complete,
         ),
+        Answer::Spent => spent_text(alloc, &shown.file, shown.limits.budget),
+        Answer::Large => file_line(alloc, &shown.file, b": gave up: state too large\n"),
         Answer::NotRead { why } => why_text(alloc, &shown.file, shown.names.as_slice(), *why),
         Answer::Construct { number, place } => construct_text(
             alloc,
@@ -35,7 +39,13 @@ pub fn report_text(alloc: Global, shown: &Shown) -> Result<Text, NoMemory>
             *number,
             *place,
         ),
-        Answer::NotYet => file_line(alloc, &shown.file, b": not read: not yet\n"),
+        Answer::NotYet { place } => line_at(
+            alloc,
+            &shown.file,
+            b": not read: not yet at ",
+            shown.names.as_slice(),
+            *place,
+        ),
         Answer::TooLong { .. } => {
             file_line(alloc, &shown.file, b": not read: over 4194304 bytes\n")
         }
@@ -150,21 +160,58 @@ pub(crate) fn construct_text(
 }
 
 /// The lines of the warnings, and the one that ends them.
-#[tactic(auto, using(crate::proofs::LineRows::lines_text_last))]
+#[tactic(auto, using(crate::proofs::LineRows::lines_text_last, std::proofs::Common::append_assoc))]
 fn warned_text(
     alloc: Global,
     file: &Text,
     names: &[Text],
+    budget: u32,
     warnings: &[Warning],
+    complete: bool,
 ) -> Result<Text, NoMemory>
     requires { All (IsPrintable names.now) warnings.now }
     ensures { IfOk result (λ text. text
-        ≡ lines_text (map (warning_line names.now) warnings.now ++ (file.now ++ codes ": warned") ∷ [])) }
+        ≡ lines_text (map (warning_line names.now) warnings.now ++ warned_line file.now budget complete ∷ [])) }
 {
     let mut text = Text::new(alloc);
     push_warnings(alloc, &mut text, names, warnings)?;
     text.extend(file.as_slice())?;
-    text.extend(b": warned\n")?;
+    push_warned(alloc, &mut text, budget, complete)?;
+    text.extend(b"\n")?;
+    Ok(text)
+}
+
+/// Appends what stands behind the file in the line that ends the warnings, without its newline.
+#[tactic(auto, using(std::proofs::Common::append_assoc))]
+fn push_warned(alloc: Global, text: &mut Text, budget: u32, complete: bool) -> Result<(), NoMemory>
+    ensures { OnOk result (text.new ≡ text.old ++ warned_phrase budget complete) }
+{
+    if complete {
+        return text.extend(b": warned");
+    }
+    text.extend(b": warned, ")?;
+    push_budget(alloc, text, budget)
+}
+
+/// Appends that a budget is spent.
+#[tactic(auto, using(std::proofs::Common::append_assoc))]
+fn push_budget(alloc: Global, text: &mut Text, budget: u32) -> Result<(), NoMemory>
+    ensures { OnOk result (text.new ≡ text.old ++ budget_phrase budget) }
+{
+    text.extend(b"budget of ")?;
+    push_number(alloc, text, budget)?;
+    text.extend(b" states spent")
+}
+
+/// The line that tells that the budget was spent, with its newline.
+#[tactic(auto, using(std::proofs::Common::append_assoc))]
+fn spent_text(alloc: Global, file: &Text, budget: u32) -> Result<Text, NoMemory>
+    ensures { IfOk result (λ text. text ≡ lines_text (spent_line file.now budget ∷ [])) }
+{
+    let mut text = Text::from_slice(alloc, file.as_slice())?;
+    text.extend(b": gave up: ")?;
+    push_budget(alloc, &mut text, budget)?;
+    text.extend(b"\n")?;
     Ok(text)
 }
 

@@ -1,6 +1,8 @@
-pub mod Checked
+pub mod Ascending
 pub mod Exactness
-pub mod FaultPlaces
+pub mod PlacesNamed
+pub mod AnswersFound
 pub mod Told
+pub mod OneProgram
 pub mod OneVerdict
 pub mod Printed

@@ -1,4 +1,5 @@
-pub mod Warnings
+pub mod Program
+pub mod Found
 pub mod Shown
 pub mod Verdict
 pub mod Answered

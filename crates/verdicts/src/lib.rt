@@ -4,10 +4,12 @@
 //! It knows how the parts hang together, and no operating system: files and the sink are given to it.
 #![tactic(auto)]
 
+mod found;
 mod judge;
 mod laws;
+mod places;
 mod top;
-mod warnings;
 
 pub use laws::{constructs_are_printed, kinds_are_printed};
+pub use places::place_at;
 pub use top::{Outcome, predator};

@@ -1,4 +1,4 @@
-ghost use Rattle.std.specs.Prelude.{◌≡◌, ◌≢◌, ◌↔◌, ◌⊎◌, ℕ, ◌+◌, ◌<◌, true, false, IsTrue, IfOk, None, Some};
+ghost use Rattle.std.specs.Prelude.{◌≡◌, ◌≢◌, ◌↔◌, ◌⊎◌, ℕ, ◌+◌, ◌<◌, ◌≤◌, true, false, IsTrue, IfOk, None, Some};
 ghost use Rattle.std.specs.Prelude.{List as Items, [], length, map, take, string_bytes};
 ghost use Rattle.outside.specs.Faults.{Rose};
 ghost use Rattle.outside.specs.Reading.{IsWithin, LeavesAtMost};
@@ -7,7 +7,7 @@ ghost use Rattle.ctokens.specs.InText.{most_bytes};
 ghost use Rattle.command_line.specs.CommandLine.{command_of, file_of};
 ghost use Rattle.report.specs.Report.{HasPrintable, report_bytes, status_of};
 ghost use Rattle.report.specs.declared.answer.Answer.{Answer};
-ghost use Rattle.verdicts.specs.Verdict.{IsExact, IsVerdict, Judges};
+ghost use Rattle.verdicts.specs.Verdict.{CanBeAnalysed, IsAnalysed, IsExact, IsRefusal, IsVerdict, Judges};
 ghost use Rattle.verdicts.specs.Answered.{IsAnswered};
 ghost use Rattle.verdicts.specs.Opened.{IsOpened, IsOpenedAtMost};
 ghost use Rattle.verdicts.specs.Shown.{file_in, file_shown, limits_in, limits_shown};
@@ -82,18 +82,22 @@ pub fn predator<F: Files, K: Sink>(
         → IsOpenedAtMost (record { count = F.openings files.old; last = F.begun files.old })
         (record { count = F.openings files.new; last = F.begun files.new }) file }
 
-    // The other answers say what is true of the file's bytes, each exactly where it is true. The names are those of
-    // the files of the text.
+    // The other answers say what is true of the file's bytes: each refusal exactly where it is true, and what the analysis came to exactly where the
+    // bytes hold a program that can be analysed. The names are those of the files of the text.
     ensures verdict { (file : Items ℕ) → file_of (map string_bytes words.now) ≡ Some file
         → result.shown.answer ≢ Answer.ReadFault → result.shown.answer ≢ Answer.OutOfMemory
         → IsVerdict result.shown.answer }
     ensures judged { (file : Items ℕ) → file_of (map string_bytes words.now) ≡ Some file
         → IsAnswered (F.tells files.old) (F.bytes_of files.old file) (F.left files.new)
-        file result.shown.names result.shown.answer }
+        (limits_in (command_of (map string_bytes words.now))) file result.shown.names result.shown.answer }
     ensures exactly { (file whole : Items ℕ) (other : Answer) → file_of (map string_bytes words.now) ≡ Some file
         → IsTrue (F.tells files.old) → F.bytes_of files.old file ≡ Some whole
         → result.shown.answer ≢ Answer.ReadFault → result.shown.answer ≢ Answer.OutOfMemory
-        → IsVerdict other → (result.shown.answer ≡ other) ↔ Judges file whole other }
+        → IsRefusal other → (result.shown.answer ≡ other) ↔ Judges (limits_in (command_of (map string_bytes words.now))) file whole other }
+    ensures analysed { (file whole : Items ℕ) → file_of (map string_bytes words.now) ≡ Some file
+        → IsTrue (F.tells files.old) → F.bytes_of files.old file ≡ Some whole
+        → result.shown.answer ≢ Answer.ReadFault → result.shown.answer ≢ Answer.OutOfMemory
+        → IsAnalysed result.shown.answer ↔ CanBeAnalysed file whole }
 
     // At most 4,194,305 bytes of the file are taken.
     ensures taken { (file : Items ℕ) → file_of (map string_bytes words.now) ≡ Some file
@@ -148,6 +152,7 @@ fn delivered<K: Sink>(plan: Plan, out: &mut K) -> Outcome
 }
 
 /// The answer to the words, with its report.
+#[tactic(auto, using(crate::proofs::Exactness::budget_some))]
 fn planned<F: Files>(alloc: Global, words: &[String], files: &mut F) -> Result<Plan, NoMemory>
     ensures text { IfOk result (λ plan. plan.text ≡ report_bytes plan.shown) }
     ensures known { IfOk result (λ plan. plan.shown.answer ≢ Answer.OutOfMemory) }
@@ -173,10 +178,11 @@ fn planned<F: Files>(alloc: Global, words: &[String], files: &mut F) -> Result<P
         (record { count = F.openings files.new; last = F.begun files.new }) file }
     ensures judged { (file : Items ℕ) → file_of (map string_bytes words.now) ≡ Some file
         → IfOk result (λ plan. IsAnswered (F.tells files.old) (F.bytes_of files.old file)
-        (F.left files.new) file plan.shown.names plan.shown.answer) }
+        (F.left files.new) (limits_in (command_of (map string_bytes words.now))) file plan.shown.names plan.shown.answer) }
     ensures exact { (file whole : Items ℕ) → file_of (map string_bytes words.now) ≡ Some file
         → IsTrue (F.tells files.old) → F.bytes_of files.old file ≡ Some whole
-        → IfOk result (λ plan. plan.shown.answer ≢ Answer.ReadFault → IsExact file whole plan.shown.answer) }
+        → IfOk result (λ plan. plan.shown.answer ≢ Answer.ReadFault
+        → IsExact (limits_in (command_of (map string_bytes words.now))) file whole plan.shown.answer) }
     ensures taken { (file : Items ℕ) → file_of (map string_bytes words.now) ≡ Some file
         → IsTrue (F.tells files.old) → F.failed files.new ≡ false
         → (files.new ≡ files.old) ⊎ LeavesAtMost (most_bytes + 1) (F.bytes_of files.old file) (F.left files.new) }
@@ -206,6 +212,7 @@ fn planned_command<F: Files>(
     command: Command,
     files: &mut F,
 ) -> Result<Plan, NoMemory>
+    requires { 1 ≤ command.budget }
     ensures text { IfOk result (λ plan. plan.text ≡ report_bytes plan.shown) }
     ensures known { IfOk result (λ plan. plan.shown.answer ≢ Answer.OutOfMemory) }
     ensures no_usage { IfOk result (λ plan. plan.shown.answer ≢ Answer.Usage) }
@@ -220,10 +227,10 @@ fn planned_command<F: Files>(
     ensures at_most { IsOpenedAtMost (record { count = F.openings files.old; last = F.begun files.old })
         (record { count = F.openings files.new; last = F.begun files.new }) command.file }
     ensures judged { IfOk result (λ plan. IsAnswered (F.tells files.old) (F.bytes_of files.old command.file)
-        (F.left files.new) command.file plan.shown.names plan.shown.answer) }
+        (F.left files.new) (limits_in (Some command)) command.file plan.shown.names plan.shown.answer) }
     ensures exact { (whole : Items ℕ) → IsTrue (F.tells files.old)
         → F.bytes_of files.old command.file ≡ Some whole
-        → IfOk result (λ plan. plan.shown.answer ≢ Answer.ReadFault → IsExact command.file whole plan.shown.answer) }
+        → IfOk result (λ plan. plan.shown.answer ≢ Answer.ReadFault → IsExact (limits_in (Some command)) command.file whole plan.shown.answer) }
     ensures taken { IsTrue (F.tells files.old) → F.failed files.new ≡ false
         → (files.new ≡ files.old) ⊎ LeavesAtMost (most_bytes + 1) (F.bytes_of files.old command.file) (F.left files.new) }
 {
@@ -232,13 +239,14 @@ fn planned_command<F: Files>(
         budget,
         int_limit,
     } = command;
-    let Judged { answer, names } = answer_of_file(alloc, file.as_slice(), files)?;
+    let limits = Limits { budget, int_limit };
+    let Judged { answer, names } = answer_of_file(alloc, &limits, file.as_slice(), files)?;
     reported(
         alloc,
         Shown {
             file,
             names,
-            limits: Limits { budget, int_limit },
+            limits,
             answer,
         },
     )
@@ -256,7 +264,13 @@ fn reported(alloc: Global, shown: Shown) -> Result<Plan, NoMemory>
 
 /// The answer to a file: what is read of it is judged.
 #[tactic(auto, using(crate::proofs::OneVerdict::long_exact))]
-fn answer_of_file<F: Files>(alloc: Global, file: &[u8], files: &mut F) -> Result<Judged, NoMemory>
+fn answer_of_file<F: Files>(
+    alloc: Global,
+    limits: &Limits,
+    file: &[u8],
+    files: &mut F,
+) -> Result<Judged, NoMemory>
+    requires { 1 ≤ limits.now.budget }
     ensures known { IfOk result (λ judged. judged.answer ≢ Answer.OutOfMemory) }
     ensures no_usage { IfOk result (λ judged. judged.answer ≢ Answer.Usage) }
     ensures printable { IfOk result (λ judged. HasPrintable judged.names judged.answer) }
@@ -269,16 +283,16 @@ fn answer_of_file<F: Files>(alloc: Global, file: &[u8], files: &mut F) -> Result
     ensures at_most { IsOpenedAtMost (record { count = F.openings files.old; last = F.begun files.old })
         (record { count = F.openings files.new; last = F.begun files.new }) file.now }
     ensures judged { IfOk result (λ judged. IsAnswered (F.tells files.old) (F.bytes_of files.old file.now)
-        (F.left files.new) file.now judged.names judged.answer) }
+        (F.left files.new) limits.now file.now judged.names judged.answer) }
     ensures exact { (whole : Items ℕ) → IsTrue (F.tells files.old)
         → F.bytes_of files.old file.now ≡ Some whole
-        → IfOk result (λ judged. judged.answer ≢ Answer.ReadFault → IsExact file.now whole judged.answer) }
+        → IfOk result (λ judged. judged.answer ≢ Answer.ReadFault → IsExact limits.now file.now whole judged.answer) }
     ensures taken { IsTrue (F.tells files.old) → F.failed files.new ≡ false
         → (files.new ≡ files.old) ⊎ LeavesAtMost (most_bytes + 1) (F.bytes_of files.old file.now) (F.left files.new) }
 {
     let name = Text::from_slice(alloc, file)?;
     match read_file(alloc, files, name, MOST_BYTES)? {
-        Reading::Whole(text) => judge(alloc, file, text.as_slice()),
+        Reading::Whole(text) => judge(alloc, limits, file, text.as_slice()),
         Reading::Long(_) => Ok(Judged {
             answer: Answer::TooLong {
                 taken: MOST_BYTES + 1,
