@@ -697,7 +697,7 @@ class Asker:
         (self.folder / "t.c").write_text(text)
         said = subprocess.run([PROGRAM, "t.c"], cwd=self.folder, stdin=subprocess.DEVNULL, capture_output=True, text=True).stdout.strip().splitlines()
         last = said[-1] if said else "nothing"
-        if last in ("t.c: not read: not yet", "t.c: safe", "t.c: warned"):
+        if re.fullmatch(r"t\.c: (?:not read: not yet at .*|safe|warned(?:, budget of \d+ states spent)?|gave up: (?:budget of \d+ states spent|state too large))", last):
             return "passes", None
         found = re.fullmatch(r"t\.c: (?:not read: )?(.*?)(?: at t\.c:(\d+):\d+)?", last)
         return (found[1], found[2]) if found else (last, None)

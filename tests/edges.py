@@ -166,8 +166,8 @@ def answer_to(folder, text, answer, status):
 
 
 def passes(folder, text):
-    """A text that breaks no rule, and is of no form that is judged."""
-    return answer_to(folder, text, "not read: not yet", 3)
+    """A text that breaks no rule, and no run of which faults."""
+    return answer_to(folder, text, "safe", 0)
 
 
 def is_too_large(folder, text):

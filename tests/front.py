@@ -154,7 +154,7 @@ def gcc_reads_the_file_first(folder):
 
 def each_refusal_has_advice(folder):
     known = advice.advised()
-    wanted = [*CONSTRUCTS, *(f"rule {number}" for number in range(1, 14)), "no token", "too deep", "no main", "syntax", "not yet", "over 4194304 bytes"]
+    wanted = [*CONSTRUCTS, *(f"rule {number}" for number in range(1, 14)), "no token", "too deep", "no main", "syntax", "not yet", "over 4194304 bytes", "budget spent", "state too large"]
     yield [name for name in wanted if not known.get(name)], []
 
 
@@ -181,6 +181,13 @@ def choices_that_are_written(folder):
     yield ran(folder, "choices")[0], 4
     yield ran(folder, "choices", "missing.c")[0], 5
     yield ran(folder, "--quiet", "choices", "safe.c")[2], b""
+
+
+def words_of_graph(folder):
+    """A budget stands with `--states` alone, from 1 to 200,000; no option stands twice."""
+    for words in (["--budget", "3"], ["--states", "--budget", "0"], ["--states", "--budget=200001"], ["--states", "--budget=x"], ["--states", "--states"], ["--svg=1"], ["--states", "--budget"], ["-x"]):
+        yield ran(folder, "graph", *words, "safe.c")[:2], (4, b"")
+    yield ran(folder, "graph", "--states", "--svg", "--budget", "7", "missing.c")[:2], (5, b"")
 
 
 def marks_stand_where_choices_are_asked_for(folder):
@@ -230,7 +237,7 @@ def the_second_answer_comes_at_once(folder):
 
 
 CASES = (the_answers_are_the_programs, what_a_terminal_is_told, what_is_told, an_enum_that_compilers_take_for_unsigned, a_report_that_cannot_be_written, a_compiler_reads_the_file_first,
-         gcc_reads_the_file_first, each_refusal_has_advice, choices_that_are_written, marks_stand_where_choices_are_asked_for,
+         gcc_reads_the_file_first, each_refusal_has_advice, choices_that_are_written, words_of_graph, marks_stand_where_choices_are_asked_for,
          a_program_is_proved_by_its_checksum, the_second_answer_comes_at_once)
 
 
