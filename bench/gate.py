@@ -25,7 +25,7 @@ MARKS, END_OF_MARKS = "<!-- gate.py: marks -->\n", "<!-- gate.py: end of marks -
 # What a minute is depends on the machine and on what else it does. These crates took so many minutes in the table of 2026-11-29, and have not changed since: by what
 # they take in a run it is estimated what its minutes would be there (yardstick minutes). A crate that changes is to be taken out of the list.
 YARDSTICK = {
-    "arithmetic_rows": 1.0, "choices": 0.8, "choices_tests": 0.6, "first_form": 2.1,
+    "arithmetic_rows": 1.0, "choices": 0.8, "choices_tests": 0.6,
 }
 # What groups of crates are meant to take at most.
 GROUPS = (

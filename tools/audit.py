@@ -33,7 +33,7 @@ MODELS = ("*/Kept*", "*/SymbolRows", "*/CodeTables", "cbuild/*", "cconstructs/*F
           "cgrammar/ConstantParts", "cgrammar/FrontReadings", "cgrammar/Outcomes", "cgrammar/Read[A-Z]*", "cgrammar/Reader", "cgrammar/TokenReadings",
           "choices/Reading", "choices/Run", "cparser/*", "cread/ReadItem", "ctokens/Entry", "ctokens/ItemEnds",
           "ctokens/Lengths", "ctokens/MarkerAt", "ctokens/NeedSearch", "ctokens/PieceAt", "expressions/*",
-          "first_form/Found", "first_form/FrontLine", "first_form/Search", "first_form/Spelling", "flow/Counting", "flow/Deciding", "flow/Marked",
+          "flow/Counting", "flow/Deciding", "flow/Marked",
           "flow/Owning", "graph/Slots", "items/[A-Z]*", "items/declarations/*", "items/initialisers/*", "items/languages/AtTypes", "items/languages/Begins",
           "items/languages/LeadsBack", "items/parameters/*", "items/statements/*", "planes/Runs", "typing/constants/Deciding", "typing/ctypes/*")
 # Files with such names that are definitions.
@@ -42,8 +42,11 @@ DEFINITIONS = ("ctokens/ItemRows", "definitions/Rows")
 PARTS = {"typing": ("ctypes", "constants", "values", "environment"), "items": ("languages",)}
 # What the crates under the top call decide together, in the order in which docs/audit.md reads them.
 GROUPS = (
-    (("verdicts", "report", "command_line", "outside"), "which answer is true of a file, what is printed of it, which words ask for one, what is known of files and sinks"),
-    (("bytes_core", "first_form"), "what a run does: memory, faults, the lines of the form that is judged, and its machine"),
+    (("verdicts", "judgement", "report", "command_line", "outside"), "which answer is true of a file, what is found of its program, what is printed of it, which words ask for one, what is known of files and sinks"),
+    (("bytes_core", "choices", "c_machine", "c_text"), "what a run does: memory, faults, choices, and the steps of a program of C"),
+    (("flow", "simulation", "lowering"), "which flow graph a program has, and the runs of it"),
+    (("planes", "graph", "changes", "reinterpret", "heap_steps", "range_steps", "block_steps", "register_steps", "edge_steps", "transfer", "tidying", "cover", "trail", "driver"),
+     "what a graph stands for, what a step makes of it, which graph covers another one, and what a trail and a verdict on a flow graph are"),
     (("ctokens",), "which tokens a text has, where each stands, which items they make and which of these main needs"),
     (("cgrammar", "cread", "cconstructs", "ctrees"), "which tree a row of tokens is, how deep it may be, and which forms are given up by name"),
     (("cbase", "arithmetic", "typing/constants", "typing/values", "typing/ctypes"), "what types C has and how they are laid, what constants and operators give, and what is broken at an operator"),

@@ -48,6 +48,8 @@ def is_directive(text, name, place):
 def of_refusal(what, text, name):
     """What to say of a refusal `no token at PLACE`, `rule 4 at PLACE`, `not yet` and the like."""
     kind, _, place = what.partition(b" at ")
+    if re.fullmatch(rb"budget of \d+ states spent", kind):
+        kind = b"budget spent"
     lines = shown(text, name, place, kind)
     if kind == b"no token" and is_directive(text, name, place):
         file = os.fsdecode(name)
@@ -60,7 +62,7 @@ def of_faults(report, text, name):
     """The line of each fault, with a mark."""
     lines = []
     for line in report.split(b"\n"):
-        if found := re.fullmatch(rb"(.*:\d+:\d+): (?:error: )?[^:]* \[\d+\]", line, re.S):
+        if found := re.fullmatch(rb"(.*:\d+:\d+): (?:error: |warning: )?[^:]* \[\d+\]", line, re.S):
             lines += shown(text, name, found.group(1))
     return lines
 
@@ -102,7 +104,7 @@ def of_report(report, text, names):
 
 def of_answer(report, text, names):
     """What to say of a report, and of what compilers make another program of where the text passes the check."""
-    is_refused = re.search(rb": (?:gave up: |not read: (?!not yet))", report)
+    is_refused = re.search(rb": (?:gave up: (?!budget of |state too large)|not read: (?!not yet at ))", report)
     return of_report(report, text, names) + ([] if is_refused else enums.warnings(text, names[0]))
 
 

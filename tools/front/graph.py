@@ -1,6 +1,6 @@
-"""`predator graph`: the flow graph of a text, as lines or as a picture (docs/flow.md).
+"""`predator graph`: the flow graph of a text, as lines or as a picture (docs/flow.md); with `--states` the trail of its analysis (docs/analysis.md).
 
-The graph is made by `lower`, and written by the program of tools/graph over the sources of crates/, which is not proved itself, and so is none of the gate's. It takes texts as rows. It
+The graph is made by `lower` and analysed by `analyse`, and written by the program of tools/graph over the sources of crates/, which is not proved itself, and so is none of the gate's. It takes texts as rows. It
 is built once, by the kit's `rt try` in a folder that holds these sources, and kept where other programs are kept (unproved.py), by the checksum of all of them.
 """
 import fcntl
@@ -12,15 +12,17 @@ import sys
 import tempfile
 from pathlib import Path
 
-from . import drawing, preprocess, run, sources, unproved
-from .words import names_files
+from . import drawing, preprocess, run, sources, states, unproved
+from .words import OPTIONS, names_files
 
-USAGE = "usage: predator graph [--svg] [--strict] [-I DIR ..] FILE"
+USAGE = "usage: predator graph [--svg] [--strict] [--states [--budget N]] [-I DIR ..] FILE"
+BUDGET = b"10000"  # as that of the program
 NAME = "graph_text"
 HERE = sources.HOME / "tools" / "graph"
 USES = (
-    "cbase smallvec ctrees arithmetic indexmap typing expressions items bytes_core choices flow c_machine c_steps c_text simulation lowering lower ctokens definitions "
-    "cgrammar cevents cparser cread_expr cbuild cconstructs cread ccheck")
+    "cbase smallvec ctrees arithmetic indexmap typing expressions items bytes_core choices flow c_machine c_steps c_text simulation lowering lower planes slab graph tidying changes "
+    "reinterpret heap_steps range_steps block_steps register_steps edge_steps transfer alike_steps trail cover driver ctokens definitions cgrammar cevents cparser cread_expr cbuild cconstructs "
+    "cread ccheck")
 ROW = b"int main(void) { return 0; }\n"
 REFUSED = {
     b"too long": "a text has at most 4,194,304 bytes",
@@ -113,18 +115,18 @@ def program():
     raise unproved.NotBuilt(said)
 
 
-def row_of(text, is_strict):
-    """A text as a row."""
+def row_of(text, is_strict, budget=b""):
+    """A text as a row, where a budget is given as one of its states."""
     body = text.replace(b"\\", b"\\\\").replace(b"\r\n", b"\n").replace(b"\n", b"\\n")
-    return (b"strict " if is_strict else b"") + body + b"\n"
+    return (b"states %s " % budget if budget else b"") + (b"strict " if is_strict else b"") + body + b"\n"
 
 
-def lines_of(text, is_strict):
-    """The lines of the graph of a text."""
+def lines_of(text, is_strict, budget=b""):
+    """The lines of the graph of a text, or where a budget is given those of its states."""
     with tempfile.TemporaryDirectory(prefix="predator-") as folder:
         name = os.path.join(folder, "rows")
         with open(name, "wb") as rows:
-            rows.write(row_of(text, is_strict))
+            rows.write(row_of(text, is_strict, budget))
         done = subprocess.run([program(), name], stdout=subprocess.PIPE, preexec_fn=unproved.with_stack)
     if done.returncode != 0:
         raise run.NoAnswer(f"the program that writes graphs ended with status {done.returncode}")
@@ -143,22 +145,52 @@ def text_of(found):
         return None, f"{os.fsdecode(file)}: {error.strerror}"
 
 
+def options_of(found):
+    """The options with their values, or nothing where the words are wrong."""
+    words = [word for at, word in enumerate(found.program) if at > 0 and at not in found.files and word != b"--"]
+    options = {}
+    while words:
+        name, equals, value = words.pop(0).partition(b"=")
+        has_value = OPTIONS[b"graph"].get(name)
+        if has_value is None or name in options or (equals and not has_value) or (has_value and not equals and not words):
+            return None
+        options[name] = (value if equals else words.pop(0)) if has_value else b""
+    return options
+
+
+def budget_of(options):
+    """How many states are kept at most, as bytes; nothing where the graph itself is wanted, and None where the words are wrong."""
+    if options is None or (b"--budget" in options and b"--states" not in options):
+        return None
+    budget = options.get(b"--budget", BUDGET)
+    is_budget = budget.isdigit() and len(budget) <= 6 and 1 <= int(budget) <= 200_000
+    return (budget if b"--states" in options else b"") if is_budget else None
+
+
+def shown(lines, options):
+    """What is written of the lines."""
+    lines = [line.decode() for line in lines]
+    if b"--svg" in options:
+        return (states if b"--states" in options else drawing).picture(lines).encode()
+    return "".join(line + "\n" for line in lines).encode()
+
+
 def command(found):
-    """Writes the graph of a file to standard output."""
-    options = {word for at, word in enumerate(found.program) if at > 0 and at not in found.files and word != b"--"}
-    if not names_files(found, 1) or options - {b"--svg", b"--strict"}:
+    """Writes the graph of a file to standard output, or its states."""
+    options = options_of(found)
+    budget = budget_of(options)
+    if not names_files(found, 1) or budget is None:
         print(USAGE, file=sys.stderr)
         return 4
     text, why = text_of(found)
     if text is None:
         print(f"predator: {why}", file=sys.stderr)
         return 5
-    lines = lines_of(text, b"--strict" in options)
+    lines = lines_of(text, b"--strict" in options, budget)
     if len(lines) == 1 and lines[0] in REFUSED:
         print(f"predator: {os.fsdecode(found.program[found.files[0]])}: {REFUSED[lines[0]]}", file=sys.stderr)
         return 3
-    shown = drawing.picture([line.decode() for line in lines]).encode() if b"--svg" in options else b"\n".join(lines) + b"\n"
-    why = run.write(shown)
+    why = run.write(shown(lines, options))
     if why:
         print(f"predator: the graph could not be written: {why}", file=sys.stderr)
         return 6

@@ -3,10 +3,11 @@ from __future__ import annotations
 
 from dataclasses import dataclass, field
 
-# What the program takes: its options, and whether each has a value.
+# What the program and `graph` take: their options, and whether each has a value.
 OPTIONS = {
     b"": {b"--budget": True, b"--int-limit": True},
     b"replay": {b"--model": True, b"--strict": False, b"--steps": True},
+    b"graph": {b"--svg": False, b"--strict": False, b"--states": False, b"--budget": True},
 }
 FILES = {b"": 1, b"replay": 2}
 PREPROCESSOR = (b"-I", b"-D", b"-include")
@@ -52,7 +53,7 @@ def taken_apart(words, commands):
 
 def take(found, word, rest):
     """Takes a word for the program, and the value behind it where it has one."""
-    has_value = OPTIONS[b"" if found.command == b"" else b"replay"].get(word)
+    has_value = OPTIONS.get(found.command, OPTIONS[b"replay"]).get(word)
     if has_value is None and (word == b"-" or not word.startswith(b"-")):
         found.files.append(len(found.program))
     found.program.append(word)
