@@ -139,7 +139,9 @@ def growth(program, given):
                 sys.exit(f"bench/analysis.py: {name} has fewer than {count:,} states")
             each = (seconds - before) / count, (peak - floor) / count
             first = first or each
-            print(f"{name}, {count:,}: {seconds:.2f} s, {peak / 1024:.0f} MB; for each state {each[0] / first[0]:.2f} times the time, {each[1] / first[1]:.2f} times the memory", flush=True)
+            # where the peak is that of the rest of the program there is no ratio
+            of_memory = each[1] / first[1] if first[1] > 0 else float("nan")
+            print(f"{name}, {count:,}: {seconds:.2f} s, {peak / 1024:.0f} MB; for each state {each[0] / first[0]:.2f} times the time, {of_memory:.2f} times the memory", flush=True)
             if seconds > given.seconds:
                 break
 
