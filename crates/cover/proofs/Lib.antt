@@ -22,3 +22,4 @@ pub mod Standing
 pub mod Settling
 pub mod Sight
 pub mod Counting
+pub mod Celled

@@ -3,3 +3,4 @@ pub mod Found
 pub mod Checked
 pub mod Example
 pub mod Quick
+pub mod Cells

@@ -1,10 +1,11 @@
 //! Laws of covering. Each is the contract of a function that does nothing.
-ghost use Rattle.std.specs.Prelude.{◌≡◌, true, IsTrue};
+ghost use Rattle.std.specs.Prelude.{◌≡◌, true, None, IsTrue};
 ghost use Rattle.graph.specs.declared.parts.Parts.{Parts};
 ghost use Rattle.graph.specs.Meaning.{StandsFor};
 ghost use Rattle.graph.specs.State.{State};
 ghost use Rattle.graph.specs.WellFormed.{IsWellFormed, is_within_limits};
 ghost use Rattle.graph.specs.Whole.{IsGraph};
+ghost use Rattle.cover.specs.Cells.{constant_cells, fingerprint};
 ghost use Rattle.cover.specs.Covers.{Covers};
 ghost use Rattle.cover.specs.Example.{IsExample};
 ghost use Rattle.cover.specs.Quick.{may_cover, live_count};
@@ -40,4 +41,21 @@ pub fn what_covers_has_as_many_live_objects()
         IsGraph narrow →
         Covers wide narrow →
         live_count wide ≡ live_count narrow }
+{}
+
+/// Where one graph covers another one, both have the same fingerprint at the cells of the first one.
+pub fn what_covers_has_the_same_fingerprint()
+    ensures { (wide narrow : Parts) →
+        IsGraph wide →
+        IsGraph narrow →
+        Covers wide narrow →
+        fingerprint narrow (constant_cells wide) ≡ fingerprint wide (constant_cells wide) }
+{}
+
+/// Each graph has a fingerprint at its own cells.
+pub fn a_graph_has_a_fingerprint()
+    ensures { (graph : Parts) →
+        IsGraph graph →
+        fingerprint graph (constant_cells graph) ≡ None →
+        ⊥ }
 {}

@@ -3,6 +3,7 @@
 
 mod alike;
 mod apart;
+mod cells;
 mod content;
 mod covering;
 mod edges;
@@ -16,6 +17,7 @@ mod roots;
 mod tables;
 mod worklist;
 
+pub use cells::{Cell, constant_cells, fingerprint};
 pub use content::Content;
 pub use covering::covers;
 pub use quick::{live_count, may_cover};

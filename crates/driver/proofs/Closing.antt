@@ -1,20 +1,16 @@
 -- How it begins, and what a verdict says.
-use Rattle.std.proofs.Common.{◌≡◌, ℕ, zero, suc, ◌<◌, ◌≤◌, List, [], ◌∷◌, Bool, true, false, refl, sym, ap, subst, ◌∙◌, inl, inr, Option, None, Some, length, get_or, take, set, replicate, ◌↔◌, arith}
+use Rattle.std.proofs.Common.{◌≡◌, ℕ, zero, suc, ◌<◌, ◌≤◌, List, [], ◌∷◌, Bool, true, false, refl, sym, ap, subst, ◌∙◌, inl, inr, Option, None, Some, length, ◌++◌, take, ◌↔◌, arith}
 use Rattle.std.specs.Prelude.{slice_get, slice_index_or}
 use Rattle.std.specs.Option.{option_map_or}
-use Rattle.std.proofs.lemmas.Bool.{cases_lt}
-use Rattle.std.proofs.lemmas.List.{get_or-replicate, length-replicate, length-set}
 use Rattle.std.proofs.lemmas.Option.{slice_get_within}
 use Rattle.cbase.specs.declared.place.Place.{Place}
 use Rattle.graph.specs.declared.parts.Parts.{Parts}
-use Rattle.graph.specs.Whole.{IsGraph}
 use Rattle.flow.specs.declared.flow_graph.Flow.{Flow}
 use Rattle.flow.specs.declared.flow_graph.FlowFunction.{FlowFunction}
 use Rattle.flow.specs.InRange.{entry_of}
 use Rattle.flow.specs.Valid.{IsFlow}
 use Rattle.transfer.specs.Fitting.{FitsAt}
 use Rattle.transfer.specs.Start.{IsStartGraph}
-use Rattle.cover.specs.Quick.{live_count}
 use Rattle.trail.specs.declared.trail.Cause.TheVariants.{Start, Step}
 use Rattle.trail.specs.declared.trail.Cause.{Cause}
 use Rattle.trail.specs.declared.trail.Entry.{Entry}
@@ -30,16 +26,14 @@ use Rattle.trail.proofs.Grow.{first_pushed, closes}
 use Rattle.driver.specs.declared.verdict.Warning.{Warning}
 use Rattle.driver.specs.declared.work.Work.{Work}
 use Rattle.driver.specs.Driven.{driven, is_small}
-use Rattle.driver.specs.Peers.{SaysLast, ArePeers}
-use Rattle.driver.specs.Growing.{kept_count, candidate}
+use Rattle.driver.specs.Growing.{candidate, Grown}
 use Rattle.driver.specs.Telling.{IsAmong, IsTold, IsToldBy, IsWarning, AreWarnings, AreTold, AreAllTold, TellsFaults}
 use Rattle.driver.specs.Chains.{IsFromEarlier, AreFromEarlier}
 use Rattle.driver.specs.Errors.{IsErrorTold, alike_runs, AreErrorsMet}
 use Rattle.driver.specs.Ordering.{marked, AreInOrder}
-use Rattle.driver.specs.Looping.{Worked, IsWhy, IsResting, IsEnded}
+use Rattle.driver.specs.Peers.{IsUncovered}
+use Rattle.driver.specs.Looping.{IsNothingKnown, Worked, IsWhy, IsResting, IsEnded}
 use Rattle.driver.specs.Verdicts.{IsSafe, EndsSo, IsWarned, IsSpent, IsLarge}
-use Rattle.driver.proofs.Counted.{counted_first}
-use Rattle.driver.proofs.Walked.{peers_kept}
 use Rattle.driver.proofs.Leading.{nothing_at}
 use Rattle.driver.proofs.Exacting.{exact}
 use Rattle.driver.proofs.Sounding.{sound}
@@ -59,69 +53,55 @@ entry_within flow valid = by_function (slice_get flow.functions flow.main) refl
     by_function (Some function) there =
         (at_number (λ (f : FlowFunction). (f.entry < flow.points) × (f.exit < flow.points)) flow.functions flow.main function valid.in_range.functions there).0
 
--- no mark yet
-abbrev none_yet : ℕ → List ℕ
-none_yet count = replicate count 0
+-- main's start is put in where nothing is known yet
+pub begun_within : (flow : Flow) (budget : ℕ) (work : Work) (point : ℕ) → IsFlow flow → point ≡ entry_of flow flow.main → IsNothingKnown flow budget work → point < length work.masks.newest.items
+begun_within flow budget work point valid main known =
+    let within : entry_of flow flow.main < flow.points = entry_within flow valid in
+    subst (λ (n : ℕ). point < n) (sym known.points) (subst (λ (p : ℕ). p < flow.points) (sym main) within)
 
-zeros : (count point : ℕ) → get_or (none_yet count) point 0 ≡ 0
-zeros count point = elim (cases_lt point count) [
-  | inl less ↦ get_or-replicate count point 0 0 less
-  | inr more ↦ beyond (none_yet count) point (omega (arith, length_of))
-]
-  where
-    length_of : length (none_yet count) ≡ count
-    length_of = length-replicate count 0
-
-    beyond : (marks : List ℕ) (point : ℕ) → length marks ≤ point → get_or marks point 0 ≡ 0
-    beyond [] point more = refl
-    beyond (mark ∷ marks) zero more = absurd (omega arith)
-    beyond (mark ∷ marks) (suc point) more = beyond marks point (omega arith)
-
-no_peers : (count : ℕ) → ArePeers [] (none_yet count) []
-no_peers count = record {
-  points = λ point. subst (λ (mark : ℕ). SaysLast [] point 0 mark) (sym (zeros count point))
-      (record { all = λ number less peer. absurd (omega arith); there = λ number is. absurd (omega (arith, is)); within = omega arith });
-  entries = λ point number peer. nothing_at number peer.entry peer.there;
-  long = refl;
+pub begun_uncovered : (flow : Flow) (budget : ℕ) (work : Work) (point : ℕ) (graph : Parts) → IsNothingKnown flow budget work → IsUncovered work.trail point graph 0
+begun_uncovered flow budget work point graph known = record {
+  none = λ number from peer covers. nothing_at number peer.entry (subst (λ (trail : List Entry). At trail number peer.entry) known.trail peer.there);
 }
 
-pub worked_first : (flow : Flow) (budget : ℕ) (work : Work) (point count : ℕ) (graph : Parts) → IsFlow flow → 1 ≤ budget → IsStartGraph flow graph → IsGraph graph → is_small graph ≡ true →
-    FitsAt flow (entry_of flow flow.main) graph → point ≡ entry_of flow flow.main → work.trail ≡ candidate point Start graph true ∷ [] →
-    work.newest.items ≡ set (replicate flow.points 0) point 1 →
-    work.before.items ≡ 0 ∷ [] → work.counts.items ≡ count ∷ [] → count ≡ live_count graph → work.kept ≡ 1 → work.warnings ≡ [] → work.next ≡ None → Worked flow budget work 0
-worked_first flow budget work point count graph valid some start graph_is small fits main trail_is newest_is before_is counts_are count_is kept_is warnings_is next_is = record {
+pub begun_room : (flow : Flow) (budget : ℕ) (work : Work) → 1 ≤ budget → IsNothingKnown flow budget work → work.kept < budget
+begun_room flow budget work some known = let kept : work.kept ≡ 0 = known.kept in omega (arith, kept)
+
+-- nothing is followed yet
+pub worked_first : (flow : Flow) (budget : ℕ) (nothing work : Work) (point : ℕ) (graph : Parts) → IsFlow flow → IsStartGraph flow graph → is_small graph ≡ true →
+    FitsAt flow (entry_of flow flow.main) graph → point ≡ entry_of flow flow.main → IsNothingKnown flow budget nothing → Grown budget nothing work point Start graph → Worked flow budget work 0
+worked_first flow budget nothing work point graph valid start small fits main known grown = record {
   known = record {
-    worked = subst (λ (trail : List Entry). IsWorked driven flow trail 0) (sym trail_is) (first_pushed driven flow first honest refl refl);
-    booked = record {
-      peers = peers_there work.trail work.newest.items work.before.items trail_is newest_is before_is;
-      counts = counted_first work.trail work.counts.items first count trail_is counts_are graph_is count_is;
-      kept = kept_is ∙ ap kept_count (sym trail_is);
-      within = omega (arith, kept_is);
-    };
-    points = long;
-    warnings = subst (λ (ws : List Warning). AreWarnings flow work.trail ws) (sym warnings_is) (record { each = λ warning among. no_warning warning among });
+    worked = subst (λ (trail : List Entry). IsWorked driven flow trail 0) (sym trail_is) (first_pushed driven flow first honest refl kept_is);
+    booked = grown.booked;
+    points = grown.points ∙ known.points;
+    warnings = subst (λ (ws : List Warning). AreWarnings flow work.trail ws) (sym (grown.warnings ∙ known.warnings)) (record { each = λ warning among. no_warning warning among });
     told = record { told = λ place entry number kind below there kept has. absurd (omega arith) };
   };
-  next = next_is;
+  next = grown.next ∙ known.next;
   within = omega arith;
   causes = subst (λ (trail : List Entry). AreBefore trail 0 0 0) (sym trail_is) (record { before = by_place });
 }
   where
-    zeros_long : length (none_yet flow.points) ≡ flow.points
-    zeros_long = length-replicate flow.points 0
-
-    long : length work.newest.items ≡ flow.points
-    long = ap (λ (items : List ℕ). length items) newest_is ∙ (length-set (none_yet flow.points) point 1 ∙ zeros_long)
-
     first : Entry
-    first = candidate point Start graph true
+    first = candidate point Start graph grown.kept
+
+    trail_is : work.trail ≡ first ∷ []
+    trail_is = grown.trail_is ∙ ap (λ (trail : List Entry). trail ++ first ∷ []) known.trail
+
+    -- nothing covers it, since nothing is there
+    kept_is : grown.kept ≡ true
+    kept_is = elim grown.settled [
+      | inl kept ↦ kept
+      | inr covered ↦ nothing_at covered.number covered.other (subst (λ (trail : List Entry). slice_get trail covered.number ≡ Some covered.other) known.trail covered.there)
+    ]
 
     no_warning : {A : Type 0} (warning : Warning) → IsAmong [] warning → A
     no_warning warning among = nothing_at among.number warning among.there
 
     honest : IsHonest driven flow [] first
     honest = record {
-      fits = record { graph_is = graph_is; small = small; fits = subst (λ (p : ℕ). FitsAt flow p graph) (sym main) fits };
+      fits = record { graph_is = grown.graph_is; small = small; fits = subst (λ (p : ℕ). FitsAt flow p graph) (sym main) fits };
       made = (main, start);
       uncovered = λ kept number earlier there kept' same covers. nothing_at number earlier there;
       new = λ number earlier there same. nothing_at number earlier there;
@@ -130,18 +110,6 @@ worked_first flow budget work point count graph valid some start graph_is small 
     by_place : (place : ℕ) (entry : Entry) → slice_get (first ∷ []) place ≡ Some entry → IsBefore entry.cause 0 0 0
     by_place zero entry there = subst (λ (x : Entry). IsBefore x.cause 0 0 0) (same_some first entry there) tt
     by_place (suc place) entry there = nothing_at place entry there
-
-    point_within : point < length (none_yet flow.points)
-    point_within = let within : entry_of flow flow.main < flow.points = entry_within flow valid in
-        subst (λ (n : ℕ). point < n) (sym zeros_long) (subst (λ (p : ℕ). p < flow.points) (sym main) within)
-
-    peers_there : (trail : List Entry) (newest marks : List ℕ) → trail ≡ first ∷ [] → newest ≡ set (none_yet flow.points) point 1 → marks ≡ 0 ∷ [] → ArePeers trail newest marks
-    peers_there trail newest marks one two three =
-        subst (λ (t : List Entry). ArePeers t newest marks) (sym one)
-        (subst (λ (n : List ℕ). ArePeers (first ∷ []) n marks) (sym two)
-        (subst (λ (m : List ℕ). ArePeers (first ∷ []) (set (none_yet flow.points) point 1) m) (sym three)
-        (subst (λ (mark : ℕ). ArePeers (first ∷ []) (set (none_yet flow.points) point 1) (mark ∷ [])) (zeros flow.points point)
-        (peers_kept [] first (none_yet flow.points) [] point (no_peers flow.points) point_within refl refl))))
 
 -- all is followed
 clean_there : (flow : Flow) (trail : List Entry) (warnings : List Warning) (at : ℕ) → AreTold flow trail warnings at → length trail ≤ at → warnings ≡ [] → IsClean driven flow trail

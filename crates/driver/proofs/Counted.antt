@@ -1,6 +1,5 @@
 -- The numbers of live objects of entries, and that entries that are passed over do not cover.
-use Rattle.std.proofs.Common.{◌≡◌, ℕ, suc, ◌<◌, ◌+◌, List, [], ◌∷◌, ◌++◌, Bool, true, false, refl, sym, ap, subst, ◌∙◌, inl, inr, Some, length, length-append, get_or, arith}
-use Rattle.std.specs.Prelude.{slice_get}
+use Rattle.std.proofs.Common.{◌≡◌, ℕ, ◌+◌, List, [], ◌∷◌, ◌++◌, Bool, true, false, refl, sym, ap, subst, ◌∙◌, inl, inr, length, length-append, get_or, arith}
 use Rattle.std.proofs.lemmas.Bool.{false≢true}
 use Rattle.std.proofs.lemmas.Option.{same_Some, none-some}
 use Rattle.std.proofs.lemmas.List.{get_or_append_left}
@@ -48,11 +47,10 @@ counted_more trail counts new count counted graph_is is = record {
         ap (λ (n : ℕ). get_or (counts ++ count ∷ []) n 0) (last ∙ sym counted.long) ∙ get_or-append_seam counts count [] 0 in
         record { graph_is = graph_is; count_is = its ∙ is }
 
-pub counted_first : (trail : List Entry) (counts : List ℕ) (first : Entry) (count : ℕ) → trail ≡ first ∷ [] → counts ≡ count ∷ [] → IsGraph first.graph → count ≡ live_count first.graph → AreCounted trail counts
-counted_first trail counts first count trail_is counts_is graph_is is =
+pub counted_nothing : (trail : List Entry) (counts : List ℕ) → trail ≡ [] → counts ≡ [] → AreCounted trail counts
+counted_nothing trail counts trail_is counts_is =
     subst (λ (t : List Entry). AreCounted t counts) (sym trail_is)
-    (subst (λ (c : List ℕ). AreCounted (first ∷ []) c) (sym counts_is)
-    (counted_more [] [] first count (record { each = λ number entry there. absurd (none-some entry there); long = refl }) graph_is is))
+    (subst (λ (c : List ℕ). AreCounted [] c) (sym counts_is) (record { each = λ number entry there. absurd (none-some entry there); long = refl }))
 
 pub counted_there : (trail trail' : List Entry) (counts counts' : List ℕ) (new : Entry) (count : ℕ) → AreCounted trail counts → trail' ≡ trail ++ new ∷ [] → counts' ≡ counts ++ count ∷ [] →
     IsGraph new.graph → count ≡ live_count new.graph → AreCounted trail' counts'

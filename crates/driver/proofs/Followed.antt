@@ -196,7 +196,7 @@ step_halts flow budget before after at point number edge post count graph fits o
     (subst (λ (b : Bool). Adds budget before after edge.to (Step at number count post.loss) graph b) is_false adds)
 
 pub to_within : (flow : Flow) (budget : ℕ) (work : Work) (at point number : ℕ) (edge : FlowEdge) (post : Post) (count : ℕ) → IsFlow flow →
-    OnEdge flow budget work at point number edge post count → edge.to < length work.newest.items
+    OnEdge flow budget work at point number edge post count → edge.to < length work.masks.newest.items
 to_within flow budget work at point number edge post count valid on =
     subst (λ (n : ℕ). edge.to < n) (sym on.on.known.points)
     (at_number (λ (e : FlowEdge). (e.from < flow.points) × (e.to < flow.points)) flow.edges number edge valid.in_range.edges on.stands).1

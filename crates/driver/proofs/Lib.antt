@@ -1,5 +1,8 @@
 pub mod Left
+pub mod Linking
 pub mod Walked
+pub mod Slotted
+pub mod Masked
 pub mod Booked
 pub mod Counted
 pub mod Told

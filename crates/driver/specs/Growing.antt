@@ -15,7 +15,7 @@ kept_count trail = length (filter (λ entry. entry.kept) trail)
 
 -- the table of peers, the counts of live objects and that of kept entries are those of the trail
 pub record IsBooked (budget : ℕ) (work : Work) : Type 0 where
-  pub peers : ArePeers work.trail work.newest.items work.before.items
+  pub peers : ArePeers work.trail work.masks work.slots.items work.earlier.items
   pub counts : AreCounted work.trail work.counts.items
   pub kept : work.kept ≡ kept_count work.trail
   pub within : work.kept ≤ budget
@@ -31,7 +31,7 @@ pub record Grown (budget : ℕ) (before after : Work) (point : ℕ) (cause : Cau
   pub settled : (kept ≡ true) ⊎ IsCovered driven before.trail (candidate point cause graph kept)
   pub uncovered : kept ≡ true → IsUncovered before.trail point graph 0
   pub booked : IsBooked budget after
-  pub points : length after.newest.items ≡ length before.newest.items
+  pub points : length after.masks.newest.items ≡ length before.masks.newest.items
   pub warnings : after.warnings ≡ before.warnings
   pub next : after.next ≡ before.next
 
@@ -41,7 +41,7 @@ pub record IsFull (budget : ℕ) (before after : Work) (point : ℕ) (cause : Ca
   pub trail_is : after.trail ≡ before.trail
   pub uncovered : IsUncovered before.trail point graph 0
   pub booked : IsBooked budget after
-  pub points : length after.newest.items ≡ length before.newest.items
+  pub points : length after.masks.newest.items ≡ length before.masks.newest.items
   pub full : kept_count before.trail ≡ budget
   pub warnings : after.warnings ≡ before.warnings
   pub next : after.next ≡ Some (candidate point cause graph true)

@@ -1,6 +1,8 @@
 pub mod Leaving
 pub mod Driven
+pub mod Linked
 pub mod Peers
+pub mod SameCells
 pub mod Growing
 pub mod Telling
 pub mod Looping

@@ -1,5 +1,5 @@
 -- What holds while the entries of the trail are followed, one after the other.
-use Rattle.std.specs.Prelude.{◌≡◌, ℕ, ◌≤◌, ◌+◌, List, Bool, true, false, ◌&&◌, nat_eq, Option, None, Some, slice_get, length}
+use Rattle.std.specs.Prelude.{◌≡◌, ℕ, ◌≤◌, ◌+◌, List, [], Bool, true, false, ◌&&◌, nat_eq, Option, None, Some, slice_get, length}
 use Rattle.cbase.specs.declared.stop.Stop.{Stop}
 use Rattle.cbase.specs.declared.stop.Stop.TheVariants as stops
 use Rattle.graph.specs.declared.post.Post.{Post}
@@ -44,9 +44,18 @@ point_of trail at = point_in (slice_get trail at)
 pub record IsKnown (flow : Flow) (budget : ℕ) (work : Work) (at : ℕ) : Type 0 where
   pub worked : IsWorked driven flow work.trail at
   pub booked : IsBooked budget work
-  pub points : length work.newest.items ≡ flow.points
+  pub points : length work.masks.newest.items ≡ flow.points
   pub warnings : AreWarnings flow work.trail work.warnings
   pub told : AreTold flow work.trail work.warnings at
+
+-- nothing is
+pub record IsNothingKnown (flow : Flow) (budget : ℕ) (work : Work) : Type 0 where
+  pub trail : work.trail ≡ []
+  pub booked : IsBooked budget work
+  pub points : length work.masks.newest.items ≡ flow.points
+  pub kept : work.kept ≡ 0
+  pub warnings : work.warnings ≡ []
+  pub next : work.next ≡ None
 
 -- between two entries
 pub record Worked (flow : Flow) (budget : ℕ) (work : Work) (at : ℕ) : Type 0 where

@@ -1,12 +1,13 @@
 //! A new entry.
-ghost use Rattle.std.specs.Prelude.{◌≡◌, ◌<◌, length, true, false, IfOk, OnOk};
-ghost use Rattle.driver.specs.Peers.{LooksUp};
+ghost use Rattle.std.specs.Prelude.{◌≡◌, ◌<◌, length, true, false, IfOk, IfSome, OnOk};
+ghost use Rattle.driver.specs.Peers.{print_in, LooksUp};
 ghost use Rattle.driver.specs.Growing.{IsBooked, Adds, Grown};
 
-use crate::looking::{is_covered, mark_in};
+use crate::looking::{is_covered, mark_in, slot_of};
+use crate::masking::put_mask;
 use crate::work::Work;
 use cbase::NoMemory;
-use cover::live_count;
+use cover::{constant_cells, fingerprint, live_count};
 use graph::Graph;
 use std::alloc::Global;
 use trail::{Cause, Entry};
@@ -24,7 +25,7 @@ fn add_covered(
     requires covered { LooksUp work.old.trail point graph true }
     ensures { OnOk result (Grown budget work.old work.new point cause graph) }
 {
-    work.before.push(0)?;
+    work.earlier.push(0)?;
     work.counts.push(live_count(&graph))?;
     work.trail.push(Entry {
         point,
@@ -35,9 +36,22 @@ fn add_covered(
     Ok(())
 }
 
+/// A fingerprint; 0 where there is none.
+fn print_in(print: Option<u64>) -> u64
+    requires within { IfSome print (λ number. number < 2147483647) }
+    ensures is { result ≡ print_in print }
+    ensures within { result < 2147483647 }
+{
+    match print {
+        None => 0,
+        Some(number) => number,
+    }
+}
+
 #[tactic(auto, using(crate::proofs::Booked::grown_kept))]
 /// Puts in an entry that is kept.
-fn add_kept(
+pub(crate) fn add_kept(
+    alloc: Global,
     budget: u32,
     work: &mut Work,
     point: u32,
@@ -45,7 +59,7 @@ fn add_kept(
     graph: Graph,
 ) -> Result<(), NoMemory>
     requires booked { IsBooked budget work.old }
-    requires within { point < length work.old.newest.items }
+    requires within { point < length work.old.masks.newest.items }
     requires uncovered { LooksUp work.old.trail point graph false }
     requires room { work.old.kept < budget }
     ensures { OnOk result (Grown budget work.old work.new point cause graph) }
@@ -54,10 +68,15 @@ fn add_kept(
     if number >= 4_000_000_000 {
         return Err(NoMemory);
     }
-    let mark = mark_in(work.newest.as_slice(), point as usize);
-    work.before.push(mark)?;
-    work.counts.push(live_count(&graph))?;
-    work.newest[point as usize] = number + 1;
+    let cells = constant_cells(alloc, &graph)?;
+    let live = live_count(&graph);
+    let print = print_in(fingerprint(&graph, cells.as_slice()));
+    let slot = slot_of(work.slots.len(), point, live, print);
+    put_mask(&mut work.masks, point, cells)?;
+    let mark = mark_in(work.slots.as_slice(), slot);
+    work.earlier.push(mark)?;
+    work.counts.push(live)?;
+    work.slots[slot] = number + 1;
     work.trail.push(Entry {
         point,
         cause,
@@ -79,7 +98,7 @@ pub(crate) fn add(
     graph: Graph,
 ) -> Result<bool, NoMemory>
     requires booked { IsBooked budget work.old }
-    requires within { point < length work.old.newest.items }
+    requires within { point < length work.old.masks.newest.items }
     ensures { IfOk result (λ fits. Adds budget work.old work.new point cause graph fits) }
 {
     if is_covered(alloc, work, point, &graph)? {
@@ -95,6 +114,6 @@ pub(crate) fn add(
         });
         return Ok(false);
     }
-    add_kept(budget, work, point, cause, graph)?;
+    add_kept(alloc, budget, work, point, cause, graph)?;
     Ok(true)
 }

@@ -1,5 +1,5 @@
 //! The fixed point.
-ghost use Rattle.std.specs.Prelude.{◌≡◌, ◌≤◌, length, IfOk};
+ghost use Rattle.std.specs.Prelude.{◌≡◌, ◌<◌, ◌≤◌, length, IfOk};
 ghost use Rattle.flow.specs.Exclusive.{IsExclusive};
 ghost use Rattle.flow.specs.InRange.{entry_of};
 ghost use Rattle.flow.specs.Marked.{AreOuts};
@@ -10,20 +10,21 @@ ghost use Rattle.trail.specs.Seen.{HasNoCalls};
 ghost use Rattle.trail.specs.Theorems.{HaveOffsets};
 ghost use Rattle.trail.specs.Trail.{AreHonest};
 ghost use Rattle.driver.specs.Driven.{driven};
-ghost use Rattle.driver.specs.Looping.{Worked, IsHalted, IsResting, IsEnded};
+ghost use Rattle.driver.specs.Looping.{IsNothingKnown, Worked, IsHalted, IsResting, IsEnded};
 ghost use Rattle.driver.specs.Ordering.{AreInOrder};
 ghost use Rattle.driver.specs.Verdicts.{IsVerdict};
 
+use crate::adding::add_kept;
 use crate::calls::first_call;
 use crate::chains::chained;
 use crate::expanding::turn;
 use crate::looking::is_small;
+use crate::mask::Masks;
 use crate::ordering::in_order;
 use crate::resting::tell_rest;
 use crate::verdict::{Limits, Verdict, Warning};
 use crate::work::Work;
 use cbase::{List, NoMemory, Stop};
-use cover::live_count;
 use flow::{Flow, Out, edges_by_point};
 use graph::Graph;
 use std::alloc::Global;
@@ -40,8 +41,42 @@ fn entry_of(flow: &Flow) -> u32
     }
 }
 
-#[tactic(auto, using(crate::proofs::Closing::entry_within))]
+/// So many slots as entries may be kept, but no more than a million.
+fn slot_count(budget: u32) -> usize
+    requires budget { 1 ≤ budget }
+    ensures { 0 < result }
+{
+    if budget > 1_000_000 {
+        return 1_000_000;
+    }
+    budget as usize
+}
+
+/// Nothing is known yet.
+fn nothing_known(alloc: Global, flow: &Flow, budget: u32) -> Result<Work, NoMemory>
+    requires budget { 1 ≤ budget }
+    ensures { IfOk result (λ work. IsNothingKnown flow.now budget work) }
+{
+    let newest: Vec<usize> = vec![in alloc; 0; flow.points as usize]?;
+    let slots: Vec<usize> = vec![in alloc; 0; slot_count(budget)]?;
+    Ok(Work {
+        trail: List::new(alloc),
+        masks: Masks {
+            items: List::new(alloc),
+            newest,
+            before: Vec::new(alloc),
+        },
+        slots,
+        earlier: Vec::new(alloc),
+        counts: Vec::new(alloc),
+        kept: 0,
+        warnings: List::new(alloc),
+        next: None,
+    })
+}
+
 /// Main's start, of which nothing is followed yet.
+#[tactic(auto, using(crate::proofs::Closing::entry_within, crate::proofs::Closing::begun_within, crate::proofs::Closing::begun_uncovered, crate::proofs::Closing::begun_room))]
 fn begun(alloc: Global, flow: &Flow, budget: u32, graph: Graph) -> Result<Work, NoMemory>
     requires flow { IsFlow flow.now }
     requires budget { 1 ≤ budget }
@@ -53,28 +88,14 @@ fn begun(alloc: Global, flow: &Flow, budget: u32, graph: Graph) -> Result<Work, 
         return Err(NoMemory);
     }
     let point = entry_of(flow);
-    let mut newest: Vec<usize> = vec![in alloc; 0; flow.points as usize]?;
-    newest[point as usize] = 1;
-    let mut before: Vec<usize> = Vec::new(alloc);
-    before.push(0)?;
-    let mut counts: Vec<u32> = Vec::new(alloc);
-    counts.push(live_count(&graph))?;
-    let mut trail = List::new(alloc);
-    trail.push(Entry {
-        point,
-        cause: Cause::Start,
-        graph,
-        kept: true,
-    })?;
-    Ok(Work {
-        trail,
-        newest,
-        before,
-        counts,
-        kept: 1,
-        warnings: List::new(alloc),
-        next: None,
-    })
+    let mut work = nothing_known(alloc, flow, budget)?;
+    match add_kept(alloc, budget, &mut work, point, Cause::Start, graph) {
+        Ok(()) => Ok(work),
+        Err(error) => {
+            drop(work);
+            Err(error)
+        }
+    }
 }
 
 /// Warnings in order, with those that are errors.
@@ -119,15 +140,17 @@ fn followed(
 {
     let Work {
         trail,
-        newest,
-        before,
+        masks,
+        slots,
+        earlier,
         counts,
         warnings,
         next,
         ..
     } = work;
-    drop(newest);
-    drop(before);
+    drop(masks);
+    drop(slots);
+    drop(earlier);
     drop(counts);
     drop(next);
     if warnings.is_empty() {
@@ -162,15 +185,17 @@ fn halted(
 {
     let Work {
         trail,
-        newest,
-        before,
+        masks,
+        slots,
+        earlier,
         counts,
         warnings,
         next,
         ..
     } = work;
-    drop(newest);
-    drop(before);
+    drop(masks);
+    drop(slots);
+    drop(earlier);
     drop(counts);
     match next {
         None => {

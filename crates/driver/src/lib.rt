@@ -11,6 +11,8 @@ mod expanding;
 pub mod laws;
 mod leaving;
 mod looking;
+mod mask;
+mod masking;
 mod noting;
 mod ordering;
 mod resting;

@@ -1,3 +1,4 @@
+use crate::mask::Masks;
 use crate::verdict::Warning;
 use cbase::List;
 use trail::Entry;
@@ -7,10 +8,12 @@ use trail::Entry;
 pub(crate) struct Work {
     /// The entries in the order in which they came about.
     pub(crate) trail: List<Entry>,
-    /// For each point the number of the kept entry that came last, one more; 0 where there is none.
-    pub(crate) newest: Vec<usize>,
-    /// For each kept entry the number of the kept one before it at its point, one more; 0 where there is none.
-    pub(crate) before: Vec<usize>,
+    /// Where the graphs of kept entries hold constants.
+    pub(crate) masks: Masks,
+    /// For each slot the number of the kept entry in it that came last, one more; 0 where there is none.
+    pub(crate) slots: Vec<usize>,
+    /// For each kept entry the number of the kept one before it in its slot, one more; 0 where there is none.
+    pub(crate) earlier: Vec<usize>,
     /// For each entry how many objects of its graph live.
     pub(crate) counts: Vec<u32>,
     /// How many entries are kept.

@@ -1,19 +1,14 @@
-use Rattle.std.proofs.Common.{rules, ◌-◌, refl}
-use Rattle.driver.proofs.Counted.{count_of}
-use Rattle.driver.proofs.Walked.{onward_there, covered_there, walked_less}
+use Rattle.std.proofs.Common.{rules, map, ◌-◌}
+use Rattle.driver.specs.Peers.{mask_key, IsNoneOfMask}
+use Rattle.driver.proofs.Slotted.{mask_fails, masks_last}
+use Rattle.driver.proofs.Walked.{walked_on}
 use Rattle.driver.proofs.looking.is_covered.Goals as goal
 
-pub entry_covers-requires-clause-live : goal.entry_covers-requires-clause-live
-entry_covers-requires-clause-live c = count_of c.args.graph.now c.live_count-live.result c.live_count-live.ensures.graph c.live_count-live.ensures.count
-
-pub returns-then-branch : goal.returns-then-branch
-returns-then-branch c = covered_there c.args.work.now.trail c.args.work.now.trail c.args.point c.args.graph.now c.loop-mark.mark c.in_ok-entry_covers.field-0
-    c.loop-mark.invariant (search rules) refl c.in_ok-entry_covers.ensures (search rules)
-
-pub loop-mark-smaller : goal.loop-mark-smaller
-loop-mark-smaller c = search (rules, walked_less c.args.work.now.trail c.args.work.now.newest.items c.args.work.now.before.items c.args.point c.args.graph.now c.loop-mark.mark (c.loop-mark.mark - 1) c.requires.peers c.loop-mark.invariant)
-
 pub loop-mark-preserved : goal.loop-mark-preserved
-loop-mark-preserved c = onward_there c.args.work.now.trail c.args.work.now.trail c.args.work.now.newest.items c.args.work.now.before.items c.as_slice-in-loop-mark.result.now
-    c.args.point c.args.graph.now c.loop-mark.mark c.mark_in-mark-in-loop-mark.result c.in_ok-entry_covers.field-0 c.requires.peers c.loop-mark.invariant (search rules)
-    refl c.in_ok-entry_covers.ensures (search rules) c.as_slice-in-loop-mark.ensures.value c.mark_in-mark-in-loop-mark.ensures
+loop-mark-preserved c = walked_on (map mask_key c.args.work.now.masks.items) c.args.work.now.masks.newest.items c.args.work.now.masks.before.items c.as_slice-in-loop-mark.result.now
+    c.args.point (IsNoneOfMask c.args.work.now.trail c.args.work.now.masks.items c.args.point c.args.graph.now) c.loop-mark.mark c.mark_in-mark-in-loop-mark.result c.requires.peers.by_point c.loop-mark.invariant (search rules)
+    (mask_fails c.args.work.now.trail c.args.work.now.masks.items c.args.point c.args.graph.now (c.loop-mark.mark - 1) c.in_ok-is_covered_by_mask.field-0 c.in_ok-is_covered_by_mask.ensures (search rules))
+    c.as_slice-in-loop-mark.ensures.value c.mark_in-mark-in-loop-mark.ensures
+
+pub returns : goal.returns
+returns c = masks_last c.args.work.now.trail c.args.work.now.masks.items c.args.point c.args.graph.now c.loop-mark.mark c.requires.peers.masked c.loop-mark.invariant (search rules)
