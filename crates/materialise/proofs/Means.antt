@@ -70,7 +70,7 @@ own_again items at size d room =
     let own : take size (drop at items) ≡ take (length (take size (drop at items))) (drop at items) = ap (λ (n : ℕ). take n (drop at items)) (sym long) in
     spliced-own items at (take size (drop at items)) (omega arith) d (ap length own) own
 
-filled_has : (plane : List ℕ) (bytes : List Byte) (at size class : ℕ) → at + size ≤ length bytes → HaveClasses (replicate size class) (take size (drop at bytes)) → HaveClasses plane bytes → HaveClasses (filled plane at size class) bytes
+pub filled_has : (plane : List ℕ) (bytes : List Byte) (at size class : ℕ) → at + size ≤ length bytes → HaveClasses (replicate size class) (take size (drop at bytes)) → HaveClasses plane bytes → HaveClasses (filled plane at size class) bytes
 filled_has plane bytes at size class room classes has =
     subst (λ (classes : List ℕ). HaveClasses classes bytes) (sym (filled_spliced plane at size class))
     (subst (λ (bs : List Byte). HaveClasses (spliced plane at (replicate size class)) bs) (own_again bytes at size (Num 0) room)

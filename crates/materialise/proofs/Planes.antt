@@ -41,10 +41,10 @@ room_for plane at size class room = let e : length (replicate {A = ℕ} size cla
 pub filled-length : (plane : List ℕ) (at size class : ℕ) → at + size ≤ length plane → length (filled plane at size class) ≡ length plane
 filled-length plane at size class room = ap length (filled_spliced plane at size class) ∙ length-spliced plane at (replicate size class) (room_for plane at size class room) 0
 
-filled-under : (plane : List ℕ) (at size class : ℕ) → at + size ≤ length plane → take size (drop at (filled plane at size class)) ≡ replicate size class
+pub filled-under : (plane : List ℕ) (at size class : ℕ) → at + size ≤ length plane → take size (drop at (filled plane at size class)) ≡ replicate size class
 filled-under plane at size class room = ap (λ (classes : List ℕ). take size (drop at classes)) (filled_spliced plane at size class) ∙ range_stands plane at size class room
 
-filled-beside : (plane : List ℕ) (at size class from count : ℕ) → at + size ≤ length plane → from + count ≤ length plane → (from + count ≤ at) ⊎ (at + size ≤ from) →
+pub filled-beside : (plane : List ℕ) (at size class from count : ℕ) → at + size ≤ length plane → from + count ≤ length plane → (from + count ≤ at) ⊎ (at + size ≤ from) →
     take count (drop from (filled plane at size class)) ≡ take count (drop from plane)
 filled-beside plane at size class from count room within beside =
     ap (λ (classes : List ℕ). take count (drop from classes)) (filled_spliced plane at size class)
@@ -98,7 +98,7 @@ no_higher_range (suc at) size class (first ∷ rest) room low =
     (omega arith, no_higher_range at size class rest (omega arith) low)
 
 -- a range of a class that is no higher than what stands there
-filled_had : (plane : List ℕ) (bytes : List Byte) (at size class : ℕ) → at + size ≤ length plane → list_all (nat_le class) (take size (drop at plane)) ≡ true → HaveClasses (filled plane at size class) bytes → HaveClasses plane bytes
+pub filled_had : (plane : List ℕ) (bytes : List Byte) (at size class : ℕ) → at + size ≤ length plane → list_all (nat_le class) (take size (drop at plane)) ≡ true → HaveClasses (filled plane at size class) bytes → HaveClasses plane bytes
 filled_had plane bytes at size class room low has =
     no_higher_has (take at plane ++ (replicate size class ++ drop (at + size) plane)) plane bytes (no_higher_range at size class plane room low)
     (subst (λ (classes : List ℕ). HaveClasses classes bytes)

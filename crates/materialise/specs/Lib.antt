@@ -3,5 +3,9 @@ pub mod Dropped
 pub mod Empty
 pub mod SplitFirst
 pub mod SplitLast
+pub mod Splitting
+pub mod SplittingLast
 pub mod Worked
 pub mod Kept
+pub mod WithOne
+pub mod WorkedSplits

@@ -1,0 +1,9 @@
+use Rattle.std.proofs.Common.{◌≡◌, ◌++◌, map, length}
+use Rattle.materialise.specs.Splitting.{first_entry}
+use Rattle.materialise.proofs.first.push_first_values.Given as goal
+
+abbrev pub invariant-loop-left : goal.invariant-loop-left
+invariant-loop-left l = l.fn.after ++ map (first_entry l.region l.key) l.values ≡ l.after ++ map (first_entry l.region l.key) l.left
+
+abbrev pub decreases-loop-left : goal.decreases-loop-left
+decreases-loop-left l = length l.left
