@@ -10,6 +10,7 @@ mod gains;
 mod scopes;
 mod shown;
 mod spelled;
+mod splits;
 mod steps;
 mod word;
 

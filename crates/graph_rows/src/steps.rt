@@ -12,6 +12,7 @@ use crate::answers::{graph_of_text, said};
 use crate::gains::gaining;
 use crate::scopes::scoped;
 use crate::shown::shown;
+use crate::splits::splitting;
 use block_steps::{allocate, release};
 use cbase::{List, NoMemory, Stop};
 use changes::held_by;
@@ -306,6 +307,7 @@ pub fn step(
         "release" => releasing(alloc, graph, fields.as_slice()),
         "allocate" => allocating(alloc, graph, fields.as_slice()),
         "enter" | "leave" | "close" => scoped(alloc, kind, graph, fields.as_slice()),
+        "dropped" | "first" | "last" => splitting(alloc, kind, graph, fields.as_slice()),
         _ => gaining(alloc, kind, graph, fields.as_slice()),
     }
 }

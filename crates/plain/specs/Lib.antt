@@ -1,0 +1,12 @@
+pub mod Marks
+pub mod Conditions
+pub mod StartMarks
+pub mod PlainRuns
+pub mod Shown
+pub mod StartGraph
+pub mod Laws
+pub mod Chain
+pub mod Real
+pub mod RealErrors
+pub mod Answers
+pub mod Example
