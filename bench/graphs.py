@@ -1,16 +1,16 @@
 #!/usr/bin/env python3
 """Says whether steps on graphs take time in proportion to the graph's size: each call on graphs of 100 and of 10,000 objects.
 
-Usage, at the project's root: bench/graphs.py
+Usage, at the project's root: bench/graphs.py [--large N]
 A graph has objects of 24 bytes, each with two edges: one leads to the next object, the last one's to the first, and one holds a number. Each third object is a variable's, the others are of the heap,
 and there are a third as many registers and as many unequal pairs. `start` is asked for as many static variables, alone and with an initialiser for each hundredth one and for each one; `close` for a graph of variables
-alone, in which no block of the heap lives. The program of bench/graphs, which tools/programs.py builds and which is not proved, makes each call some times, and the least processor time of some runs is
+alone, in which no block of the heap lives. The large graph may have another size (--large). The program of bench/graphs, which tools/programs.py builds and keeps and which is not proved, makes each call some times, and the least processor time of some runs is
 taken, with letting go of what is handed out. It is built with checks of memory, and takes many times as long as a proved one. Printed are the microseconds of a call on either graph, and how many times
 as long an object takes in the large one as in the small one: at most 1 where the work is linear, but for chance.
 """
+import argparse
 import subprocess
 import sys
-import tempfile
 from pathlib import Path
 
 HOME = Path(__file__).resolve().parent.parent
@@ -20,9 +20,8 @@ from front import unproved  # noqa: E402
 
 HERE = HOME / "bench" / "graphs"
 ROW = "graph number=0:4"
-# how many calls there are in a row, by the number of objects, and how often it is asked
-SIZES = {100: 20, 10_000: 1}
-TIMES = 2
+SMALL = 100  # objects
+TIMES = 2  # a row is asked
 NEW = 1_000_000
 # registers: addresses of two blocks of the heap, which stand one behind the other, a number, the constants 4 and 0
 BLOCK, NEXT, NUMBER, FOUR, NULL, FREE = range(6)
@@ -97,9 +96,14 @@ def start_of(objects, every):
     return "; ".join(["points 3", "stands 3", "function 0 1", "return 1 2", *["static 24"] * objects, *held])
 
 
+def runs_of(objects):
+    """How many calls there are in a row."""
+    return max(1, 20 * SMALL // objects)
+
+
 def rows(objects):
     """The rows of all calls, each with the call's name behind those that it is asked of."""
-    runs = SIZES[objects]
+    runs = runs_of(objects)
     lines = [(f"graph {graph_of(objects, registers_of(objects, objects // 3))}", None)]
     lines += [(f"{runs} {step}", name) for name, step in STEPS.items()]
     lines += [(f"graph {graph_of(objects, registers_of(objects, objects // 3), 1)}", None), (f"{runs} close", "close")]
@@ -126,27 +130,26 @@ def asked(process, row):
 
 
 def measured(program, objects):
-    """The microseconds of each call on a graph of so many objects, by its name."""
-    found = {}
+    """Each call with the microseconds that it takes on a graph of so many objects."""
     with subprocess.Popen([program], stdin=subprocess.PIPE, stdout=subprocess.PIPE, text=True, preexec_fn=unproved.with_stack) as process:
         for row, name in rows(objects):
             least = min(asked(process, row) for _ in range(TIMES if name else 1))
             if name:
-                found[name] = least / SIZES[objects] / 1000
+                yield name, least / runs_of(objects) / 1000
         process.stdin.close()
-    return found
 
 
 def main():
-    with tempfile.TemporaryDirectory() as room:
-        program = str(Path(room, "program"))
-        programs.built(HERE, ROW, program)
-        small, large = (measured(program, objects) for objects in SIZES)
-    one, other = SIZES
-    print(f"| call | {one:,} objects | {other:,} objects | time for each object, as a ratio |\n|---|---|---|---|")
-    for name in small:
-        print(f"| {name} | {small[name]:,.0f} | {large[name]:,.0f} | {large[name] * one / (small[name] * other):.2f} |")
+    words = argparse.ArgumentParser(description=__doc__, formatter_class=argparse.RawDescriptionHelpFormatter)
+    words.add_argument("--large", type=int, default=10_000)
+    large = words.parse_args().large
+    program = programs.program(HERE, ROW)
+    small = dict(measured(program, SMALL))
+    print(f"| call | {SMALL:,} objects | {large:,} objects | time for each object, as a ratio |\n|---|---|---|---|")
+    for name, taken_by_large in measured(program, large):
+        print(f"| {name} | {small[name]:,.0f} | {taken_by_large:,.0f} | {taken_by_large * SMALL / (small[name] * large):.2f} |", flush=True)
+    return 0
 
 
 if __name__ == "__main__":
-    sys.exit(print(__doc__) if "--help" in sys.argv else main())
+    sys.exit(main())

@@ -3,7 +3,7 @@
 
 Usage, at the project's root: python3 tests/posts.py
 tests/posts/posts.rows has each row in one line (tests/posts/main.rt.in says how), and behind it, in a line that begins with two spaces, what is wanted. The program of tests/posts, which
-tools/programs.py builds, is asked for each. It prints each row that is answered otherwise; the status is 1 where there is one.
+tools/programs.py builds and keeps, is asked for each. It prints each row that is answered otherwise; the status is 1 where there is one.
 """
 import sys
 from pathlib import Path
@@ -31,4 +31,4 @@ def main():
 
 
 if __name__ == "__main__":
-    sys.exit(main())
+    sys.exit(print(__doc__) if "--help" in sys.argv else main())

@@ -1,14 +1,16 @@
 """Programs of rows of flow graphs and graphs over the sources of crates/, built by the kit's `rt try`. They are not proved themselves, and so are none of the gate's.
+They are kept where other programs are kept (front/kept.py).
 
 A program has the parts of flow graphs from flow_rows and the words of graphs from graph_rows, and files of its own, which end in `.rt.in`.
 """
 import os
 import shutil
 import subprocess
+import sys
 import tempfile
 from pathlib import Path
 
-from front import sources, unproved
+from front import kept, sources, tried, unproved
 
 # the program stands in place of this crate, whose definitions it uses
 NAME = "flow_rows"
@@ -44,30 +46,23 @@ def lay_out(own, room):
     return inside / NAME
 
 
-def built(own, row, to):
-    """Builds the program with these files of its own, which answers this row, into a file."""
-    with tempfile.TemporaryDirectory(prefix="predator-") as room:
-        at = lay_out(own, room)
-        pipe = os.path.join(os.path.realpath(room), "rows")
-        os.mkfifo(pipe)
-        with open(os.path.join(room, "said"), "wb") as said:
-            made = subprocess.Popen(["rt", "try", "--", pipe], cwd=at, stdin=subprocess.DEVNULL, stdout=said, stderr=said)
-        try:
-            unproved.copied(pipe, made, to, row.encode() + b"\n")
-        finally:
-            made.wait()
-        if not (os.path.isfile(to) and os.path.getsize(to)):
-            raise unproved.NotBuilt(f"`rt try` says:\n{Path(room, 'said').read_text(errors='replace').rstrip()}")
-    os.chmod(to, 0o755)
+def program(own, row):
+    """The program with these files of its own, which answers this row. It is built where none is kept."""
+
+    def built(to):
+        print(f"building the program of {own.relative_to(sources.HOME)}, once, which takes a minute or more", file=sys.stderr, flush=True)
+        with tempfile.TemporaryDirectory(prefix="predator-") as room:
+            tried.built(lay_out(own, room), row.encode() + b"\n", to)
+
+    return kept.program(own.name, sources.checksum_of([*uses(), NAME, BESIDE], own.glob("*.rt.in")), built)
 
 
 def answers(own, row, lines):
     """What the program with these files of its own, which answers this row, prints of these lines."""
     with tempfile.TemporaryDirectory() as room:
-        program, file = os.path.join(room, "program"), os.path.join(room, "rows")
-        built(own, row, program)
+        file = os.path.join(room, "rows")
         Path(file).write_text("\n".join(lines) + "\n")
-        done = subprocess.run([program, file], stdout=subprocess.PIPE, text=True, preexec_fn=unproved.with_stack)
+        done = subprocess.run([program(own, row), file], stdout=subprocess.PIPE, text=True, preexec_fn=unproved.with_stack)
     if done.returncode != 0:
-        raise unproved.NotBuilt(f"the program of {own} ended with status {done.returncode}")
+        raise kept.NotBuilt(f"the program of {own} ended with status {done.returncode}")
     return done.stdout.splitlines()

@@ -1,10 +1,8 @@
 """`predator graph`: the flow graph of a text, as lines or as a picture (docs/flow.md); with `--states` the trail of its analysis (docs/analysis.md).
 
 The graph is made by `lower` and analysed by `analyse`, and written by the program of tools/graph over the sources of crates/, which is not proved itself, and so is none of the gate's. It takes texts as rows. It
-is built once, by the kit's `rt try` in a folder that holds these sources, and kept where other programs are kept (unproved.py), by the checksum of all of them.
+is built once, by the kit's `rt try` in a folder that holds these sources (tried.py), and kept where other programs are kept (kept.py), by the checksum of all of them.
 """
-import fcntl
-import hashlib
 import os
 import shutil
 import subprocess
@@ -12,7 +10,7 @@ import sys
 import tempfile
 from pathlib import Path
 
-from . import drawing, preprocess, run, sources, states, unproved
+from . import drawing, kept, preprocess, run, sources, states, tried, unproved
 from .words import OPTIONS, names_files
 
 USAGE = "usage: predator graph [--svg] [--strict] [--states [--budget N]] [-I DIR ..] FILE"
@@ -41,16 +39,6 @@ def crates():
     return {name: known[name] for name in USES.split() if name in known}
 
 
-def name_of_program():
-    """A name that the program has for these sources and this kit alone."""
-    whole = hashlib.sha256(sources.kit().encode())
-    folders = [(sources.HOME / "crates" / name / folder) for name in crates() for folder in sources.FOLDERS]
-    for file in [*(file for folder in folders for file in sources.files_in(folder)), *sorted(HERE.glob("*.rt.in"))]:
-        text = Path(file).read_bytes()
-        whole.update(f"{os.path.relpath(file, sources.HOME)} {len(text)}\n".encode() + text)
-    return f"graph-{whole.hexdigest()[:40]}.program"
-
-
 def lay_out(room):
     """Makes a folder of crates in which the program stands over those of this repository, and gives the program's own."""
     inside = Path(room, "crates")
@@ -73,46 +61,12 @@ def built(to):
     """Builds the program into a file."""
     print("predator: building the program that writes graphs, once, which takes some minutes", file=sys.stderr, flush=True)
     with tempfile.TemporaryDirectory(prefix="predator-") as room:
-        at = lay_out(room)
-        pipe = os.path.join(os.path.realpath(room), "text")
-        os.mkfifo(pipe)
-        with open(os.path.join(room, "said"), "wb") as said:
-            made = subprocess.Popen(["rt", "try", "--", pipe], cwd=at, stdin=subprocess.DEVNULL, stdout=said, stderr=said)
-        try:
-            unproved.copied(pipe, made, to, ROW)
-        finally:
-            made.wait()
-        if not os.path.getsize(to):
-            raise unproved.NotBuilt(f"`rt try` says:\n{Path(room, 'said').read_text(errors='replace').rstrip()}")
-    os.chmod(to, 0o755)
-
-
-def kept(room):
-    """The program that is kept in a folder, which is built where there is none."""
-    file = room / name_of_program()
-    room.mkdir(parents=True, exist_ok=True)
-    with open(room / "lock", "wb") as lock:
-        fcntl.flock(lock, fcntl.LOCK_EX)
-        if not file.is_file():
-            number, new = tempfile.mkstemp(dir=room)
-            os.close(number)
-            try:
-                built(new)
-                os.replace(new, file)
-            finally:
-                Path(new).unlink(missing_ok=True)
-    return file
+        tried.built(lay_out(room), ROW, to)
 
 
 def program():
     """The program that writes graphs."""
-    said = "no folder to keep it in"
-    for room in unproved.folders():
-        try:
-            return kept(room)
-        except OSError as error:
-            said = f"{room}: {error.strerror}"
-    raise unproved.NotBuilt(said)
+    return kept.program("graph", sources.checksum_of(crates(), HERE.glob("*.rt.in")), built)
 
 
 def row_of(text, is_strict, budget=b""):

@@ -61,6 +61,16 @@ def checksum():
     return whole.hexdigest()
 
 
+def checksum_of(names, more):
+    """The checksum of the sources of these crates, of more files, and of the kit's name: what a program is kept by that `rt try` builds of them."""
+    whole = hashlib.sha256(kit().encode())
+    folders = [HOME / "crates" / name / folder for name in names for folder in FOLDERS]
+    for file in [*(file for folder in folders for file in files_in(folder)), *sorted(more)]:
+        text = Path(file).read_bytes()
+        whole.update(f"{os.path.relpath(file, HOME)} {len(text)}\n".encode() + text)
+    return whole.hexdigest()
+
+
 def kit():
     """What names the kit whose command is `rt`, or nothing where there is none."""
     try:
