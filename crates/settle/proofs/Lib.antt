@@ -1,0 +1,12 @@
+pub mod Counts
+pub mod Names
+pub mod Case
+pub mod Fuel
+pub mod Parted
+pub mod Turns
+pub mod Measure
+pub mod Beyond
+pub mod Loop
+pub mod Regions
+pub mod AnyAlike
+pub mod Few
